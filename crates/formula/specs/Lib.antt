@@ -1,0 +1,8 @@
+-- Document 01 without its bytes, in the document's order.
+pub mod Tree
+pub mod Truth
+pub mod Tidy
+pub mod Settle
+pub mod Expand
+pub mod Solve
+pub mod Trial

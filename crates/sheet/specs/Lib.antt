@@ -1,0 +1,6 @@
+-- Document 01 on bytes, in the document's order.
+pub mod Format
+pub mod Sheet
+pub mod Check
+pub mod Operations
+pub mod Calls
