@@ -91,7 +91,7 @@ unfoldable pub raw : ℕ → Formula → Formula
 raw x f =
     record {
       prefix = without x (f .prefix);
-      matrix = raw-tree (copying (quantifier-of (f .prefix) x) x) (f .matrix)
+      matrix = raw-tree (copying (quantifier-of (f .prefix) x) x) (f .matrix);
     }
 
 unfoldable pub expanded : ℕ → Formula → Formula

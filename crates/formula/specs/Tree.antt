@@ -7,7 +7,6 @@ use lib.Dec.{eqb}
 
 infixr 45 _▸_
 infixr 44 _⧺_
-
 -- AND and OR
 pub data Op : Type 0 where
   and or : Op

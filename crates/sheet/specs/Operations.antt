@@ -93,7 +93,7 @@ solving F first second (accepted r) =
     record {
       answer = solved (r .end) (r .state);
       first = padded (length first) (sheet F ((r .state) .formula));
-      second = replicate (length second) 0
+      second = replicate (length second) 0;
     }
 
 -- 1 to 8; 13 a work buffer shorter than the sheet
