@@ -1,0 +1,97 @@
+-- Laws of `join`, the one operation behind AND, OR and both quantifiers, and of the order false before true.
+-- Assumes nothing.
+use mathlib.Core.Path.{_≡_, refl, sym, _∙_}
+use mathlib.Core.Bool.{Bool, true, false, not, _&&_, _||_, cond, and-comm, or-comm, and-assoc, or-assoc, and-self, or-self, and-true, or-false, and-false, or-true, and-or-distrib-right, or-and-distrib-right, true≢false, false≢true}
+use mathlib.Core.Logic.{_⊎_, inl, inr}
+use Rattle.formula.specs.Tree.{Op, and, or, dual, Quantifier}
+use Rattle.formula.specs.Truth.{join, unit}
+use Rattle.formula.specs.Settle.{value}
+
+pub join-comm : (o : Op) (a b : Bool) → join o a b ≡ join o b a
+join-comm and a b = and-comm a b
+join-comm or a b = or-comm a b
+
+pub join-assoc : (o : Op) (a b c : Bool) → join o (join o a b) c ≡ join o a (join o b c)
+join-assoc and a b c = and-assoc a b c
+join-assoc or a b c = or-assoc a b c
+
+pub join-self : (o : Op) (a : Bool) → join o a a ≡ a
+join-self and a = and-self a
+join-self or a = or-self a
+
+pub join-unit : (o : Op) (a : Bool) → join o a (unit o) ≡ a
+join-unit and a = and-true a
+join-unit or a = or-false a
+
+pub unit-join : (o : Op) (a : Bool) → join o (unit o) a ≡ a
+unit-join and a = refl
+unit-join or a = refl
+
+-- the dual operator's unit absorbs
+pub join-zero : (o : Op) (a : Bool) → join o a (unit (dual o)) ≡ unit (dual o)
+join-zero and a = and-false a
+join-zero or a = or-true a
+
+pub zero-join : (o : Op) (a : Bool) → join o (unit (dual o)) a ≡ unit (dual o)
+zero-join and a = refl
+zero-join or a = refl
+
+-- what two joined values share can be taken out of them, under either operator
+pub join-share : (q o : Op) (a b c : Bool) → join q (join o a c) (join o b c) ≡ join o (join q a b) c
+join-share and and true true c = and-self c
+join-share and and true false c = and-false c
+join-share and and false b c = refl
+join-share and or a b c = sym (or-and-distrib-right a b c)
+join-share or and a b c = sym (and-or-distrib-right a b c)
+join-share or or true b c = refl
+join-share or or false true c = or-true c
+join-share or or false false c = or-self c
+
+pub share-join : (q o : Op) (c a b : Bool) → join q (join o c a) (join o c b) ≡ join o c (join q a b)
+share-join q o c a b = rw (join-comm o c a, join-comm o c b, join-comm o c (join q a b)) (join-share q o a b c)
+
+-- false before true
+abbrev pub Leads : Bool → Bool → Type 0
+Leads a b = a ≡ true → b ≡ true
+
+pub false-leads : {a b : Bool} → a ≡ false → Leads a b
+false-leads e h = absurd (false≢true (sym e ∙ h))
+
+pub leads-eq : {a b : Bool} → a ≡ b → Leads a b
+leads-eq e h = sym e ∙ h
+
+pub join-leads : (o : Op) (a b c d : Bool) → Leads a b → Leads c d → Leads (join o a c) (join o b d)
+join-leads and true b c d h k e = rw (h refl, k e)
+join-leads and false b c d h k e = absurd (false≢true e)
+join-leads or true b c d h k e = rw (h refl)
+join-leads or false b c d h k e = rw (k e) (or-true b)
+
+-- of two values of which one leads to the other, exists takes the later and for all the earlier
+or-leads : (a b : Bool) → Leads a b → (a || b) ≡ b
+or-leads true b h = sym (h refl)
+or-leads false b h = refl
+
+and-leads : (a b : Bool) → Leads a b → (a && b) ≡ a
+and-leads true b h = h refl
+and-leads false b h = refl
+
+-- the two-by-two table is right wherever the sign's value is the better one
+pub join-value : (q : Quantifier) (s : Bool) (B : Bool → Bool) → Leads (B (not s)) (B s) → join q (B false) (B true) ≡ B (value q s)
+unfolding value
+join-value or true B h = or-leads (B false) (B true) h
+join-value or false B h = or-comm (B false) (B true) ∙ or-leads (B true) (B false) h
+join-value and true B h = and-leads (B false) (B true) h
+join-value and false B h = and-comm (B false) (B true) ∙ and-leads (B true) (B false) h
+
+-- tests joined by && and ||
+pub and-parts : (a b : Bool) → (a && b) ≡ true → (a ≡ true) × (b ≡ true)
+and-parts true b h = (refl, h)
+and-parts false b h = absurd (false≢true h)
+
+pub or-parts : (a b : Bool) → (a || b) ≡ false → (a ≡ false) × (b ≡ false)
+or-parts true b h = absurd (true≢false h)
+or-parts false b h = (refl, h)
+
+pub or-cases : (a b : Bool) → (a || b) ≡ true → (a ≡ true) ⊎ (b ≡ true)
+or-cases true b h = inl refl
+or-cases false b h = inr h

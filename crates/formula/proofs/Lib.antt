@@ -1,0 +1,5 @@
+pub mod Booleans
+pub mod Binding
+pub mod Evaluation
+pub mod Settle
+pub mod Expand
