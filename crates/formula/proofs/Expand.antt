@@ -116,7 +116,7 @@ rows-at-first L new (t ▸ ts) h = by (has L t) h (rows-at-first L new ts)
 
 -- one relevant child: it is the first, or stands among the others
 
-one-first : (L : Literals) (t : Tree) (ts : Forest) → count (keep (has L) (t ▸ ts)) ≡ 1 → has L t ≡ true → has-any L ts ≡ false
+pub one-first : (L : Literals) (t : Tree) (ts : Forest) → count (keep (has L) (t ▸ ts)) ≡ 1 → has L t ≡ true → has-any L ts ≡ false
 unfolding keep count
 one-first L t ts h e = keep-none L ts (by (has L t) e h)
   where
@@ -124,7 +124,7 @@ one-first L t ts h e = keep-none L ts (by (has L t) e h)
     by true k c = omega arith
     by false k c = absurd (false≢true k)
 
-one-later : (L : Literals) (t : Tree) (ts : Forest) → count (keep (has L) (t ▸ ts)) ≡ 1 → has L t ≡ false → count (keep (has L) ts) ≡ 1
+pub one-later : (L : Literals) (t : Tree) (ts : Forest) → count (keep (has L) (t ▸ ts)) ≡ 1 → has L t ≡ false → count (keep (has L) ts) ≡ 1
 unfolding keep count
 one-later L t ts h e = by (has L t) e h
   where
@@ -132,11 +132,11 @@ one-later L t ts h e = by (has L t) e h
     by true k c = absurd (true≢false k)
     by false k c = c
 
-one-counts : (L : Literals) (ts : Forest) → one-relevant L ts ≡ true → count (keep (has L) ts) ≡ 1
+pub one-counts : (L : Literals) (ts : Forest) → one-relevant L ts ≡ true → count (keep (has L) ts) ≡ 1
 unfolding one-relevant relevant
 one-counts L ts h = eqb-true (count (keep (has L) ts)) 1 h
 
-no-child : (L : Literals) → count (keep (has L) ∅) ≡ 1 → ⊥
+pub no-child : (L : Literals) → count (keep (has L) ∅) ≡ 1 → ⊥
 unfolding keep count
 no-child L h = omega arith
 
