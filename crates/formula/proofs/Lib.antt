@@ -1,7 +1,11 @@
 pub mod Booleans
 pub mod Binding
 pub mod Evaluation
+pub mod Tidy
 pub mod Settle
 pub mod Expand
 pub mod Closed
+pub mod Steps
+pub mod Choice
+pub mod Solve
 pub mod Trial

@@ -1,1 +1,11 @@
+pub mod Every
+pub mod Numbers
+pub mod Tests
+pub mod Limits
+pub mod Preorder
+pub mod Parts
+pub mod CheckTests
+pub mod RoundTrip
+pub mod Accepted
 pub mod Starred
+pub mod Calls

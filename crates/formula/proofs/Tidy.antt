@@ -1,0 +1,6 @@
+-- The laws of tidying.
+-- Assumes nothing.
+pub mod Children
+pub mod Truth
+pub mod Limits
+pub mod Growth

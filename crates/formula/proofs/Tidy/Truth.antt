@@ -1,0 +1,182 @@
+-- Tidying keeps a tree's value under every assignment.
+-- Assumes nothing.
+use mathlib.Core.Path.{_≡_, refl, sym, _∙_, ap, ap₂}
+use mathlib.Core.Bool.{Bool, true, false, not, _&&_, _||_, cond, Bool·beq, and-true, or-false, and-assoc, or-assoc, and-comm, or-comm, and-eq-true-iff}
+use mathlib.Core.Logic.{⊎-elim}
+use lib.Dec.{eqb}
+use borrow.Author.Tests.{eqb-true}
+use Rattle.formula.specs.Tree.{Op, and, or, dual, same-op, Tree, lit, node, Forest, ∅, _▸_, _⧺_, some-child, some-two, keep}
+use Rattle.formula.specs.Truth.{Assignment, join, unit, eval, eval-all}
+use Rattle.formula.specs.Tidy.{is-empty, opposite, equal, spliced, splice, decides, firsts, unwrap, combine, tidy, tidy-all}
+use Rattle.formula.proofs.Tidy.Children.{either}
+
+beq-same : (a b : Bool) → Bool·beq a b ≡ true → a ≡ b
+beq-same true true e = refl
+beq-same true false e = cc
+beq-same false true e = cc
+beq-same false false e = refl
+
+-- join and its unit
+
+pub join-assoc : (o : Op) (a b c : Bool) → join o (join o a b) c ≡ join o a (join o b c)
+join-assoc and = and-assoc
+join-assoc or = or-assoc
+
+pub join-comm : (o : Op) (a b : Bool) → join o a b ≡ join o b a
+join-comm and = and-comm
+join-comm or = or-comm
+
+pub join-unit : (o : Op) (a : Bool) → join o a (unit o) ≡ a
+join-unit and = and-true
+join-unit or = or-false
+
+pub join-twice : (o : Op) (a b : Bool) → join o a (join o a b) ≡ join o a b
+join-twice and true b = refl
+join-twice and false b = refl
+join-twice or true b = refl
+join-twice or false b = refl
+
+pub join-swap : (o : Op) (a b c : Bool) → join o a (join o b c) ≡ join o b (join o a c)
+join-swap o a b c = sym (join-assoc o a b c) ∙ ap (λ d. join o d c) (join-comm o a b) ∙ join-assoc o b a c
+
+-- the unit of the other operator decides
+pub join-decided : (o : Op) (a b : Bool) → b ≡ unit (dual o) → join o a b ≡ unit (dual o)
+join-decided and true b e = e
+join-decided and false b e = refl
+join-decided or true b e = refl
+join-decided or false b e = e
+
+-- rule 1
+
+pub eval-⧺ : (o : Op) (ρ : Assignment) (ts us : Forest) → eval-all (ts ⧺ us) o ρ ≡ join o (eval-all ts o ρ) (eval-all us o ρ)
+unfolding eval-all _⧺_
+eval-⧺ o ρ ∅ us = sym (join-comm o (unit o) _ ∙ join-unit o _)
+eval-⧺ o ρ (t ▸ ts) us = ap (join o (eval t ρ)) (eval-⧺ o ρ ts us) ∙ sym (join-assoc o _ _ _)
+
+eval-spliced : (o : Op) (ρ : Assignment) (t : Tree) (us : Forest) → eval-all (spliced o t us) o ρ ≡ join o (eval t ρ) (eval-all us o ρ)
+unfolding eval eval-all spliced
+eval-spliced o ρ (lit s v) us = refl
+eval-spliced and ρ (node and ts) us = eval-⧺ and ρ ts us
+eval-spliced and ρ (node or ts) us = refl
+eval-spliced or ρ (node and ts) us = refl
+eval-spliced or ρ (node or ts) us = eval-⧺ or ρ ts us
+
+pub eval-splice : (o : Op) (ρ : Assignment) (ts : Forest) → eval-all (splice o ts) o ρ ≡ eval-all ts o ρ
+unfolding eval-all splice
+eval-splice o ρ ∅ = refl
+eval-splice o ρ (t ▸ ts) = eval-spliced o ρ t (splice o ts) ∙ ap (join o (eval t ρ)) (eval-splice o ρ ts)
+
+-- rules 2 and 3
+
+-- a child with the value that decides
+eval-decided : (o : Op) (ρ : Assignment) (P : Tree → Bool) → ((t : Tree) → P t ≡ true → eval t ρ ≡ unit (dual o))
+    → (ts : Forest) → some-child P ts ≡ true → eval-all ts o ρ ≡ unit (dual o)
+unfolding eval-all some-child
+eval-decided o ρ P f ∅ p = cc
+eval-decided o ρ P f (t ▸ ts) p =
+    let at-t : P t ≡ true → join o (eval t ρ) (eval-all ts o ρ) ≡ unit (dual o) = λ e. join-comm o (eval t ρ) _ ∙ join-decided o _ _ (f t e) in
+    ⊎-elim at-t (λ e. join-decided o _ _ (eval-decided o ρ P f ts e)) (either (P t) _ p)
+
+eval-empty : (o : Op) (ρ : Assignment) (t : Tree) → is-empty (dual o) t ≡ true → eval t ρ ≡ unit (dual o)
+unfolding eval eval-all is-empty
+eval-empty o ρ (lit s v) e = cc
+eval-empty and ρ (node and ∅) e = cc
+eval-empty and ρ (node or ∅) e = refl
+eval-empty or ρ (node and ∅) e = refl
+eval-empty or ρ (node or ∅) e = cc
+eval-empty o ρ (node k (t ▸ ts)) e = cc
+
+beq-opposite : (s s′ b : Bool) → not (Bool·beq s s′) ≡ true → Bool·beq s′ b ≡ not (Bool·beq s b)
+beq-opposite true true b e = cc
+beq-opposite true false true e = refl
+beq-opposite true false false e = refl
+beq-opposite false true true e = refl
+beq-opposite false true false e = refl
+beq-opposite false false b e = cc
+
+eval-opposite : (ρ : Assignment) (t u : Tree) → opposite t u ≡ true → eval u ρ ≡ not (eval t ρ)
+unfolding eval opposite
+eval-opposite ρ (node o ts) u e = cc
+eval-opposite ρ (lit s v) (node o ts) e = cc
+eval-opposite ρ (lit s v) (lit s′ v′) e =
+    let (same, other) = and-eq-true-iff (eqb v v′) _ .0 e in
+    rw (← eqb-true v v′ same) (beq-opposite s s′ (ρ v) other)
+
+-- of two opposite children one has it
+eval-opposites : (o : Op) (ρ : Assignment) (ts : Forest) → some-two opposite ts ≡ true → eval-all ts o ρ ≡ unit (dual o)
+unfolding eval-all some-two
+eval-opposites o ρ ∅ p = cc
+eval-opposites o ρ (t ▸ ts) p =
+    ⊎-elim (go o (eval t ρ) refl) (λ e. join-decided o _ _ (eval-opposites o ρ ts e)) (either (some-child (opposite t) ts) _ p)
+  where
+    go : (k : Op) (b : Bool) → eval t ρ ≡ b → some-child (opposite t) ts ≡ true → join k b (eval-all ts k ρ) ≡ unit (dual k)
+    go and true e q = eval-decided and ρ (opposite t) (λ u d. eval-opposite ρ t u d ∙ ap not e) ts q
+    go and false e q = refl
+    go or true e q = refl
+    go or false e q = eval-decided or ρ (opposite t) (λ u d. eval-opposite ρ t u d ∙ ap not e) ts q
+
+pub eval-decides : (o : Op) (ρ : Assignment) (ts : Forest) → decides o ts ≡ true → eval-all ts o ρ ≡ unit (dual o)
+unfolding decides
+eval-decides o ρ ts d =
+    ⊎-elim (eval-decided o ρ (is-empty (dual o)) (eval-empty o ρ) ts) (eval-opposites o ρ ts) (either (some-child (is-empty (dual o)) ts) _ d)
+
+-- rule 4
+
+pub equal-same : (t u : Tree) → equal t u ≡ true → t ≡ u
+unfolding equal
+equal-same (node o ts) u e = cc
+equal-same (lit s v) (node o ts) e = cc
+equal-same (lit s v) (lit s′ v′) e =
+    let (same, sign) = and-eq-true-iff (eqb v v′) _ .0 e in
+    ap₂ lit (beq-same s s′ sign) (eqb-true v v′ same)
+
+eval-keep : (o : Op) (ρ : Assignment) (t : Tree) (us : Forest)
+    → join o (eval t ρ) (eval-all (keep (λ u. not (equal t u)) us) o ρ) ≡ join o (eval t ρ) (eval-all us o ρ)
+unfolding eval-all keep
+eval-keep o ρ t ∅ = refl
+eval-keep o ρ t (u ▸ us) = go (equal t u) refl (eval-keep o ρ t us)
+  where
+    rest : Forest
+    rest = keep (λ u. not (equal t u)) us
+
+    go : (b : Bool) → equal t u ≡ b → join o (eval t ρ) (eval-all rest o ρ) ≡ join o (eval t ρ) (eval-all us o ρ)
+        → join o (eval t ρ) (eval-all (cond (not b) (u ▸ rest) rest) o ρ) ≡ join o (eval t ρ) (join o (eval u ρ) (eval-all us o ρ))
+    go true e h = h ∙ sym (ap (λ w. join o (eval t ρ) (join o (eval w ρ) (eval-all us o ρ))) (sym (equal-same t u e)) ∙ join-twice o _ _)
+    go false e h = join-swap o _ _ _ ∙ ap (join o (eval u ρ)) h ∙ join-swap o _ _ _
+
+pub eval-firsts : (o : Op) (ρ : Assignment) (ts : Forest) → eval-all (firsts ts) o ρ ≡ eval-all ts o ρ
+unfolding eval-all firsts
+eval-firsts o ρ ∅ = refl
+eval-firsts o ρ (t ▸ ts) = eval-keep o ρ t (firsts ts) ∙ ap (join o (eval t ρ)) (eval-firsts o ρ ts)
+
+-- rule 5
+
+pub eval-unwrap : (o : Op) (ρ : Assignment) (ts : Forest) → eval (unwrap o ts) ρ ≡ eval-all ts o ρ
+unfolding eval eval-all unwrap
+eval-unwrap o ρ ∅ = refl
+eval-unwrap o ρ (t ▸ ∅) = sym (join-unit o _)
+eval-unwrap o ρ (t ▸ u ▸ ts) = refl
+
+-- the five rules, and the whole tree
+
+pub eval-combine : (o : Op) (ρ : Assignment) (ts : Forest) → eval (combine o ts) ρ ≡ eval-all ts o ρ
+unfolding eval eval-all combine
+eval-combine o ρ ts = go (decides o (splice o ts)) refl ∙ eval-splice o ρ ts
+  where
+    us : Forest
+    us = splice o ts
+
+    go : (b : Bool) → decides o us ≡ b → eval (cond b (node (dual o) ∅) (unwrap o (firsts us))) ρ ≡ eval-all us o ρ
+    go true d = sym (eval-decides o ρ us d)
+    go false d = eval-unwrap o ρ (firsts us) ∙ eval-firsts o ρ us
+
+mutual
+  unfolding eval eval-all tidy tidy-all
+
+  pub eval-tidy : (t : Tree) (ρ : Assignment) → eval (tidy t) ρ ≡ eval t ρ
+  eval-tidy (lit s v) ρ = refl
+  eval-tidy (node o ts) ρ = eval-combine o ρ (tidy-all ts) ∙ eval-tidy-all ts o ρ
+
+  pub eval-tidy-all : (ts : Forest) (o : Op) (ρ : Assignment) → eval-all (tidy-all ts) o ρ ≡ eval-all ts o ρ
+  eval-tidy-all ∅ o ρ = refl
+  eval-tidy-all (t ▸ ts) o ρ = ap₂ (join o) (eval-tidy t ρ) (eval-tidy-all ts o ρ)

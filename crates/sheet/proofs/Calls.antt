@@ -1,0 +1,241 @@
+-- Demand 3: one theorem about a whole list of Settle and Expand calls.
+-- Assumes nothing.
+use mathlib.Core.Path.{_≡_, refl, sym, _∙_, ap, ap₂, subst}
+use mathlib.Core.Bool.{Bool, true, false, not, _&&_, _||_, cond, false≢true, true≢false}
+use mathlib.Core.List.{List, [], _∷_, _++_}
+use mathlib.Core.Option.{Option, none, some, Option·getD}
+use Prim.Native.Nat.{ℕ, suc, _+_, _-_, _≤_}
+use native.Mathlib.Omega.{arith}
+use native.Mathlib.Nat.{le-trans, zero-add}
+use lib.Dec.{eqb, ltb, leb}
+use lib.ListN.{length, take, replicate}
+use lib.Seq.{take-append-seam}
+use borrow.Author.Tests.{not-true, not-false, leb-true}
+use Rattle.formula.specs.Tree.{Binding, Prefix, Formula, of, rows, binds, without, distinct, closed}
+use Rattle.formula.specs.Truth.{truth}
+use Rattle.formula.specs.Tidy.{is-tidy, verdict}
+use Rattle.formula.specs.Settle.{may-settle, settled}
+use Rattle.formula.specs.Expand.{innermost, raw, raw-rows, expanded}
+use Rattle.formula.specs.Solve.{is-some, fits-raw}
+use Rattle.formula.proofs.Booleans.{and-parts}
+use Rattle.formula.proofs.Closed.{length-without}
+use Rattle.formula.proofs.Steps.{Proper, truth-settled, proper-settled, rows-settled, truth-expanded, proper-expanded, rows-expanded, verdict-truth, decided-without-variables}
+use Rattle.sheet.specs.Format.{Bytes, Format, sheet-length, fits, variables, nodes}
+use Rattle.sheet.specs.Sheet.{formula, sheet}
+use Rattle.sheet.specs.Check.{Answer, refused, accepted, Test, answer, passes, Sizes, check-tests, check}
+use Rattle.sheet.specs.Operations.{padded, output-after, write, Written, tidy-and-bound-tests, settle-tests, settle-call, expand-tests, expand-call}
+use Rattle.sheet.specs.Calls.{Call, settle, expand, perform, Held, held-after, perform-all}
+use Rattle.sheet.proofs.Tests.{passed-∷, passed-++, answer-passes, accepted-passes}
+use Rattle.sheet.proofs.Limits.{Sound, Within, numbered}
+use Rattle.sheet.proofs.RoundTrip.{formula-sheet, passes-sheet}
+use Rattle.sheet.proofs.Accepted.{accepted-within, accepted-variables}
+
+-- a sheet that Check accepts and that is tidy
+pub record Good (F : Format) (b : Bytes) : Type 0 where
+  pub is-accepted : passes (check-tests F b) ≡ true
+  pub is-neat : is-tidy ((formula F b) .matrix) ≡ true
+
+-- one call: the sheet that an accepted one leaves
+record Stepped (F : Format) (b b′ : Bytes) : Type 0 where
+  still-good : Good F b′
+  same-truth : truth (formula F b′) ≡ truth (formula F b)
+  one-less : variables F b ≡ suc (variables F b′)
+
+-- the front of what an accepted call wrote is its new sheet
+front-written : (tests : List Test) (new out : Bytes) (n : ℕ) → (write tests new out) .answer ≡ accepted n
+    → (passes tests ≡ true) × (take n ((write tests new out) .output) ≡ new)
+unfolding write output-after padded
+front-written tests new out n h =
+    let a = accepted-passes tests (length new) n h in
+    (a .0,
+    rw h (ap (λ (m : ℕ). take m (new ++ replicate (length out - length new) 0)) (sym (a .1)) ∙
+    take-append-seam new (replicate (length out - length new) 0)))
+
+some-value : (o : Option Bool) → is-some o ≡ true → o ≡ some (Option·getD o false)
+unfolding is-some
+some-value none h = absurd (false≢true h)
+some-value (some b) h = refl
+
+-- the limits that a step keeps
+numbered-without : (F : Format) (x : ℕ) (p : Prefix) → numbered F p ≡ true → numbered F (without x p) ≡ true
+unfolding numbered without
+numbered-without F x [] h = refl
+numbered-without F x (z ∷ p) h =
+    let ok = not (eqb (z .variable) 0 || ltb (F .most-variables) (z .variable)) in
+    let parts = and-parts ok (numbered F p) h in
+    by (eqb (z .variable) x) (parts .0) (parts .1) (numbered-without F x p (parts .1))
+  where
+    by : (m : Bool) → not (eqb (z .variable) 0 || ltb (F .most-variables) (z .variable)) ≡ true → numbered F p ≡ true
+        → numbered F (without x p) ≡ true → numbered F (cond m p (z ∷ without x p)) ≡ true
+    by true k r rest = r
+    by false k r rest = ap₂ _&&_ k rest
+
+module _ (F : Format) (sound : Sound F) where
+  proper : (b : Bytes) → Good F b → Proper (formula F b)
+  proper b g =
+      let w = accepted-within F b (g .is-accepted) in
+      record { is-distinct = w .is-distinct; is-closed = w .is-closed; is-neat = g .is-neat }
+
+  -- a proper formula within the limits, written as a sheet, in place of one with one variable more
+  stepped : (b : Bytes) (x : ℕ) (f : Formula) → Good F b → binds ((formula F b) .prefix) x ≡ true
+      → f .prefix ≡ without x ((formula F b) .prefix) → Proper f → rows (f .matrix) ≤ F .most-nodes → truth f ≡ truth (formula F b)
+      → Stepped F b (sheet F f)
+  stepped b x f g h e p l t =
+      let w = accepted-within F b (g .is-accepted) in
+      let shorter = length-without x ((formula F b) .prefix) h in
+      let within : Within F f
+            = record {
+              few-variables = omega (arith, shorter, ap length e, w .few-variables);
+              few-nodes = l;
+              is-numbered = ap (numbered F) e ∙ numbered-without F x ((formula F b) .prefix) (w .is-numbered);
+              is-distinct = p .is-distinct;
+              is-closed = p .is-closed;
+            } in
+      let back : formula F (sheet F f) ≡ f = formula-sheet F sound f within in
+      let good : Good F (sheet F f)
+            = record {
+              is-accepted = passes-sheet F sound f within;
+              is-neat = ap (λ (k : Formula). is-tidy (k .matrix)) back ∙ p .is-neat;
+            } in
+      record {
+        still-good = good;
+        same-truth = ap truth back ∙ t;
+        one-less =
+            omega
+            (arith, accepted-variables F b (g .is-accepted), accepted-variables F (sheet F f) (good .is-accepted), shorter, ap length e,
+            ap (λ (k : Formula). length (k .prefix)) back);
+      }
+
+  -- refusals 9 and 10 passed: x is bound
+  bound-passed : (b : Bytes) (x : ℕ) → passes (tidy-and-bound-tests F b x) ≡ true → binds ((formula F b) .prefix) x ≡ true
+  unfolding tidy-and-bound-tests
+  bound-passed b x h = not-false (binds ((formula F b) .prefix) x) (passed-∷ _ _ (passed-∷ _ _ h .1) .0)
+
+  settle-stepped : (b : Bytes) (x : ℕ) (out : Bytes) (n : ℕ) → Good F b → (settle-call F b x out) .answer ≡ accepted n
+      → Stepped F b (take n ((settle-call F b x out) .output))
+  unfolding settle-call settle-tests settled
+  settle-stepped b x out n g h =
+      let f = formula F b in
+      let v = Option·getD (may-settle x f) false in
+      let w = front-written (settle-tests F b x (length out)) (sheet F (settled x v f)) out n h in
+      let passed = passed-++ (check-tests F b ++ tidy-and-bound-tests F b x) _ (w .0) in
+      let bound = bound-passed b x (passed-++ (check-tests F b) (tidy-and-bound-tests F b x) (passed .0) .1) in
+      let allowed : may-settle x f ≡ some v = some-value (may-settle x f) (not-false (is-some (may-settle x f)) (passed-∷ _ _ (passed .1) .0)) in
+      let p = proper b g in
+      subst (Stepped F b) (sym (w .1))
+      (stepped b x (settled x v f) g bound refl (proper-settled x v f p)
+      (le-trans (rows-settled x v f) (accepted-within F b (g .is-accepted) .few-nodes))
+      (truth-settled x v f bound (p .is-distinct) allowed))
+
+  expand-stepped : (b : Bytes) (x : ℕ) (out : Bytes) (n : ℕ) → Good F b → (expand-call F b x out) .answer ≡ accepted n
+      → Stepped F b (take n ((expand-call F b x out) .output))
+  unfolding expand-call expand-tests expanded raw fits-raw fits
+  expand-stepped b x out n g h =
+      let f = formula F b in
+      let w = front-written (expand-tests F b x (length out)) (sheet F (expanded x f)) out n h in
+      let passed = passed-++ (check-tests F b ++ tidy-and-bound-tests F b x) _ (w .0) in
+      let bound = bound-passed b x (passed-++ (check-tests F b) (tidy-and-bound-tests F b x) (passed .0) .1) in
+      let inside = not-false (innermost x f) (passed-∷ _ _ (passed .1) .0) in
+      let fitting = not-false (fits-raw (fits F (length out)) x f) (passed-∷ _ _ (passed-∷ _ _ (passed .1) .1) .0) in
+      let few = and-parts (leb (raw-rows (of x) (f .matrix)) (F .most-nodes)) _ fitting .0 in
+      let p = proper b g in
+      subst (Stepped F b) (sym (w .1))
+      (stepped b x (expanded x f) g bound refl (proper-expanded x f p)
+      (le-trans (rows-expanded x f) (leb-true (raw-rows (of x) (f .matrix)) (F .most-nodes) few))
+      (truth-expanded x f inside (p .is-distinct)))
+
+  -- the sheet held after any calls, compared with the first one
+  record Well (b : Bytes) (h : Held) : Type 0 where
+    is-good : Good F (h .sheet)
+    same-truth : truth (formula F (h .sheet)) ≡ truth (formula F b)
+    counts : h .accepted-calls + variables F (h .sheet) ≡ variables F b
+
+  well-stepped : (b : Bytes) (h : Held) (b′ : Bytes) → Well b h → Stepped F (h .sheet) b′
+      → Well b (record { sheet = b′; accepted-calls = suc (h .accepted-calls) })
+  well-stepped b h b′ w s =
+      record {
+        is-good = s .still-good;
+        same-truth = s .same-truth ∙ w .same-truth;
+        counts = omega (arith, s .one-less, w .counts);
+      }
+
+  perform-stepped : (c : Call) (b : Bytes) (n : ℕ) → Good F b → (perform F c b) .answer ≡ accepted n
+      → Stepped F b (take n ((perform F c b) .output))
+  unfolding perform
+  perform-stepped (settle x out) b n g h = settle-stepped b x out n g h
+  perform-stepped (expand x out) b n g h = expand-stepped b x out n g h
+
+  well-after : (b : Bytes) (h : Held) (c : Call) → Well b h
+      → Well b (held-after h ((perform F c (h .sheet)) .answer) ((perform F c (h .sheet)) .output))
+  unfolding held-after
+  well-after b h c w = by ((perform F c (h .sheet)) .answer) refl
+    where
+      by : (a : Answer ℕ) → (perform F c (h .sheet)) .answer ≡ a → Well b (held-after h a ((perform F c (h .sheet)) .output))
+      by (refused n i) e = w
+      by (accepted n) e =
+          well-stepped b h (take n ((perform F c (h .sheet)) .output)) w (perform-stepped c (h .sheet) n (w .is-good) e)
+
+  well-after-all : (b : Bytes) (cs : List Call) (h : Held) → Well b h → Well b (perform-all F cs h)
+  unfolding perform-all
+  well-after-all b [] h w = w
+  well-after-all b (c ∷ cs) h w =
+      well-after-all b cs (held-after h ((perform F c (h .sheet)) .answer) ((perform F c (h .sheet)) .output)) (well-after b h c w)
+
+-- the sheet held at the end of a list of calls that starts from b
+unfoldable pub held : Format → Bytes → List Call → Held
+held F b cs = perform-all F cs (record { sheet = b; accepted-calls = 0 })
+
+-- the verdict of a sheet, if it has one
+abbrev pub sheet-verdict : Format → Bytes → Option Bool
+sheet-verdict F b = verdict ((formula F b) .matrix)
+
+-- What demand 3 says of a first sheet and a list of calls.
+pub record Demand-3 (F : Format) (b : Bytes) (cs : List Call) : Type 0 where
+  -- the sheet held is accepted and tidy, and true exactly when the first was
+  pub is-accepted : (s : Sizes) × (check F ((held F b cs) .sheet) ≡ accepted s)
+  pub stays-tidy : is-tidy ((formula F ((held F b cs) .sheet)) .matrix) ≡ true
+  pub same-truth : truth (formula F ((held F b cs) .sheet)) ≡ truth (formula F b)
+  -- accepted calls + variables left = variables at the start
+  pub counts : (held F b cs) .accepted-calls + variables F ((held F b cs) .sheet) ≡ variables F b
+  -- no variable left means a verdict
+  pub decided : variables F ((held F b cs) .sheet) ≡ 0 → (v : Bool) × (sheet-verdict F ((held F b cs) .sheet) ≡ some v)
+  -- a verdict is the first sheet's truth value
+  pub is-truth : (v : Bool) → sheet-verdict F ((held F b cs) .sheet) ≡ some v → v ≡ truth (formula F b)
+  -- so any two lists that reach a verdict agree
+  pub agree : (others : List Call) (v w : Bool) → sheet-verdict F ((held F b cs) .sheet) ≡ some v
+      → sheet-verdict F ((held F b others) .sheet) ≡ some w → v ≡ w
+
+empty-prefix : (p : Prefix) → length p ≡ 0 → p ≡ []
+empty-prefix [] h = refl
+empty-prefix (z ∷ p) h = absurd (omega arith)
+
+-- For every format whose numbers hold its sizes, every sheet that Check accepts and that is tidy, and every list of calls.
+pub demand-3 : (F : Format) → Sound F → (b : Bytes) (s : Sizes) → check F b ≡ accepted s → is-tidy ((formula F b) .matrix) ≡ true
+    → (cs : List Call) → Demand-3 F b cs
+unfolding held check
+demand-3 F sound b s h t cs =
+    record {
+      is-accepted =
+          (record { variables = variables F (end cs .sheet); nodes = nodes F (end cs .sheet) },
+          answer-passes (check-tests F (end cs .sheet)) _ ((well cs) .is-good .is-accepted));
+      stays-tidy = (well cs) .is-good .is-neat;
+      same-truth = (well cs) .same-truth;
+      counts = (well cs) .counts;
+      decided =
+          λ e. decided-without-variables (formula F (end cs .sheet)) (proper F sound (end cs .sheet) ((well cs) .is-good))
+          (empty-prefix ((formula F (end cs .sheet)) .prefix)
+          (accepted-variables F (end cs .sheet) ((well cs) .is-good .is-accepted) ∙ e));
+      is-truth = true-verdict cs;
+      agree = λ others v w hv hw. true-verdict cs v hv ∙ sym (true-verdict others w hw);
+    }
+  where
+    end : List Call → Held
+    end ds = perform-all F ds (record { sheet = b; accepted-calls = 0 })
+    good : Good F b
+    good = record { is-accepted = accepted-passes (check-tests F b) _ s h .0; is-neat = t }
+    well : (ds : List Call) → Well F sound b (end ds)
+    well ds =
+        well-after-all F sound b ds (record { sheet = b; accepted-calls = 0 })
+        (record { is-good = good; same-truth = refl; counts = zero-add (variables F b) })
+    true-verdict : (ds : List Call) (v : Bool) → sheet-verdict F (end ds .sheet) ≡ some v → v ≡ truth (formula F b)
+    true-verdict ds v e = sym (verdict-truth (formula F (end ds .sheet)) v e) ∙ (well ds) .same-truth

@@ -1,0 +1,28 @@
+-- A property of every element of a list, kept by ++, take and drop.
+-- Assumes nothing.
+use mathlib.Core.List.{List, [], _∷_, _++_}
+use Prim.Native.Nat.{ℕ, zero, suc}
+use lib.ListN.{take, drop}
+
+module _ {A : Type 0} (P : A → Type 0) where
+  abbrev pub Every : List A → Type 0
+  Every [] = Unit {0}
+  Every (x ∷ xs) = P x × Every xs
+
+  pub every-++ : (xs ys : List A) → Every xs → Every ys → Every (xs ++ ys)
+  every-++ [] ys h k = k
+  every-++ (x ∷ xs) ys h k = (h .0, every-++ xs ys (h .1) k)
+
+  pub every-take : (n : ℕ) (xs : List A) → Every xs → Every (take n xs)
+  every-take zero xs h = tt
+  every-take (suc n) [] h = tt
+  every-take (suc n) (x ∷ xs) h = (h .0, every-take n xs (h .1))
+
+  pub every-drop : (n : ℕ) (xs : List A) → Every xs → Every (drop n xs)
+  every-drop zero xs h = h
+  every-drop (suc n) [] h = tt
+  every-drop (suc n) (x ∷ xs) h = every-drop n xs (h .1)
+
+pub every-map : {A : Type 0} {P Q : A → Type 0} → ((x : A) → P x → Q x) → (xs : List A) → Every P xs → Every Q xs
+every-map f [] h = tt
+every-map f (x ∷ xs) h = (f x (h .0), every-map f xs (h .1))

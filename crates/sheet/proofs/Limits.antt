@@ -1,0 +1,53 @@
+-- The limits of a format, and the formulas that its sheets hold.
+-- Assumes nothing.
+use mathlib.Core.Path.{_≡_, refl}
+use mathlib.Core.Bool.{Bool, true, false, not, _&&_, _||_}
+use mathlib.Core.List.{[], _∷_}
+use Prim.Native.Nat.{ℕ, _≤_, _<_, _^_}
+use native.Mathlib.Omega.{arith}
+use lib.Dec.{eqb, ltb}
+use lib.ListN.{length}
+use borrow.Author.Tests.{not-true, ltb-false, eqb-true}
+use Rattle.formula.specs.Tree.{Binding, Prefix, Formula, binds, distinct, rows, closed}
+use Rattle.sheet.specs.Format.{Format, narrow}
+use Rattle.sheet.proofs.Tests.{both-true, both-false}
+
+-- the format's numbers hold its sizes
+pub record Sound (F : Format) : Type 0 where
+  pub variables-fit : F .most-variables < 256 ^ F .width
+  pub nodes-fit : F .most-nodes < 256 ^ F .width
+
+pub narrow-sound : Sound narrow
+narrow-sound = record { variables-fit = omega arith; nodes-fit = omega arith }
+
+-- every quantifier number is 1 to the most
+unfoldable pub numbered : Format → Prefix → Bool
+numbered F [] = true
+numbered F (z ∷ p) = not (eqb (z .variable) 0 || ltb (F .most-variables) (z .variable)) && numbered F p
+
+pub numbered-∷ : (F : Format) (z : Binding) (p : Prefix) → numbered F (z ∷ p) ≡ true
+    → (z .variable ≤ F .most-variables) × (numbered F p ≡ true)
+unfolding numbered
+numbered-∷ F z p h =
+    let b = both-true (not (eqb (z .variable) 0 || ltb (F .most-variables) (z .variable))) (numbered F p) h in
+    let n = both-false (eqb (z .variable) 0) (ltb (F .most-variables) (z .variable)) (not-true _ (b .0)) in
+    (ltb-false (F .most-variables) (z .variable) (n .1), b .1)
+
+pub binds-numbered : (F : Format) (p : Prefix) (x : ℕ) → numbered F p ≡ true → binds p x ≡ true → x ≤ F .most-variables
+unfolding binds
+binds-numbered F [] x h e = let z : _≡_ {A = ℕ} 0 1 = cc in absurd (omega arith)
+binds-numbered F (z ∷ p) x h e =
+    let n = numbered-∷ F z p h in
+    go (eqb (z .variable) x) refl e (n .0) (binds-numbered F p x (n .1))
+  where
+    go : (b : Bool) → eqb (z .variable) x ≡ b → (b || binds p x) ≡ true → z .variable ≤ F .most-variables
+        → (binds p x ≡ true → x ≤ F .most-variables) → x ≤ F .most-variables
+    go true q e n ih = omega (arith, eqb-true (z .variable) x q)
+    go false q e n ih = ih e
+
+pub record Within (F : Format) (f : Formula) : Type 0 where
+  pub few-variables : length (f .prefix) ≤ F .most-variables
+  pub few-nodes : rows (f .matrix) ≤ F .most-nodes
+  pub is-numbered : numbered F (f .prefix) ≡ true
+  pub is-distinct : distinct (f .prefix) ≡ true
+  pub is-closed : closed f ≡ true

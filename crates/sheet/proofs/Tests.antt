@@ -1,0 +1,54 @@
+-- Lists of tests: an answer is accepted exactly if its tests pass, and what passing tells.
+-- Assumes nothing.
+use mathlib.Core.Path.{_≡_, refl, sym, ap, _∙_}
+use mathlib.Core.Bool.{Bool, true, false, not, _&&_, _||_, cond, and-assoc, and-eq-true-iff}
+use mathlib.Core.List.{List, [], _∷_, _++_, append-nil}
+use Prim.Native.Nat.{ℕ}
+use native.Mathlib.Omega.{arith}
+use borrow.Author.Tests.{not-true}
+use Rattle.sheet.specs.Check.{refused, accepted, Test, answer, passes}
+
+-- both parts of a conjunction that holds, and of a disjunction that fails
+pub both-true : (a b : Bool) → (a && b) ≡ true → (a ≡ true) × (b ≡ true)
+both-true a b h = and-eq-true-iff a b .0 h
+
+pub both-false : (a b : Bool) → (a || b) ≡ false → (a ≡ false) × (b ≡ false)
+both-false true b h = (h, cc)
+both-false false b h = (refl, h)
+
+-- a list that passes: its first test, and the others
+pub passed-∷ : (t : Test) (ts : List Test) → passes (t ∷ ts) ≡ true → (t .fails ≡ false) × (passes ts ≡ true)
+unfolding passes
+passed-∷ t ts h =
+    let b = both-true (not (t .fails)) (passes ts) h in
+    (not-true (t .fails) (b .0), b .1)
+
+pub passes-++ : (ts us : List Test) → passes (ts ++ us) ≡ (passes ts && passes us)
+unfolding passes
+passes-++ [] us = refl
+passes-++ (t ∷ ts) us = ap (λ b. not (t .fails) && b) (passes-++ ts us) ∙ sym (and-assoc (not (t .fails)) (passes ts) (passes us))
+
+pub passed-++ : (ts us : List Test) → passes (ts ++ us) ≡ true → (passes ts ≡ true) × (passes us ≡ true)
+passed-++ ts us h = both-true (passes ts) (passes us) (sym (passes-++ ts us) ∙ h)
+
+-- tests that pass leave the answer to those behind them
+pub answer-++ : {A : Type 0} (ts us : List Test) (a : A) → passes ts ≡ true → answer (ts ++ us) a ≡ answer us a
+unfolding answer
+answer-++ [] us a h = refl
+answer-++ (t ∷ ts) us a h =
+    let p = passed-∷ t ts h in
+    rw (p .0) (answer-++ ts us a (p .1))
+
+pub answer-passes : {A : Type 0} (ts : List Test) (a : A) → passes ts ≡ true → answer ts a ≡ accepted a
+unfolding answer
+answer-passes ts a h = ap (λ l. answer l a) (sym (append-nil ts)) ∙ answer-++ ts [] a h
+
+pub accepted-passes : {A : Type 0} (ts : List Test) (a a′ : A) → answer ts a ≡ accepted a′ → (passes ts ≡ true) × (a ≡ a′)
+unfolding answer passes
+accepted-passes [] a a′ h = (refl, cc)
+accepted-passes {A} (t ∷ ts) a a′ h = go (t .fails) h (accepted-passes ts a a′)
+  where
+    go : (b : Bool) → cond b (refused (t .number) (t .place)) (answer ts a) ≡ accepted a′
+        → (answer ts a ≡ accepted a′ → (passes ts ≡ true) × (a ≡ a′)) → ((not b && passes ts) ≡ true) × (a ≡ a′)
+    go true e ih = let z : _≡_ {A = ℕ} 0 1 = cc in absurd (omega arith)
+    go false e ih = ih e
