@@ -1,8 +1,8 @@
 -- Laws of `bind`: quantifiers over any function of the assignment. No trees.
 -- Assumes nothing.
 use mathlib.Core.Path.{_≡_, refl, sym, _∙_, ap, ap₂, subst, fun-ext}
-use mathlib.Core.Bool.{Bool, true, false, not, _&&_, _||_, cond, Bool·not-not, false≢true, true≢false}
-use mathlib.Core.List.{List, [], _∷_}
+use mathlib.Core.Bool.{Bool, true, false, not, _||_, cond, false≢true, true≢false}
+use mathlib.Core.List.{[], _∷_}
 use Prim.Native.Nat.{ℕ}
 use lib.Dec.{eqb}
 use borrow.Author.Tests.{eqb-true, eq-eqb, not-true}
@@ -10,7 +10,7 @@ use Rattle.formula.specs.Tree.{Op, and, or, same-op, Quantifier, Binding
 use Rattle.formula.specs.Truth.{Assignment, put, join, bind}
 use Rattle.formula.specs.Settle.{value}
 use Rattle.formula.specs.Expand.{all-of, in-last-block}
-use Rattle.formula.proofs.Booleans.{join-comm, join-assoc, join-self, join-value, Leads, join-leads, and-parts, or-parts}
+use Rattle.formula.proofs.Booleans.{join-comm, join-assoc, join-value, Leads, join-leads, and-parts, or-parts}
 
 -- setting another variable first or last makes no difference
 pub put-swap : (ρ : Assignment) (x y : ℕ) (a b : Bool) → eqb x y ≡ false → put (put ρ x a) y b ≡ put (put ρ y b) x a
@@ -33,9 +33,9 @@ bind-put [] f x b ρ h = refl
 bind-put (z ∷ p) f x b ρ h =
     let parts = or-parts (eqb (z .variable) x) (binds p x) h in
     let swap : (a : Bool) → put (put ρ x b) (z .variable) a ≡ put (put ρ (z .variable) a) x b
-          = λ a. sym (put-swap ρ (z .variable) x a b (parts .0)) in
+    = λ a. sym (put-swap ρ (z .variable) x a b (parts .0)) in
     let inner : (a : Bool) → bind p f (put (put ρ x b) (z .variable) a) ≡ bind p (λ σ. f (put σ x b)) (put ρ (z .variable) a)
-          = λ a. ap (bind p f) (swap a) ∙ bind-put p f x b (put ρ (z .variable) a) (parts .1) in
+    = λ a. ap (bind p f) (swap a) ∙ bind-put p f x b (put ρ (z .variable) a) (parts .1) in
     ap₂ (join (z .quantifier)) (inner false) (inner true)
 
 pub bind-leads : (p : Prefix) (f g : Assignment → Bool) → ((ρ : Assignment) → Leads (f ρ) (g ρ)) → (ρ : Assignment)
@@ -82,7 +82,7 @@ unfolding distinct
 bind-own z p f x b ρ e d =
     let same : z .variable ≡ x = eqb-true (z .variable) x e in
     let fresh : binds p (z .variable) ≡ false
-          = not-true (binds p (z .variable)) (and-parts (not (binds p (z .variable))) (distinct p) d .0) in
+    = not-true (binds p (z .variable)) (and-parts (not (binds p (z .variable))) (distinct p) d .0) in
     ap (λ (v : ℕ). bind p f (put ρ v b)) same ∙ bind-put p f x b ρ (subst (λ (v : ℕ). binds p v ≡ false) same fresh)
 
 -- Where the first of the two values is never better than the sign's own, the table's value may be put in, in any block.
@@ -112,7 +112,7 @@ bind-expand (z ∷ p) f x ρ h d = by (eqb (z .variable) x) refl h (λ ρ′ k. 
   where
     by : (m : Bool) → eqb (z .variable) x ≡ m → cond m (all-of (z .quantifier) p) (in-last-block x p) ≡ true
         → ((ρ′ : Assignment) → in-last-block x p ≡ true
-          → bind p f ρ′ ≡ bind (without x p) (λ σ. join (quantifier-of p x) (f (put σ x false)) (f (put σ x true))) ρ′)
+        → bind p f ρ′ ≡ bind (without x p) (λ σ. join (quantifier-of p x) (f (put σ x false)) (f (put σ x true))) ρ′)
         → join (z .quantifier) (bind p f (put ρ (z .variable) false)) (bind p f (put ρ (z .variable) true)) ≡
         bind (cond m p (z ∷ without x p))
         (λ σ. join (cond m (z .quantifier) (quantifier-of p x)) (f (put σ x false)) (f (put σ x true))) ρ

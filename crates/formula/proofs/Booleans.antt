@@ -1,6 +1,6 @@
 -- Laws of `join`, the one operation behind AND, OR and both quantifiers, and of the order false before true.
 -- Assumes nothing.
-use mathlib.Core.Path.{_≡_, refl, sym, _∙_}
+use mathlib.Core.Path.{_≡_, refl, sym, _∙_, ap}
 use mathlib.Core.Bool.{Bool, true, false, not, _&&_, _||_, cond, and-comm, or-comm, and-assoc, or-assoc, and-self, or-self, and-true, or-false, and-false, or-true, and-or-distrib-right, or-and-distrib-right, true≢false, false≢true}
 use mathlib.Core.Logic.{_⊎_, inl, inr}
 use Rattle.formula.specs.Tree.{Op, and, or, dual, Quantifier}
@@ -26,6 +26,12 @@ join-unit or a = or-false a
 pub unit-join : (o : Op) (a : Bool) → join o (unit o) a ≡ a
 unit-join and a = refl
 unit-join or a = refl
+
+pub join-twice : (o : Op) (a b : Bool) → join o a (join o a b) ≡ join o a b
+join-twice o a b = sym (join-assoc o a a b) ∙ ap (λ (c : Bool). join o c b) (join-self o a)
+
+pub join-swap : (o : Op) (a b c : Bool) → join o a (join o b c) ≡ join o b (join o a c)
+join-swap o a b c = sym (join-assoc o a b c) ∙ ap (λ (d : Bool). join o d c) (join-comm o a b) ∙ join-assoc o b a c
 
 -- the dual operator's unit absorbs
 pub join-zero : (o : Op) (a : Bool) → join o a (unit (dual o)) ≡ unit (dual o)
@@ -92,6 +98,14 @@ pub or-parts : (a b : Bool) → (a || b) ≡ false → (a ≡ false) × (b ≡ f
 or-parts true b h = absurd (true≢false h)
 or-parts false b h = (refl, h)
 
+pub or-none : {a b : Bool} → a ≡ false → b ≡ false → (a || b) ≡ false
+or-none p q = simp (p, q)
+
 pub or-cases : (a b : Bool) → (a || b) ≡ true → (a ≡ true) ⊎ (b ≡ true)
 or-cases true b h = inl refl
 or-cases false b h = inr h
+
+-- both branches of a test
+pub cond-cases : {A : Type 0} (C : A → Type 0) (b : Bool) {x y : A} → (b ≡ true → C x) → (b ≡ false → C y) → C (cond b x y)
+cond-cases C true f g = f refl
+cond-cases C false f g = g refl

@@ -1,18 +1,18 @@
 -- What `lowest` and `cheapest` choose: a variable of the prefix that passes the test; and the innermost block is never empty.
 -- Assumes nothing.
-use mathlib.Core.Path.{_≡_, refl, sym, _∙_, ap, ap₂, subst}
-use mathlib.Core.Bool.{Bool, true, false, not, _&&_, _||_, cond, or-true, false≢true, true≢false}
-use mathlib.Core.List.{List, [], _∷_}
-use mathlib.Core.Logic.{_⊎_, inl, inr, ⊎-elim}
+use mathlib.Core.Path.{_≡_, refl, sym, _∙_, ap, subst}
+use mathlib.Core.Bool.{Bool, true, false, not, _||_, cond, or-true, false≢true, true≢false}
+use mathlib.Core.List.{[], _∷_}
+use mathlib.Core.Logic.{⊎-elim}
 use mathlib.Core.Option.{Option, none, some}
 use Prim.Native.Nat.{ℕ}
 use lib.Dec.{eqb}
 use borrow.Author.Tests.{eqb-true, eq-eqb, ne-eqb, not-true}
-use Rattle.formula.specs.Tree.{Op, Binding, Prefix, Formula, binds, distinct}
+use Rattle.formula.specs.Tree.{Binding, Prefix, Formula, binds, distinct}
 use Rattle.formula.specs.Settle.{may-settle}
 use Rattle.formula.specs.Expand.{all-of, in-last-block, innermost}
 use Rattle.formula.specs.Solve.{those, earlier, least, is-some, lowest, cheaper, cheapest}
-use Rattle.formula.proofs.Booleans.{and-parts, or-parts, or-cases}
+use Rattle.formula.proofs.Booleans.{and-parts, or-cases}
 
 -- a chosen variable passes the test and is in the prefix
 
@@ -26,10 +26,13 @@ least-chosen before P (z ∷ p) x h = by (P (z .variable)) refl h (λ y k. least
   where
     here : P (z .variable) ≡ true → z .variable ≡ x → (P x ≡ true) × ((eqb (z .variable) x || binds p x) ≡ true)
     here t e = (subst (λ (v : ℕ). P v ≡ true) e t, ap (λ (b : Bool). b || binds p x) (eq-eqb (z .variable) x e))
+
     later : (P x ≡ true) × (binds p x ≡ true) → (P x ≡ true) × ((eqb (z .variable) x || binds p x) ≡ true)
     later c = (c .0, ap (λ (b : Bool). eqb (z .variable) x || b) (c .1) ∙ or-true (eqb (z .variable) x))
+
     inner : {a c : ℕ} → some a ≡ some c → a ≡ c
     inner e = cc
+
     pick : (o : Option ℕ) → least before (those P p) ≡ o → P (z .variable) ≡ true → earlier before (z .variable) o ≡ some x
         → ((y : ℕ) → least before (those P p) ≡ some y → (P y ≡ true) × (binds p y ≡ true))
         → (P x ≡ true) × ((eqb (z .variable) x || binds p x) ≡ true)
@@ -39,6 +42,7 @@ least-chosen before P (z ∷ p) x h = by (P (z .variable)) refl h (λ y k. least
         of-two : (m : Bool) → cond m y (z .variable) ≡ x → (P x ≡ true) × ((eqb (z .variable) x || binds p x) ≡ true)
         of-two true i = later (rest x (e ∙ ap some i))
         of-two false i = here t i
+
     by : (m : Bool) → P (z .variable) ≡ m → least before (cond m (z .variable ∷ those P p) (those P p)) ≡ some x
         → ((y : ℕ) → least before (those P p) ≡ some y → (P y ≡ true) × (binds p y ≡ true))
         → (P x ≡ true) × ((eqb (z .variable) x || binds p x) ≡ true)
@@ -89,9 +93,11 @@ last-variable z (w ∷ p) d =
     further fresh l =
         let x = l .0 in
         let apart : eqb (z .variable) x ≡ false
-              = ne-eqb (z .variable) x (λ e. false≢true (sym fresh ∙ ap (binds (w ∷ p)) e ∙ l .2)) in
-        (x, ap (λ (m : Bool). cond m (all-of (z .quantifier) (w ∷ p)) (in-last-block x (w ∷ p))) apart ∙ l .1,
-        ap (λ (m : Bool). m || binds (w ∷ p) x) apart ∙ l .2)
+        = ne-eqb (z .variable) x (λ e. false≢true (sym fresh ∙ ap (binds (w ∷ p)) e ∙ l .2)) in (
+          x,
+          ap (λ (m : Bool). cond m (all-of (z .quantifier) (w ∷ p)) (in-last-block x (w ∷ p))) apart ∙ l .1,
+          ap (λ (m : Bool). m || binds (w ∷ p) x) apart ∙ l .2,
+        )
 
 pub cheapest-found : (f : Formula) → distinct (f .prefix) ≡ true → (f .prefix ≡ [] → ⊥) → (x : ℕ) × (cheapest f ≡ some x)
 unfolding cheapest Chosen innermost

@@ -1,13 +1,13 @@
 -- A variable's row taken out of the prefix: one row less, no number twice, and every literal of the settled or raw tree still bound.
 -- Assumes nothing.
-use mathlib.Core.Path.{_≡_, refl, sym, _∙_, ap, ap₂, subst}
+use mathlib.Core.Path.{_≡_, refl, sym, _∙_, ap, ap₂}
 use mathlib.Core.Bool.{Bool, true, false, not, _&&_, _||_, cond, Bool·beq, false≢true, true≢false}
-use mathlib.Core.List.{List, [], _∷_}
+use mathlib.Core.List.{[], _∷_}
 use Prim.Native.Nat.{ℕ, suc}
 use lib.Dec.{eqb}
 use lib.ListN.{length}
-use borrow.Author.Tests.{eqb-true, eq-eqb, not-true, not-false}
-use Rattle.formula.specs.Tree.{Op, Quantifier, Tree, lit, node, Forest, ∅, _▸_, Binding, Prefix, Formula, Literals, of, has, has-any, replace-all, constant, assigned, assign, binds, without, distinct, closed, count, keep, quantifier-of}
+use borrow.Author.Tests.{eqb-true, eq-eqb, not-true}
+use Rattle.formula.specs.Tree.{Op, Tree, lit, node, Forest, ∅, _▸_, Prefix, Formula, Literals, of, has, has-any, constant, assigned, assign, binds, without, distinct, closed, count, keep, quantifier-of}
 use Rattle.formula.specs.Expand.{Copying, copying, relevant, one-relevant, all-relevant, copies, at-first, expand-tree, expand-below, raw-tree, raw}
 use Rattle.formula.proofs.Booleans.{and-parts, or-parts}
 use Rattle.formula.proofs.Evaluation.{has-cover, has-any-cover, has-replace, has-replace-all, has-constant}
@@ -32,9 +32,11 @@ binds-without x v (z ∷ p) h = by (eqb (z .variable) x) refl (binds-without x v
   where
     apart : eqb (z .variable) x ≡ true → eqb (z .variable) v ≡ true → _≡_ {A = Bool} true false
     apart e k = sym (eq-eqb v x (sym (eqb-true (z .variable) v k) ∙ eqb-true (z .variable) x e)) ∙ h
+
     passed : (m : Bool) → eqb (z .variable) x ≡ true → eqb (z .variable) v ≡ m → binds p v ≡ (m || binds p v)
     passed true e k = absurd (true≢false (apart e k))
     passed false e k = refl
+
     by : (m : Bool) → eqb (z .variable) x ≡ m → binds (without x p) v ≡ binds p v
         → binds (cond m p (z ∷ without x p)) v ≡ (eqb (z .variable) v || binds p v)
     by true e rest = passed (eqb (z .variable) v) e refl
@@ -116,6 +118,7 @@ module _ (c : Copying) (U M : Literals) (new₀ : (s : Bool) (v : ℕ) → U s v
     where
       outs : Forest
       outs = keep (λ t. not (has (c .chosen) t)) ts
+
       by : (m : Bool) → has (c .chosen) t ≡ m → has U t ≡ false → has-any M outs ≡ false
           → has-any M (cond (not m) (t ▸ outs) outs) ≡ false
       by true e k rest = rest
@@ -135,6 +138,7 @@ module _ (c : Copying) (U M : Literals) (new₀ : (s : Bool) (v : ℕ) → U s v
 
   mutual
     unfolding has expand-tree
+
     pub has-expand : (t : Tree) → has U t ≡ false → has M (expand-tree c t) ≡ false
     has-expand (lit s v) h = ap₂ _||_ (new₀ s v h) (ap (λ (b : Bool). b || false) (new₁ s v h))
     has-expand (node o ts) h = by (one-relevant (c .chosen) ts) refl (all-relevant (c .chosen) ts) (λ k. has-below ts k h)
@@ -177,12 +181,16 @@ closed-raw x f h = ap not (by (has (of x) (f .matrix)) refl)
   where
     c : Copying
     c = copying (quantifier-of (f .prefix) x) x
+
     U : Literals
     U = unbound (f .prefix)
+
     M : Literals
     M = unbound (without x (f .prefix))
+
     free : has U (f .matrix) ≡ false
     free = not-true (has U (f .matrix)) h
+
     by : (m : Bool) → has (of x) (f .matrix) ≡ m → has M (cond m (expand-tree c (f .matrix)) (f .matrix)) ≡ false
     by true e =
         has-expand c U M (unbound-assigned x false (f .prefix)) (unbound-assigned x true (f .prefix)) (unbound-apart x (f .prefix))

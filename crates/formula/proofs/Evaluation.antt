@@ -1,17 +1,30 @@
 -- Laws of `eval`, `has` and `rows` for trees in which literals are replaced or left alone.
 -- Assumes nothing.
-use mathlib.Core.Path.{_≡_, refl, sym, _∙_, ap, ap₂}
-use mathlib.Core.Bool.{Bool, true, false, not, _||_, cond, Bool·beq}
+use mathlib.Core.Path.{_≡_, refl, _∙_, ap, ap₂}
+use mathlib.Core.Bool.{Bool, true, false, _||_, cond, Bool·beq}
+use mathlib.Core.Logic.{⊎-elim}
 use Prim.Native.Nat.{ℕ, suc, _+_}
 use lib.Dec.{eqb}
-use borrow.Author.Tests.{eqb-true, eq-eqb}
-use Rattle.formula.specs.Tree.{Op, and, or, dual, Tree, lit, node, Forest, ∅, _▸_, Literals, of, rows, rows-all, has, has-any, replace, replace-all, constant, assigned, assign}
+use Rattle.formula.specs.Tree.{Op, dual, Tree, lit, node, Forest, ∅, _▸_, Literals, of, rows, rows-all, has, has-any, replace, replace-all, constant, assigned, assign, some-child}
 use Rattle.formula.specs.Truth.{Assignment, put, join, unit, eval, eval-all}
-use Rattle.formula.proofs.Booleans.{or-parts}
+use Rattle.formula.proofs.Booleans.{join-zero, zero-join, or-parts, or-cases}
+
+-- a child that has the value which absorbs under the operator decides it
+pub eval-decided : (o : Op) (ρ : Assignment) (P : Tree → Bool) → ((t : Tree) → P t ≡ true → eval t ρ ≡ unit (dual o))
+    → (ts : Forest) → some-child P ts ≡ true → eval-all ts o ρ ≡ unit (dual o)
+unfolding eval some-child
+eval-decided o ρ P f ∅ p = cc
+eval-decided o ρ P f (t ▸ ts) p =
+    let here : P t ≡ true → join o (eval t ρ) (eval-all ts o ρ) ≡ unit (dual o)
+    = λ e. ap (λ (b : Bool). join o b (eval-all ts o ρ)) (f t e) ∙ zero-join o (eval-all ts o ρ) in
+    let later : some-child P ts ≡ true → join o (eval t ρ) (eval-all ts o ρ) ≡ unit (dual o)
+    = λ e. ap (join o (eval t ρ)) (eval-decided o ρ P f ts e) ∙ join-zero o (eval t ρ) in
+    ⊎-elim here later (or-cases (P t) (some-child P ts) p)
 
 -- each literal's replacement has the literal's value under σ: the tree has its value under σ
 mutual
   unfolding eval replace
+
   pub eval-replace : (f : Bool → ℕ → Tree) (ρ σ : Assignment) → ((s : Bool) (v : ℕ) → eval (f s v) ρ ≡ Bool·beq s (σ v))
       → (t : Tree) → eval (replace f t) ρ ≡ eval t σ
   eval-replace f ρ σ h (lit s v) = h s v
@@ -43,6 +56,7 @@ eval-assign x b t ρ = eval-replace (assigned x b) ρ (put ρ x b) (eval-assigne
 -- assignments that differ only at literals which don't occur give one value
 mutual
   unfolding eval has
+
   pub eval-same : (L : Literals) (σ ρ : Assignment) → ((s : Bool) (v : ℕ) → L s v ≡ false → σ v ≡ ρ v)
       → (t : Tree) → has L t ≡ false → eval t σ ≡ eval t ρ
   eval-same L σ ρ h (lit s v) k = ap (Bool·beq s) (h s v k)
@@ -61,6 +75,7 @@ put-other x b ρ s v h = ap (λ (m : Bool). cond m b (ρ v)) h
 -- a literal set that covers two others: what has neither of the two has none of it
 mutual
   unfolding has
+
   pub has-cover : (A B M : Literals) → ((s : Bool) (v : ℕ) → A s v ≡ false → B s v ≡ false → M s v ≡ false)
       → (t : Tree) → has A t ≡ false → has B t ≡ false → has M t ≡ false
   has-cover A B M h (lit s v) a b = h s v a b
@@ -77,6 +92,7 @@ mutual
 -- replacing literals leaves those of the replacements
 mutual
   unfolding has replace
+
   pub has-replace : (L M : Literals) (f : Bool → ℕ → Tree) → ((s : Bool) (v : ℕ) → L s v ≡ false → has M (f s v) ≡ false)
       → (t : Tree) → has L t ≡ false → has M (replace f t) ≡ false
   has-replace L M f h (lit s v) k = h s v k
@@ -92,6 +108,7 @@ mutual
 -- rows stay where each literal's replacement is one row
 mutual
   unfolding rows replace
+
   pub rows-replace : (f : Bool → ℕ → Tree) → ((s : Bool) (v : ℕ) → rows (f s v) ≡ 1) → (t : Tree) → rows (replace f t) ≡ rows t
   rows-replace f h (lit s v) = h s v
   rows-replace f h (node o ts) = ap suc (rows-replace-all f h ts)

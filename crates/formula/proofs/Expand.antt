@@ -1,18 +1,16 @@
 -- Local expansion: the raw tree's value and rows, and the truth of the expanded formula.
 -- Assumes nothing.
-use mathlib.Core.Path.{_≡_, refl, sym, _∙_, ap, ap₂, subst}
-use mathlib.Core.Bool.{Bool, true, false, not, _&&_, _||_, cond, Bool·beq, false≢true, true≢false}
-use mathlib.Core.Logic.{_⊎_, inl, inr, ⊎-elim}
+use mathlib.Core.Path.{_≡_, refl, sym, _∙_, ap, ap₂}
+use mathlib.Core.Bool.{Bool, true, false, not, _||_, cond, Bool·beq, false≢true, true≢false}
 use Prim.Native.Nat.{ℕ, suc, _+_}
 use native.Mathlib.Omega.{arith}
-use lib.Dec.{eqb}
 use borrow.Author.Tests.{eqb-true, not-true, not-false}
-use Rattle.formula.specs.Tree.{Op, Quantifier, Tree, lit, node, Forest, ∅, _▸_, Formula, Literals, of, rows, rows-all, has, has-any, replace-all, assigned, quantifier-of, without, distinct, count, some-child, keep}
-use Rattle.formula.specs.Truth.{Assignment, put, join, unit, eval, eval-all, bind, truth}
-use Rattle.formula.specs.Expand.{in-last-block, innermost, Copying, copying, relevant, one-relevant, all-relevant, copies, at-first, expand-tree, expand-below, raw-tree, growth, growth-below, raw-rows, raw}
-use Rattle.formula.proofs.Booleans.{join-comm, join-assoc, join-self, join-unit, unit-join, join-share, share-join, or-parts, or-cases}
+use Rattle.formula.specs.Tree.{Op, Quantifier, Tree, lit, node, Forest, ∅, _▸_, Formula, Literals, of, rows, rows-all, has, has-any, replace-all, quantifier-of, without, distinct, count, some-child, keep}
+use Rattle.formula.specs.Truth.{Assignment, put, join, unit, eval, eval-all, truth}
+use Rattle.formula.specs.Expand.{innermost, Copying, copying, relevant, one-relevant, all-relevant, copies, at-first, expand-tree, expand-below, raw-tree, growth, growth-below, raw-rows, raw}
+use Rattle.formula.proofs.Booleans.{join-comm, join-assoc, join-self, join-unit, join-share, share-join, or-parts}
 use Rattle.formula.proofs.Binding.{bind-ext, bind-expand}
-use Rattle.formula.proofs.Evaluation.{eval-replace, eval-replace-all, eval-assigned, eval-same, eval-all-same, put-other, rows-replace-all, rows-assigned}
+use Rattle.formula.proofs.Evaluation.{eval-replace-all, eval-assigned, eval-same, eval-all-same, put-other, rows-replace-all, rows-assigned}
 
 -- forests divided by a test
 
@@ -52,8 +50,10 @@ eval-divided P o ρ (t ▸ ts) = ap (join o (eval t ρ)) (eval-divided P o ρ ts
   where
     ins : Bool
     ins = eval-all (keep P ts) o ρ
+
     outs : Bool
     outs = eval-all (keep (λ t. not (P t)) ts) o ρ
+
     by : (m : Bool)
         → join o (eval t ρ) (join o ins outs) ≡
         join o (eval-all (cond m (t ▸ keep P ts) (keep P ts)) o ρ)
@@ -93,6 +93,7 @@ eval-at-first L new o ρ (t ▸ ts) h = by (has L t) h (eval-at-first L new o ρ
   where
     outs : Bool
     outs = eval-all (keep (λ t. not (has L t)) ts) o ρ
+
     by : (m : Bool) → (m || has-any L ts) ≡ true → (has-any L ts ≡ true → eval-all (at-first L new ts) o ρ ≡ join o (eval new ρ) outs)
         → eval-all (cond m (new ▸ keep (λ u. not (has L u)) ts) (t ▸ at-first L new ts)) o ρ ≡
         join o (eval new ρ) (eval-all (cond (not m) (t ▸ keep (λ t. not (has L t)) ts) (keep (λ t. not (has L t)) ts)) o ρ)
@@ -165,15 +166,16 @@ module _ (c : Copying) (ρ σ₀ σ₁ : Assignment) (values : Values c ρ σ₀
       let out : Forest = keep (λ t. not (has L t)) ts in
       let kept : Forest = keep (has L) ts in
       let divided : (σ : Assignment) → ((s : Bool) (v : ℕ) → L s v ≡ false → σ v ≡ ρ v)
-            → eval-all ts o σ ≡ join o (eval-all kept o σ) (eval-all out o ρ)
-            = λ σ apart. eval-divided (has L) o σ ts ∙
-              ap (join o (eval-all kept o σ)) (eval-all-same L σ ρ apart o out (has-any-kept-out L ts)) in
+      → eval-all ts o σ ≡ join o (eval-all kept o σ) (eval-all out o ρ)
+      = λ σ apart. eval-divided (has L) o σ ts ∙
+      ap (join o (eval-all kept o σ)) (eval-all-same L σ ρ apart o out (has-any-kept-out L ts)) in
       eval-at-first L (copies c o kept) o ρ ts h ∙ ap (λ (b : Bool). join o b (eval-all out o ρ)) (eval-copies o kept) ∙
       sym (join-share (c .joint) o (eval-all kept o σ₀) (eval-all kept o σ₁) (eval-all out o ρ)) ∙
       sym (ap₂ (join (c .joint)) (divided σ₀ (values .apart₀)) (divided σ₁ (values .apart₁)))
 
   mutual
     unfolding eval has expand-tree
+
     -- the raw tree joins the values that the tree has under the two
     pub eval-expand : (t : Tree) → has (c .chosen) t ≡ true → eval (expand-tree c t) ρ ≡ join (c .joint) (eval t σ₀) (eval t σ₁)
     eval-expand (lit s v) h =
@@ -182,7 +184,7 @@ module _ (c : Copying) (ρ σ₀ σ₁ : Assignment) (values : Values c ρ σ₀
       where
         by : (one : Bool) → one-relevant (c .chosen) ts ≡ one → (all : Bool) → all-relevant (c .chosen) ts ≡ all
             → (count (keep (has (c .chosen)) ts) ≡ 1
-              → eval-all (expand-below c ts) o ρ ≡ join (c .joint) (eval-all ts o σ₀) (eval-all ts o σ₁))
+            → eval-all (expand-below c ts) o ρ ≡ join (c .joint) (eval-all ts o σ₀) (eval-all ts o σ₁))
             → eval
             (cond one (node o (expand-below c ts))
             (cond all (copies c o ts) (node o (at-first (c .chosen) (copies c o (relevant (c .chosen) ts)) ts)))) ρ ≡
@@ -198,13 +200,14 @@ module _ (c : Copying) (ρ σ₀ σ₁ : Assignment) (values : Values c ρ σ₀
       where
         L : Literals
         L = c .chosen
+
         by : (m : Bool) → has L t ≡ m → (has L t ≡ true → eval (expand-tree c t) ρ ≡ join (c .joint) (eval t σ₀) (eval t σ₁))
             → (count (keep (has L) ts) ≡ 1 → eval-all (expand-below c ts) o ρ ≡ join (c .joint) (eval-all ts o σ₀) (eval-all ts o σ₁))
             → eval-all (cond m (expand-tree c t ▸ ts) (t ▸ expand-below c ts)) o ρ ≡
             join (c .joint) (join o (eval t σ₀) (eval-all ts o σ₀)) (join o (eval t σ₁) (eval-all ts o σ₁))
         by true e here later =
             let rest : (σ : Assignment) → ((s : Bool) (v : ℕ) → L s v ≡ false → σ v ≡ ρ v) → eval-all ts o σ ≡ eval-all ts o ρ
-                  = λ σ apart. eval-all-same L σ ρ apart o ts (one-first L t ts h e) in
+            = λ σ apart. eval-all-same L σ ρ apart o ts (one-first L t ts h e) in
             ap (λ (b : Bool). join o b (eval-all ts o ρ)) (here e) ∙
             sym (join-share (c .joint) o (eval t σ₀) (eval t σ₁) (eval-all ts o ρ)) ∙
             sym
@@ -212,7 +215,7 @@ module _ (c : Copying) (ρ σ₀ σ₁ : Assignment) (values : Values c ρ σ₀
             (rest σ₁ (values .apart₁)))
         by false e here later =
             let one : (σ : Assignment) → ((s : Bool) (v : ℕ) → L s v ≡ false → σ v ≡ ρ v) → eval t σ ≡ eval t ρ
-                  = λ σ apart. eval-same L σ ρ apart t e in
+            = λ σ apart. eval-same L σ ρ apart t e in
             ap (join o (eval t ρ)) (later (one-later L t ts h e)) ∙
             sym (share-join (c .joint) o (eval t ρ) (eval-all ts o σ₀) (eval-all ts o σ₁)) ∙
             sym
@@ -262,6 +265,7 @@ module _ (c : Copying) (one₀ : (s : Bool) (v : ℕ) → rows (c .first s v) �
 
   mutual
     unfolding rows has expand-tree growth
+
     pub rows-expand : (t : Tree) → has (c .chosen) t ≡ true → rows (expand-tree c t) ≡ rows t + growth (c .chosen) t
     rows-expand (lit s v) h = let e₀ = one₀ s v in let e₁ = one₁ s v in omega arith
     rows-expand (node o ts) h =
@@ -269,8 +273,10 @@ module _ (c : Copying) (one₀ : (s : Bool) (v : ℕ) → rows (c .first s v) �
       where
         L : Literals
         L = c .chosen
+
         R : ℕ
         R = rows-all (relevant L ts)
+
         by : (one : Bool) → one-relevant L ts ≡ one → (all : Bool) → all-relevant L ts ≡ all
             → (has-any L ts ≡ true → rows-all (expand-below c ts) ≡ rows-all ts + growth-below L ts)
             → rows
@@ -291,6 +297,7 @@ module _ (c : Copying) (one₀ : (s : Bool) (v : ℕ) → rows (c .first s v) �
       where
         L : Literals
         L = c .chosen
+
         by : (m : Bool) → has L t ≡ m → (m || has-any L ts) ≡ true
             → (has L t ≡ true → rows (expand-tree c t) ≡ rows t + growth L t)
             → (has-any L ts ≡ true → rows-all (expand-below c ts) ≡ rows-all ts + growth-below L ts)

@@ -1,18 +1,18 @@
 -- Settling keeps the truth of the formula, in every block.
 -- Assumes nothing.
-use mathlib.Core.Path.{_≡_, refl, sym, _∙_, ap, ap₂, subst}
-use mathlib.Core.Bool.{Bool, true, false, not, _&&_, _||_, cond, Bool·beq, false≢true, true≢false}
-use mathlib.Core.Logic.{_⊎_, inl, inr, ⊎-elim}
-use mathlib.Core.Option.{Option, none, some}
+use mathlib.Core.Path.{_≡_, refl, sym, _∙_, ap}
+use mathlib.Core.Bool.{Bool, true, false, not, cond, Bool·beq, false≢true, true≢false}
+use mathlib.Core.Logic.{⊎-elim}
+use mathlib.Core.Option.{none, some}
 use Prim.Native.Nat.{ℕ}
 use lib.Dec.{eqb}
-use borrow.Author.Tests.{eqb-true, not-true}
-use Rattle.formula.specs.Tree.{Op, and, or, dual, Quantifier, Tree, lit, node, Forest, ∅, _▸_, Formula, Prefix, Literals, of, of-sign, has, has-any, assign, binds, quantifier-of, without, distinct, some-child}
-use Rattle.formula.specs.Truth.{Assignment, put, join, unit, eval, eval-all, bind, truth}
-use Rattle.formula.specs.Settle.{is-lit, at-root, may-take, value, settling, may-settle, settled}
-use Rattle.formula.proofs.Booleans.{Leads, false-leads, leads-eq, join-leads, join-zero, zero-join, or-parts, or-cases}
+use borrow.Author.Tests.{not-true}
+use Rattle.formula.specs.Tree.{Op, and, or, Quantifier, Tree, lit, node, Forest, ∅, _▸_, Formula, of, of-sign, has, has-any, assign, binds, quantifier-of, without, distinct}
+use Rattle.formula.specs.Truth.{Assignment, put, eval, eval-all, truth}
+use Rattle.formula.specs.Settle.{is-lit, at-root, may-take, value, settling, may-settle}
+use Rattle.formula.proofs.Booleans.{Leads, false-leads, leads-eq, join-leads, or-parts, or-cases}
 use Rattle.formula.proofs.Binding.{bind-ext, bind-settle}
-use Rattle.formula.proofs.Evaluation.{eval-assign, eval-same, put-other}
+use Rattle.formula.proofs.Evaluation.{eval-decided, eval-assign, eval-same, put-other}
 
 -- the better value of a literal's own variable is the literal's sign
 literal-leads : (x : ℕ) (s s′ : Bool) (v : ℕ) (ρ : Assignment) → of-sign (not s) x s′ v ≡ false
@@ -30,6 +30,7 @@ literal-leads x s s′ v ρ h = by (eqb v x) s s′ h
 -- pure: with no literal of the other sign the whole tree is at least as true under the sign
 mutual
   unfolding eval has
+
   pure-leads : (x : ℕ) (s : Bool) (ρ : Assignment) (t : Tree) → has (of-sign (not s) x) t ≡ false
       → Leads (eval t (put ρ x (not s))) (eval t (put ρ x s))
   pure-leads x s ρ (lit s′ v) h = literal-leads x s s′ v ρ h
@@ -42,18 +43,6 @@ mutual
       let parts = or-parts (has (of-sign (not s) x) t) (has-any (of-sign (not s) x) ts) h in
       join-leads o (eval t (put ρ x (not s))) (eval t (put ρ x s)) (eval-all ts o (put ρ x (not s))) (eval-all ts o (put ρ x s))
       (pure-leads x s ρ t (parts .0)) (pure-leads-all x s ρ o ts (parts .1))
-
--- a child that has the value which absorbs under the operator decides it
-absorbs : (P : Tree → Bool) (o : Op) (ρ : Assignment) → ((t : Tree) → P t ≡ true → eval t ρ ≡ unit (dual o))
-    → (ts : Forest) → some-child P ts ≡ true → eval-all ts o ρ ≡ unit (dual o)
-unfolding eval some-child
-absorbs P o ρ h ∅ k = absurd (false≢true k)
-absorbs P o ρ h (t ▸ ts) k =
-    let here : P t ≡ true → eval-all (t ▸ ts) o ρ ≡ unit (dual o)
-          = λ e. ap (λ (b : Bool). join o b (eval-all ts o ρ)) (h t e) ∙ zero-join o (eval-all ts o ρ) in
-    let there : some-child P ts ≡ true → eval-all (t ▸ ts) o ρ ≡ unit (dual o)
-          = λ e. ap (join o (eval t ρ)) (absorbs P o ρ h ts e) ∙ join-zero o (eval t ρ) in
-    ⊎-elim here there (or-cases (P t) (some-child P ts) k)
 
 -- a literal of x and the sign s is true where x = s, and false where x is the other value
 unit-value : (x : ℕ) (s b : Bool) (ρ : Assignment) (t : Tree) → is-lit (of-sign s x) t ≡ true → eval t (put ρ x b) ≡ Bool·beq s b
@@ -85,9 +74,9 @@ unit-leads : (x : ℕ) (s : Bool) (ρ : Assignment) (t : Tree) → at-root (of-s
 unfolding eval at-root is-lit
 unit-leads x s ρ (lit s′ v) h = false-leads (unit-value x s (not s) ρ (lit s′ v) h ∙ other s)
 unit-leads x s ρ (node and ts) h =
-    false-leads (absorbs (is-lit (of-sign s x)) and (put ρ x (not s)) (λ t k. unit-value x s (not s) ρ t k ∙ other s) ts h)
+    false-leads (eval-decided and (put ρ x (not s)) (is-lit (of-sign s x)) (λ t k. unit-value x s (not s) ρ t k ∙ other s) ts h)
 unit-leads x s ρ (node or ts) h =
-    λ e. absorbs (is-lit (of-sign s x)) or (put ρ x s) (λ t k. unit-value x s s ρ t k ∙ own s) ts h
+    λ e. eval-decided or (put ρ x s) (is-lit (of-sign s x)) (λ t k. unit-value x s s ρ t k ∙ own s) ts h
 
 pub take-leads : (x : ℕ) (s : Bool) (ρ : Assignment) (t : Tree) → may-take s x t ≡ true
     → Leads (eval t (put ρ x (not s))) (eval t (put ρ x s))
@@ -107,11 +96,14 @@ taken-sign q x t b h = by (has (of x) t) (may-take true x t) (may-take false x t
         leads-eq
         (eval-same (of x) (put ρ x (not s)) ρ (put-other x (not s) ρ) t k ∙
         sym (eval-same (of x) (put ρ x s) ρ (put-other x s ρ) t k))
+
     zero-sign : (q : Quantifier) → (s : Bool) × (value q s ≡ false)
     zero-sign or = (false, refl)
     zero-sign and = (true, refl)
+
     inner : {a c : Bool} → some a ≡ some c → a ≡ c
     inner e = cc
+
     by : (m n₁ n₀ : Bool) → has (of x) t ≡ m → may-take true x t ≡ n₁ → may-take false x t ≡ n₀
         → cond (not m) (some false) (cond n₁ (some (value q true)) (cond n₀ (some (value q false)) none)) ≡ some b
         → (s : Bool) × (value q s ≡ b) × ((ρ : Assignment) → Leads (eval t (put ρ x (not s))) (eval t (put ρ x s)))
@@ -128,6 +120,6 @@ truth-assigned x b f h d k =
     let sign = taken-sign (quantifier-of (f .prefix) x) x (f .matrix) b k in
     let start : Assignment = λ _. false in
     let same : (ρ : Assignment) → eval (assign x b (f .matrix)) ρ ≡ eval (f .matrix) (put ρ x (value (quantifier-of (f .prefix) x) (sign .0)))
-          = λ ρ. eval-assign x b (f .matrix) ρ ∙ ap (λ (c : Bool). eval (f .matrix) (put ρ x c)) (sym (sign .1)) in
+    = λ ρ. eval-assign x b (f .matrix) ρ ∙ ap (λ (c : Bool). eval (f .matrix) (put ρ x c)) (sym (sign .1)) in
     bind-ext (without x (f .prefix)) same start ∙
     sym (bind-settle (f .prefix) (eval (f .matrix)) x (sign .0) start h d (sign .2))

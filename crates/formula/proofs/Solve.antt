@@ -3,16 +3,16 @@
 -- Assumes nothing.
 use mathlib.Core.Path.{_≡_, refl, sym, _∙_, ap, subst}
 use mathlib.Core.Bool.{Bool, true, false, cond, false≢true, true≢false}
-use mathlib.Core.List.{List, [], _∷_}
+use mathlib.Core.List.{[]}
 use mathlib.Core.Option.{Option, none, some}
-use Prim.Native.Nat.{ℕ, zero, suc, _+_, _<_, _≤_}
+use Prim.Native.Nat.{ℕ, zero, suc, _+_, _<_}
 use native.Mathlib.Omega.{arith}
 use lib.ListN.{length}
-use Rattle.formula.specs.Tree.{Formula, Prefix, binds, without, distinct, closed}
+use Rattle.formula.specs.Tree.{Formula, binds, distinct, closed}
 use Rattle.formula.specs.Truth.{truth}
 use Rattle.formula.specs.Tidy.{tidied, verdict}
 use Rattle.formula.specs.Settle.{may-settle, settled}
-use Rattle.formula.specs.Expand.{innermost, raw, expanded}
+use Rattle.formula.specs.Expand.{raw, expanded}
 use Rattle.formula.specs.Solve.{is-some, lowest, cheapest, State, End, ended, stopped, Step, halt, next, Fits, fits-raw, settle-step, expand-step, undecided-step, step-by, step, Run, go-on, run, solve}
 use Rattle.formula.proofs.Closed.{length-without}
 use Rattle.formula.proofs.Steps.{Proper, truth-tidied, proper-tidied, truth-settled, proper-settled, truth-expanded, proper-expanded, verdict-truth, decided-without-variables}
@@ -61,6 +61,7 @@ expand-right fits s p u n = by (cheapest (s .formula)) refl
         let k : verdict ((s .formula) .matrix) ≡ some (d .0) = d .1 in
         let z : _≡_ {A = Bool} true false = cc in
         true≢false z
+
     by : (o : Option ℕ) → cheapest (s .formula) ≡ o → Right fits s (expand-step fits s o)
     by none e =
         let c = cheapest-found (s .formula) (p .is-distinct) nonempty in
@@ -92,6 +93,7 @@ step-right fits s p = by (verdict ((s .formula) .matrix)) refl
     open-case u (some x) e =
         let c = lowest-chosen (s .formula) x e in
         settle-right fits s x (may-settle x (s .formula)) p (c .1) refl (c .0)
+
     by : (o : Option Bool) → verdict ((s .formula) .matrix) ≡ o → Right fits s (step-by fits s o)
     by (some v) e = e
     by none e = open-case e (lowest (s .formula)) refl

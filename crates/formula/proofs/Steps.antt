@@ -2,16 +2,15 @@
 -- Assumes nothing.
 use mathlib.Core.Path.{_≡_, refl, sym, _∙_, ap, ap₂}
 use mathlib.Core.Bool.{Bool, true, false, not, _||_, cond, false≢true, true≢false}
-use mathlib.Core.List.{List, [], _∷_}
-use mathlib.Core.Option.{Option, none, some}
-use Prim.Native.Nat.{ℕ, suc, _≤_}
+use mathlib.Core.List.{[], _∷_}
+use mathlib.Core.Option.{some}
+use Prim.Native.Nat.{ℕ, _≤_}
 use native.Mathlib.Omega.{arith}
 use lib.Dec.{eqb}
-use lib.ListN.{length}
 use borrow.Author.Tests.{not-true}
-use Rattle.formula.specs.Tree.{Op, and, or, Tree, lit, node, Forest, ∅, _▸_, Binding, Prefix, Formula, of, rows, has, has-any, assign, binds, quantifier-of, without, distinct, closed}
+use Rattle.formula.specs.Tree.{and, or, Tree, lit, node, Forest, ∅, _▸_, Prefix, Formula, of, rows, has, has-any, assign, binds, quantifier-of, without, distinct, closed}
 use Rattle.formula.specs.Truth.{Assignment, put, join, eval, bind, truth}
-use Rattle.formula.specs.Tidy.{tidy, tidied, is-tidy, childless, breaks, faults, faults-all, root-faults, any, verdict}
+use Rattle.formula.specs.Tidy.{tidied, is-tidy, childless, breaks, faults, faults-all, root-faults, any, verdict}
 use Rattle.formula.specs.Settle.{may-settle, settled}
 use Rattle.formula.specs.Expand.{all-of, in-last-block, innermost, copying, raw-tree, raw-rows, raw, expanded}
 use Rattle.formula.proofs.Booleans.{join-self, or-parts}
@@ -137,6 +136,7 @@ everything s v = true
 
 mutual
   unfolding faults any has childless everything
+
   literal-below : (t : Tree) → any (faults t) ≡ false → has everything t ≡ true
   literal-below (lit s v) h = refl
   literal-below (node o ts) h =

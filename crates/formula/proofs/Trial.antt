@@ -1,12 +1,12 @@
 -- Trial's verdict is the truth, and its leaves are at most 2 to the power of the variables.
 -- Assumes nothing.
-use mathlib.Core.Path.{_≡_, refl, sym, _∙_, ap, ap₂}
+use mathlib.Core.Path.{_≡_, refl, _∙_, ap₂}
 use mathlib.Core.Bool.{Bool, true, false, cond, Bool·beq}
-use mathlib.Core.List.{List, [], _∷_}
+use mathlib.Core.List.{[], _∷_}
 use Prim.Native.Nat.{ℕ, suc, _+_, _^_, _≤_}
 use native.Mathlib.Omega.{arith}
 use lib.ListN.{length}
-use Rattle.formula.specs.Tree.{Quantifier, and, or, Binding, Prefix, Formula}
+use Rattle.formula.specs.Tree.{Quantifier, and, or, Prefix, Formula}
 use Rattle.formula.specs.Truth.{Assignment, put, join, eval, bind, truth}
 use Rattle.formula.specs.Trial.{Tried, stops-at, turn, try, trial}
 
@@ -16,6 +16,7 @@ turn-verdict q t₀ t₁ = by q (t₀ .verdict) refl
   where
     both : Tried
     both = record { verdict = t₁ .verdict; leaves = t₀ .leaves + t₁ .leaves }
+
     by : (q : Quantifier) (b : Bool) → t₀ .verdict ≡ b → (cond (Bool·beq (stops-at q) b) t₀ both) .verdict ≡ join q b (t₁ .verdict)
     by or true e = e
     by or false e = refl
@@ -28,6 +29,7 @@ turn-leaves q t₀ t₁ = by (Bool·beq (stops-at q) (t₀ .verdict))
   where
     both : Tried
     both = record { verdict = t₁ .verdict; leaves = t₀ .leaves + t₁ .leaves }
+
     by : (m : Bool) → (cond m t₀ both) .leaves ≤ t₀ .leaves + t₁ .leaves
     by true = omega arith
     by false = omega arith

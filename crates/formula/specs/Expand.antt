@@ -1,10 +1,10 @@
 -- Local expansion of a variable of the innermost block ("Expand x"; document 000, sections 5.1 and 5.3).
 -- Assumes nothing.
 use mathlib.Core.Bool.{Bool, true, false, not, _&&_, cond}
-use mathlib.Core.List.{List, [], _∷_}
-use Prim.Native.Nat.{ℕ, suc, _+_}
+use mathlib.Core.List.{[], _∷_}
+use Prim.Native.Nat.{ℕ, _+_}
 use lib.Dec.{eqb}
-use Rattle.formula.specs.Tree.{Quantifier, Op, same-op, Tree, lit, node, Forest, ∅, _▸_, Binding, Prefix, Formula, Literals, of, quantifier-of, without, rows, rows-all, has, replace-all, assigned, count, some-child, keep}
+use Rattle.formula.specs.Tree.{Quantifier, Op, same-op, Tree, lit, node, Forest, ∅, _▸_, Prefix, Formula, Literals, of, quantifier-of, without, rows, rows-all, has, replace-all, assigned, count, some-child, keep}
 use Rattle.formula.specs.Tidy.{tidy}
 
 -- every row of the prefix has the quantifier q

@@ -6,7 +6,7 @@ use mathlib.Core.Option.{Option, none, some}
 use Prim.Native.Nat.{ℕ, zero, suc, _-_}
 use lib.Dec.{eqb, ltb}
 use lib.ListN.{length}
-use Rattle.formula.specs.Tree.{Binding, Prefix, Formula, of}
+use Rattle.formula.specs.Tree.{Prefix, Formula, of}
 use Rattle.formula.specs.Tidy.{tidied, verdict}
 use Rattle.formula.specs.Settle.{may-settle, settled}
 use Rattle.formula.specs.Expand.{innermost, raw-rows, expanded}

@@ -1,9 +1,9 @@
 -- Trial: the semantic tree, value 0 first ("Trial"; document 001, section 2.1).
 -- Assumes nothing.
 use mathlib.Core.Bool.{Bool, true, false, cond, Bool·beq}
-use mathlib.Core.List.{List, [], _∷_}
+use mathlib.Core.List.{[], _∷_}
 use Prim.Native.Nat.{ℕ, _+_}
-use Rattle.formula.specs.Tree.{Quantifier, and, or, Binding, Prefix, Formula}
+use Rattle.formula.specs.Tree.{Quantifier, and, or, Prefix, Formula}
 use Rattle.formula.specs.Truth.{Assignment, put, eval}
 
 -- a verdict and the leaves tried

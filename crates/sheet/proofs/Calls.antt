@@ -1,7 +1,7 @@
 -- Demand 3: one theorem about a whole list of Settle and Expand calls.
 -- Assumes nothing.
 use mathlib.Core.Path.{_≡_, refl, sym, _∙_, ap, ap₂, subst}
-use mathlib.Core.Bool.{Bool, true, false, not, _&&_, _||_, cond, false≢true, true≢false}
+use mathlib.Core.Bool.{Bool, true, false, not, _&&_, _||_, cond, false≢true}
 use mathlib.Core.List.{List, [], _∷_, _++_}
 use mathlib.Core.Option.{Option, none, some, Option·getD}
 use Prim.Native.Nat.{ℕ, suc, _+_, _-_, _≤_}
@@ -10,8 +10,8 @@ use native.Mathlib.Nat.{le-trans, zero-add}
 use lib.Dec.{eqb, ltb, leb}
 use lib.ListN.{length, take, replicate}
 use lib.Seq.{take-append-seam}
-use borrow.Author.Tests.{not-true, not-false, leb-true}
-use Rattle.formula.specs.Tree.{Binding, Prefix, Formula, of, rows, binds, without, distinct, closed}
+use borrow.Author.Tests.{not-false, leb-true}
+use Rattle.formula.specs.Tree.{Prefix, Formula, of, rows, binds, without}
 use Rattle.formula.specs.Truth.{truth}
 use Rattle.formula.specs.Tidy.{is-tidy, verdict}
 use Rattle.formula.specs.Settle.{may-settle, settled}
@@ -20,10 +20,10 @@ use Rattle.formula.specs.Solve.{is-some, fits-raw}
 use Rattle.formula.proofs.Booleans.{and-parts}
 use Rattle.formula.proofs.Closed.{length-without}
 use Rattle.formula.proofs.Steps.{Proper, truth-settled, proper-settled, rows-settled, truth-expanded, proper-expanded, rows-expanded, verdict-truth, decided-without-variables}
-use Rattle.sheet.specs.Format.{Bytes, Format, sheet-length, fits, variables, nodes}
+use Rattle.sheet.specs.Format.{Bytes, Format, fits, variables, nodes}
 use Rattle.sheet.specs.Sheet.{formula, sheet}
 use Rattle.sheet.specs.Check.{Answer, refused, accepted, Test, answer, passes, Sizes, check-tests, check}
-use Rattle.sheet.specs.Operations.{padded, output-after, write, Written, tidy-and-bound-tests, settle-tests, settle-call, expand-tests, expand-call}
+use Rattle.sheet.specs.Operations.{padded, output-after, write, tidy-and-bound-tests, settle-tests, settle-call, expand-tests, expand-call}
 use Rattle.sheet.specs.Calls.{Call, settle, expand, perform, Held, held-after, perform-all}
 use Rattle.sheet.proofs.Tests.{passed-∷, passed-++, answer-passes, accepted-passes}
 use Rattle.sheet.proofs.Limits.{Sound, Within, numbered}
@@ -46,10 +46,11 @@ front-written : (tests : List Test) (new out : Bytes) (n : ℕ) → (write tests
     → (passes tests ≡ true) × (take n ((write tests new out) .output) ≡ new)
 unfolding write output-after padded
 front-written tests new out n h =
-    let a = accepted-passes tests (length new) n h in
-    (a .0,
-    rw h (ap (λ (m : ℕ). take m (new ++ replicate (length out - length new) 0)) (sym (a .1)) ∙
-    take-append-seam new (replicate (length out - length new) 0)))
+    let a = accepted-passes tests (length new) n h in (
+      a .0,
+      rw h (ap (λ (m : ℕ). take m (new ++ replicate (length out - length new) 0)) (sym (a .1)) ∙
+          take-append-seam new (replicate (length out - length new) 0)),
+    )
 
 some-value : (o : Option Bool) → is-some o ≡ true → o ≡ some (Option·getD o false)
 unfolding is-some
@@ -84,26 +85,31 @@ module _ (F : Format) (sound : Sound F) where
       let w = accepted-within F b (g .is-accepted) in
       let shorter = length-without x ((formula F b) .prefix) h in
       let within : Within F f
-            = record {
-              few-variables = omega (arith, shorter, ap length e, w .few-variables);
-              few-nodes = l;
-              is-numbered = ap (numbered F) e ∙ numbered-without F x ((formula F b) .prefix) (w .is-numbered);
-              is-distinct = p .is-distinct;
-              is-closed = p .is-closed;
-            } in
+      = record {
+        few-variables = omega (arith, shorter, ap length e, w .few-variables);
+        few-nodes = l;
+        is-numbered = ap (numbered F) e ∙ numbered-without F x ((formula F b) .prefix) (w .is-numbered);
+        is-distinct = p .is-distinct;
+        is-closed = p .is-closed;
+      } in
       let back : formula F (sheet F f) ≡ f = formula-sheet F sound f within in
       let good : Good F (sheet F f)
-            = record {
-              is-accepted = passes-sheet F sound f within;
-              is-neat = ap (λ (k : Formula). is-tidy (k .matrix)) back ∙ p .is-neat;
-            } in
+      = record {
+        is-accepted = passes-sheet F sound f within;
+        is-neat = ap (λ (k : Formula). is-tidy (k .matrix)) back ∙ p .is-neat;
+      } in
       record {
         still-good = good;
         same-truth = ap truth back ∙ t;
         one-less =
-            omega
-            (arith, accepted-variables F b (g .is-accepted), accepted-variables F (sheet F f) (good .is-accepted), shorter, ap length e,
-            ap (λ (k : Formula). length (k .prefix)) back);
+            omega (
+              arith,
+              accepted-variables F b (g .is-accepted),
+              accepted-variables F (sheet F f) (good .is-accepted),
+              shorter,
+              ap length e,
+              ap (λ (k : Formula). length (k .prefix)) back,
+            );
       }
 
   -- refusals 9 and 10 passed: x is bound
@@ -215,9 +221,10 @@ pub demand-3 : (F : Format) → Sound F → (b : Bytes) (s : Sizes) → check F 
 unfolding held check
 demand-3 F sound b s h t cs =
     record {
-      is-accepted =
-          (record { variables = variables F (end cs .sheet); nodes = nodes F (end cs .sheet) },
-          answer-passes (check-tests F (end cs .sheet)) _ ((well cs) .is-good .is-accepted));
+      is-accepted = (
+        record { variables = variables F (end cs .sheet); nodes = nodes F (end cs .sheet) },
+        answer-passes (check-tests F (end cs .sheet)) _ ((well cs) .is-good .is-accepted),
+      );
       stays-tidy = (well cs) .is-good .is-neat;
       same-truth = (well cs) .same-truth;
       counts = (well cs) .counts;
@@ -231,11 +238,14 @@ demand-3 F sound b s h t cs =
   where
     end : List Call → Held
     end ds = perform-all F ds (record { sheet = b; accepted-calls = 0 })
+
     good : Good F b
     good = record { is-accepted = accepted-passes (check-tests F b) _ s h .0; is-neat = t }
+
     well : (ds : List Call) → Well F sound b (end ds)
     well ds =
         well-after-all F sound b ds (record { sheet = b; accepted-calls = 0 })
         (record { is-good = good; same-truth = refl; counts = zero-add (variables F b) })
+
     true-verdict : (ds : List Call) (v : Bool) → sheet-verdict F (end ds .sheet) ≡ some v → v ≡ truth (formula F b)
     true-verdict ds v e = sym (verdict-truth (formula F (end ds .sheet)) v e) ∙ (well ds) .same-truth

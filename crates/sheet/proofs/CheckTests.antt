@@ -15,7 +15,8 @@ use Rattle.sheet.specs.Format.{Bytes, Format, header, sheet-length, vari
 use Rattle.sheet.specs.Sheet.{quantifier-kind, binding, binding-row, tree-rows, forest-rows}
 use Rattle.sheet.specs.Check.{passes, size-tests, member, quantifier-tests, node-tests, tree-test, arguments, check-tests}
 use Rattle.sheet.proofs.Every.{Every}
-use Rattle.sheet.proofs.Tests.{both-true, both-false, passed-∷, passes-++, passed-++}
+use Rattle.formula.proofs.Booleans.{and-parts, or-parts}
+use Rattle.sheet.proofs.Tests.{passed-∷, passes-++, passed-++}
 use Rattle.sheet.proofs.Limits.{numbered}
 use Rattle.sheet.proofs.Preorder.{NodeRow, node-kind}
 use Rattle.sheet.proofs.Parts.{sheet-length-rows}
@@ -87,8 +88,8 @@ pub passed-sizes : (F : Format) (b : Bytes) → passes (size-tests F b) ≡ true
 unfolding size-tests
 passed-sizes F b h =
     let p = passed-∷ _ _ (passed-∷ _ _ h .1) in
-    let n = both-false (ltb (F .most-variables) (variables F b) || eqb (nodes F b) 0) (ltb (F .most-nodes) (nodes F b)) (p .0) in
-    let v = both-false (ltb (F .most-variables) (variables F b)) (eqb (nodes F b) 0) (n .0) in
+    let n = or-parts (ltb (F .most-variables) (variables F b) || eqb (nodes F b) 0) (ltb (F .most-nodes) (nodes F b)) (p .0) in
+    let v = or-parts (ltb (F .most-variables) (variables F b)) (eqb (nodes F b) 0) (n .0) in
     record {
       few-variables = ltb-false (F .most-variables) (variables F b) (v .0);
       some-node = omega (arith, eqb-false (nodes F b) 0 (v .1));
@@ -154,7 +155,7 @@ map-binding : (rs : List Row) → quantifier-kinds rs ≡ true → map binding-r
 unfolding binding binding-row quantifier-kinds
 map-binding [] h = refl
 map-binding (r ∷ rs) h =
-    let b = both-true (eqb (r .kind) 1 || eqb (r .kind) 2) (quantifier-kinds rs) h in
+    let b = and-parts (eqb (r .kind) 1 || eqb (r .kind) 2) (quantifier-kinds rs) h in
     ap₂ _∷_ (ap (λ k. row k (r .argument)) (back (r .kind) (eqb (r .kind) 1) refl (b .0))) (map-binding rs (b .1))
   where
     back : (k : ℕ) (one : Bool) → eqb k 1 ≡ one → (one || eqb k 2) ≡ true → quantifier-kind (cond one exists for-all) ≡ k
@@ -174,12 +175,12 @@ pub record Quantifiers (F : Format) (rs : List Row) : Type 0 where
 pub passed-quantifiers : (F : Format) (rs : List Row) → passes (quantifier-tests F 0 [] rs) ≡ true → Quantifiers F rs
 passed-quantifiers F rs h =
     let p = map binding rs in
-    let k = both-true (quantifier-kinds rs) (numbered F p && (distinct p && clear [] p)) (sym (quantifier-tests-rows F 0 [] rs) ∙ h) in
-    let n = both-true (numbered F p) (distinct p && clear [] p) (k .1) in
+    let k = and-parts (quantifier-kinds rs) (numbered F p && (distinct p && clear [] p)) (sym (quantifier-tests-rows F 0 [] rs) ∙ h) in
+    let n = and-parts (numbered F p) (distinct p && clear [] p) (k .1) in
     record {
       rows-of-prefix = map-binding rs (k .0);
       is-numbered = n .0;
-      is-distinct = both-true (distinct p) (clear [] p) (n .1) .0;
+      is-distinct = and-parts (distinct p) (clear [] p) (n .1) .0;
     }
 
 -- node rows
@@ -222,5 +223,5 @@ unfolding node-tests
 passed-nodes i bound [] h = tt
 passed-nodes i bound (r ∷ rs) h =
     let p = passed-∷ _ _ h in
-    let k = both-true (leb 3 (r .kind)) (leb (r .kind) 6) (not-false _ (p .0)) in
+    let k = and-parts (leb 3 (r .kind)) (leb (r .kind) 6) (not-false _ (p .0)) in
     (node-kind (r .kind) (leb-true 3 (r .kind) (k .0)) (leb-true (r .kind) 6 (k .1)), passed-nodes (suc i) bound rs (passed-∷ _ _ (p .1) .1))

@@ -10,7 +10,7 @@ use lib.ListN.{length}
 use borrow.Author.Tests.{not-true, ltb-false, eqb-true}
 use Rattle.formula.specs.Tree.{Binding, Prefix, Formula, binds, distinct, rows, closed}
 use Rattle.sheet.specs.Format.{Format, narrow}
-use Rattle.sheet.proofs.Tests.{both-true, both-false}
+use Rattle.formula.proofs.Booleans.{and-parts, or-parts}
 
 -- the format's numbers hold its sizes
 pub record Sound (F : Format) : Type 0 where
@@ -29,8 +29,8 @@ pub numbered-∷ : (F : Format) (z : Binding) (p : Prefix) → numbered F (z ∷
     → (z .variable ≤ F .most-variables) × (numbered F p ≡ true)
 unfolding numbered
 numbered-∷ F z p h =
-    let b = both-true (not (eqb (z .variable) 0 || ltb (F .most-variables) (z .variable))) (numbered F p) h in
-    let n = both-false (eqb (z .variable) 0) (ltb (F .most-variables) (z .variable)) (not-true _ (b .0)) in
+    let b = and-parts (not (eqb (z .variable) 0 || ltb (F .most-variables) (z .variable))) (numbered F p) h in
+    let n = or-parts (eqb (z .variable) 0) (ltb (F .most-variables) (z .variable)) (not-true _ (b .0)) in
     (ltb-false (F .most-variables) (z .variable) (n .1), b .1)
 
 pub binds-numbered : (F : Format) (p : Prefix) (x : ℕ) → numbered F p ≡ true → binds p x ≡ true → x ≤ F .most-variables

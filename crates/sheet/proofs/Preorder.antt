@@ -14,7 +14,7 @@ use Rattle.sheet.specs.Sheet.{literal-kind, operator-kind, front, behind
 use Rattle.sheet.specs.Check.{Test, tree-test}
 use Rattle.sheet.specs.Operations.{span}
 use Rattle.sheet.proofs.Every.{Every, every-++}
-use Rattle.sheet.proofs.Tests.{both-false}
+use Rattle.formula.proofs.Booleans.{or-parts}
 
 -- front and behind
 
@@ -112,7 +112,7 @@ module _ (m : ℕ) (L : Literals) (small : (s : Bool) (v : ℕ) → L s v ≡ fa
     arguments-forest : (ts : Forest) → rows-all ts < m → has-any L ts ≡ false → Every (λ r. r .argument < m) (forest-rows ts)
     arguments-forest ∅ h e = tt
     arguments-forest (t ▸ ts) h e =
-        let b = both-false (has L t) (has-any L ts) e in
+        let b = or-parts (has L t) (has-any L ts) e in
         every-++ (λ r. r .argument < m) (tree-rows t) (forest-rows ts) (arguments-tree t (omega arith) (b .0))
         (arguments-forest ts (omega arith) (b .1))
 

@@ -15,7 +15,7 @@ use Rattle.formula.specs.Trial.{Tried, turn, try, trial}
 use Rattle.sheet.specs.Format.{Bytes, narrow, sheet-length, fits, number, variables, nodes, kind-bytes, argument-bytes, zip-rows, all-rows, prefix-rows, node-rows, children}
 use Rattle.sheet.specs.Sheet.{binding, front, behind, grow, trees, root, formula}
 use Rattle.sheet.specs.Check.{Answer, accepted, answer, size-tests, member, quantifier-tests, node-tests, tree-test, arguments, check-tests}
-use Rattle.sheet.specs.Operations.{Solving, Line, line, says-true, says-false, says-stopped, tidy-tests, solved, solving, solve-call, trial-call, line-of}
+use Rattle.sheet.specs.Operations.{Line, line, says-true, says-false, says-stopped, tidy-tests, solved, solving, solve-call, trial-call, line-of}
 
 -- a sheet with what is asked of it and what is to come: the program's line with two buffers of a length, or Trial's verdict and leaves
 pub data Tested : Type 0 where

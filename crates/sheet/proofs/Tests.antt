@@ -1,26 +1,19 @@
 -- Lists of tests: an answer is accepted exactly if its tests pass, and what passing tells.
 -- Assumes nothing.
 use mathlib.Core.Path.{_≡_, refl, sym, ap, _∙_}
-use mathlib.Core.Bool.{Bool, true, false, not, _&&_, _||_, cond, and-assoc, and-eq-true-iff}
+use mathlib.Core.Bool.{Bool, true, false, not, _&&_, cond, and-assoc}
 use mathlib.Core.List.{List, [], _∷_, _++_, append-nil}
 use Prim.Native.Nat.{ℕ}
 use native.Mathlib.Omega.{arith}
 use borrow.Author.Tests.{not-true}
+use Rattle.formula.proofs.Booleans.{and-parts}
 use Rattle.sheet.specs.Check.{refused, accepted, Test, answer, passes}
-
--- both parts of a conjunction that holds, and of a disjunction that fails
-pub both-true : (a b : Bool) → (a && b) ≡ true → (a ≡ true) × (b ≡ true)
-both-true a b h = and-eq-true-iff a b .0 h
-
-pub both-false : (a b : Bool) → (a || b) ≡ false → (a ≡ false) × (b ≡ false)
-both-false true b h = (h, cc)
-both-false false b h = (refl, h)
 
 -- a list that passes: its first test, and the others
 pub passed-∷ : (t : Test) (ts : List Test) → passes (t ∷ ts) ≡ true → (t .fails ≡ false) × (passes ts ≡ true)
 unfolding passes
 passed-∷ t ts h =
-    let b = both-true (not (t .fails)) (passes ts) h in
+    let b = and-parts (not (t .fails)) (passes ts) h in
     (not-true (t .fails) (b .0), b .1)
 
 pub passes-++ : (ts us : List Test) → passes (ts ++ us) ≡ (passes ts && passes us)
@@ -29,7 +22,7 @@ passes-++ [] us = refl
 passes-++ (t ∷ ts) us = ap (λ b. not (t .fails) && b) (passes-++ ts us) ∙ sym (and-assoc (not (t .fails)) (passes ts) (passes us))
 
 pub passed-++ : (ts us : List Test) → passes (ts ++ us) ≡ true → (passes ts ≡ true) × (passes us ≡ true)
-passed-++ ts us h = both-true (passes ts) (passes us) (sym (passes-++ ts us) ∙ h)
+passed-++ ts us h = and-parts (passes ts) (passes us) (sym (passes-++ ts us) ∙ h)
 
 -- tests that pass leave the answer to those behind them
 pub answer-++ : {A : Type 0} (ts us : List Test) (a : A) → passes ts ≡ true → answer (ts ++ us) a ≡ answer us a

@@ -2,11 +2,11 @@
 -- Assumes nothing.
 use mathlib.Core.Bool.{Bool, true, false, not, _&&_, cond}
 use mathlib.Core.List.{List, [], _∷_, _++_}
-use mathlib.Core.Option.{Option, none, some, Option·getD}
+use mathlib.Core.Option.{Option·getD}
 use Prim.Native.Nat.{ℕ, zero, suc, _+_, _-_, min}
 use lib.Dec.{ltb}
 use lib.ListN.{length, take, drop, replicate}
-use Rattle.formula.specs.Tree.{Formula, binds}
+use Rattle.formula.specs.Tree.{binds}
 use Rattle.formula.specs.Tidy.{tidied, is-tidy, first-fault}
 use Rattle.formula.specs.Settle.{may-settle, settled}
 use Rattle.formula.specs.Expand.{innermost, expanded}

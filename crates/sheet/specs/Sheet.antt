@@ -5,7 +5,7 @@ use mathlib.Core.List.{List, [], _∷_, _++_, map}
 use Prim.Native.Nat.{ℕ, zero, suc}
 use lib.Dec.{eqb}
 use lib.ListN.{length}
-use Rattle.formula.specs.Tree.{Op, and, or, Quantifier, exists, for-all, Tree, lit, node, Forest, ∅, _▸_, Binding, Prefix, Formula, rows, count}
+use Rattle.formula.specs.Tree.{Op, and, or, Quantifier, exists, for-all, Tree, lit, node, Forest, ∅, _▸_, Binding, Formula, rows, count}
 use Rattle.sheet.specs.Format.{Bytes, Format, Row, row, digits, prefix-rows, node-rows}
 
 -- the kinds: 1 exists, 2 for all

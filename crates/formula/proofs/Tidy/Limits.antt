@@ -1,7 +1,7 @@
 -- A tidied tree keeps the limits, and a tree that keeps them is left as it is.
 -- Assumes nothing.
 use mathlib.Core.Path.{_≡_, refl, sym, _∙_, ap, ap₂}
-use mathlib.Core.Bool.{Bool, true, false, not, _&&_, _||_, cond, Bool·beq, or-assoc}
+use mathlib.Core.Bool.{Bool, true, false, not, _&&_, _||_, Bool·beq, or-assoc}
 use mathlib.Core.List.{List, [], _∷_, _++_}
 use mathlib.Core.Logic.{_↔_}
 use lib.Dec.{eqb}
@@ -9,7 +9,8 @@ use borrow.Author.Tests.{not-true}
 use Rattle.formula.specs.Tree.{Op, and, or, dual, same-op, Tree, lit, node, Forest, ∅, _▸_, some-child, some-two}
 use Rattle.formula.specs.Tidy.{is-op, is-empty, opposite, equal, same-variable, splice, decides, firsts, unwrap, combine, tidy, tidy-all}
 use Rattle.formula.specs.Tidy.{alone, childless, breaks, faults, faults-all, root-faults, any, is-tidy}
-use Rattle.formula.proofs.Tidy.Children.{neither, or-none, some-child-both, some-child-less, some-two-both, some-two-less}
+use Rattle.formula.proofs.Booleans.{cond-cases, or-parts, or-none}
+use Rattle.formula.proofs.Tidy.Children.{some-child-both, some-child-less, some-two-both, some-two-less}
 use Rattle.formula.proofs.Tidy.Children.{some-child-firsts, some-two-firsts, firsts-differ, firsts-all, some-child-splice, splice-none}
 
 -- whether a tree has a row at fault: the whole tree, and a tree below the root
@@ -35,8 +36,8 @@ pub faulty-root : (t : Tree) → faulty t ≡ false → root-faulty t ≡ false
 unfolding faults root-faults any
 faulty-root (lit s v) p = p
 faulty-root (node o ts) p =
-    let (at-root, at-ts) = neither (childless ts || breaks o ts) _ p in
-    or-none (neither (childless ts) _ at-root .1) at-ts
+    let (at-root, at-ts) = or-parts (childless ts || breaks o ts) _ p in
+    or-none (or-parts (childless ts) _ at-root .1) at-ts
 
 faulty-empty : (k : Op) (t : Tree) → faulty t ≡ false → is-empty k t ≡ false
 unfolding faults childless any is-empty
@@ -55,12 +56,12 @@ pub record Limits (o : Op) (ts : Forest) : Type 0 where
 pub limits : (o : Op) (ts : Forest) → root-faulty (node o ts) ≡ false → Limits o ts
 unfolding root-faults breaks any
 limits o ts p =
-    let (at-root, at-ts) = neither (breaks o ts) _ p in
-    let (single, two) = neither (alone ts || some-child (is-op o) ts) _ at-root in
-    let (many, kinds) = neither (alone ts) _ single in
+    let (at-root, at-ts) = or-parts (breaks o ts) _ p in
+    let (single, two) = or-parts (alone ts || some-child (is-op o) ts) _ at-root in
+    let (many, kinds) = or-parts (alone ts) _ single in
     record { many = many; kinds = kinds; variables = two; below = sym (any-faults ts) ∙ at-ts }
 
--- what a spliced child may not be; if it does not decide the node either, it has no fault
+-- what a spliced child may not be; if it does not decide the node or-cases, it has no fault
 abbrev unfit : Op → Tree → Bool
 unfit o t = is-op o t || root-faulty t
 
@@ -71,7 +72,7 @@ fit and (node and ∅) p q = cc
 fit and (node or ∅) p q = cc
 fit or (node and ∅) p q = cc
 fit or (node or ∅) p q = cc
-fit o (node k (t ▸ ts)) p q = neither (same-op o k) _ p .1
+fit o (node k (t ▸ ts)) p q = or-parts (same-op o k) _ p .1
 
 -- two literals of one variable are opposite or equal
 
@@ -86,8 +87,11 @@ one-variable (node o ts) u = refl
 one-variable (lit s v) (node o ts) = refl
 one-variable (lit s v) (lit s′ v′) = same-or-not (eqb v v′) (Bool·beq s s′)
 
+together : (t u : Tree) → opposite t u ≡ false → equal t u ≡ false → same-variable t u ≡ false
+together t u p q = one-variable t u ∙ or-none p q
+
 apart : (t u : Tree) → same-variable t u ≡ false → (opposite t u ≡ false) × (equal t u ≡ false)
-apart t u e = neither (opposite t u) _ (sym (one-variable t u) ∙ e)
+apart t u e = or-parts (opposite t u) _ (sym (one-variable t u) ∙ e)
 
 -- tidied trees keep the limits
 
@@ -103,12 +107,12 @@ root-faulty-unwrap : (o : Op) (ts : Forest) → some-child (is-op o) ts ≡ fals
     → root-faulty (unwrap o ts) ≡ false
 unfolding root-faults breaks alone any unwrap some-child some-two faults-all
 root-faulty-unwrap o ∅ kinds variables p = refl
-root-faulty-unwrap o (t ▸ ∅) kinds variables p = faulty-root t (neither (faulty t) _ p .0)
+root-faulty-unwrap o (t ▸ ∅) kinds variables p = faulty-root t (or-parts (faulty t) _ p .0)
 root-faulty-unwrap o (t ▸ u ▸ ts) kinds variables p = or-none (or-none kinds variables) (any-faults (t ▸ u ▸ ts) ∙ p)
 
 root-faulty-combine : (o : Op) (ts : Forest) → some-child root-faulty ts ≡ false → root-faulty (combine o ts) ≡ false
 unfolding combine decides root-faults any breaks alone faults-all some-child some-two
-root-faulty-combine o ts p = go (decides o us) refl
+root-faulty-combine o ts p = cond-cases (λ t. root-faulty t ≡ false) (decides o us) (λ _. refl) undecided
   where
     us : Forest
     us = splice o ts
@@ -116,18 +120,17 @@ root-faulty-combine o ts p = go (decides o us) refl
     fits : some-child (unfit o) us ≡ false
     fits = fit-splice o ts p
 
-    go : (b : Bool) → decides o us ≡ b → root-faulty (cond b (node (dual o) ∅) (unwrap o (firsts us))) ≡ false
-    go true d = refl
-    go false d =
-        let (filled, no-opposites) = neither (some-child (is-empty (dual o)) us) _ d in
-        let kinds = some-child-less (unfit o) (is-op o) (λ t e. neither (is-op o t) _ e .0) us fits in
+    undecided : decides o us ≡ false → root-faulty (unwrap o (firsts us)) ≡ false
+    undecided d =
+        let (filled, no-opposites) = or-parts (some-child (is-empty (dual o)) us) _ d in
+        let kinds = some-child-less (unfit o) (is-op o) (λ t e. or-parts (is-op o t) _ e .0) us fits in
         let below = some-child-both (unfit o) (is-empty (dual o)) faulty (fit o) us fits filled in
         let opposites = some-two-firsts opposite us no-opposites in
-        let variables = some-two-both opposite equal same-variable (λ t u e q. one-variable t u ∙ or-none e q) (firsts us) opposites (firsts-differ us) in
+        let variables = some-two-both opposite equal same-variable together (firsts us) opposites (firsts-differ us) in
         root-faulty-unwrap o (firsts us) (some-child-firsts (is-op o) us kinds) variables (some-child-firsts faulty us below)
 
 mutual
-  unfolding root-faults any tidy tidy-all some-child
+  unfolding root-faults any tidy-all some-child
 
   root-faulty-tidy : (t : Tree) → root-faulty (tidy t) ≡ false
   root-faulty-tidy (lit s v) = refl
@@ -163,7 +166,7 @@ unfolding combine
 combine-none o ts l = rw (splice-none o ts (l .kinds), decides-none o ts l, firsts-none o ts l) (unwrap-none o ts (l .many))
 
 mutual
-  unfolding root-faults any tidy tidy-all some-child
+  unfolding tidy-all some-child
 
   keeps : (t : Tree) → root-faulty t ≡ false → tidy t ≡ t
   keeps (lit s v) p = refl
@@ -174,7 +177,7 @@ mutual
   keeps-all : (ts : Forest) → some-child faulty ts ≡ false → tidy-all ts ≡ ts
   keeps-all ∅ p = refl
   keeps-all (t ▸ ts) p =
-      let (at-t, at-ts) = neither (faulty t) _ p in
+      let (at-t, at-ts) = or-parts (faulty t) _ p in
       ap₂ _▸_ (keeps t (faulty-root t at-t)) (keeps-all ts at-ts)
 
 pub tidy-id : (t : Tree) → is-tidy t ≡ true → tidy t ≡ t

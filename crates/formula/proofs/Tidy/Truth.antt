@@ -1,14 +1,15 @@
 -- Tidying keeps a tree's value under every assignment.
 -- Assumes nothing.
 use mathlib.Core.Path.{_≡_, refl, sym, _∙_, ap, ap₂}
-use mathlib.Core.Bool.{Bool, true, false, not, _&&_, _||_, cond, Bool·beq, and-true, or-false, and-assoc, or-assoc, and-comm, or-comm, and-eq-true-iff}
+use mathlib.Core.Bool.{Bool, true, false, not, Bool·beq, and-eq-true-iff}
 use mathlib.Core.Logic.{⊎-elim}
 use lib.Dec.{eqb}
-use borrow.Author.Tests.{eqb-true}
-use Rattle.formula.specs.Tree.{Op, and, or, dual, same-op, Tree, lit, node, Forest, ∅, _▸_, _⧺_, some-child, some-two, keep}
+use borrow.Author.Tests.{eqb-true, not-false}
+use Rattle.formula.specs.Tree.{Op, and, or, dual, Tree, lit, node, Forest, ∅, _▸_, _⧺_, some-child, some-two, keep}
 use Rattle.formula.specs.Truth.{Assignment, join, unit, eval, eval-all}
 use Rattle.formula.specs.Tidy.{is-empty, opposite, equal, spliced, splice, decides, firsts, unwrap, combine, tidy, tidy-all}
-use Rattle.formula.proofs.Tidy.Children.{either}
+use Rattle.formula.proofs.Evaluation.{eval-decided}
+use Rattle.formula.proofs.Booleans.{cond-cases, or-cases, join-assoc, join-comm, join-unit, join-twice, join-swap, join-zero}
 
 beq-same : (a b : Bool) → Bool·beq a b ≡ true → a ≡ b
 beq-same true true e = refl
@@ -16,37 +17,7 @@ beq-same true false e = cc
 beq-same false true e = cc
 beq-same false false e = refl
 
--- join and its unit
-
-pub join-assoc : (o : Op) (a b c : Bool) → join o (join o a b) c ≡ join o a (join o b c)
-join-assoc and = and-assoc
-join-assoc or = or-assoc
-
-pub join-comm : (o : Op) (a b : Bool) → join o a b ≡ join o b a
-join-comm and = and-comm
-join-comm or = or-comm
-
-pub join-unit : (o : Op) (a : Bool) → join o a (unit o) ≡ a
-join-unit and = and-true
-join-unit or = or-false
-
-pub join-twice : (o : Op) (a b : Bool) → join o a (join o a b) ≡ join o a b
-join-twice and true b = refl
-join-twice and false b = refl
-join-twice or true b = refl
-join-twice or false b = refl
-
-pub join-swap : (o : Op) (a b c : Bool) → join o a (join o b c) ≡ join o b (join o a c)
-join-swap o a b c = sym (join-assoc o a b c) ∙ ap (λ d. join o d c) (join-comm o a b) ∙ join-assoc o b a c
-
--- the unit of the other operator decides
-pub join-decided : (o : Op) (a b : Bool) → b ≡ unit (dual o) → join o a b ≡ unit (dual o)
-join-decided and true b e = e
-join-decided and false b e = refl
-join-decided or true b e = refl
-join-decided or false b e = e
-
--- rule 1
+-- rule 1: splicing
 
 pub eval-⧺ : (o : Op) (ρ : Assignment) (ts us : Forest) → eval-all (ts ⧺ us) o ρ ≡ join o (eval-all ts o ρ) (eval-all us o ρ)
 unfolding eval-all _⧺_
@@ -54,7 +25,7 @@ eval-⧺ o ρ ∅ us = sym (join-comm o (unit o) _ ∙ join-unit o _)
 eval-⧺ o ρ (t ▸ ts) us = ap (join o (eval t ρ)) (eval-⧺ o ρ ts us) ∙ sym (join-assoc o _ _ _)
 
 eval-spliced : (o : Op) (ρ : Assignment) (t : Tree) (us : Forest) → eval-all (spliced o t us) o ρ ≡ join o (eval t ρ) (eval-all us o ρ)
-unfolding eval eval-all spliced
+unfolding eval-all spliced
 eval-spliced o ρ (lit s v) us = refl
 eval-spliced and ρ (node and ts) us = eval-⧺ and ρ ts us
 eval-spliced and ρ (node or ts) us = refl
@@ -66,19 +37,10 @@ unfolding eval-all splice
 eval-splice o ρ ∅ = refl
 eval-splice o ρ (t ▸ ts) = eval-spliced o ρ t (splice o ts) ∙ ap (join o (eval t ρ)) (eval-splice o ρ ts)
 
--- rules 2 and 3
-
--- a child with the value that decides
-eval-decided : (o : Op) (ρ : Assignment) (P : Tree → Bool) → ((t : Tree) → P t ≡ true → eval t ρ ≡ unit (dual o))
-    → (ts : Forest) → some-child P ts ≡ true → eval-all ts o ρ ≡ unit (dual o)
-unfolding eval-all some-child
-eval-decided o ρ P f ∅ p = cc
-eval-decided o ρ P f (t ▸ ts) p =
-    let at-t : P t ≡ true → join o (eval t ρ) (eval-all ts o ρ) ≡ unit (dual o) = λ e. join-comm o (eval t ρ) _ ∙ join-decided o _ _ (f t e) in
-    ⊎-elim at-t (λ e. join-decided o _ _ (eval-decided o ρ P f ts e)) (either (P t) _ p)
+-- rules 2 and 3: the node is decided
 
 eval-empty : (o : Op) (ρ : Assignment) (t : Tree) → is-empty (dual o) t ≡ true → eval t ρ ≡ unit (dual o)
-unfolding eval eval-all is-empty
+unfolding eval-all is-empty
 eval-empty o ρ (lit s v) e = cc
 eval-empty and ρ (node and ∅) e = cc
 eval-empty and ρ (node or ∅) e = refl
@@ -107,7 +69,7 @@ eval-opposites : (o : Op) (ρ : Assignment) (ts : Forest) → some-two opposite 
 unfolding eval-all some-two
 eval-opposites o ρ ∅ p = cc
 eval-opposites o ρ (t ▸ ts) p =
-    ⊎-elim (go o (eval t ρ) refl) (λ e. join-decided o _ _ (eval-opposites o ρ ts e)) (either (some-child (opposite t) ts) _ p)
+    ⊎-elim (go o (eval t ρ) refl) (λ e. ap (join o (eval t ρ)) (eval-opposites o ρ ts e) ∙ join-zero o (eval t ρ)) (or-cases (some-child (opposite t) ts) _ p)
   where
     go : (k : Op) (b : Bool) → eval t ρ ≡ b → some-child (opposite t) ts ≡ true → join k b (eval-all ts k ρ) ≡ unit (dual k)
     go and true e q = eval-decided and ρ (opposite t) (λ u d. eval-opposite ρ t u d ∙ ap not e) ts q
@@ -118,9 +80,9 @@ eval-opposites o ρ (t ▸ ts) p =
 pub eval-decides : (o : Op) (ρ : Assignment) (ts : Forest) → decides o ts ≡ true → eval-all ts o ρ ≡ unit (dual o)
 unfolding decides
 eval-decides o ρ ts d =
-    ⊎-elim (eval-decided o ρ (is-empty (dual o)) (eval-empty o ρ) ts) (eval-opposites o ρ ts) (either (some-child (is-empty (dual o)) ts) _ d)
+    ⊎-elim (eval-decided o ρ (is-empty (dual o)) (eval-empty o ρ) ts) (eval-opposites o ρ ts) (or-cases (some-child (is-empty (dual o)) ts) _ d)
 
--- rule 4
+-- rule 4: the first of equal literals
 
 pub equal-same : (t u : Tree) → equal t u ≡ true → t ≡ u
 unfolding equal
@@ -134,25 +96,22 @@ eval-keep : (o : Op) (ρ : Assignment) (t : Tree) (us : Forest)
     → join o (eval t ρ) (eval-all (keep (λ u. not (equal t u)) us) o ρ) ≡ join o (eval t ρ) (eval-all us o ρ)
 unfolding eval-all keep
 eval-keep o ρ t ∅ = refl
-eval-keep o ρ t (u ▸ us) = go (equal t u) refl (eval-keep o ρ t us)
-  where
-    rest : Forest
-    rest = keep (λ u. not (equal t u)) us
-
-    go : (b : Bool) → equal t u ≡ b → join o (eval t ρ) (eval-all rest o ρ) ≡ join o (eval t ρ) (eval-all us o ρ)
-        → join o (eval t ρ) (eval-all (cond (not b) (u ▸ rest) rest) o ρ) ≡ join o (eval t ρ) (join o (eval u ρ) (eval-all us o ρ))
-    go true e h = h ∙ sym (ap (λ w. join o (eval t ρ) (join o (eval w ρ) (eval-all us o ρ))) (sym (equal-same t u e)) ∙ join-twice o _ _)
-    go false e h = join-swap o _ _ _ ∙ ap (join o (eval u ρ)) h ∙ join-swap o _ _ _
+eval-keep o ρ t (u ▸ us) =
+    let rest = eval-keep o ρ t us in
+    let with-second : Tree → Bool = λ w. join o (eval t ρ) (join o (eval w ρ) (eval-all us o ρ)) in
+    cond-cases (λ ws. join o (eval t ρ) (eval-all ws o ρ) ≡ join o (eval t ρ) (eval-all (u ▸ us) o ρ)) (not (equal t u))
+    (λ _. join-swap o _ _ _ ∙ ap (join o (eval u ρ)) rest ∙ join-swap o _ _ _)
+    (λ e. rest ∙ sym (join-twice o _ _) ∙ ap with-second (equal-same t u (not-false _ e)))
 
 pub eval-firsts : (o : Op) (ρ : Assignment) (ts : Forest) → eval-all (firsts ts) o ρ ≡ eval-all ts o ρ
 unfolding eval-all firsts
 eval-firsts o ρ ∅ = refl
 eval-firsts o ρ (t ▸ ts) = eval-keep o ρ t (firsts ts) ∙ ap (join o (eval t ρ)) (eval-firsts o ρ ts)
 
--- rule 5
+-- rule 5: a lone child
 
 pub eval-unwrap : (o : Op) (ρ : Assignment) (ts : Forest) → eval (unwrap o ts) ρ ≡ eval-all ts o ρ
-unfolding eval eval-all unwrap
+unfolding eval-all unwrap
 eval-unwrap o ρ ∅ = refl
 eval-unwrap o ρ (t ▸ ∅) = sym (join-unit o _)
 eval-unwrap o ρ (t ▸ u ▸ ts) = refl
@@ -160,18 +119,14 @@ eval-unwrap o ρ (t ▸ u ▸ ts) = refl
 -- the five rules, and the whole tree
 
 pub eval-combine : (o : Op) (ρ : Assignment) (ts : Forest) → eval (combine o ts) ρ ≡ eval-all ts o ρ
-unfolding eval eval-all combine
-eval-combine o ρ ts = go (decides o (splice o ts)) refl ∙ eval-splice o ρ ts
-  where
-    us : Forest
-    us = splice o ts
-
-    go : (b : Bool) → decides o us ≡ b → eval (cond b (node (dual o) ∅) (unwrap o (firsts us))) ρ ≡ eval-all us o ρ
-    go true d = sym (eval-decides o ρ us d)
-    go false d = eval-unwrap o ρ (firsts us) ∙ eval-firsts o ρ us
+unfolding eval-all combine
+eval-combine o ρ ts =
+    let us = splice o ts in
+    let undecided = eval-unwrap o ρ (firsts us) ∙ eval-firsts o ρ us in
+    cond-cases (λ t. eval t ρ ≡ eval-all us o ρ) (decides o us) (λ d. sym (eval-decides o ρ us d)) (λ _. undecided) ∙ eval-splice o ρ ts
 
 mutual
-  unfolding eval eval-all tidy tidy-all
+  unfolding eval-all tidy-all
 
   pub eval-tidy : (t : Tree) (ρ : Assignment) → eval (tidy t) ρ ≡ eval t ρ
   eval-tidy (lit s v) ρ = refl
