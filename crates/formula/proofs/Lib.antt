@@ -1,6 +1,7 @@
 pub mod Booleans
 pub mod Binding
 pub mod Evaluation
+pub mod Splitting
 pub mod Tidy
 pub mod Settle
 pub mod Expand

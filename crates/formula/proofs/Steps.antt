@@ -4,15 +4,17 @@ use mathlib.Core.Path.{_≡_, refl, sym, _∙_, ap, ap₂}
 use mathlib.Core.Bool.{Bool, true, false, not, _||_, cond, false≢true, true≢false}
 use mathlib.Core.List.{[], _∷_}
 use mathlib.Core.Option.{some}
-use Prim.Native.Nat.{ℕ, _≤_}
+use Prim.Native.Nat.{ℕ, _-_, _≤_}
 use native.Mathlib.Omega.{arith}
 use lib.Dec.{eqb}
+use lib.ListN.{length}
 use borrow.Author.Tests.{not-true}
 use Rattle.formula.specs.Tree.{and, or, Tree, lit, node, Forest, ∅, _▸_, Prefix, Formula, of, rows, has, has-any, assign, binds, quantifier-of, without, distinct, closed}
 use Rattle.formula.specs.Truth.{Assignment, put, join, eval, bind, truth}
 use Rattle.formula.specs.Tidy.{tidied, is-tidy, childless, breaks, faults, faults-all, root-faults, any, verdict}
 use Rattle.formula.specs.Settle.{may-settle, settled}
 use Rattle.formula.specs.Expand.{all-of, in-last-block, innermost, copying, raw-tree, raw-rows, raw, expanded}
+use Rattle.formula.specs.Solve.{Fits, fits-raw}
 use Rattle.formula.proofs.Booleans.{join-self, or-parts}
 use Rattle.formula.proofs.Binding.{bind-ext}
 use Rattle.formula.proofs.Evaluation.{rows-assign}
@@ -21,7 +23,7 @@ use Rattle.formula.proofs.Tidy.Limits.{tidy-is-tidy, any-++}
 use Rattle.formula.proofs.Tidy.Growth.{has-tidy, rows-tidy}
 use Rattle.formula.proofs.Settle.{truth-assigned}
 use Rattle.formula.proofs.Expand.{truth-raw, rows-raw-tree}
-use Rattle.formula.proofs.Closed.{unbound, distinct-without, closed-assigned, closed-raw}
+use Rattle.formula.proofs.Closed.{unbound, length-without, distinct-without, closed-assigned, closed-raw}
 
 -- what every step starts from and leads to: no number twice, every literal bound, tidy
 pub record Proper (f : Formula) : Type 0 where
@@ -91,6 +93,15 @@ rows-expanded x f =
     let e = rows-raw-tree q x (f .matrix) in
     let l = rows-tidy (raw-tree (copying q x) (f .matrix)) in
     omega arith
+
+-- what is tested for fit is the raw formula: one variable less, and the raw tree's rows
+pub fits-raw-formula : (fits : Fits) (x : ℕ) (f : Formula) → binds (f .prefix) x ≡ true
+    → fits-raw fits x f ≡ fits (length ((raw x f) .prefix)) (rows ((raw x f) .matrix))
+unfolding fits-raw raw
+fits-raw-formula fits x f h =
+    let l = length-without x (f .prefix) h in
+    let less : length (f .prefix) - 1 ≡ length (without x (f .prefix)) = omega arith in
+    ap₂ fits less (sym (rows-raw-tree (quantifier-of (f .prefix) x) x (f .matrix)))
 
 -- a variable of the innermost block is in the prefix
 

@@ -9,3 +9,4 @@ pub mod RoundTrip
 pub mod Accepted
 pub mod Starred
 pub mod Calls
+pub mod Verdicts
