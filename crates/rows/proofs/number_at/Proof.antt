@@ -1,0 +1,66 @@
+-- `rows::number_at` meets its contract: from the last byte to the first, the value is the number of the bytes read.
+-- Assumes nothing.
+use native.Mathlib.Omega.{arith}
+use Rattle.rows.proofs.Turn.{Read, few-bytes, read-none, read-byte, read-all}
+use Rattle.rows.proofs.number_at.Statement.{statement}
+use Rattle.rows.proofs.number_at.Tie as tie
+
+abbrev Inv-loop : tie.InvT-loop
+Inv-loop b at width value₀ i₀ value i = Read b at width i value
+
+abbrev μ-loop : tie.MeasureT-loop
+μ-loop b at width value₀ i₀ value i = i
+
+loop-holds : tie.Need-loop-holds Inv-loop μ-loop
+loop-holds c = let a = c .before in read-none (a .args .b .now) (a .args .at) (a .args .width) (a .pre .0)
+
+sub-i : tie.Need-sub-i Inv-loop μ-loop
+sub-i c = omega arith
+
+-- before the last turn the value has three bytes at most
+mul-value : tie.Need-mul-value Inv-loop μ-loop
+mul-value c = omega (arith, few-bytes 3 (omega arith) (c .before .loop .inv .bounded))
+
+add-wide : tie.Need-add-wide Inv-loop μ-loop
+add-wide c = omega arith
+
+shared-slice-read-wide : tie.Need-shared-slice-read-wide Inv-loop μ-loop
+shared-slice-read-wide c = omega arith
+
+wide-requires : tie.Need-wide-requires Inv-loop μ-loop
+wide-requires c κs = tt
+
+add-value : tie.Need-add-value Inv-loop μ-loop
+add-value c = omega (arith, few-bytes 3 (omega arith) (c .before .before .before .loop .inv .bounded))
+
+loop-less : tie.Need-loop-less Inv-loop μ-loop
+loop-less c = omega arith
+
+loop-again : tie.Need-loop-again Inv-loop μ-loop
+loop-again c =
+    let head = c .before .before .before in
+    let a = head .before .before in
+    read-byte (a .args .b .now) (a .args .at) (a .args .width) (a .pre .0) (c .before .before .loop-test .taken) (head .loop .inv)
+    (c .wide .ensures .0) (c .wide .ensures .1)
+
+returns : tie.Need-returns Inv-loop μ-loop
+returns c =
+    let a = c .before .before .before in
+    read-all (a .args .b .now) (a .args .at) (a .args .width) (a .pre .0) (a .pre .1) (c .loop-test .left) (c .before .loop .inv)
+
+pub number-at-spec : {M : Type 1} → statement M
+number-at-spec =
+    tie.close
+    (tie.spec
+    Inv-loop
+    μ-loop
+    loop-holds
+    sub-i
+    mul-value
+    add-wide
+    shared-slice-read-wide
+    wide-requires
+    add-value
+    loop-less
+    loop-again
+    returns)

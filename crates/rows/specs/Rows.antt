@@ -1,0 +1,15 @@
+-- The rows of a sheet of a given number width ("The sheet").
+-- Assumes nothing.
+use mathlib.Core.List.{List}
+use Prim.Native.Nat.{ℕ, _+_, _*_, _≤_}
+use lib.ListN.{take, drop}
+use Rattle.sheet.specs.Format.{Bytes, Row, zip-rows}
+
+-- n rows of width w: two sizes stand first, then n kind bytes, then n arguments
+unfoldable pub rows-in : ℕ → ℕ → Bytes → List Row
+rows-in w n b = zip-rows w (take n (drop (2 * w) b)) (drop (2 * w + n) b)
+
+-- n rows of width w have their place in len bytes, and a number fits 32 bits
+pub record Room (w n len : ℕ) : Type 0 where
+  pub few-bytes : w ≤ 4
+  pub holds : 2 * w + (1 + w) * n ≤ len
