@@ -1,0 +1,25 @@
+//! A second reading of document 01, kept apart from the one under test.
+//!
+//! `reference` holds every operation on plain trees, `truth` the two splitting
+//! rules by brute force, `generate` seeded random sheets and damage to them,
+//! `qdimacs` a clause translation for solvers from outside. Nothing here is
+//! optimised, and trees recurse: sheets of full size want `with_deep_stack`.
+
+pub mod generate;
+pub mod qdimacs;
+pub mod reference;
+pub mod truth;
+
+const DEEP_STACK: usize = 512 << 20;
+
+/// Runs `work` on a stack that holds any recursion over 4,096 nested nodes,
+/// dropping such a tree included.
+pub fn with_deep_stack<T: Send>(work: impl FnOnce() -> T + Send) -> T {
+    std::thread::scope(|scope| {
+        let worker = std::thread::Builder::new()
+            .stack_size(DEEP_STACK)
+            .spawn_scoped(scope, work)
+            .expect("a thread with a large stack");
+        worker.join().unwrap_or_else(|panic| std::panic::resume_unwind(panic))
+    })
+}
