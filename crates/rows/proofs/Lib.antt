@@ -1,2 +1,3 @@
 pub mod Rows
 mod Turn
+mod Stores

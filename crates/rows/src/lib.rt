@@ -6,6 +6,8 @@ ghost use Rattle.sheet.specs.Format.{number, row, children, narrow};
 ghost use Rattle.rows.specs.Rows.{rows-in, Room};
 ghost use Rattle.rows.specs.Formats.{format-of};
 
+pub mod edit;
+
 // Bytes to a number, most variables (and the highest variable number), most nodes.
 pub struct Format {
     pub width: usize,

@@ -1,76 +1,11 @@
 //! Document 01's formulas tried by hand, its refusals with their places, and
 //! single steps worked out on paper.
 
+use outside::formulas::*;
 use outside::generate::{deep_formula, wide_formula, with_variables};
 use outside::reference::*;
 use outside::{truth, with_deep_stack};
 use Quantifier::{Exists, ForAll};
-
-fn lit(signed: i32) -> Node {
-    Node::literal(signed)
-}
-
-fn and(children: Vec<Node>) -> Node {
-    Node::and(children)
-}
-
-fn or(children: Vec<Node>) -> Node {
-    Node::or(children)
-}
-
-/// AND of literals.
-fn cube(literals: &[i32]) -> Node {
-    and(literals.iter().map(|&signed| lit(signed)).collect())
-}
-
-/// OR of literals.
-fn clause(literals: &[i32]) -> Node {
-    or(literals.iter().map(|&signed| lit(signed)).collect())
-}
-
-fn formula(prefix: &[(Quantifier, Variable)], matrix: Node) -> Formula {
-    Formula { prefix: prefix.to_vec(), matrix }
-}
-
-fn all(quantifier: Quantifier, count: usize) -> Vec<(Quantifier, Variable)> {
-    (1..=count).map(|var| (quantifier, var)).collect()
-}
-
-fn sheet(prefix: &[(Quantifier, Variable)], matrix: Node) -> Vec<u8> {
-    encode(&formula(prefix, matrix))
-}
-
-/// A sheet from rows of kind and argument, good or not.
-fn raw_sheet(v: usize, rows: &[(u8, u16)]) -> Vec<u8> {
-    let mut bytes = Vec::new();
-    bytes.extend((v as u16).to_le_bytes());
-    bytes.extend(((rows.len() - v) as u16).to_le_bytes());
-    bytes.extend(rows.iter().map(|row| row.0));
-    rows.iter().for_each(|row| bytes.extend(row.1.to_le_bytes()));
-    bytes
-}
-
-/// The tautology over 1 and 2 with thirteen rows.
-fn four_cubes() -> Node {
-    or(vec![cube(&[1, 2]), cube(&[1, -2]), cube(&[-1, 2]), cube(&[-1, -2])])
-}
-
-/// Document 001, figure 1.
-fn semantic_tree_figure() -> Formula {
-    formula(
-        &[(Exists, 1), (ForAll, 2), (Exists, 3), (Exists, 4)],
-        and(vec![clause(&[-1, 2, -3]), clause(&[3, -4]), clause(&[3, 4]), clause(&[1, -2, -3])]),
-    )
-}
-
-/// Document 000, figure 1.
-fn nnf_tree_figure() -> Node {
-    or(vec![lit(-1), cube(&[2, 3, -4]), cube(&[1, -3])])
-}
-
-fn equal_pair() -> Node {
-    or(vec![cube(&[1, 2]), cube(&[-1, -2])])
-}
 
 fn solve_line(sheet: &[u8], length: usize) -> String {
     let (mut first, mut second) = (vec![0xa5; length], vec![0x5a; length]);

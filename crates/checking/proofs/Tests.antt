@@ -1,0 +1,63 @@
+-- The answer of a list of tests, one test or one part of the list at a time.
+-- Assumes nothing.
+use mathlib.Core.Path.{_≡_, refl, sym, ap, _∙_}
+use mathlib.Core.Bool.{Bool, true, false, cond}
+use mathlib.Core.List.{List, [], _∷_, _++_}
+use Prim.Native.Nat.{ℕ}
+use native.Mathlib.Omega.{arith}
+use Rattle.sheet.specs.Check.{Answer, refused, accepted, Test, test, answer}
+use Rattle.sheet.proofs.Tests.{answer-++, answer-passes, accepted-passes}
+
+module _ {A : Type 0} (n i : ℕ) (ts : List Test) (a : A) where
+  pub stops : {fails : Bool} → fails ≡ true → answer (test fails n i ∷ ts) a ≡ refused n i
+  unfolding answer
+  stops h = rw h
+
+  pub goes-on : {fails : Bool} → fails ≡ false → answer (test fails n i ∷ ts) a ≡ answer ts a
+  unfolding answer
+  goes-on h = rw h
+
+pub last-passes : {A : Type 0} (n i : ℕ) (a : A) {fails : Bool} → fails ≡ false → answer (test fails n i ∷ []) a ≡ accepted a
+unfolding answer
+last-passes n i a h = rw h
+
+-- a part that refuses decides, and one that accepts leaves the answer to the tests behind it
+pub refused-++ : {A : Type 0} {n i : ℕ} (ts us : List Test) (a : A) → refused n i ≡ answer ts a → refused n i ≡ answer (ts ++ us) a
+unfolding answer
+refused-++ [] us a h = let z : _≡_ {A = ℕ} 0 1 = cc in absurd (omega arith)
+refused-++ {n = n} {i = i} (t ∷ ts) us a h = go (t .fails) h (refused-++ ts us a)
+  where
+    go : (b : Bool) → refused n i ≡ cond b (refused (t .number) (t .place)) (answer ts a)
+        → (refused n i ≡ answer ts a → refused n i ≡ answer (ts ++ us) a)
+        → refused n i ≡ cond b (refused (t .number) (t .place)) (answer (ts ++ us) a)
+    go true e ih = e
+    go false e ih = ih e
+
+pub accepted-++ : {A : Type 0} {a′ : A} (ts us : List Test) (a : A) → accepted a′ ≡ answer ts a → answer us a ≡ answer (ts ++ us) a
+accepted-++ {a′ = a′} ts us a h = sym (answer-++ ts us a (accepted-passes ts a a′ (sym h) .0))
+
+-- accepted answers carry the value at hand
+pub accepted-is : {A : Type 0} {a a′ : A} (ts : List Test) → accepted a′ ≡ answer ts a → answer ts a ≡ accepted a
+accepted-is {a = a} {a′ = a′} ts h = answer-passes ts a (accepted-passes ts a a′ (sym h) .0)
+
+-- four parts, of which the first that refuses decides
+module _ {A : Type 0} (s q m t : List Test) (a : A) where
+  abbrev whole : Answer A
+  whole = answer (s ++ q ++ m ++ t) a
+
+  pub first-refuses : {n i : ℕ} → refused n i ≡ answer s a → refused n i ≡ whole
+  first-refuses h = refused-++ (s ++ q ++ m) t a (refused-++ (s ++ q) m a (refused-++ s q a h))
+
+  module _ {a₁ : A} (first : accepted a₁ ≡ answer s a) where
+    pub second-refuses : {n i : ℕ} → refused n i ≡ answer q a → refused n i ≡ whole
+    second-refuses h = refused-++ (s ++ q ++ m) t a (refused-++ (s ++ q) m a (h ∙ accepted-++ s q a first))
+
+    module _ {a₂ : A} (second : accepted a₂ ≡ answer q a) where
+      pub third-refuses : {n i : ℕ} → refused n i ≡ answer m a → refused n i ≡ whole
+      third-refuses h = refused-++ (s ++ q ++ m) t a (h ∙ accepted-++ (s ++ q) m a (second ∙ accepted-++ s q a first))
+
+      pub last-decides : {a₃ : A} → accepted a₃ ≡ answer m a → answer t a ≡ whole
+      last-decides h = accepted-++ (s ++ q ++ m) t a (h ∙ accepted-++ (s ++ q) m a (second ∙ accepted-++ s q a first))
+
+pub never-both : {A : Type 0} {B : Type 0} {n i : ℕ} {a : A} → refused n i ≡ accepted a → B
+never-both h = let z : _≡_ {A = ℕ} 0 1 = cc in absurd (omega arith)

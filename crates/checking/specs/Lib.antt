@@ -1,0 +1,3 @@
+-- What Check answers, and what its parts promise to one another.
+pub mod Answers
+pub mod Parts

@@ -1,0 +1,28 @@
+/* Plumanchor for C. Link libcapi.a, which `rt staticlib capi` writes to target/staticlib.
+ *
+ * No function keeps a pointer, allocates or fails: any bytes of any length are taken, and a length of 0 may come with any pointer.
+ * The functions need a few hundred kilobytes of stack.
+ *
+ * An answer is one number. Bits 0 to 7: the refusal number of document 01, 0 if accepted. Bits 8 to 15: a word. Bits 16 to 31 and
+ * 32 to 63: two values; a refusal has its place in the first. */
+#ifndef PLUMANCHOR_H
+#define PLUMANCHOR_H
+
+#include <stddef.h>
+#include <stdint.h>
+
+#define PLUMANCHOR_NUMBER(answer) ((unsigned)((answer) & 0xff))
+#define PLUMANCHOR_WORD(answer) ((unsigned)((answer) >> 8 & 0xff))
+#define PLUMANCHOR_LOW(answer) ((unsigned)((answer) >> 16 & 0xffff))
+#define PLUMANCHOR_HIGH(answer) ((uint32_t)((answer) >> 32))
+
+/* Check. Accepted: V in LOW, N in HIGH. */
+uint64_t plumanchor_check(const uint8_t *sheet, size_t length);
+
+/* Trial. Accepted: the verdict in WORD (1 true, 0 false), the leaves tried in HIGH. */
+uint64_t plumanchor_trial(const uint8_t *sheet, size_t length);
+
+/* Part: how many kind bytes the subtree at a node covers, from sheet + 4 + V + node on. 0 if the sheet or the node is bad. */
+size_t plumanchor_part(const uint8_t *sheet, size_t length, size_t node);
+
+#endif

@@ -1,0 +1,60 @@
+//! Safe calls of the proved operations, with the answers of `outside::reference`.
+
+use outside::reference::{Answer, Refusal};
+use std::ops::Range;
+
+mod foreign {
+    // As include/plumanchor.h declares them.
+    extern "C" {
+        pub fn plumanchor_check(sheet: *const u8, length: usize) -> u64;
+        pub fn plumanchor_trial(sheet: *const u8, length: usize) -> u64;
+        pub fn plumanchor_part(sheet: *const u8, length: usize, node: usize) -> usize;
+    }
+}
+
+/// An answer's four parts.
+struct Packed {
+    number: u8,
+    word: u8,
+    low: usize,
+    high: u32,
+}
+
+impl From<u64> for Packed {
+    fn from(answer: u64) -> Self {
+        Packed {
+            number: answer as u8,
+            word: (answer >> 8) as u8,
+            low: (answer >> 16) as u16 as usize,
+            high: (answer >> 32) as u32,
+        }
+    }
+}
+
+pub fn check(sheet: &[u8]) -> Result<(usize, usize), Refusal> {
+    // Sound: the pointer and the length are those of a slice that lives until the call returns.
+    let answer = Packed::from(unsafe { foreign::plumanchor_check(sheet.as_ptr(), sheet.len()) });
+    match answer.number {
+        0 => Ok((answer.low, answer.high as usize)),
+        number => Err((number, answer.low)),
+    }
+}
+
+pub fn trial(sheet: &[u8]) -> Answer<(bool, u64)> {
+    let answer = Packed::from(unsafe { foreign::plumanchor_trial(sheet.as_ptr(), sheet.len()) });
+    match answer.number {
+        0 => Answer::Accepted((answer.word == 1, answer.high.into())),
+        number => Answer::Refused(number, answer.low),
+    }
+}
+
+/// The range of the sheet's bytes that Part answers with, `0..0` if it is empty.
+pub fn part(sheet: &[u8], node: usize) -> Range<usize> {
+    match unsafe { foreign::plumanchor_part(sheet.as_ptr(), sheet.len(), node) } {
+        0 => 0..0,
+        rows => {
+            let start = 4 + usize::from(u16::from_le_bytes([sheet[0], sheet[1]])) + node;
+            start..start + rows
+        }
+    }
+}
