@@ -1,17 +1,17 @@
 -- The numbers bound: their order is nothing to the tests, and a table that marks them.
 -- Assumes nothing.
-use mathlib.Core.Path.{_≡_, refl, sym, ap, ap₂, _∙_}
+use mathlib.Core.Path.{_≡_, refl, sym, ap, _∙_}
 use mathlib.Core.Bool.{Bool, true, false, not, _||_}
 use mathlib.Core.List.{List, [], _∷_, _++_}
 use Prim.Native.Nat.{ℕ, zero, suc, _≤_, _<_}
 use native.Mathlib.Omega.{arith}
 use lib.Dec.{eqb}
-use lib.ListN.{length, getD, set, replicate, length-set, length-replicate}
+use lib.ListN.{getD, set, replicate, length-set, length-replicate}
 use lib.Seq.{getD-set-same, getD-set-other}
 use borrow.Author.Tests.{eqb-true, eqb-false, le-leb, lt-leb}
 use Rattle.sheet.specs.Format.{Format, Row}
-use Rattle.sheet.specs.Check.{test, member, quantifier-tests, arguments}
-use Rattle.checking.specs.Parts.{Marks, unbound}
+use Rattle.sheet.specs.Check.{member, quantifier-tests, arguments}
+use Rattle.checking.specs.Stages.{Marks, unbound}
 
 or-left-comm : (a b c : Bool) → (a || (b || c)) ≡ (b || (a || c))
 or-left-comm true true c = refl
@@ -26,7 +26,8 @@ member-last (s ∷ rs) r x =
     ap (λ b. eqb (s .argument) x || b) (member-last rs r x) ∙ or-left-comm (eqb (s .argument) x) (eqb (r .argument) x) (member x (arguments rs))
 
 -- the tests ask nothing of the numbers bound but which they are
-pub quantifier-tests-bound : (F : Format) (i : ℕ) (bound bound′ : List ℕ) (rs : List Row) → ((x : ℕ) → member x bound ≡ member x bound′)
+pub quantifier-tests-bound : (F : Format) (i : ℕ) (bound bound′ : List ℕ) (rs : List Row)
+    → ((x : ℕ) → member x bound ≡ member x bound′)
     → quantifier-tests F i bound rs ≡ quantifier-tests F i bound′ rs
 unfolding quantifier-tests member
 quantifier-tests-bound F i bound bound′ [] h = refl
@@ -56,7 +57,8 @@ marks-more table bound x small m =
     go y true e = rw (← eqb-true x y e) (getD-set-same table x true false (omega (arith, m .entries)))
     go y false e = getD-set-other table x y true false (λ p. eqb-false x y e (sym p)) ∙ m .entry y
 
-pub marks-same : {table : List Bool} {bound bound′ : List ℕ} → ((x : ℕ) → member x bound ≡ member x bound′) → Marks table bound → Marks table bound′
+pub marks-same : {table : List Bool} {bound bound′ : List ℕ} → ((x : ℕ) → member x bound ≡ member x bound′) → Marks table bound
+    → Marks table bound′
 marks-same h m = record { entries = m .entries; entry = λ x. m .entry x ∙ h x }
 
 pub unbound-operator : (table : List Bool) (r : Row) → 4 < r .kind → unbound table r ≡ false

@@ -4,18 +4,17 @@ use mathlib.Core.Path.{_≡_, refl, sym, ap, _∙_}
 use mathlib.Core.Bool.{Bool, not, _&&_}
 use mathlib.Core.List.{List, [], _∷_}
 use Prim.Native.Nat.{ℕ, zero, suc, _+_, _*_, _-_, _^_, _≤_, _<_}
-use native.Mathlib.Nat.{suc-add}
 use native.Mathlib.Numerals.{add-one}
 use native.Mathlib.Omega.{arith}
 use lib.Dec.{eqb}
-use lib.ListN.{length, getD, drop, length-drop}
+use lib.ListN.{length, getD, drop}
 use lib.Seq.{drop-cons, drop-length}
 use borrow.Author.Tests.{eq-eqb, ne-eqb}
 use Rattle.sheet.specs.Format.{Row, row, children}
-use Rattle.sheet.specs.Check.{Answer, refused, accepted, Test, test, answer, tree-test}
+use Rattle.sheet.specs.Check.{refused, accepted, test, answer, tree-test}
 use Rattle.sheet.specs.Operations.{span}
 use Rattle.checking.specs.declared.Reached.{Reached}
-use Rattle.checking.specs.Parts.{pay}
+use Rattle.checking.specs.Stages.{pay}
 use Rattle.checking.proofs.Tests.{stops, last-passes}
 
 abbrev reached : ℕ → ℕ → Reached
@@ -72,7 +71,7 @@ module _ (rows : List Row) (from : ℕ) where
       rw (w .remaining, end, drop-length rows) (sym (pay-out owed (length rows)))
 
 -- the last test fails unless the walk ends behind the last row with nothing owed; its place is where the walk ends
-unfoldable one-tree : ℕ → Reached → Bool
+one-tree : ℕ → Reached → Bool
 one-tree end w = eqb (w .owed) 0 && eqb (w .row) end
 
 tree-test-pay : (owed i end : ℕ) (rs : List Row) → end ≡ i + length rs
@@ -84,20 +83,20 @@ tree-test-pay (suc owed) i end [] h = rw (ne-eqb (suc owed) 0 (λ e. omega arith
 tree-test-pay (suc owed) i end (r ∷ rs) h = tree-test-pay (owed + children r) (suc i) end rs (omega (arith, h))
 
 module _ {A : Type 0} (a : A) (rs : List Row) (v end : ℕ) (here : end ≡ v + length rs) (w : Reached) (walked : w ≡ pay 1 v rs) where
-  tree-answer : answer (tree-test 1 v rs ∷ []) a ≡ answer (test (not (one-tree end w)) 8 (w .row) ∷ []) a
-  tree-answer = rw walked (ap (λ t. answer (t ∷ []) a) (tree-test-pay 1 v end rs here))
+  tree-test-walked : answer (tree-test 1 v rs ∷ []) a ≡ answer (test (not (one-tree end w)) 8 (w .row) ∷ []) a
+  tree-test-walked = rw walked (ap (λ t. answer (t ∷ []) a) (tree-test-pay 1 v end rs here))
 
   pub tree-owed : (w .owed ≡ 0 → ⊥) → refused 8 (w .row) ≡ answer (tree-test 1 v rs ∷ []) a
   unfolding one-tree
-  tree-owed h = sym (tree-answer ∙ stops 8 (w .row) [] a (rw (ne-eqb (w .owed) 0 h)))
+  tree-owed h = sym (tree-test-walked ∙ stops 8 (w .row) [] a (rw (ne-eqb (w .owed) 0 h)))
 
   pub tree-early : w .owed ≡ 0 → (w .row ≡ end → ⊥) → refused 8 (w .row) ≡ answer (tree-test 1 v rs ∷ []) a
   unfolding one-tree
-  tree-early o h = sym (tree-answer ∙ stops 8 (w .row) [] a (rw (eq-eqb (w .owed) 0 o, ne-eqb (w .row) end h)))
+  tree-early o h = sym (tree-test-walked ∙ stops 8 (w .row) [] a (rw (eq-eqb (w .owed) 0 o, ne-eqb (w .row) end h)))
 
   pub tree-whole : w .owed ≡ 0 → w .row ≡ end → accepted a ≡ answer (tree-test 1 v rs ∷ []) a
   unfolding one-tree
-  tree-whole o h = sym (tree-answer ∙ last-passes 8 (w .row) a (rw (eq-eqb (w .owed) 0 o, eq-eqb (w .row) end h)))
+  tree-whole o h = sym (tree-test-walked ∙ last-passes 8 (w .row) a (rw (eq-eqb (w .owed) 0 o, eq-eqb (w .row) end h)))
 
 -- a walk ends behind the rows that its subtree spans
 pub pay-span : (owed i : ℕ) (rs : List Row) → (pay owed i rs) .row ≡ i + span owed rs

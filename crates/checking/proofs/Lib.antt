@@ -1,7 +1,7 @@
-pub mod Tests
-mod Sizes
-mod Bound
-mod Rows
-pub mod Debt
 pub mod Accepted
+pub mod Debt
+mod Bound
+mod Sizes
+mod Tests
+mod Turn
 mod Whole

@@ -1,34 +1,20 @@
 -- Check is its four parts, each over the rows that the sizes read say.
 -- Assumes nothing.
-use mathlib.Core.Path.{_≡_, refl, sym, ap, _∙_}
-use mathlib.Core.List.{List, [], _∷_, _++_}
+use mathlib.Core.Path.{_≡_, _∙_}
+use mathlib.Core.List.{[], _∷_}
 use Prim.Native.Nat.{ℕ}
-use Rattle.sheet.specs.Format.{Bytes, Format, Row, variables, nodes, kind-bytes, argument-bytes, all-rows, prefix-rows, node-rows}
-use Rattle.sheet.specs.Check.{Answer, refused, accepted, Sizes, answer, size-tests, quantifier-tests, node-tests, tree-test, arguments, check-tests, check}
+use Rattle.sheet.specs.Format.{Bytes, Format, variables, nodes, kind-bytes, argument-bytes, all-rows, prefix-rows, node-rows}
+use Rattle.sheet.specs.Check.{refused, accepted, Sizes, answer, size-tests, quantifier-tests, node-tests, tree-test, arguments, check-tests, check}
 use Rattle.rows.specs.Rows.{rows-in}
-use Rattle.checking.specs.Parts.{prefix-in, nodes-in, sizes, sizes-of}
+use Rattle.checking.specs.Stages.{sizes, sizes-of, size-answer, prefix-answer, node-answer, tree-answer}
 use Rattle.checking.proofs.Tests.{first-refuses, second-refuses, third-refuses, last-decides}
 use Rattle.checking.proofs.Accepted.{accepted-sizes}
 
--- the answers of the four parts
-module _ (F : Format) (v n : ℕ) (b : Bytes) where
-  abbrev pub size-answer : Answer Sizes
-  size-answer = answer (size-tests F b) (sizes-of F b)
-
-  abbrev pub prefix-answer : Answer Sizes
-  prefix-answer = answer (quantifier-tests F 0 [] (prefix-in (F .width) v n b)) (sizes v n)
-
-  abbrev pub node-answer : Answer Sizes
-  node-answer = answer (node-tests v (arguments (prefix-in (F .width) v n b)) (nodes-in (F .width) v n b)) (sizes v n)
-
-  abbrev pub tree-answer : Answer Sizes
-  tree-answer = answer (tree-test 1 v (nodes-in (F .width) v n b) ∷ []) (sizes v n)
-
-pub sizes-refuse : {k p : ℕ} (F : Format) (b : Bytes) → refused k p ≡ answer (size-tests F b) (sizes-of F b) → refused k p ≡ check F b
+pub sizes-refuse : {k p : ℕ} (F : Format) (b : Bytes) → refused k p ≡ size-answer F b → refused k p ≡ check F b
 unfolding check check-tests
 sizes-refuse F b h = first-refuses (size-tests F b) _ _ _ (sizes-of F b) h
 
-module _ (F : Format) (b : Bytes) {v n : ℕ} (sized : accepted (sizes v n) ≡ answer (size-tests F b) (sizes-of F b)) where
+module _ (F : Format) (b : Bytes) {v n : ℕ} (sized : accepted (sizes v n) ≡ size-answer F b) where
   -- the same over the sheet's own rows and sizes
   to-own : {A : Type 0} (f : ℕ → ℕ → A) → f v n ≡ f (variables F b) (nodes F b)
   to-own f = let s = accepted-sizes sized in rw (s .variables-are, s .nodes-are)
@@ -37,24 +23,24 @@ module _ (F : Format) (b : Bytes) {v n : ℕ} (sized : accepted (sizes v n) ≡ 
   unfolding prefix-rows all-rows kind-bytes argument-bytes rows-in
   prefix-own = to-own (λ v n. prefix-answer F v n b)
 
-  node-own : node-answer F v n b ≡ answer (node-tests (variables F b) (arguments (prefix-rows F b)) (node-rows F b)) (sizes-of F b)
+  node-own : node-answer (F .width) v n b ≡ answer (node-tests (variables F b) (arguments (prefix-rows F b)) (node-rows F b)) (sizes-of F b)
   unfolding prefix-rows node-rows all-rows kind-bytes argument-bytes rows-in
-  node-own = to-own (λ v n. node-answer F v n b)
+  node-own = to-own (λ v n. node-answer (F .width) v n b)
 
-  tree-own : tree-answer F v n b ≡ answer (tree-test 1 (variables F b) (node-rows F b) ∷ []) (sizes-of F b)
+  tree-own : tree-answer (F .width) v n b ≡ answer (tree-test 1 (variables F b) (node-rows F b) ∷ []) (sizes-of F b)
   unfolding node-rows all-rows kind-bytes argument-bytes rows-in
-  tree-own = to-own (λ v n. tree-answer F v n b)
+  tree-own = to-own (λ v n. tree-answer (F .width) v n b)
 
   pub prefix-refuses : {k p : ℕ} → refused k p ≡ prefix-answer F v n b → refused k p ≡ check F b
   unfolding check check-tests
   prefix-refuses h = second-refuses (size-tests F b) _ _ _ (sizes-of F b) sized (h ∙ prefix-own)
 
   module _ {a₂ : Sizes} (bound : accepted a₂ ≡ prefix-answer F v n b) where
-    pub nodes-refuse : {k p : ℕ} → refused k p ≡ node-answer F v n b → refused k p ≡ check F b
+    pub nodes-refuse : {k p : ℕ} → refused k p ≡ node-answer (F .width) v n b → refused k p ≡ check F b
     unfolding check check-tests
     nodes-refuse h = third-refuses (size-tests F b) _ _ _ (sizes-of F b) sized (bound ∙ prefix-own) (h ∙ node-own)
 
-    pub tree-decides : {a₃ : Sizes} → accepted a₃ ≡ node-answer F v n b → tree-answer F v n b ≡ check F b
+    pub tree-decides : {a₃ : Sizes} → accepted a₃ ≡ node-answer (F .width) v n b → tree-answer (F .width) v n b ≡ check F b
     unfolding check check-tests
     tree-decides h =
         tree-own ∙ last-decides (size-tests F b) _ _ _ (sizes-of F b) sized (bound ∙ prefix-own) (h ∙ node-own)

@@ -1,3 +1,3 @@
--- What Check answers, and what its parts promise to one another.
+-- What Check answers, and the stages of its code.
 pub mod Answers
-pub mod Parts
+pub mod Stages

@@ -1,16 +1,16 @@
 // Check: refusals 1 to 8 of document 01, in its order. One body serves every format.
 ghost use mathlib.Core.Path.{_≡_};
-ghost use mathlib.Core.Bool.{true, false, not, _&&_, _||_};
-ghost use mathlib.Core.List.{[], _∷_};
-ghost use Prim.Native.Nat.{_+_, _*_, _^_, _≤_, _<_};
-ghost use lib.Dec.{eqb, leb};
-ghost use lib.ListN.{length, getD, take, drop};
-ghost use Rattle.sheet.specs.Format.{Format, Row, row, narrow, variables, nodes};
-ghost use Rattle.sheet.specs.Check.{accepted, answer, size-tests, quantifier-tests, node-tests, tree-test, arguments, check};
+ghost use mathlib.Core.Bool.{false};
+ghost use mathlib.Core.List.{[]};
+ghost use Prim.Native.Nat.{_^_, _≤_, _<_};
+ghost use lib.ListN.{length, getD, drop};
+ghost use Rattle.sheet.specs.Format.{row, narrow};
+ghost use Rattle.sheet.specs.Check.{accepted, arguments, check};
 ghost use Rattle.rows.specs.Rows.{rows-in, Room};
 ghost use Rattle.rows.specs.Formats.{format-of};
 ghost use Rattle.checking.specs.Answers.{checked-answer};
-ghost use Rattle.checking.specs.Parts.{Manageable, Sized, prefix-in, nodes-in, sizes, sizes-of, Marks, unbound, pay};
+ghost use Rattle.checking.specs.Stages.{Manageable, Sized, sizes, prefix-in, size-answer, prefix-answer, node-answer, tree-answer};
+ghost use Rattle.checking.specs.Stages.{outside, quantifier, misnumbered, node, Marks, unbound, pay};
 
 // What Check answers: V and N, or a refusal's number and place.
 pub enum Checked {
@@ -24,10 +24,23 @@ pub struct Reached {
     pub owed: usize,
 }
 
-// 1 under the header's length; 2 a size outside its limits; 3 wrong length.
+// Whether a size is outside its limits: V above its own, N 0 or above its own.
+fn is_outside(f: rows::Format, v: usize, n: usize) -> bool
+    ensures { λ r. ⌜ r ≡ outside (format-of f) v n ⌝ }
+{
+    if f.most_variables < v {
+        return true;
+    }
+    if n == 0 {
+        return true;
+    }
+    f.most_nodes < n
+}
+
+// The sizes: 1 shorter than the header, 2 a size outside its limits, 3 wrong length.
 fn check_sizes(sheet: &[u8], f: rows::Format) -> Checked
     requires { ⌜ Manageable (format-of f) ⌝ }
-    ensures { λ r. ⌜ checked-answer r ≡ answer (size-tests (format-of f) (now (sheet .entry))) (sizes-of (format-of f) (now (sheet .entry))) ⌝ }
+    ensures { λ r. ⌜ checked-answer r ≡ size-answer (format-of f) (now (sheet .entry)) ⌝ }
 {
     let w = f.width;
     if sheet.len() < 2 * w {
@@ -35,16 +48,12 @@ fn check_sizes(sheet: &[u8], f: rows::Format) -> Checked
     }
     let v = rows::number_at(sheet, 0, w);
     let n = rows::number_at(sheet, w, w);
-    if f.most_variables < v {
+    let outside = is_outside(f, v, n);
+    let exact = sheet.len() == 2 * w + (1 + w) * (v + n);
+    if outside {
         return Checked::Refused(2, 0);
     }
-    if n == 0 {
-        return Checked::Refused(2, 0);
-    }
-    if f.most_nodes < n {
-        return Checked::Refused(2, 0);
-    }
-    if sheet.len() != 2 * w + (1 + w) * (v + n) {
+    if !exact {
         return Checked::Refused(3, 0);
     }
     Checked::Accepted(v, n)
@@ -52,7 +61,7 @@ fn check_sizes(sheet: &[u8], f: rows::Format) -> Checked
 
 // Kinds 1 exists and 2 for all.
 fn is_quantifier(kind: u8) -> bool
-    ensures { λ r. ⌜ r ≡ (eqb kind 1 || eqb kind 2) ⌝ }
+    ensures { λ r. ⌜ r ≡ quantifier kind ⌝ }
 {
     if kind == 1 {
         return true;
@@ -60,39 +69,14 @@ fn is_quantifier(kind: u8) -> bool
     kind == 2
 }
 
-// The prefix rows: 4 kind, 5 quantifier number, 6 bound twice. Accepted, the table marks the numbers bound.
-fn check_prefix(
-    sheet: &[u8],
-    f: rows::Format,
-    v: usize,
-    n: usize,
-    bound: &mut [bool; 1025],
-) -> Checked
-    requires { ⌜ Manageable (format-of f) × Sized (f .width) v n (length (now sheet)) × Marks (now bound) [] ⌝ }
-    ensures { λ r. ⌜ checked-answer r ≡ answer (quantifier-tests (format-of f) 0 [] (prefix-in (f .width) v n (now (sheet .entry)))) (sizes v n) ⌝ }
-    ensures { λ r. ⌜ (checked-answer r ≡ accepted (sizes v n) → Marks (now (bound .exit)) (arguments (prefix-in (f .width) v n (now (sheet .entry))))) ⌝ }
+// Whether a quantifier number is outside 1 to `most`.
+fn is_misnumbered(x: usize, most: usize) -> bool
+    ensures { λ r. ⌜ r ≡ misnumbered most x ⌝ }
 {
-    let w = f.width;
-    let total = v + n;
-    let mut r = 0;
-    while r < v {
-        if !is_quantifier(rows::kind_at(sheet, w, total, r)) {
-            return Checked::Refused(4, r);
-        }
-        let x = rows::argument_at(sheet, w, total, r);
-        if x == 0 {
-            return Checked::Refused(5, r);
-        }
-        if f.most_variables < x {
-            return Checked::Refused(5, r);
-        }
-        if bound[x] {
-            return Checked::Refused(6, r);
-        }
-        bound[x] = true;
-        r += 1;
+    if x == 0 {
+        return true;
     }
-    Checked::Accepted(v, n)
+    most < x
 }
 
 // Whether a number is bound.
@@ -104,6 +88,53 @@ fn is_bound(bound: &[bool; 1025], x: usize) -> bool
         return bound[x];
     }
     false
+}
+
+// The prefix rows: 4 kind, 5 quantifier number, 6 bound twice. Accepted, the table marks the numbers bound.
+fn check_prefix(
+    sheet: &[u8],
+    f: rows::Format,
+    v: usize,
+    n: usize,
+    bound: &mut [bool; 1025],
+) -> Checked
+    requires { ⌜ Manageable (format-of f) × Sized (f .width) v n (length (now sheet)) × Marks (now bound) [] ⌝ }
+    ensures { λ r. ⌜ checked-answer r ≡ prefix-answer (format-of f) v n (now (sheet .entry)) ⌝ }
+    ensures { λ r.
+        ⌜ (checked-answer r ≡ accepted (sizes v n)
+        → Marks (now (bound .exit)) (arguments (prefix-in (f .width) v n (now (sheet .entry))))) ⌝ }
+{
+    let w = f.width;
+    let total = v + n;
+    let mut r = 0;
+    while r < v {
+        let quantifier = is_quantifier(rows::kind_at(sheet, w, total, r));
+        let x = rows::argument_at(sheet, w, total, r);
+        let misnumbered = is_misnumbered(x, f.most_variables);
+        let twice = is_bound(bound, x);
+        if !quantifier {
+            return Checked::Refused(4, r);
+        }
+        if misnumbered {
+            return Checked::Refused(5, r);
+        }
+        if twice {
+            return Checked::Refused(6, r);
+        }
+        bound[x] = true;
+        r += 1;
+    }
+    Checked::Accepted(v, n)
+}
+
+// Kinds 3 and 4, the literals, and 5 and 6, the operators.
+fn is_node(kind: u8) -> bool
+    ensures { λ r. ⌜ r ≡ node kind ⌝ }
+{
+    if kind < 3 {
+        return false;
+    }
+    kind <= 6
 }
 
 // Whether row `r` is a literal of a number that is not bound.
@@ -120,19 +151,17 @@ fn is_unbound(sheet: &[u8], w: usize, n: usize, r: usize, bound: &[bool; 1025]) 
 // The node rows: 4 kind, 7 literal unbound.
 fn check_nodes(sheet: &[u8], w: usize, v: usize, n: usize, bound: &[bool; 1025]) -> Checked
     requires { ⌜ Sized w v n (length (now sheet)) × Marks (now bound) (arguments (prefix-in w v n (now sheet))) ⌝ }
-    ensures { λ r. ⌜ checked-answer r ≡ answer (node-tests v (arguments (prefix-in w v n (now (sheet .entry)))) (nodes-in w v n (now (sheet .entry)))) (sizes v n) ⌝ }
+    ensures { λ r. ⌜ checked-answer r ≡ node-answer w v n (now (sheet .entry)) ⌝ }
 {
     let total = v + n;
     let mut r = v;
     while r < total {
-        let kind = rows::kind_at(sheet, w, total, r);
-        if kind < 3 {
+        let node = is_node(rows::kind_at(sheet, w, total, r));
+        let unbound = is_unbound(sheet, w, total, r, bound);
+        if !node {
             return Checked::Refused(4, r);
         }
-        if 6 < kind {
-            return Checked::Refused(4, r);
-        }
-        if is_unbound(sheet, w, total, r, bound) {
+        if unbound {
             return Checked::Refused(7, r);
         }
         r += 1;
@@ -160,7 +189,7 @@ pub fn walk(sheet: &[u8], w: usize, n: usize, from: usize) -> Reached
 // 8 not one tree, at the row where the debt walk ends.
 fn check_tree(sheet: &[u8], w: usize, v: usize, n: usize) -> Checked
     requires { ⌜ Sized w v n (length (now sheet)) ⌝ }
-    ensures { λ r. ⌜ checked-answer r ≡ answer (tree-test 1 v (nodes-in w v n (now (sheet .entry))) ∷ []) (sizes v n) ⌝ }
+    ensures { λ r. ⌜ checked-answer r ≡ tree-answer w v n (now (sheet .entry)) ⌝ }
 {
     let total = v + n;
     let end = walk(sheet, w, total, v);

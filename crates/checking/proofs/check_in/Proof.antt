@@ -2,14 +2,14 @@
 use mathlib.Core.Path.{_≡_, sym, ap, _∙_}
 use borrow.Author.Needs.{needs}
 use lib.ListN.{length}
-use Rattle.sheet.specs.Check.{accepted, answer, size-tests}
+use Rattle.sheet.specs.Check.{accepted}
 use Rattle.rows.specs.Formats.{format-of}
 use Rattle.checking.specs.Answers.{checked-answer}
-use Rattle.checking.specs.Parts.{Sized, sizes, sizes-of}
+use Rattle.checking.specs.Stages.{Sized, sizes, size-answer, prefix-answer}
 use Rattle.checking.proofs.Tests.{accepted-is}
 use Rattle.checking.proofs.Accepted.{accepted-sizes, accepted-sized}
 use Rattle.checking.proofs.Bound.{marks-none}
-use Rattle.checking.proofs.Whole.{prefix-answer, sizes-refuse, prefix-refuses, nodes-refuse, tree-decides}
+use Rattle.checking.proofs.Whole.{sizes-refuse, prefix-refuses, nodes-refuse, tree-decides}
 use Rattle.checking.proofs.check_in.Statement.{statement}
 use Rattle.checking.proofs.check_in.Tie as tie
 
@@ -31,8 +31,7 @@ returns c =
 -- the sizes read
 sized : (c : tie.After-s)
     → accepted (sizes (c .s .given .0 .0) (c .s .given .0 .1 .0)) ≡
-    answer (size-tests (format-of (c .before .before .before .before .args .f)) (c .before .before .before .before .args .sheet .now))
-    (sizes-of (format-of (c .before .before .before .before .args .f)) (c .before .before .before .before .args .sheet .now))
+    size-answer (format-of (c .before .before .before .before .args .f)) (c .before .before .before .before .args .sheet .now)
 sized c = sym (ap checked-answer (c .s .given .1)) ∙ c .before .before .check-sizes .ensures
 
 room : (c : tie.After-s)

@@ -1,13 +1,15 @@
 -- `checking::check_nodes` meets its contract: what is left of the tests at each row decides as all of them do. Assumes nothing.
-use mathlib.Core.Path.{_≡_, sym, _∙_}
-use Prim.Native.Nat.{_+_, _-_, _≤_, _<_}
+use mathlib.Core.Path.{_≡_, sym, ap, _∙_}
+use Prim.Native.Nat.{_+_, _-_, _<_}
 use native.Mathlib.Omega.{arith}
-use lib.ListN.{length}
+use borrow.Author.Tests.{not-true, not-false}
+use lib.ListN.{length, getD}
+use Rattle.sheet.specs.Format.{row}
 use Rattle.sheet.specs.Check.{arguments}
 use Rattle.rows.specs.Rows.{rows-in}
 use Rattle.rows.proofs.Rows.{length-rows-in}
-use Rattle.checking.specs.Parts.{sizes, prefix-in}
-use Rattle.checking.proofs.Rows.{Noded, nodes-none, nodes-all, node-low, node-high, node-unbound, node-turn}
+use Rattle.checking.specs.Stages.{sizes, prefix-in, node}
+use Rattle.checking.proofs.Turn.{Noded, nodes-none, nodes-all, node-kind, node-unbound, node-turn}
 use Rattle.checking.proofs.check_nodes.Statement.{statement}
 use Rattle.checking.proofs.check_nodes.Tie as tie
 
@@ -17,7 +19,8 @@ Inv-loop sheet w v n bound total r₀ r = Noded (rows-in w total sheet) (argumen
 abbrev μ-loop : tie.MeasureT-loop
 μ-loop sheet w v n bound total r₀ r = total - r
 
-all : (c : tie.Start Inv-loop μ-loop) → length (rows-in (c .args .w) (c .args .v + c .args .n) (c .args .sheet .now)) ≡ c .args .v + c .args .n
+all : (c : tie.Start Inv-loop μ-loop)
+    → length (rows-in (c .args .w) (c .args .v + c .args .n) (c .args .sheet .now)) ≡ c .args .v + c .args .n
 all c = length-rows-in (c .args .sheet .now) (c .pre .0 .room)
 
 add-total : tie.Need-add-total Inv-loop μ-loop
@@ -29,32 +32,38 @@ loop-holds c = nodes-none _ _ _ _ (omega (arith, all (c .before)))
 kind-at-requires : tie.Need-kind-at-requires Inv-loop μ-loop
 kind-at-requires c κs = (c .before .before .before .pre .0 .room, c .loop-test .taken)
 
-more : (c : tie.In-loop Inv-loop μ-loop)
-    → c .before .loop .r < length (rows-in (c .before .before .before .args .w) (c .before .before .before .args .v + c .before .before .before .args .n) (c .before .before .before .args .sheet .now))
-more c = omega (arith, all (c .before .before .before))
-
-returns : tie.Need-returns Inv-loop μ-loop
-returns c =
-    let turn = c .before .before in
-    node-low _ _ _ _ (more turn) (turn .before .loop .inv) (omega arith)
-
-returns-2 : tie.Need-returns-2 Inv-loop μ-loop
-returns-2 c =
-    let turn = c .before .before .before in
-    node-high _ _ _ _ (more turn) (turn .before .loop .inv) (omega arith) (omega arith)
+is-node-requires : tie.Need-is-node-requires Inv-loop μ-loop
+is-node-requires c κs = tt
 
 is-unbound-requires : tie.Need-is-unbound-requires Inv-loop μ-loop
 is-unbound-requires c κs =
-    let turn = c .before .before .before in
+    let turn = c .before .before in
     let start = turn .before .before .before in
     (start .pre .0 .room, turn .loop-test .taken, start .pre .1 .entries)
 
-returns-3 : tie.Need-returns-3 Inv-loop μ-loop
-returns-3 c =
-    let turn = c .before .before .before .before .before in
+more : (c : tie.In-loop Inv-loop μ-loop)
+    → let a = c .before .before .before .args in
+    c .before .loop .r < length (rows-in (a .w) (a .v + a .n) (a .sheet .now))
+more c = omega (arith, all (c .before .before .before))
+
+kind-here : (c : tie.After-is-node Inv-loop μ-loop)
+    → let a = c .before .before .before .before .before .args in
+    node ((getD (rows-in (a .w) (a .v + a .n) (a .sheet .now)) (c .before .before .before .loop .r) (row 0 0)) .kind) ≡ c .is-node .result
+kind-here c = sym (c .is-node .ensures ∙ ap node (c .before .kind-at .ensures))
+
+returns : tie.Need-returns Inv-loop μ-loop
+returns c =
+    let k = c .before .before in
+    let turn = k .before .before in
+    node-kind _ _ _ _ (more turn) (turn .before .loop .inv) (kind-here k ∙ not-true _ (c .if1 .taken))
+
+returns-2 : tie.Need-returns-2 Inv-loop μ-loop
+returns-2 c =
+    let u = c .before .before in
+    let turn = u .before .before .before in
     let start = turn .before .before .before in
-    node-unbound _ _ _ _ (more turn) (turn .before .loop .inv) (omega arith) (omega arith) (start .args .bound .now) (start .pre .1)
-    (sym (c .before .is-unbound .ensures) ∙ c .if3 .taken)
+    node-unbound _ _ _ _ (more turn) (turn .before .loop .inv) (kind-here (u .before) ∙ not-false _ (c .before .if1 .left))
+    (start .args .bound .now) (start .pre .1) (sym (u .is-unbound .ensures) ∙ c .if2 .taken)
 
 add-r : tie.Need-add-r Inv-loop μ-loop
 add-r c = omega arith
@@ -64,13 +73,14 @@ loop-less c = omega arith
 
 loop-again : tie.Need-loop-again Inv-loop μ-loop
 loop-again c =
-    let turn = c .before .before .before .before .before in
+    let u = c .before .before in
+    let turn = u .before .before .before in
     let start = turn .before .before .before in
-    node-turn _ _ _ _ (more turn) (turn .before .loop .inv) (omega arith) (omega arith) (start .args .bound .now) (start .pre .1)
-    (sym (c .before .is-unbound .ensures) ∙ c .if3 .left)
+    node-turn _ _ _ _ (more turn) (turn .before .loop .inv) (kind-here (u .before) ∙ not-false _ (c .before .if1 .left))
+    (start .args .bound .now) (start .pre .1) (sym (u .is-unbound .ensures) ∙ c .if2 .left)
 
-returns-4 : tie.Need-returns-4 Inv-loop μ-loop
-returns-4 c = nodes-all _ _ _ _ (omega (arith, all (c .before .before .before))) (c .before .loop .inv)
+returns-3 : tie.Need-returns-3 Inv-loop μ-loop
+returns-3 c = nodes-all _ _ _ _ (omega (arith, all (c .before .before .before))) (c .before .loop .inv)
 
 pub check-nodes-spec : {M : Type 1} → statement M
 check-nodes-spec =
@@ -81,11 +91,11 @@ check-nodes-spec =
     add-total
     loop-holds
     kind-at-requires
+    is-node-requires
+    is-unbound-requires
     returns
     returns-2
-    is-unbound-requires
-    returns-3
     add-r
     loop-less
     loop-again
-    returns-4)
+    returns-3)

@@ -1,9 +1,12 @@
 -- `checking::check_sizes` meets its contract: each return is the first of the three tests that fails. Assumes nothing.
+use mathlib.Core.Path.{sym, _∙_}
+use Prim.Native.Nat.{_+_, _*_, _^_, _<_}
 use borrow.Author.Needs.{needs}
+use borrow.Author.Tests.{not-true, not-false}
 use native.Mathlib.Omega.{arith}
 use Rattle.sheet.specs.Format.{variables, nodes}
 use Rattle.rows.specs.Formats.{format-of}
-use Rattle.checking.proofs.Sizes.{SizesRead, SizesGood, rows-fit, too-short, many-variables, no-node, many-nodes, wrong-length, right-sizes}
+use Rattle.checking.proofs.Sizes.{SizesRead, length-fits, too-short, size-outside, wrong-length, right-length}
 use Rattle.checking.proofs.check_sizes.Statement.{statement}
 use Rattle.checking.proofs.check_sizes.Tie as tie
 
@@ -21,11 +24,36 @@ number-at-requires c κs = search needs
 number-at-requires-2 : tie.Need-number-at-requires-2
 number-at-requires-2 c κs = search needs
 
-sizes-read : (c : tie.After-number-at2)
+is-outside-requires : tie.Need-is-outside-requires
+is-outside-requires c κs = search needs
+
+mul-exact : tie.Need-mul-exact
+mul-exact c = search needs
+
+add-exact : tie.Need-add-exact
+add-exact c = search needs
+
+add-exact-2 : tie.Need-add-exact-2
+add-exact-2 c = search needs
+
+fits : (c : tie.After-number-at2)
+    → let w = c .before .before .before .before .args .f .width in
+    2 * w + (1 + w) * (c .before .number-at .result + c .number-at2 .result) < 2 ^ 64
+fits c = length-fits _ _ _ (c .before .before .before .before .pre .few-bytes) (c .before .number-at .ensures .1) (c .number-at2 .ensures .1)
+
+mul-exact-2 : tie.Need-mul-exact-2
+mul-exact-2 c =
+    omega (arith, fits (c .before))
+
+add-exact-3 : tie.Need-add-exact-3
+add-exact-3 c =
+    omega (arith, fits (c .before))
+
+read : (c : tie.After-number-at2)
     → SizesRead (format-of (c .before .before .before .before .args .f)) (c .before .before .before .before .args .sheet .now)
     (c .before .number-at .result) (c .number-at2 .result)
 unfolding variables nodes
-sizes-read c =
+read c =
     record {
       long-enough = c .before .before .if1 .left;
       variables-read = c .before .number-at .ensures .0;
@@ -34,58 +62,18 @@ sizes-read c =
 
 returns-2 : tie.Need-returns-2
 returns-2 c =
-    let s = c .before .before in
-    many-variables _ _ _ _ (sizes-read s) (c .if2 .taken)
+    let o = c .before in
+    size-outside _ _ _ _ (read (o .before)) (sym (o .is-outside .ensures) ∙ c .if2 .taken)
 
 returns-3 : tie.Need-returns-3
 returns-3 c =
-    let s = c .before .before .before in
-    no-node _ _ _ _ (sizes-read s) (c .if3 .taken)
+    let o = c .before .before in
+    wrong-length _ _ _ _ (read (o .before)) (sym (o .is-outside .ensures) ∙ c .before .if2 .left) (not-true _ (c .if3 .taken))
 
 returns-4 : tie.Need-returns-4
 returns-4 c =
-    let s = c .before .before .before .before .before in
-    many-nodes _ _ _ _ (sizes-read s) (c .if4 .taken)
-
-mul-if5 : tie.Need-mul-if5
-mul-if5 c = search needs
-
-add-if5 : tie.Need-add-if5
-add-if5 c = search needs
-
-add-if5-2 : tie.Need-add-if5-2
-add-if5-2 c = search needs
-
-sizes-good : (c : tie.Else4)
-    → SizesGood (format-of (c .before .before .before .before .before .before .before .before .before .args .f))
-    (c .before .before .before .before .before .before .number-at .result)
-    (c .before .before .before .before .before .number-at2 .result)
-sizes-good c =
-    record {
-      few-variables = c .before .before .before .if2 .left;
-      some-node = c .before .before .if3 .left;
-      few-nodes = c .if4 .left;
-    }
-
-mul-if5-2 : tie.Need-mul-if5-2
-mul-if5-2 c =
-    let a = c .before .before .before .before .before .before .before .before .before in
-    omega (arith, rows-fit _ _ _ (a .pre) (sizes-good c))
-
-add-if5-3 : tie.Need-add-if5-3
-add-if5-3 c =
-    let a = c .before .before .before .before .before .before .before .before .before in
-    omega (arith, rows-fit _ _ _ (a .pre) (sizes-good c), a .pre .few-bytes)
-
-returns-5 : tie.Need-returns-5
-returns-5 c =
-    let s = c .before .before .before .before .before .before in
-    wrong-length _ _ _ _ (sizes-read s) (sizes-good (c .before)) (c .if5 .taken)
-
-returns-6 : tie.Need-returns-6
-returns-6 c =
-    let s = c .before .before .before .before .before .before in
-    right-sizes _ _ _ _ (sizes-read s) (sizes-good (c .before)) (c .if5 .left)
+    let o = c .before .before in
+    right-length _ _ _ _ (read (o .before)) (sym (o .is-outside .ensures) ∙ c .before .if2 .left) (not-false _ (c .if3 .left))
 
 pub check-sizes-spec : {M : Type 1} → statement M
 check-sizes-spec =
@@ -95,13 +83,12 @@ check-sizes-spec =
     returns
     number-at-requires
     number-at-requires-2
+    is-outside-requires
+    mul-exact
+    add-exact
+    add-exact-2
+    mul-exact-2
+    add-exact-3
     returns-2
     returns-3
-    returns-4
-    mul-if5
-    add-if5
-    add-if5-2
-    mul-if5-2
-    add-if5-3
-    returns-5
-    returns-6)
+    returns-4)

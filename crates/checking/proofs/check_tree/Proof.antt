@@ -6,7 +6,7 @@ use native.Mathlib.Omega.{arith}
 use lib.ListN.{length, length-drop}
 use Rattle.rows.specs.Rows.{rows-in}
 use Rattle.rows.proofs.Rows.{length-rows-in}
-use Rattle.checking.specs.Parts.{nodes-in}
+use Rattle.checking.specs.Stages.{nodes-in}
 use Rattle.checking.proofs.Debt.{tree-owed, tree-early, tree-whole}
 use Rattle.checking.proofs.check_tree.Statement.{statement}
 use Rattle.checking.proofs.check_tree.Tie as tie

@@ -1,7 +1,7 @@
 -- Loop turns over the prefix rows and the node rows: what is left of the tests at row r.
 -- Assumes nothing.
 use mathlib.Core.Path.{_≡_, refl, sym, ap, _∙_}
-use mathlib.Core.Bool.{Bool, true, false, not, _&&_, _||_, or-true}
+use mathlib.Core.Bool.{Bool, true, false, not, _&&_}
 use mathlib.Core.List.{List, [], _∷_, _++_}
 use Prim.Native.Nat.{ℕ, suc, _+_, _≤_, _<_}
 use native.Mathlib.Numerals.{add-one}
@@ -9,12 +9,17 @@ use native.Mathlib.Omega.{arith}
 use lib.Dec.{eqb, leb, ltb}
 use lib.ListN.{length, getD, take, drop, set}
 use lib.Seq.{length-take-le, take-suc, drop-cons, getD-take, drop-length, take-length}
-use borrow.Author.Tests.{lt-ltb, le-ltb, le-leb, lt-leb, eq-eqb, ne-eqb}
+use borrow.Author.Tests.{ltb-false}
 use Rattle.sheet.specs.Format.{Format, Row, row}
-use Rattle.sheet.specs.Check.{Answer, refused, accepted, Test, Sizes, test, answer, member, quantifier-tests, node-tests, arguments}
-use Rattle.checking.specs.Parts.{Marks, unbound}
+use Rattle.sheet.specs.Check.{refused, accepted, Test, Sizes, test, answer, member, quantifier-tests, node-tests, arguments}
+use Rattle.formula.proofs.Booleans.{or-parts}
+use Rattle.checking.specs.Stages.{quantifier, misnumbered, node, Marks, unbound}
 use Rattle.checking.proofs.Tests.{stops, goes-on}
 use Rattle.checking.proofs.Bound.{member-last, quantifier-tests-bound, marks-more, marks-same}
+
+-- a number that is not outside 1 to the most has its entry
+pub numbered-low : (most x : ℕ) → most ≤ 1024 → misnumbered most x ≡ false → x < 1025
+numbered-low most x few h = omega (arith, ltb-false most x (or-parts (eqb x 0) (ltb most x) h .1))
 
 -- the first v of the rows, up to row r: what is left of the tests, and the table
 pub record Prefixed (F : Format) (rows : List Row) (v : ℕ) (a : Sizes) (table : List Bool) (r : ℕ) : Type 0 where
@@ -56,8 +61,8 @@ module _ (F : Format) (rows : List Row) (v : ℕ) (a : Sizes) (enough : v ≤ le
 
     tests-here : answer (quantifier-tests F 0 [] prefix) a ≡
         answer
-        (test (not (eqb (here .kind) 1 || eqb (here .kind) 2)) 4 r ∷
-        test (eqb (here .argument) 0 || ltb (F .most-variables) (here .argument)) 5 r ∷
+        (test (not (quantifier (here .kind))) 4 r ∷
+        test (misnumbered (F .most-variables) (here .argument)) 5 r ∷
         test (getD table (here .argument) false) 6 r ∷
         behind)
         a
@@ -65,31 +70,21 @@ module _ (F : Format) (rows : List Row) (v : ℕ) (a : Sizes) (enough : v ≤ le
     tests-here =
         p .remaining ∙ rw (p .marked .entry (here .argument), drop-cons prefix r (row 0 0) inside, here-prefix)
 
-    pub prefix-kind : (eqb (here .kind) 1 || eqb (here .kind) 2) ≡ false → refused 4 r ≡ answer (quantifier-tests F 0 [] prefix) a
+    pub prefix-kind : quantifier (here .kind) ≡ false → refused 4 r ≡ answer (quantifier-tests F 0 [] prefix) a
     prefix-kind h = sym (tests-here ∙ stops 4 r _ a (ap not h))
 
-    module _ (kind : (eqb (here .kind) 1 || eqb (here .kind) 2) ≡ true) where
-      prefix-bad : (eqb (here .argument) 0 || ltb (F .most-variables) (here .argument)) ≡ true
+    module _ (kind : quantifier (here .kind) ≡ true) where
+      pub prefix-number : misnumbered (F .most-variables) (here .argument) ≡ true
           → refused 5 r ≡ answer (quantifier-tests F 0 [] prefix) a
-      prefix-bad h = sym (tests-here ∙ goes-on 4 r _ a (ap not kind) ∙ stops 5 r _ a h)
+      prefix-number h = sym (tests-here ∙ goes-on 4 r _ a (ap not kind) ∙ stops 5 r _ a h)
 
-      pub prefix-zero : here .argument ≡ 0 → refused 5 r ≡ answer (quantifier-tests F 0 [] prefix) a
-      prefix-zero h = prefix-bad (rw (eq-eqb (here .argument) 0 h))
-
-      pub prefix-high : F .most-variables < here .argument → refused 5 r ≡ answer (quantifier-tests F 0 [] prefix) a
-      prefix-high h = prefix-bad (rw (lt-ltb (F .most-variables) (here .argument) h, or-true (eqb (here .argument) 0)))
-
-      module _ (some : here .argument ≡ 0 → ⊥) (low : here .argument ≤ F .most-variables) where
-        numbered : (eqb (here .argument) 0 || ltb (F .most-variables) (here .argument)) ≡ false
-        numbered = rw (ne-eqb (here .argument) 0 some, le-ltb (F .most-variables) (here .argument) low)
-
+      module _ (numbered : misnumbered (F .most-variables) (here .argument) ≡ false) where
         pub prefix-twice : getD table (here .argument) false ≡ true → refused 6 r ≡ answer (quantifier-tests F 0 [] prefix) a
-        prefix-twice h =
-            sym (tests-here ∙ goes-on 4 r _ a (ap not kind) ∙ goes-on 5 r _ a numbered ∙ stops 6 r _ a h)
+        prefix-twice h = sym (tests-here ∙ goes-on 4 r _ a (ap not kind) ∙ goes-on 5 r _ a numbered ∙ stops 6 r _ a h)
 
-        pub prefix-turn : getD table (here .argument) false ≡ false → here .argument < 1025
+        pub prefix-turn : getD table (here .argument) false ≡ false → F .most-variables ≤ 1024
             → Prefixed F rows v a (set table (here .argument) true) (r + 1)
-        prefix-turn h small =
+        prefix-turn h few =
             record {
               within = omega arith;
               remaining =
@@ -98,7 +93,8 @@ module _ (F : Format) (rows : List Row) (v : ℕ) (a : Sizes) (enough : v ≤ le
                   (ap (λ ts. answer ts a) (quantifier-tests-bound F (suc r) _ _ (drop (suc r) prefix) (λ x. sym (bound-here x))));
               marked =
                   rw add-one
-                  (marks-same (λ x. sym (bound-here x)) (marks-more table (arguments (take r prefix)) (here .argument) small (p .marked)));
+                  (marks-same (λ x. sym (bound-here x))
+                  (marks-more table (arguments (take r prefix)) (here .argument) (numbered-low _ _ few numbered) (p .marked)));
             }
           where
             bound-here : (x : ℕ) → member x (arguments (take (suc r) prefix)) ≡ member x (here .argument ∷ arguments (take r prefix))
@@ -128,34 +124,27 @@ module _ (rows : List Row) (bound : List ℕ) (v : ℕ) (a : Sizes) where
 
     tests-at : answer (node-tests v bound (drop v rows)) a ≡
         answer
-        (test (not (leb 3 (at-row .kind) && leb (at-row .kind) 6)) 4 r ∷
+        (test (not (node (at-row .kind))) 4 r ∷
         test (leb (at-row .kind) 4 && not (member (at-row .argument) bound)) 7 r ∷
         node-tests (suc r) bound (drop (suc r) rows))
         a
     unfolding node-tests
     tests-at = p .remaining ∙ rw (drop-cons rows r (row 0 0) more)
 
-    pub node-low : at-row .kind < 3 → refused 4 r ≡ answer (node-tests v bound (drop v rows)) a
-    node-low h = sym (tests-at ∙ stops 4 r _ a (rw (lt-leb 3 (at-row .kind) h)))
+    pub node-kind : node (at-row .kind) ≡ false → refused 4 r ≡ answer (node-tests v bound (drop v rows)) a
+    node-kind h = sym (tests-at ∙ stops 4 r _ a (ap not h))
 
-    module _ (low : 3 ≤ at-row .kind) where
-      pub node-high : 6 < at-row .kind → refused 4 r ≡ answer (node-tests v bound (drop v rows)) a
-      node-high h = sym (tests-at ∙ stops 4 r _ a (rw (le-leb 3 (at-row .kind) low, lt-leb (at-row .kind) 6 h)))
+    module _ (kind : node (at-row .kind) ≡ true) (table : List Bool) (marked : Marks table bound) where
+      literal : (leb (at-row .kind) 4 && not (member (at-row .argument) bound)) ≡ unbound table at-row
+      literal = rw (marked .entry (at-row .argument))
 
-      module _ (high : at-row .kind ≤ 6) (table : List Bool) (marked : Marks table bound) where
-        node-kind : not (leb 3 (at-row .kind) && leb (at-row .kind) 6) ≡ false
-        node-kind = rw (le-leb 3 (at-row .kind) low, le-leb (at-row .kind) 6 high)
+      pub node-unbound : unbound table at-row ≡ true → refused 7 r ≡ answer (node-tests v bound (drop v rows)) a
+      node-unbound h = sym (tests-at ∙ goes-on 4 r _ a (ap not kind) ∙ stops 7 r _ a (literal ∙ h))
 
-        literal : (leb (at-row .kind) 4 && not (member (at-row .argument) bound)) ≡ unbound table at-row
-        literal = rw (marked .entry (at-row .argument))
-
-        pub node-unbound : unbound table at-row ≡ true → refused 7 r ≡ answer (node-tests v bound (drop v rows)) a
-        node-unbound h = sym (tests-at ∙ goes-on 4 r _ a node-kind ∙ stops 7 r _ a (literal ∙ h))
-
-        pub node-turn : unbound table at-row ≡ false → Noded rows bound v a (r + 1)
-        node-turn h =
-            record {
-              low = omega (arith, p .low);
-              high = omega arith;
-              remaining = tests-at ∙ goes-on 4 r _ a node-kind ∙ goes-on 7 r _ a (literal ∙ h) ∙ rw add-one;
-            }
+      pub node-turn : unbound table at-row ≡ false → Noded rows bound v a (r + 1)
+      node-turn h =
+          record {
+            low = omega (arith, p .low);
+            high = omega arith;
+            remaining = tests-at ∙ goes-on 4 r _ a (ap not kind) ∙ goes-on 7 r _ a (literal ∙ h) ∙ rw add-one;
+          }

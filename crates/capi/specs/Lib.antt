@@ -1,0 +1,2 @@
+-- Answers as numbers, for callers in C.
+pub mod Packed

@@ -1,0 +1,24 @@
+-- An answer in 64 bits: the refusal number (0: accepted), a word, and two values. Every value of document 01 fits its place.
+-- Assumes nothing.
+use mathlib.Core.Bool.{Bool, true, false}
+use Prim.Native.Nat.{ℕ, _+_, _*_, _^_, _%_}
+use Rattle.formula.specs.Trial.{Tried}
+use Rattle.sheet.specs.Check.{Answer, refused, accepted, Sizes}
+
+-- bits 0 to 7, 8 to 15, 16 to 31 and 32 to 63
+abbrev pub packed : ℕ → ℕ → ℕ → ℕ → ℕ
+packed number word low high = number % 256 + 256 * (word % 256) + 65536 * (low % 65536) + 2 ^ 32 * (high % 2 ^ 32)
+
+-- Check: number and place, or V and N
+unfoldable pub packed-check : Answer Sizes → ℕ
+packed-check (refused number place) = packed number 0 place 0
+packed-check (accepted s) = packed 0 0 (s .variables) (s .nodes)
+
+-- Trial: number and place, or the verdict and the leaves tried
+abbrev pub verdict-word : Bool → ℕ
+verdict-word false = 0
+verdict-word true = 1
+
+unfoldable pub packed-trial : Answer Tried → ℕ
+packed-trial (refused number place) = packed number 0 place 0
+packed-trial (accepted t) = packed 0 (verdict-word (t .verdict)) 0 (t .leaves)

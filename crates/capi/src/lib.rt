@@ -1,0 +1,47 @@
+// The operations for callers in C and Rust, thin over the proved ones. include/plumanchor.h declares them.
+ghost use mathlib.Core.Path.{_≡_};
+ghost use lib.ListN.{length};
+ghost use Rattle.sheet.specs.Format.{narrow};
+ghost use Rattle.sheet.specs.Check.{check};
+ghost use Rattle.sheet.specs.Operations.{trial-call, part-call};
+ghost use Rattle.capi.specs.Packed.{packed, packed-check, packed-trial};
+
+// An answer in one number: refusal number, word and two values.
+fn pack(number: usize, word: usize, low: usize, high: u64) -> u64
+    ensures { λ r. ⌜ r ≡ packed number word low high ⌝ }
+{
+    let n = (number % 256) as u64;
+    let w = (word % 256) as u64;
+    let l = (low % 65536) as u64;
+    n + 256 * w + 65536 * l + 4294967296 * (high % 4294967296)
+}
+
+// Check: refusal number and place, or V and N.
+#[no_mangle]
+pub extern "C" fn plumanchor_check(sheet: &[u8]) -> u64
+    ensures { λ r. ⌜ r ≡ packed-check (check narrow (now (sheet .entry))) ⌝ }
+{
+    match checking::check(sheet) {
+        checking::Checked::Accepted(v, n) => pack(0, 0, v, n as u64),
+        checking::Checked::Refused(number, place) => pack(number, 0, place, 0),
+    }
+}
+
+// Trial: refusal number and place, or the verdict and the leaves tried.
+#[no_mangle]
+pub extern "C" fn plumanchor_trial(sheet: &[u8]) -> u64
+    ensures { λ r. ⌜ r ≡ packed-trial (trial-call narrow (now (sheet .entry))) ⌝ }
+{
+    match trial::trial(sheet) {
+        trial::Tried::Answered(verdict, leaves) => pack(0, verdict as usize, 0, leaves),
+        trial::Tried::Refused(number, place) => pack(number, 0, place, 0),
+    }
+}
+
+// How many kind bytes the subtree at `node` covers; they stand at 4 + V + node. 0 if the sheet or the node is bad.
+#[no_mangle]
+pub extern "C" fn plumanchor_part(sheet: &[u8], node: usize) -> usize
+    ensures { λ r. ⌜ r ≡ length (part-call narrow (now (sheet .entry)) node) ⌝ }
+{
+    part::part(sheet, node).len()
+}

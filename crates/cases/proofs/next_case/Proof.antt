@@ -1,0 +1,73 @@
+-- `cases::next_case` is safe: the sheet is the front of the space.
+-- Assumes nothing.
+use mathlib.Core.Path.{sym}
+use native.Mathlib.Omega.{arith}
+use lib.Seq.{length-take-le}
+use borrow.Author.Needs.{needs}
+use Rattle.cases.proofs.next_case.Statement.{statement}
+use Rattle.cases.proofs.next_case.Tie as tie
+
+slice-aggregate-read-full : tie.Need-slice-aggregate-read-full
+slice-aggregate-read-full c = search needs
+
+read-full-requires : tie.Need-read-full-requires
+read-full-requires c κs = search needs
+
+returns : tie.Need-returns
+returns c = search needs
+
+array-read-operation : tie.Need-array-read-operation
+array-read-operation c = search needs
+
+slice-aggregate-number-at : tie.Need-slice-aggregate-number-at
+slice-aggregate-number-at c = search needs
+
+number-at-requires : tie.Need-number-at-requires
+number-at-requires c κs = search needs
+
+slice-aggregate-number-at-2 : tie.Need-slice-aggregate-number-at-2
+slice-aggregate-number-at-2 c = search needs
+
+number-at-requires-2 : tie.Need-number-at-requires-2
+number-at-requires-2 c κs = search needs
+
+returns-2 : tie.Need-returns-2
+returns-2 c = search needs
+
+slice-relend-prefix-sheet : tie.Need-slice-relend-prefix-sheet
+slice-relend-prefix-sheet c = search needs
+
+slice-aggregate-sheet : tie.Need-slice-aggregate-sheet
+slice-aggregate-sheet c = sym (length-take-le _ _ (omega arith))
+
+read-full-requires-2 : tie.Need-read-full-requires-2
+read-full-requires-2 c κs = search needs
+
+run-requires : tie.Need-run-requires
+run-requires c κs = search needs
+
+same-length : tie.Need-same-length
+same-length c = search needs
+
+returns-3 : tie.Need-returns-3
+returns-3 c = search needs
+
+pub next-case-spec : {M : Type 1} → statement M
+next-case-spec =
+    tie.close
+    (tie.spec
+    slice-aggregate-read-full
+    read-full-requires
+    returns
+    array-read-operation
+    slice-aggregate-number-at
+    number-at-requires
+    slice-aggregate-number-at-2
+    number-at-requires-2
+    returns-2
+    slice-relend-prefix-sheet
+    slice-aggregate-sheet
+    read-full-requires-2
+    run-requires
+    same-length
+    returns-3)

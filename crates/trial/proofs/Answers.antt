@@ -1,0 +1,114 @@
+-- What Trial answers, from what Check answers and from the semantic tree.
+-- Assumes nothing.
+use mathlib.Core.Path.{_≡_, refl, sym, ap, _∙_}
+use mathlib.Core.Bool.{Bool, true, false, cond}
+use mathlib.Core.List.{List, [], _∷_, _++_, map}
+use Prim.Native.Nat.{ℕ, zero, suc, _+_, _≤_, _<_}
+use native.Mathlib.Omega.{arith}
+use lib.Dec.{ltb}
+use lib.ListN.{length, getD, take, drop, List·getD-map}
+use lib.Seq.{getD-take}
+use borrow.Author.Tests.{lt-ltb, le-ltb}
+use Rattle.formula.specs.Tree.{Binding, Prefix}
+use Rattle.formula.specs.Trial.{Tried, trial}
+use Rattle.sheet.specs.Format.{Bytes, Format, Row, row, variables, nodes, all-rows, prefix-rows, node-rows}
+use Rattle.sheet.specs.Sheet.{binding, trees, root, formula}
+use Rattle.sheet.specs.Check.{Answer, refused, accepted, Test, test, answer, passes, check-tests, check}
+use Rattle.sheet.specs.Operations.{trial-call}
+use Rattle.sheet.proofs.Tests.{answer-++}
+use Rattle.sheet.proofs.Limits.{numbered, numbered-∷}
+use Rattle.sheet.proofs.Accepted.{rows-matrix, accepted-within, accepted-variables}
+use Rattle.rows.specs.Rows.{rows-in}
+use Rattle.checking.specs.Stages.{Manageable}
+use Rattle.checking.proofs.Accepted.{AcceptedSheet, accepted-room, accepted-rows}
+use Rattle.trial.specs.declared.Shape.{Shape}
+use Rattle.trial.specs.Jumps.{matrix-rows, OneTree}
+use Rattle.trial.specs.Turns.{prefix-row, unread, semantic-tree, Numbered, Playable}
+
+-- a refusal of the first tests is the answer, whatever would be returned and whichever tests follow
+refused-first : {A B : Type 0} {n i : ℕ} (ts us : List Test) (a : A) (b : B) → refused n i ≡ answer ts a → refused n i ≡ answer (ts ++ us) b
+unfolding answer
+refused-first [] us a b h = let z : _≡_ {A = ℕ} 0 1 = cc in absurd (omega arith)
+refused-first {A} {B} {n} {i} (t ∷ ts) us a b h = go (t .fails) h (refused-first ts us a b)
+  where
+    go : (f : Bool) → refused n i ≡ cond f (refused (t .number) (t .place)) (answer ts a)
+        → (refused n i ≡ answer ts a → refused n i ≡ answer (ts ++ us) b)
+        → refused n i ≡ cond f (refused (t .number) (t .place)) (answer (ts ++ us) b)
+    go true e ih = cc
+    go false e ih = ih e
+
+pub check-refuses : {n i : ℕ} (F : Format) (b : Bytes) → refused n i ≡ check F b → refused n i ≡ trial-call F b
+unfolding check trial-call
+check-refuses F b h = refused-first (check-tests F b) _ _ (trial (formula F b)) h
+
+-- every bound number is within the limit
+numbered-at : (F : Format) (p : Prefix) (r : ℕ) (z : Binding) → numbered F p ≡ true → r < length p → (getD p r z) .variable ≤ F .most-variables
+numbered-at F [] r z h l = absurd (omega arith)
+numbered-at F (y ∷ p) zero z h l = numbered-∷ F y p h .0
+numbered-at F (y ∷ p) (suc r) z h l = numbered-at F p r z (numbered-∷ F y p h .1) (omega arith)
+
+-- a sheet that Check accepts, of the shape that its sizes give
+module _ {F : Format} {b : Bytes} {v n : ℕ} (m : Manageable F) (sheet : AcceptedSheet F b v n) where
+  abbrev shape : Shape
+  shape = record { width = F .width; variables = v; nodes = n }
+
+  prefix-of : take v (rows-in (F .width) (v + n) b) ≡ prefix-rows F b
+  unfolding prefix-rows
+  prefix-of = rw (← accepted-rows (sheet .right), sheet .right .variables-are)
+
+  matrix-of : matrix-rows shape b ≡ node-rows F b
+  unfolding matrix-rows node-rows
+  matrix-of = rw (← accepted-rows (sheet .right), sheet .right .variables-are)
+
+  shape-one-tree : OneTree (matrix-rows shape b)
+  unfolding formula
+  shape-one-tree = rw matrix-of (rows-matrix F b (sheet .tests-pass))
+
+  shape-numbered : Numbered shape b 1025
+  unfolding formula binding
+  shape-numbered r h =
+      let R = rows-in (F .width) (v + n) b in
+      let within = accepted-within F b (sheet .tests-pass) in
+      let z = binding (row 0 0) in
+      let bound = numbered-at F ((formula F b) .prefix) r z (within .is-numbered) (omega (arith, accepted-variables F b (sheet .tests-pass), sheet .right .variables-are)) in
+      omega (
+        arith,
+        bound,
+        m .few-variables,
+        ap (λ (y : Binding). y .variable) (List·getD-map binding (prefix-rows F b) r (row 0 0)),
+        ap (λ l. (getD l r (row 0 0)) .argument) (sym prefix-of),
+        ap (λ (y : Row). y .argument) (getD-take v R r (row 0 0) h),
+      )
+
+  pub playable : v ≤ 20 → Playable shape b 1025
+  playable few =
+      record {
+        holds =
+            record {
+              room = accepted-room (m .few-bytes) (sheet .right);
+              few-variables = omega arith;
+              few-nodes = omega (arith, sheet .right .few-nodes, m .few-nodes);
+            };
+        one-tree = shape-one-tree;
+        few = few;
+        numbered = shape-numbered;
+      }
+
+  trial-tree : semantic-tree shape b ≡ trial (formula F b)
+  unfolding semantic-tree unread trial formula
+  trial-tree = rw (prefix-of, matrix-of)
+
+  last-test : answer (test (ltb 20 v) 14 0 ∷ []) (trial (formula F b)) ≡ trial-call F b
+  unfolding trial-call
+  last-test =
+      rw (sheet .right .variables-are)
+      (sym (answer-++ (check-tests F b) (test (ltb 20 (variables F b)) 14 0 ∷ []) (trial (formula F b)) (sheet .tests-pass)))
+
+  -- 14 V above 20
+  pub many-refused : 20 < v → refused 14 0 ≡ trial-call F b
+  unfolding answer
+  many-refused h = rw (← last-test, lt-ltb 20 v h)
+
+  pub tree-answered : (t : Tried) → v ≤ 20 → t ≡ semantic-tree shape b → accepted t ≡ trial-call F b
+  unfolding answer
+  tree-answered t few e = rw (← last-test, le-ltb 20 v few) (ap accepted (e ∙ trial-tree))

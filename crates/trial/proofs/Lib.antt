@@ -1,0 +1,7 @@
+mod Rows
+mod Span
+mod Jumps
+mod Loops
+mod Evaluation
+mod Turns
+mod Answers

@@ -1,0 +1,175 @@
+-- One turn of each loop that builds the tables.
+-- Assumes nothing.
+use mathlib.Core.Path.{_≡_, refl, sym, ap, _∙_, subst}
+use mathlib.Core.Bool.{Bool, true, false, not}
+use mathlib.Core.List.{List}
+use Prim.Native.Nat.{ℕ, zero, suc, _+_, _-_, _≤_, _<_}
+use native.Mathlib.Decide.{decLt}
+use native.Mathlib.Omega.{arith}
+use lib.Dec.{eqb}
+use lib.ListN.{length, getD, drop, set}
+use lib.Seq.{getD-set-same, getD-set-other}
+use borrow.Author.Tests.{lt-ltb, le-ltb}
+use Rattle.sheet.specs.Format.{Row, row, children}
+use Rattle.sheet.specs.Operations.{span}
+use Rattle.trial.specs.Jumps.{entry, end-of, Ends, hops, Hopping, Parent, Parents, past, is-and, Wired, Targets}
+use Rattle.trial.proofs.Span.{span-zero, end-after, end-bound, end-last, end-next, end-children}
+
+-- past
+
+pub past-decided : (u : Bool) (e l up : ℕ) → not u ≡ true → up ≡ past u e l up
+past-decided true e l up h = let z : _≡_ {A = ℕ} 0 1 = cc in absurd (omega arith)
+past-decided false e l up h = refl
+
+pub past-child : (u : Bool) (e l up : ℕ) → not u ≡ false → e < l → e ≡ past u e l up
+past-child true e l up h k = rw (lt-ltb e l k)
+past-child false e l up h k = let z : _≡_ {A = ℕ} 0 1 = cc in absurd (omega arith)
+
+pub past-last : (u : Bool) (e l up : ℕ) → l ≤ e → up ≡ past u e l up
+past-last true e l up k = rw (le-ltb e l k)
+past-last false e l up k = refl
+
+-- hop
+
+module _ (ends : List ℕ) where
+  pub hop-within : (k r : ℕ) → 0 < k → Hopping ends k r → r < length ends
+  hop-within zero r h w = absurd (omega arith)
+  hop-within (suc k) r h w = w .0
+
+  pub hop-on : (k r x : ℕ) → 0 < k → Hopping ends k r → x ≡ entry ends r → Hopping ends (k - 1) x × (hops ends (k - 1) x ≡ hops ends k r)
+  unfolding hops
+  hop-on zero r x h w e = absurd (omega arith)
+  hop-on (suc k) r x h w e =
+      let p : suc k - 1 ≡ k = omega arith in
+      rw (p, e) (w .1, refl)
+
+  pub hop-done : (k r : ℕ) → k ≤ 0 → hops ends k r ≡ r
+  unfolding hops
+  hop-done zero r h = refl
+  hop-done (suc k) r h = absurd (omega arith)
+
+-- parent_of: the subtrees between p and r have come to their ends
+
+abbrev pub Closed : List ℕ → ℕ → ℕ → Type 0
+Closed ends p r = (y : ℕ) → p < y → y < r → entry ends y ≤ r
+
+module _ (ends parents : List ℕ) (r : ℕ) (root-open : r < entry ends 0) (known : Parents ends parents r) where
+  -- a subtree that has come to its end is not the root, and lies with the others between its parent and r
+  pub climb : (p p′ : ℕ) → p < r → entry ends p ≤ r → p′ ≡ entry parents p → Closed ends p r → (p′ < p) × Closed ends p′ r
+  climb zero p′ l e q closed = absurd (omega arith)
+  climb (suc p) p′ l e q closed =
+      let P = known (suc p) (omega arith) l in
+      rw q (P .before, λ y py yr. go y py yr (P .others-closed y py) (decLt y (suc p)) (decLt (suc p) y))
+    where
+      go : (y : ℕ) → entry parents (suc p) < y → y < r → (y < suc p → entry ends y ≤ suc p) → Dec (y < suc p) → Dec (suc p < y) → entry ends y ≤ r
+      go y py yr k (yes d) b = omega (arith, k d)
+      go y py yr k (no f) (yes d) = closed y d yr
+      go y py yr k (no f) (no g) =
+          let same : y ≡ suc p = omega arith in
+          rw same e
+
+-- mark_ends
+
+module _ (R : List Row) (n : ℕ) (all : length R ≡ n) (ends : List ℕ) (room : n < length ends) where
+  pub mark-last : Ends R (set ends n n) n
+  mark-last y l h =
+      let e : y ≡ n = omega arith in
+      rw (e, getD-set-same ends n n 0 room) (sym (ap (end-of R) (sym all) ∙ end-last R ∙ all))
+
+  module _ {from : ℕ} (marked : Ends R ends from) where
+    hopping : (k r : ℕ) → from ≤ r → r ≤ length R → Hopping ends k r
+    hopping zero r l h = tt
+    hopping (suc k) r l h =
+        (omega (arith, room), rw (marked r l h) (hopping k (end-of R r) (omega (arith, end-after R r)) (end-bound R r h)))
+
+    hops-span : (k r : ℕ) → from ≤ r → r ≤ length R → hops ends k r ≡ r + span k (drop r R)
+    unfolding hops
+    hops-span zero r l h = omega (arith, span-zero (drop r R))
+    hops-span (suc k) r l h =
+        ap (hops ends k) (marked r l h) ∙ hops-span k (end-of R r) (omega (arith, end-after R r)) (end-bound R r h) ∙ sym (end-next R r k)
+
+  module _ (r : ℕ) (h : 0 < r) (l : r ≤ n) (marked : Ends R ends r) where
+    pub mark-hopping : (k : ℕ) → Hopping ends k (r - 1 + 1)
+    mark-hopping k = hopping marked k (r - 1 + 1) (omega arith) (omega arith)
+
+    module _ (k x : ℕ) (kids : k ≡ children (getD R (r - 1) (row 0 0))) (hopped : x ≡ hops ends k (r - 1 + 1)) where
+      mark-end : x ≡ end-of R (r - 1)
+      mark-end =
+          hopped ∙ ap (λ j. hops ends j (r - 1 + 1)) kids ∙
+          hops-span marked (children (getD R (r - 1) (row 0 0))) (r - 1 + 1) (omega arith) (omega arith) ∙
+          sym (end-children R (r - 1) (omega arith))
+
+      pub mark : (x ≤ n) × Ends R (set ends (r - 1) x) (r - 1)
+      mark = (omega (arith, mark-end, end-bound R (r - 1) (omega arith)), λ y from b. go y b from (decLt (r - 1) y))
+        where
+          go : (y : ℕ) → y ≤ length R → r - 1 ≤ y → Dec (r - 1 < y) → entry (set ends (r - 1) x) y ≡ end-of R y
+          go y b from (yes d) = getD-set-other ends (r - 1) y x 0 (λ e. omega arith) ∙ marked y (omega arith) b
+          go y b from (no f) =
+              let e : y ≡ r - 1 = omega arith in
+              rw e (getD-set-same ends (r - 1) x 0 (omega (arith, room)) ∙ mark-end)
+
+-- wire
+
+module _ (ends parents : List ℕ) (r p : ℕ) (room : r < length parents) (P : Parent ends p r) (known : Parents ends parents r) where
+  pub parents-more : Parents ends (set parents r p) (r + 1)
+  parents-more q h l = go (decLt q r)
+    where
+      go : Dec (q < r) → Parent ends (entry (set parents r p) q) q
+      go (yes d) = rw (getD-set-other parents r q p 0 (λ e. omega arith)) (known q h d)
+      go (no f) =
+          let e : q ≡ r = omega arith in
+          rw (e, getD-set-same parents r p 0 room) P
+
+module _ (R : List Row) (ends high low : List ℕ) (r p k x y : ℕ) (first : 0 < r) (high-room : r < length high) (low-room : r < length low)
+    (P : Parent ends p r) (kind-is : k ≡ (getD R p (row 0 0)) .kind)
+    (high-is : x ≡ past (eqb k 5) (entry ends r) (entry ends p) (entry high p))
+    (low-is : y ≡ past (not (eqb k 5)) (entry ends r) (entry ends p) (entry low p)) (before : Targets R ends high low r) where
+  kept : (table : List ℕ) (v i : ℕ) → i < r → entry (set table r v) i ≡ entry table i
+  kept table v i l = getD-set-other table r i v 0 (λ e. omega arith)
+
+  wired-kept : (q : ℕ) → q < r → Wired R ends high low q → Wired R ends (set high r x) (set low r y) q
+  wired-kept q l W =
+      let u = W .is-parent .before in
+      record {
+        parent = W .parent;
+        is-parent = W .is-parent;
+        high-target = rw (kept high x q l, kept high x (W .parent) (omega arith)) (W .high-target);
+        low-target = rw (kept low y q l, kept low y (W .parent) (omega arith)) (W .low-target);
+      }
+
+  wired-new : Wired R ends (set high r x) (set low r y) r
+  unfolding is-and
+  wired-new =
+      record {
+        parent = p;
+        is-parent = P;
+        high-target = rw (getD-set-same high r x 0 high-room, kept high x p (P .before), ← kind-is) high-is;
+        low-target = rw (getD-set-same low r y 0 low-room, kept low y p (P .before), ← kind-is) low-is;
+      }
+
+  pub wire-row : Targets R ends (set high r x) (set low r y) (r + 1)
+  wire-row =
+      record {
+        root-high = kept high x 0 first ∙ before .root-high;
+        root-low = kept low y 0 first ∙ before .root-low;
+        wired = λ q h l. go q h l (decLt q r);
+      }
+    where
+      go : (q : ℕ) → 0 < q → q < r + 1 → Dec (q < r) → Wired R ends (set high r x) (set low r y) q
+      go q h l (yes d) = wired-kept q d (before .wired q h d)
+      go q h l (no f) =
+          let e : q ≡ r = omega arith in
+          rw e wired-new
+
+-- the loop's state: as many entries as at first, and all rows before r done
+pub record Wiring (R : List Row) (ends parents₀ high₀ low₀ : List ℕ) (n : ℕ) (parents high low : List ℕ) (r : ℕ) : Type 0 where
+  pub parents-length : length parents ≡ length parents₀
+  pub high-length : length high ≡ length high₀
+  pub low-length : length low ≡ length low₀
+  pub parents-room : n < length parents
+  pub high-room : n < length high
+  pub low-room : n < length low
+  pub started : 0 < r
+  pub within : r ≤ n
+  pub known : Parents ends parents r
+  pub targets : Targets R ends high low r

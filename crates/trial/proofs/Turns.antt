@@ -1,0 +1,167 @@
+-- A turn on a prefix row: what it makes of the turns on the rows behind, how often it may hand over, and the assignment it leaves.
+-- Assumes nothing.
+use mathlib.Core.Path.{_≡_, refl, sym, ap, ap₂, subst, _∙_, fun-ext}
+use mathlib.Core.Bool.{Bool, true, false, not, cond, Bool·beq}
+use mathlib.Core.List.{List, [], _∷_, map}
+use Prim.Native.Nat.{ℕ, zero, suc, _+_, _-_, _*_, _^_, _≤_, _<_}
+use native.Mathlib.Numerals.{add-one}
+use native.Mathlib.Omega.{arith}
+use lib.Dec.{eqb}
+use lib.ListN.{length, getD, replicate, take, drop, set, length-map, length-drop, length-set, drop-of-length-le}
+use lib.Pow.{pow-mono}
+use lib.Seq.{length-take-le, drop-cons, getD-take, getD-set-same, getD-set-other, set-set, set-getD}
+use borrow.Author.Tests.{eqb-true, eqb-false}
+use Rattle.formula.specs.Tree.{Quantifier, and, or, exists, for-all}
+use Rattle.formula.specs.Truth.{put, eval}
+use Rattle.formula.specs.Trial.{Tried, stops-at, turn, try}
+use Rattle.formula.proofs.Trial.{try-leaves}
+use Rattle.sheet.specs.Format.{Bytes, Row, row}
+use Rattle.sheet.specs.Sheet.{binding, trees, root}
+use Rattle.rows.specs.Rows.{rows-in}
+use Rattle.rows.proofs.Rows.{length-rows-in}
+use Rattle.trial.specs.declared.Shape.{Shape}
+use Rattle.trial.specs.declared.Outcome.{Outcome}
+use Rattle.trial.specs.Jumps.{Holds, matrix-rows, values}
+use Rattle.trial.specs.Turns.{tried, prefix-row, unread, turns, semantic-tree, Ready}
+
+-- the assignment
+
+put-values : (table : List Bool) (x : ℕ) (v : Bool) → x < length table → put (values table) x v ≡ values (set table x v)
+put-values table x v h = fun-ext (λ y. go y (eqb y x) refl)
+  where
+    go : (y : ℕ) (e : Bool) → eqb y x ≡ e → cond e v (getD table y false) ≡ getD (set table x v) y false
+    go y true e = sym (ap (λ z. getD (set table x v) z false) (eqb-true y x e) ∙ getD-set-same table x v false h)
+    go y false e = sym (getD-set-other table x y v false (eqb-false y x e))
+
+-- the old value put back after one turn, and after two
+pub restore-one : (table t₀ : List Bool) (x : ℕ) → t₀ ≡ set table x false → set t₀ x (getD table x false) ≡ table
+restore-one table t₀ x e = rw (e, set-set) (set-getD table x false)
+
+pub restore-both : (table t₀ t₁ : List Bool) (x : ℕ) → t₀ ≡ set table x false → t₁ ≡ set t₀ x true → set t₁ x (getD table x false) ≡ table
+restore-both table t₀ t₁ x e f = rw (f, set-set) (restore-one table t₀ x e)
+
+pub ready-kept : {s : Shape} {b : Bytes} {high low : List ℕ} {n m : ℕ} → Ready s b high low n → m ≡ n → Ready s b high low m
+ready-kept {s} {b} {high} {low} r e = subst (Ready s b high low) (sym e) r
+
+-- a turn on two values
+
+turn-stops : (q : Quantifier) (t₀ t₁ : Tried) → t₀ .verdict ≡ stops-at q → turn q t₀ t₁ ≡ t₀
+unfolding turn
+turn-stops or t₀ t₁ e = rw e
+turn-stops and t₀ t₁ e = rw e
+
+turn-goes-on : (q : Quantifier) (t₀ t₁ : Tried) → t₀ .verdict ≡ not (stops-at q)
+    → turn q t₀ t₁ ≡ record { verdict = t₁ .verdict; leaves = t₀ .leaves + t₁ .leaves }
+unfolding turn
+turn-goes-on or t₀ t₁ e = rw e
+turn-goes-on and t₀ t₁ e = rw e
+
+-- the prefix rows
+
+module _ (s : Shape) (b : Bytes) (holds : Holds s (length b)) where
+  P : List Row
+  P = take (s .variables) (rows-in (s .width) (s .variables + s .nodes) b)
+
+  length-P : length P ≡ s .variables
+  unfolding P
+  length-P = length-take-le (s .variables) (rows-in (s .width) (s .variables + s .nodes) b) (omega (arith, length-rows-in b (holds .room)))
+
+  unread-row : (r : ℕ) → r < s .variables → unread s b r ≡ binding (prefix-row s b r) ∷ unread s b (r + 1)
+  unfolding unread P
+  unread-row r h =
+      rw (add-one, drop-cons P r (row 0 0) (omega (arith, length-P)))
+      (ap (λ x. binding x ∷ map binding (drop (suc r) P))
+      (getD-take (s .variables) (rows-in (s .width) (s .variables + s .nodes) b) r (row 0 0) h))
+
+  pub turns-leaf : (table : List Bool) (v : Bool) → v ≡ eval (root (trees (matrix-rows s b))) (values table)
+      → record { verdict = v; leaves = 1 } ≡ turns s b (s .variables) table
+  unfolding turns unread try P
+  turns-leaf table v e = rw (drop-of-length-le P {i = s .variables} (omega (arith, length-P))) (ap (λ u. record { verdict = u; leaves = 1 }) e)
+
+  pub turns-last : (o : Outcome) (r : ℕ) (table : List Bool) → r ≡ s .variables → tried o ≡ turns s b (s .variables) table → tried o ≡ turns s b r table
+  turns-last o r table e h = rw e h
+
+  turns-leaves : (r : ℕ) (table : List Bool) → s .variables ≤ 20 → (turns s b r table) .leaves ≤ 2 ^ 20
+  unfolding turns unread P
+  turns-leaves r table few =
+      let left : length (unread s b r) ≤ 20 = omega (arith, length-map (drop r P) binding, length-drop r P, length-P) in
+      omega (arith, try-leaves (unread s b r) (eval (root (trees (matrix-rows s b)))) (values table), pow-mono left)
+
+  -- what a row's turn makes of the turns on its two values
+  turns-row : (r x : ℕ) (table : List Bool) → r < s .variables → x ≡ (prefix-row s b r) .argument → x < length table
+      → turns s b r table ≡
+      turn (cond (eqb ((prefix-row s b r) .kind) 1) exists for-all) (turns s b (r + 1) (set table x false)) (turns s b (r + 1) (set table x true))
+  unfolding turns try binding
+  turns-row r x table h e l = rw (unread-row r h, ← e, put-values table x false l, put-values table x true l)
+
+  -- row r is of the side q and binds x, and 0 was tried first
+  module _ (q : Quantifier) (r x : ℕ) (table t₀ : List Bool) (zero : Outcome)
+      (owner : cond (eqb ((prefix-row s b r) .kind) 1) exists for-all ≡ q) (h : r < s .variables) (e : x ≡ (prefix-row s b r) .argument)
+      (l : x < length table) (zero-tried : tried zero ≡ turns s b (r + 1) (set table x false)) (kept : t₀ ≡ set table x false) where
+    row-turn : turns s b r table ≡ turn q (tried zero) (turns s b (r + 1) (set table x true))
+    row-turn =
+        turns-row r x table h e l ∙
+        ap₂ (λ u t. turn u t (turns s b (r + 1) (set table x true))) owner (sym zero-tried)
+
+    pub turn-stopped : zero .verdict ≡ stops-at q → tried zero ≡ turns s b r table
+    turn-stopped v = sym (row-turn ∙ turn-stops q (tried zero) (turns s b (r + 1) (set table x true)) v)
+
+    module _ (one : Outcome) (one-tried : tried one ≡ turns s b (r + 1) (set t₀ x true)) where
+      pub leaves-fit : s .variables ≤ 20 → zero .leaves + one .leaves < 2 ^ 64
+      leaves-fit few =
+          omega (
+            arith,
+            turns-leaves (r + 1) (set table x false) few,
+            turns-leaves (r + 1) (set t₀ x true) few,
+            ap (λ (t : Tried). t .leaves) zero-tried,
+            ap (λ (t : Tried). t .leaves) one-tried,
+          )
+
+      pub turn-went-on : zero .verdict ≡ not (stops-at q) → (o : Outcome) → (o .verdict ≡ one .verdict) × (o .leaves ≡ zero .leaves + one .leaves)
+          → tried o ≡ turns s b r table
+      turn-went-on v o sum =
+          ap₂ (λ u n. record { verdict = u; leaves = n }) (sum .0) (sum .1) ∙
+          sym (
+          row-turn ∙ ap (λ l. turn q (tried zero) (turns s b (r + 1) l)) (sym (ap (λ t. set t x true) kept ∙ set-set table x false true)) ∙
+          ap (turn q (tried zero)) (sym one-tried) ∙ turn-goes-on q (tried zero) (tried one) v
+          )
+
+-- the first turn, under the table of all false
+pub turns-first : (s : Shape) (b : Bytes) (n : ℕ) (o : Outcome) → tried o ≡ turns s b 0 (replicate n false) → tried o ≡ semantic-tree s b
+unfolding turns semantic-tree
+turns-first s b n o e = e ∙ ap (try (unread s b 0) (eval (root (trees (matrix-rows s b))))) (fun-ext (none n))
+  where
+    none : (n x : ℕ) → getD (replicate n false) x false ≡ false
+    none zero x = refl
+    none (suc n) zero = refl
+    none (suc n) (suc x) = none n x
+
+-- how many calls of turns may follow one at row r: two for each row left, and one more if the row is the other side's
+
+pub existential-calls : Shape → Bytes → ℕ → ℕ
+existential-calls s b r = 2 * (s .variables - r) + cond (eqb ((prefix-row s b r) .kind) 1) 0 1
+
+pub universal-calls : Shape → Bytes → ℕ → ℕ
+universal-calls s b r = 2 * (s .variables - r) + cond (eqb ((prefix-row s b r) .kind) 1) 1 0
+
+module _ (s : Shape) (b : Bytes) (r : ℕ) where
+  one-row : (u : Bool) → (cond u 0 1 ≤ 1) × (cond u 1 0 ≤ 1)
+  one-row true = omega arith
+  one-row false = omega arith
+
+  pub existential-falls : r < s .variables → existential-calls s b (r + 1) < existential-calls s b r
+  unfolding existential-calls
+  existential-falls h = omega (arith, one-row (eqb ((prefix-row s b (r + 1)) .kind) 1) .0)
+
+  pub universal-falls : r < s .variables → universal-calls s b (r + 1) < universal-calls s b r
+  unfolding universal-calls
+  universal-falls h = omega (arith, one-row (eqb ((prefix-row s b (r + 1)) .kind) 1) .1)
+
+  -- of the two, the side that owns the row has fewer calls before it
+  pub to-universal : eqb ((prefix-row s b r) .kind) 1 ≡ false → universal-calls s b r < existential-calls s b r
+  unfolding existential-calls universal-calls
+  to-universal e = rw e (omega arith)
+
+  pub to-existential : eqb ((prefix-row s b r) .kind) 1 ≡ true → existential-calls s b r < universal-calls s b r
+  unfolding existential-calls universal-calls
+  to-existential e = rw e (omega arith)

@@ -1,0 +1,66 @@
+use mathlib.Core.Path.{_≡_, sym}
+use mathlib.Core.List.{List}
+use Prim.Native.Nat.{ℕ, _+_, _-_, _≤_, _<_}
+use native.Mathlib.Omega.{arith}
+use lib.ListN.{length}
+use Rattle.formula.specs.Truth.{Assignment, eval}
+use Rattle.sheet.specs.Format.{Row}
+use Rattle.sheet.specs.Sheet.{trees, root}
+use Rattle.trial.specs.Jumps.{matrix-rows, values, next, Decides}
+use Rattle.trial.proofs.Rows.{length-matrix-rows}
+use Rattle.trial.proofs.Evaluation.{next-on, verdict-at}
+use Rattle.trial.proofs.evaluate.Statement.{statement}
+use Rattle.trial.proofs.evaluate.Tie as tie
+use Rattle.trial.proofs.evaluate.Reads as reads
+use Rattle.trial.proofs.evaluate.Lts as lts
+use Rattle.trial.proofs.next.Reads as next-reads
+
+-- row r leads to the matrix's value
+abbrev Going : List Row → List ℕ → List ℕ → Assignment → ℕ → Type 0
+Going R high low ρ r = Decides (length R) (next R high low ρ) (eval (root (trees R)) ρ) r
+
+abbrev Inv-loop : tie.InvT-loop
+Inv-loop sheet s high low assignment n r₀ r =
+    (r ≤ n + 1) × Going (matrix-rows s sheet) high low (values assignment) r
+
+abbrev μ-loop : tie.MeasureT-loop
+μ-loop sheet s high low assignment n r₀ r = n + 2 - r
+
+abbrev head : tie.After-next Inv-loop μ-loop → tie.At-loop Inv-loop μ-loop
+head c = c .before .before
+
+abbrev start : tie.After-next Inv-loop μ-loop → tie.Start Inv-loop μ-loop
+start c = c .before .before .before .before .before .before .before
+
+loop-holds : tie.Need-loop-holds Inv-loop μ-loop
+loop-holds c =
+    let a = c .before .before .before .before in
+    (omega arith, a .pre .1 .decides (values (a .args .assignment .now)))
+
+next-requires : tie.Need-next-requires Inv-loop μ-loop
+next-requires c κs =
+    let a = c .before .before .before .before .before .before in
+    (a .pre .0, c .loop-test .taken, a .pre .2, a .pre .3)
+
+on : (c : tie.After-next Inv-loop μ-loop) → (head c .loop .r < c .next .result) × (c .next .result ≤ start c .args .s .nodes + 1) × Going (matrix-rows (start c .args .s) (start c .args .sheet .now)) (start c .args .high .now) (start c .args .low .now) (values (start c .args .assignment .now)) (c .next .result)
+on c =
+    let a = start c in
+    let R = matrix-rows (a .args .s) (a .args .sheet .now) in
+    let ρ = values (a .args .assignment .now) in
+    next-on R (a .args .s .nodes) (length-matrix-rows (a .args .s) (a .args .sheet .now) (a .pre .0)) (a .args .high .now) (a .args .low .now) ρ (eval (root (trees R)) ρ)
+    (head c .loop .r) (c .next .result) (a .pre .1) (c .before .loop-test .taken) (head c .loop .inv .1) (c .next .ensures)
+
+loop-less : tie.Need-loop-less Inv-loop μ-loop
+loop-less c = omega (arith, on c .0, head c .loop .inv .0)
+
+loop-again : tie.Need-loop-again Inv-loop μ-loop
+loop-again c = (on c .1, on c .2)
+
+returns : tie.Need-returns Inv-loop μ-loop
+returns c =
+    let a = c .before .before .before .before .before .before in
+    verdict-at _ (a .args .s .nodes) _ _ (c .before .loop .r) (length-matrix-rows (a .args .s) (a .args .sheet .now) (a .pre .0)) (c .loop-test .left) (c .before .loop .inv .1)
+
+pub evaluate-spec : {M : Type 1} → statement M
+evaluate-spec =
+    tie.close (tie.spec Inv-loop μ-loop loop-holds next-requires loop-less loop-again returns)

@@ -1,0 +1,60 @@
+-- `trial::semantic_tree` meets its contract.
+-- Assumes nothing.
+use native.Mathlib.Omega.{arith}
+use Rattle.trial.proofs.Turns.{turns-first}
+use borrow.Author.Needs.{needs}
+use Rattle.trial.proofs.semantic_tree.Statement.{statement}
+use Rattle.trial.proofs.semantic_tree.Tie as tie
+
+slice-aggregate-build : tie.Need-slice-aggregate-build
+slice-aggregate-build c = search needs
+
+slice-aggregate-build-2 : tie.Need-slice-aggregate-build-2
+slice-aggregate-build-2 c = search needs
+
+build-requires : tie.Need-build-requires
+build-requires c κs =
+    let p = c .before .before .before .pre in
+    (p .holds, p .one-tree, omega (arith, p .holds .few-nodes), omega (arith, p .holds .few-nodes))
+
+slice-aggregate-existential : tie.Need-slice-aggregate-existential
+slice-aggregate-existential c = search needs
+
+slice-aggregate-existential-2 : tie.Need-slice-aggregate-existential-2
+slice-aggregate-existential-2 c = search needs
+
+slice-aggregate-existential-3 : tie.Need-slice-aggregate-existential-3
+slice-aggregate-existential-3 c = search needs
+
+existential-requires : tie.Need-existential-requires
+existential-requires c κs =
+    let p = c .before .before .before .before .before .before .before .before .before .pre in
+    let built = c .before .before .before .before .before .build in (
+      record {
+        holds = p .holds;
+        few = p .few;
+        numbered = p .numbered;
+        jumps = built .ensures;
+        high-room = omega (arith, p .holds .few-nodes, built .kept .1 .1 .0);
+        low-room = omega (arith, p .holds .few-nodes, built .kept .1 .1 .1 .0);
+      },
+      omega arith,
+    )
+
+returns : tie.Need-returns
+returns c =
+    let a = c .before .before .before .before .before .before .before .before .before .before .before .args in
+    turns-first (a .s) (a .sheet .now) 1025 (c .before .existential .result) (c .before .existential .ensures .0)
+
+pub semantic-tree-spec : {M : Type 1} → statement M
+semantic-tree-spec =
+    tie.close
+    (tie.spec
+    slice-aggregate-build
+    slice-aggregate-build-2
+    build-requires
+    slice-aggregate-existential
+    slice-aggregate-existential-2
+    slice-aggregate-existential-3
+    existential-requires
+    returns)

@@ -1,0 +1,20 @@
+use mathlib.Core.Bool.{false}
+use mathlib.Core.Path.{sym}
+use lib.ListN.{List·getD-eq-default}
+use borrow.Author.Needs.{needs}
+use Rattle.trial.proofs.value_of.Statement.{statement}
+use Rattle.trial.proofs.value_of.Tie as tie
+use Rattle.trial.proofs.value_of.Reads as reads
+use Rattle.trial.proofs.value_of.Lts as lts
+
+shared-slice-read-result : tie.Need-shared-slice-read-result
+shared-slice-read-result c = search needs
+
+returns : tie.Need-returns
+returns c = search needs
+
+returns-2 : tie.Need-returns-2
+returns-2 c = sym (List·getD-eq-default (c .before .args .assignment .now) false (c .if1 .left))
+
+pub value-of-spec : {M : Type 1} → statement M
+value-of-spec = tie.close (tie.spec shared-slice-read-result returns returns-2)

@@ -1,0 +1,112 @@
+-- The matrix as a chain of jumps: two tables say for each node row at which row evaluation goes on once the subtree there is known
+-- to be true (high) or false (low). Behind the last row N, row N says true and row N+1 false.
+-- Assumes nothing.
+use mathlib.Core.Path.{_≡_}
+use mathlib.Core.Bool.{Bool, true, false, not, _&&_, cond, Bool·beq}
+use mathlib.Core.List.{List}
+use Prim.Native.Nat.{ℕ, zero, suc, _+_, _≤_, _<_}
+use lib.Dec.{eqb, ltb, leb}
+use lib.ListN.{length, getD, drop}
+use Rattle.formula.specs.Truth.{Assignment, eval}
+use Rattle.sheet.specs.Format.{Bytes, Row, row, children}
+use Rattle.sheet.specs.Sheet.{trees, root, tree-rows}
+use Rattle.sheet.specs.Operations.{span}
+use Rattle.rows.specs.Rows.{rows-in, Room}
+use Rattle.trial.specs.declared.Shape.{Shape}
+
+-- a sheet of this shape has its place in len bytes, and its rows in the tables
+pub record Holds (s : Shape) (len : ℕ) : Type 0 where
+  pub room : Room (s .width) (s .variables + s .nodes) len
+  pub few-variables : s .variables ≤ 1024
+  pub few-nodes : s .nodes ≤ 8192
+
+-- the N node rows
+unfoldable pub matrix-rows : Shape → Bytes → List Row
+matrix-rows s b = drop (s .variables) (rows-in (s .width) (s .variables + s .nodes) b)
+
+-- an entry of a table
+abbrev pub entry : List ℕ → ℕ → ℕ
+entry table r = getD table r 0
+
+-- the row behind the subtree at r
+unfoldable pub end-of : List Row → ℕ → ℕ
+end-of R r = r + span 1 (drop r R)
+
+-- a table of the subtrees' ends, from a row on; behind the last row it is that row itself
+abbrev pub Ends : List Row → List ℕ → ℕ → Type 0
+Ends R ends from = (r : ℕ) → from ≤ r → r ≤ length R → entry ends r ≡ end-of R r
+
+-- the row behind k subtrees from r on, by such a table, and that each hop on the way is within the table
+unfoldable pub hops : List ℕ → ℕ → ℕ → ℕ
+hops ends zero r = r
+hops ends (suc k) r = hops ends k (entry ends r)
+
+abbrev pub Hopping : List ℕ → ℕ → ℕ → Type 0
+Hopping ends zero r = Unit {0}
+Hopping ends (suc k) r = (r < length ends) × Hopping ends k (entry ends r)
+
+-- p is the parent of r: of the subtrees that begin before r, the last one that is not yet at its end
+pub record Parent (ends : List ℕ) (p r : ℕ) : Type 0 where
+  pub before : p < r
+  pub still-open : r < entry ends p
+  pub others-closed : (y : ℕ) → p < y → y < r → entry ends y ≤ r
+
+abbrev pub Parents : List ℕ → List ℕ → ℕ → Type 0
+Parents ends parents r = (q : ℕ) → 0 < q → q < r → Parent ends (entry parents q) q
+
+-- a child's value leads past the child if its parent is not decided by it and has more children, else where the parent's leads
+abbrev pub past : Bool → ℕ → ℕ → ℕ → ℕ
+past undecided end last up = cond (undecided && ltb end last) end up
+
+unfoldable pub is-and : List Row → ℕ → Bool
+is-and R r = eqb ((getD R r (row 0 0)) .kind) 5
+
+-- both targets of row r, by its parent's
+pub record Wired (R : List Row) (ends high low : List ℕ) (r : ℕ) : Type 0 where
+  pub parent : ℕ
+  pub is-parent : Parent ends parent r
+  pub high-target : entry high r ≡ past (is-and R parent) (entry ends r) (entry ends parent) (entry high parent)
+  pub low-target : entry low r ≡ past (not (is-and R parent)) (entry ends r) (entry ends parent) (entry low parent)
+
+-- every row before r has its targets; the root's are the verdicts
+pub record Targets (R : List Row) (ends high low : List ℕ) (r : ℕ) : Type 0 where
+  pub root-high : entry high 0 ≡ length R
+  pub root-low : entry low 0 ≡ length R + 1
+  pub wired : (q : ℕ) → 0 < q → q < r → Wired R ends high low q
+
+-- the rows of one tree
+abbrev pub OneTree : List Row → Type 0
+OneTree R = tree-rows (root (trees R)) ≡ R
+
+-- the assignment that a table holds
+abbrev pub values : List Bool → Assignment
+values table x = getD table x false
+
+-- the value of a literal, and of an operator that has no child
+unfoldable pub row-value : Row → Assignment → Bool
+row-value x ρ = cond (leb (x .kind) 4) (Bool·beq (eqb (x .kind) 3) (ρ (x .argument))) (eqb (x .kind) 5)
+
+-- where evaluation goes on after row r: an operator goes on at its first child, any other row by its value
+unfoldable pub next : List Row → List ℕ → List ℕ → Assignment → ℕ → ℕ
+next R high low ρ r =
+    cond (eqb (children (getD R r (row 0 0))) 0) (cond (row-value (getD R r (row 0 0)) ρ) (entry high r) (entry low r)) (r + 1)
+
+-- the row that says the verdict
+abbrev pub verdict-row : ℕ → Bool → ℕ
+verdict-row n true = n
+verdict-row n false = n + 1
+
+-- r leads to a verdict in k steps, or in some number of them
+abbrev pub Leads : ℕ → (ℕ → ℕ) → Bool → ℕ → ℕ → Type 0
+Leads n step x zero r = r ≡ verdict-row n x
+Leads n step x (suc k) r = (r < n) × Leads n step x k (step r)
+
+pub record Decides (n : ℕ) (step : ℕ → ℕ) (x : Bool) (r : ℕ) : Type 0 where
+  pub steps : ℕ
+  pub leads : Leads n step x steps r
+
+-- tables that evaluate the matrix: every jump leads forward, and row 0 to the value
+pub record Jumps (R : List Row) (high low : List ℕ) : Type 0 where
+  pub high-forward : (r : ℕ) → r < length R → (r < entry high r) × (entry high r ≤ length R + 1)
+  pub low-forward : (r : ℕ) → r < length R → (r < entry low r) × (entry low r ≤ length R + 1)
+  pub decides : (ρ : Assignment) → Decides (length R) (next R high low ρ) (eval (root (trees R)) ρ) 0
