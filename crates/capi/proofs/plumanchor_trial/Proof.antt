@@ -1,3 +1,8 @@
+-- `capi::plumanchor_trial` packs what `trial` answers.
+-- Assumes nothing.
+use mathlib.Core.Path.{sym, _∙_, ap}
+use Rattle.trial.specs.Answers.{tried-answer}
+use Rattle.capi.specs.Packed.{packed-trial}
 use borrow.Author.Needs.{needs}
 use Rattle.capi.proofs.plumanchor_trial.Statement.{statement}
 use Rattle.capi.proofs.plumanchor_trial.Tie as tie
@@ -21,10 +26,16 @@ pack-requires-2 : tie.Need-pack-requires-2
 pack-requires-2 c κs = search needs
 
 returns : tie.Need-returns
-returns c = search needs
+unfolding packed-trial
+returns c =
+    let known = c .before .before in
+    c .pack .ensures ∙ ap packed-trial (sym (ap tried-answer (known .verdict .given .1)) ∙ known .before .before .trial .ensures)
 
 returns-2 : tie.Need-returns-2
-returns-2 c = search needs
+unfolding packed-trial
+returns-2 c =
+    let known = c .before .before in
+    c .pack2 .ensures ∙ ap packed-trial (sym (ap tried-answer (known .number .given .1)) ∙ known .before .before .trial .ensures)
 
 pub plumanchor-trial-spec : {M : Type 1} → statement M
 plumanchor-trial-spec =
