@@ -57,7 +57,7 @@ sized : (c : tie.After-c)
 sized c = accepted-sized (c .before .before .before .before .pre) (accepted c .right)
 
 returns-2 : tie.Need-returns-2
-returns-2 c = bad-node _ _ _ _ _ (accepted (c .before .before .before)) (c .before .if1 .taken)
+returns-2 c = bad-node _ _ _ _ _ (accepted (c .before .before .before)) (omega arith)
 
 add-first : tie.Need-add-first
 add-first c = omega (arith, sized (c .before .before))

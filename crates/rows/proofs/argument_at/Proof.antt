@@ -26,7 +26,7 @@ add-number-at-2 c =
 number-at-requires : tie.Need-number-at-requires
 number-at-requires c κs =
     let a = c .before in
-    (argument-within (a .args .b .now) (a .pre .0) (a .args .r) (a .pre .1), a .pre .0 .few-bytes)
+    (omega (arith, argument-within (a .args .b .now) (a .pre .0) (a .args .r) (a .pre .1)), a .pre .0 .few-bytes)
 
 returns : tie.Need-returns
 returns c =

@@ -40,7 +40,7 @@ loop-again : tie.Need-loop-again Inv-loop μ-loop
 loop-again c =
     let head = c .before .before .before in
     let a = head .before .before in
-    read-byte (a .args .b .now) (a .args .at) (a .args .width) (a .pre .0) (c .before .before .loop-test .taken) (head .loop .inv)
+    read-byte (a .args .b .now) (a .args .at) (a .args .width) (a .pre .0) (omega arith) (head .loop .inv)
     (c .wide .ensures .0) (c .wide .ensures .1)
 
 returns : tie.Need-returns Inv-loop μ-loop
