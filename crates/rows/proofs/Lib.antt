@@ -1,3 +1,4 @@
 pub mod Rows
 mod Turn
 mod Stores
+mod Sealing

@@ -1,4 +1,4 @@
-// Rows of a sheet by their number. Nothing above this crate mentions bytes or the width of a number.
+// Rows of a sheet by their number, at any width: what all code above reads sheets through.
 ghost use mathlib.Core.Path.{_≡_};
 ghost use Prim.Native.Nat.{_+_, _^_, _≤_, _<_};
 ghost use lib.ListN.{length, getD, take, drop};
@@ -7,6 +7,7 @@ ghost use Rattle.rows.specs.Rows.{rows-in, Room};
 ghost use Rattle.rows.specs.Formats.{format-of};
 
 pub mod edit;
+pub mod seal;
 
 // Bytes to a number, most variables (and the highest variable number), most nodes.
 pub struct Format {

@@ -1,19 +1,19 @@
 -- What Trial answers, from what Check answers and from the semantic tree.
 -- Assumes nothing.
-use mathlib.Core.Path.{_≡_, refl, sym, ap, _∙_}
+use mathlib.Core.Path.{_≡_, sym, ap, _∙_}
 use mathlib.Core.Bool.{Bool, true, false, cond}
-use mathlib.Core.List.{List, [], _∷_, _++_, map}
+use mathlib.Core.List.{List, [], _∷_, _++_}
 use Prim.Native.Nat.{ℕ, zero, suc, _+_, _≤_, _<_}
 use native.Mathlib.Omega.{arith}
 use lib.Dec.{ltb}
-use lib.ListN.{length, getD, take, drop, List·getD-map}
+use lib.ListN.{length, getD, take, List·getD-map}
 use lib.Seq.{getD-take}
 use borrow.Author.Tests.{lt-ltb, le-ltb}
 use Rattle.formula.specs.Tree.{Binding, Prefix}
 use Rattle.formula.specs.Trial.{Tried, trial}
-use Rattle.sheet.specs.Format.{Bytes, Format, Row, row, variables, nodes, all-rows, prefix-rows, node-rows}
-use Rattle.sheet.specs.Sheet.{binding, trees, root, formula}
-use Rattle.sheet.specs.Check.{Answer, refused, accepted, Test, test, answer, passes, check-tests, check}
+use Rattle.sheet.specs.Format.{Bytes, Format, Row, row, variables, nodes, prefix-rows, node-rows}
+use Rattle.sheet.specs.Sheet.{binding, formula}
+use Rattle.sheet.specs.Check.{refused, accepted, Test, test, answer, check-tests, check}
 use Rattle.sheet.specs.Operations.{trial-call}
 use Rattle.sheet.proofs.Tests.{answer-++}
 use Rattle.sheet.proofs.Limits.{numbered, numbered-∷}
@@ -23,7 +23,7 @@ use Rattle.checking.specs.Stages.{Manageable}
 use Rattle.checking.proofs.Accepted.{AcceptedSheet, accepted-room, accepted-rows}
 use Rattle.trial.specs.declared.Shape.{Shape}
 use Rattle.trial.specs.Jumps.{matrix-rows, OneTree}
-use Rattle.trial.specs.Turns.{prefix-row, unread, semantic-tree, Numbered, Playable}
+use Rattle.trial.specs.Turns.{unread, semantic-tree, Numbered, Playable}
 
 -- a refusal of the first tests is the answer, whatever would be returned and whichever tests follow
 refused-first : {A B : Type 0} {n i : ℕ} (ts us : List Test) (a : A) (b : B) → refused n i ≡ answer ts a → refused n i ≡ answer (ts ++ us) b

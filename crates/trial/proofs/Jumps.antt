@@ -1,23 +1,22 @@
 -- Tables wired by the parents' targets evaluate the matrix: each subtree leads where its value's target does.
 -- Assumes nothing.
-use mathlib.Core.Path.{_≡_, refl, sym, ap, _∙_, subst}
+use mathlib.Core.Path.{_≡_, refl, sym, ap, _∙_}
 use mathlib.Core.Bool.{Bool, true, false, not, _&&_, cond, Bool·beq}
 use mathlib.Core.List.{List, [], _∷_, _++_, append-assoc, append-nil}
 use Prim.Native.Nat.{ℕ, zero, suc, _+_, _≤_, _<_}
 use native.Mathlib.Nat.{add-zero}
 use native.Mathlib.Decide.{decLt}
-use native.Mathlib.Numerals.{add-one}
 use native.Mathlib.Omega.{arith}
 use lib.Dec.{ltb, eqb, eqb·suc-zero}
 use lib.ListN.{length, getD, drop, length-drop, length-append}
 use lib.Seq.{drop-drop, getD-drop, drop-at}
-use borrow.Author.Tests.{lt-ltb, le-ltb, eq-eqb, ne-eqb}
+use borrow.Author.Tests.{lt-ltb, le-ltb}
 use Rattle.formula.specs.Tree.{Op, and, or, Tree, lit, node, Forest, ∅, _▸_, rows, rows-all, count}
 use Rattle.formula.specs.Truth.{Assignment, unit, join, eval, eval-all}
 use Rattle.sheet.specs.Format.{Row, row, children}
 use Rattle.sheet.specs.Sheet.{literal-kind, operator-kind, trees, root, tree-rows, forest-rows}
 use Rattle.sheet.proofs.Preorder.{root-trees, length-tree-rows, rows-positive}
-use Rattle.trial.specs.Jumps.{entry, end-of, Ends, Parent, past, is-and, Wired, Targets, row-value, next, verdict-row, Leads, Decides, Jumps, OneTree}
+use Rattle.trial.specs.Jumps.{entry, end-of, Ends, Parent, past, is-and, Wired, Targets, row-value, next, Decides, Jumps, OneTree}
 use Rattle.trial.proofs.Span.{end-bound, end-behind, end-within, end-tree}
 
 -- a list from a row on

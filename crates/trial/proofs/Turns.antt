@@ -1,17 +1,17 @@
 -- A turn on a prefix row: what it makes of the turns on the rows behind, how often it may hand over, and the assignment it leaves.
 -- Assumes nothing.
 use mathlib.Core.Path.{_≡_, refl, sym, ap, ap₂, subst, _∙_, fun-ext}
-use mathlib.Core.Bool.{Bool, true, false, not, cond, Bool·beq}
-use mathlib.Core.List.{List, [], _∷_, map}
+use mathlib.Core.Bool.{Bool, true, false, cond, Bool·beq}
+use mathlib.Core.List.{List, _∷_, map}
 use Prim.Native.Nat.{ℕ, zero, suc, _+_, _-_, _*_, _^_, _≤_, _<_}
 use native.Mathlib.Numerals.{add-one}
 use native.Mathlib.Omega.{arith}
 use lib.Dec.{eqb}
-use lib.ListN.{length, getD, replicate, take, drop, set, length-map, length-drop, length-set, drop-of-length-le}
+use lib.ListN.{length, getD, replicate, take, drop, set, length-map, length-drop, drop-of-length-le}
 use lib.Pow.{pow-mono}
 use lib.Seq.{length-take-le, drop-cons, getD-take, getD-set-same, getD-set-other, set-set, set-getD}
 use borrow.Author.Tests.{eqb-true, eqb-false}
-use Rattle.formula.specs.Tree.{Quantifier, and, or, exists, for-all}
+use Rattle.formula.specs.Tree.{Quantifier, exists, for-all}
 use Rattle.formula.specs.Truth.{put, eval}
 use Rattle.formula.specs.Trial.{Tried, stops-at, turn, try}
 use Rattle.formula.proofs.Trial.{try-leaves}
@@ -45,16 +45,14 @@ ready-kept {s} {b} {high} {low} r e = subst (Ready s b high low) (sym e) r
 
 -- a turn on two values
 
-turn-stops : (q : Quantifier) (t₀ t₁ : Tried) → t₀ .verdict ≡ stops-at q → turn q t₀ t₁ ≡ t₀
+turn-stops : (q : Quantifier) (t₀ t₁ : Tried) → Bool·beq (stops-at q) (t₀ .verdict) ≡ true → turn q t₀ t₁ ≡ t₀
 unfolding turn
-turn-stops or t₀ t₁ e = rw e
-turn-stops and t₀ t₁ e = rw e
+turn-stops q t₀ t₁ e = rw e
 
-turn-goes-on : (q : Quantifier) (t₀ t₁ : Tried) → t₀ .verdict ≡ not (stops-at q)
+turn-goes-on : (q : Quantifier) (t₀ t₁ : Tried) → Bool·beq (stops-at q) (t₀ .verdict) ≡ false
     → turn q t₀ t₁ ≡ record { verdict = t₁ .verdict; leaves = t₀ .leaves + t₁ .leaves }
 unfolding turn
-turn-goes-on or t₀ t₁ e = rw e
-turn-goes-on and t₀ t₁ e = rw e
+turn-goes-on q t₀ t₁ e = rw e
 
 -- the prefix rows
 
@@ -103,8 +101,8 @@ module _ (s : Shape) (b : Bytes) (holds : Holds s (length b)) where
         turns-row r x table h e l ∙
         ap₂ (λ u t. turn u t (turns s b (r + 1) (set table x true))) owner (sym zero-tried)
 
-    pub turn-stopped : zero .verdict ≡ stops-at q → tried zero ≡ turns s b r table
-    turn-stopped v = sym (row-turn ∙ turn-stops q (tried zero) (turns s b (r + 1) (set table x true)) v)
+    pub turn-stopped : (stop : Bool) → stop ≡ Bool·beq (stops-at q) (zero .verdict) → stop ≡ true → tried zero ≡ turns s b r table
+    turn-stopped stop asked v = sym (row-turn ∙ turn-stops q (tried zero) (turns s b (r + 1) (set table x true)) (sym asked ∙ v))
 
     module _ (one : Outcome) (one-tried : tried one ≡ turns s b (r + 1) (set t₀ x true)) where
       pub leaves-fit : s .variables ≤ 20 → zero .leaves + one .leaves < 2 ^ 64
@@ -117,14 +115,14 @@ module _ (s : Shape) (b : Bytes) (holds : Holds s (length b)) where
             ap (λ (t : Tried). t .leaves) one-tried,
           )
 
-      pub turn-went-on : zero .verdict ≡ not (stops-at q) → (o : Outcome) → (o .verdict ≡ one .verdict) × (o .leaves ≡ zero .leaves + one .leaves)
-          → tried o ≡ turns s b r table
-      turn-went-on v o sum =
+      pub turn-went-on : (stop : Bool) → stop ≡ Bool·beq (stops-at q) (zero .verdict) → stop ≡ false
+          → (o : Outcome) → (o .verdict ≡ one .verdict) × (o .leaves ≡ zero .leaves + one .leaves) → tried o ≡ turns s b r table
+      turn-went-on stop asked v o sum =
           ap₂ (λ u n. record { verdict = u; leaves = n }) (sum .0) (sum .1) ∙
-          sym (
-          row-turn ∙ ap (λ l. turn q (tried zero) (turns s b (r + 1) l)) (sym (ap (λ t. set t x true) kept ∙ set-set table x false true)) ∙
-          ap (turn q (tried zero)) (sym one-tried) ∙ turn-goes-on q (tried zero) (tried one) v
-          )
+          sym
+          (row-turn ∙ ap (λ l. turn q (tried zero) (turns s b (r + 1) l)) (sym (ap (λ t. set t x true) kept ∙ set-set table x false true)) ∙
+          ap (turn q (tried zero)) (sym one-tried) ∙
+          turn-goes-on q (tried zero) (tried one) (sym asked ∙ v))
 
 -- the first turn, under the table of all false
 pub turns-first : (s : Shape) (b : Bytes) (n : ℕ) (o : Outcome) → tried o ≡ turns s b 0 (replicate n false) → tried o ≡ semantic-tree s b

@@ -74,6 +74,11 @@ pub record Targets (R : List Row) (ends high low : List ℕ) (r : ℕ) : Type 0 
   pub root-low : entry low 0 ≡ length R + 1
   pub wired : (q : ℕ) → 0 < q → q < r → Wired R ends high low q
 
+-- n rows have their targets' places in both tables
+pub record Rooms (n : ℕ) (high low : List ℕ) : Type 0 where
+  pub high-room : n < length high
+  pub low-room : n < length low
+
 -- the rows of one tree
 abbrev pub OneTree : List Row → Type 0
 OneTree R = tree-rows (root (trees R)) ≡ R

@@ -12,7 +12,7 @@ use Rattle.sheet.specs.Sheet.{binding, trees, root}
 use Rattle.rows.specs.Rows.{rows-in}
 use Rattle.trial.specs.declared.Shape.{Shape}
 use Rattle.trial.specs.declared.Outcome.{Outcome}
-use Rattle.trial.specs.Jumps.{Holds, matrix-rows, OneTree, values, Jumps}
+use Rattle.trial.specs.Jumps.{Holds, matrix-rows, Rooms, OneTree, values, Jumps}
 
 -- the verdict and the leaves tried
 abbrev pub tried : Outcome → Tried
@@ -49,5 +49,4 @@ pub record Ready (s : Shape) (b : Bytes) (high low : List ℕ) (numbers : ℕ) :
   pub few : s .variables ≤ 20
   pub numbered : Numbered s b numbers
   pub jumps : Jumps (matrix-rows s b) high low
-  pub high-room : s .nodes < length high
-  pub low-room : s .nodes < length low
+  pub rooms : Rooms (s .nodes) high low

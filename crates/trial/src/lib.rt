@@ -1,20 +1,20 @@
 // Trial: decides a formula by trying values, 0 first, along its semantic tree.
 use checking::Checked;
 ghost use mathlib.Core.Path.{_≡_};
-ghost use Prim.Native.Nat.{suc, _+_, _^_, _≤_, _<_};
+ghost use mathlib.Core.Bool.{Bool·beq};
+ghost use Prim.Native.Nat.{_+_, _^_, _≤_, _<_};
 ghost use lib.Dec.{eqb};
 ghost use lib.ListN.{length, getD};
-ghost use mathlib.Core.Bool.{true, false, not};
 ghost use Rattle.formula.specs.Truth.{eval};
+ghost use Rattle.sheet.specs.Format.{narrow, row, children};
 ghost use Rattle.sheet.specs.Sheet.{trees, root};
-ghost use Rattle.sheet.specs.Format.{row, children};
-ghost use Rattle.sheet.specs.Format.{narrow};
 ghost use Rattle.sheet.specs.Operations.{trial-call};
 ghost use Rattle.rows.specs.Formats.{format-of};
 ghost use Rattle.checking.specs.Stages.{Manageable};
 ghost use Rattle.trial.specs.Answers.{tried-answer};
-ghost use Rattle.trial.specs.Turns.{tried, prefix-row, turns, Ready, Playable, semantic-tree};
-ghost use Rattle.trial.specs.Jumps.{Holds, matrix-rows, entry, hops, Hopping, Ends, Parent, Parents, past, Targets, OneTree, values, row-value, next, Jumps};
+ghost use Rattle.trial.specs.Jumps.{Holds, matrix-rows, entry, Ends, hops, Hopping, Parent, Parents, past, Targets, Rooms};
+ghost use Rattle.trial.specs.Jumps.{OneTree, values, row-value, next, Jumps};
+ghost use Rattle.trial.specs.Turns.{tried, prefix-row, turns, semantic-tree, Playable, Ready};
 
 // What Trial answers: the verdict and the leaves tried, or a refusal's number and place.
 pub enum Tried {
@@ -92,6 +92,7 @@ fn mark_ends(sheet: &[u8], s: Shape, ends: &mut [u16])
     ensures { λ _. ⌜ Ends (matrix-rows s (now (sheet .entry))) (now (ends .exit)) 0 ⌝ }
 {
     let mut r = s.nodes;
+    // Behind the last row nothing is left to hop over.
     ends[r] = r as u16;
     while 0 < r {
         r -= 1;
@@ -112,7 +113,7 @@ fn parent_of(ends: &[u16], parents: &[u16], r: usize) -> usize
     p
 }
 
-// A child's target for a value that leaves its parent undecided: past the child, to the next one; else the parent's.
+// Where a child's value leads: to the next child, if its parent is undecided by it and has one, else where the parent's leads.
 fn past(undecided: bool, end: u16, last: u16, up: u16) -> u16
     ensures { λ r. ⌜ r ≡ past undecided end last up ⌝ }
 {
@@ -125,7 +126,7 @@ fn past(undecided: bool, end: u16, last: u16, up: u16) -> u16
     up
 }
 
-// Gives every row its two targets, the first row first: a child's are made from its parent's.
+// Gives every row its two targets, the first row first: the root's are the verdicts, a child's are made from its parent's.
 fn wire(
     sheet: &[u8],
     s: Shape,
@@ -135,7 +136,7 @@ fn wire(
     low: &mut [u16],
 )
     requires { ⌜ Holds s (length (now sheet)) × (0 < s .nodes) × Ends (matrix-rows s (now sheet)) (now ends) 0 × (entry (now ends) 0 ≡ s .nodes) ⌝ }
-    requires { ⌜ (s .nodes < length (now ends)) × (s .nodes < length (now parents)) × (s .nodes < length (now high)) × (s .nodes < length (now low)) ⌝ }
+    requires { ⌜ (s .nodes < length (now ends)) × (s .nodes < length (now parents)) × Rooms (s .nodes) (now high) (now low) ⌝ }
     ensures { λ _. ⌜ Targets (matrix-rows s (now (sheet .entry))) (now (ends .entry)) (now (high .exit)) (now (low .exit)) (s .nodes) ⌝ }
 {
     let n = s.nodes;
@@ -154,9 +155,9 @@ fn wire(
     }
 }
 
-// Builds the jump tables of the matrix.
+// Builds the matrix's jump tables: where to go on once a subtree is known to be true (high) or false (low).
 fn build(sheet: &[u8], s: Shape, high: &mut [u16], low: &mut [u16])
-    requires { ⌜ Holds s (length (now sheet)) × OneTree (matrix-rows s (now sheet)) × (s .nodes < length (now high)) × (s .nodes < length (now low)) ⌝ }
+    requires { ⌜ Holds s (length (now sheet)) × OneTree (matrix-rows s (now sheet)) × Rooms (s .nodes) (now high) (now low) ⌝ }
     ensures { λ _. ⌜ Jumps (matrix-rows s (now (sheet .entry))) (now (high .exit)) (now (low .exit)) ⌝ }
 {
     let mut ends = [0u16; ROWS];
@@ -190,7 +191,7 @@ fn row_value(sheet: &[u8], s: Shape, assignment: &[bool], r: usize) -> bool
 
 // The row at which evaluation goes on after row `r`.
 fn next(sheet: &[u8], s: Shape, high: &[u16], low: &[u16], assignment: &[bool], r: usize) -> usize
-    requires { ⌜ Holds s (length (now sheet)) × (r < s .nodes) × (s .nodes < length (now high)) × (s .nodes < length (now low)) ⌝ }
+    requires { ⌜ Holds s (length (now sheet)) × (r < s .nodes) × Rooms (s .nodes) (now high) (now low) ⌝ }
     ensures { λ e. ⌜ e ≡ next (matrix-rows s (now (sheet .entry))) (now (high .entry)) (now (low .entry)) (values (now (assignment .entry))) r ⌝ }
 {
     if node_children(sheet, s, r) != 0 {
@@ -204,7 +205,7 @@ fn next(sheet: &[u8], s: Shape, high: &[u16], low: &[u16], assignment: &[bool], 
 
 // The matrix's value: one pass that jumps over every subtree once its parent is decided.
 fn evaluate(sheet: &[u8], s: Shape, high: &[u16], low: &[u16], assignment: &[bool]) -> bool
-    requires { ⌜ Holds s (length (now sheet)) × Jumps (matrix-rows s (now sheet)) (now high) (now low) × (s .nodes < length (now high)) × (s .nodes < length (now low)) ⌝ }
+    requires { ⌜ Holds s (length (now sheet)) × Jumps (matrix-rows s (now sheet)) (now high) (now low) × Rooms (s .nodes) (now high) (now low) ⌝ }
     ensures { λ v. ⌜ v ≡ eval (root (trees (matrix-rows s (now (sheet .entry))))) (values (now (assignment .entry))) ⌝ }
 {
     let n = s.nodes;
@@ -242,6 +243,13 @@ fn leaf(sheet: &[u8], s: Shape, high: &[u16], low: &[u16], assignment: &[bool]) 
     }
 }
 
+// Whether a turn of the side that stops at this verdict stops.
+fn stops(zero: Outcome, verdict: bool) -> bool
+    ensures { λ b. ⌜ b ≡ Bool·beq verdict (zero .verdict) ⌝ }
+{
+    verdict == zero.verdict
+}
+
 // A turn that did not stop at its first value: the second one's verdict, and the leaves of both.
 fn both(zero: Outcome, one: Outcome) -> Outcome
     requires { ⌜ zero .leaves + one .leaves < 2 ^ 64 ⌝ }
@@ -275,7 +283,7 @@ fn existential(
     let old = assignment[x];
     assignment[x] = false;
     let zero = existential(sheet, s, high, low, assignment, r + 1);
-    if zero.verdict {
+    if stops(zero, true) {
         assignment[x] = old;
         return zero;
     }
@@ -303,17 +311,17 @@ fn universal(
     if is_existential(sheet, s, r) {
         return existential(sheet, s, high, low, assignment, r);
     }
-    let x = variable_at(sheet, s, r);
-    let old = assignment[x];
-    assignment[x] = false;
+    let y = variable_at(sheet, s, r);
+    let old = assignment[y];
+    assignment[y] = false;
     let zero = universal(sheet, s, high, low, assignment, r + 1);
-    if !zero.verdict {
-        assignment[x] = old;
+    if stops(zero, false) {
+        assignment[y] = old;
         return zero;
     }
-    assignment[x] = true;
+    assignment[y] = true;
     let one = universal(sheet, s, high, low, assignment, r + 1);
-    assignment[x] = old;
+    assignment[y] = old;
     both(zero, one)
 }
 

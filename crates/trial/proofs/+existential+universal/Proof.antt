@@ -22,6 +22,7 @@ use Rattle.trial.proofs.+existential+universal.Lts-universal as univers
 use Rattle.trial.proofs.both.Reads as both-reads
 use Rattle.trial.proofs.is_existential.Reads as is-existential-reads
 use Rattle.trial.proofs.leaf.Reads as leaf-reads
+use Rattle.trial.proofs.stops.Reads as stops-reads
 use Rattle.trial.proofs.variable_at.Reads as variable-at-reads
 use Rattle.trial.proofs.+existential+universal.{statement}
 use Rattle.trial.proofs.+existential+universal.Tie.{close}
@@ -49,12 +50,12 @@ universal-below t = and 4 universal-kinds.ps (falls 4 universal-kinds.ps _<_ μ-
 -- what an existential turn is told of the functions that it calls
 abbrev existential-callees : ℕ → existential-lts.Claims
 existential-callees t =
-    (leaf-reads.Asked, leaf-reads.Learnt, is-existential-reads.Asked, is-existential-reads.Learnt, universal-below t, universal.Post, variable-at-reads.Asked, variable-at-reads.Learnt, existential-below t, existential.Post, both-reads.Asked, both-reads.Learnt)
+    (leaf-reads.Asked, leaf-reads.Learnt, is-existential-reads.Asked, is-existential-reads.Learnt, universal-below t, universal.Post, variable-at-reads.Asked, variable-at-reads.Learnt, existential-below t, existential.Post, stops-reads.Asked, stops-reads.Learnt, both-reads.Asked, both-reads.Learnt)
 
 -- what a universal turn is told of the functions that it calls
 abbrev universal-callees : ℕ → universal-lts.Claims
 universal-callees t =
-    (leaf-reads.Asked, leaf-reads.Learnt, is-existential-reads.Asked, is-existential-reads.Learnt, existential-below t, existential.Post, variable-at-reads.Asked, variable-at-reads.Learnt, universal-below t, universal.Post, both-reads.Asked, both-reads.Learnt)
+    (leaf-reads.Asked, leaf-reads.Learnt, is-existential-reads.Asked, is-existential-reads.Learnt, existential-below t, existential.Post, variable-at-reads.Asked, variable-at-reads.Learnt, universal-below t, universal.Post, stops-reads.Asked, stops-reads.Learnt, both-reads.Asked, both-reads.Learnt)
 
 -- existential turns
 
@@ -119,74 +120,77 @@ existential-existential-requires t c κs =
       (ready-kept (a .pre .1 .0) (length-set (a .args .assignment .now) (v .variable-at .result) false), omega (arith, existential-within t v)),
     )
 
+existential-stops-requires : (t : ℕ) → existential-lts.Need-stops-requires (existential-callees t) (existential-at t) existential.Post
+existential-stops-requires t c κs = tt
+
 existential-slice-write-assignment-2 : (t : ℕ) → existential-lts.Need-slice-write-assignment-2 (existential-callees t) (existential-at t) existential.Post
 existential-slice-write-assignment-2 t c =
-    let v = c .before .before .before .before .before .before in
-    rw (c .before .before .before .existential .ensures .1, length-set) (existential-inside t v)
+    let v = c .before .before .before .before .before .before .before in
+    rw (c .before .before .before .before .existential .ensures .1, length-set) (existential-inside t v)
 
 existential-slice-write-assignment-3 : (t : ℕ) → existential-lts.Need-slice-write-assignment-3 (existential-callees t) (existential-at t) existential.Post
 existential-slice-write-assignment-3 t c =
-    let v = c .before .before .before .before .before .before in
-    rw (c .before .before .before .existential .ensures .1, length-set) (existential-inside t v)
+    let v = c .before .before .before .before .before .before .before in
+    rw (c .before .before .before .before .existential .ensures .1, length-set) (existential-inside t v)
 
 existential-same-length-3 : (t : ℕ) → existential-lts.Need-same-length-3 (existential-callees t) (existential-at t) existential.Post
 existential-same-length-3 t c =
-    let a = c .before .before .before .before .before .before .before .before .before .before .before .before .before .before .before in
-    let v = c .before .before .before .before .before .before in
-    ap length (restore-one (a .args .assignment .now) (c .before .before .before .existential .last .1 .1 .1 .1 .0) (v .variable-at .result) (c .before .before .before .existential .ensures .1))
+    let a = c .before .before .before .before .before .before .before .before .before .before .before .before .before .before .before .before in
+    let v = c .before .before .before .before .before .before .before in
+    ap length (restore-one (a .args .assignment .now) (c .before .before .before .before .existential .last .1 .1 .1 .1 .0) (v .variable-at .result) (c .before .before .before .before .existential .ensures .1))
 
 existential-returns-3 : (t : ℕ) → existential-lts.Need-returns-3 (existential-callees t) (existential-at t) existential.Post
 existential-returns-3 t c =
-    let a = c .before .before .before .before .before .before .before .before .before .before .before .before .before .before .before in
-    let v = c .before .before .before .before .before .before in
-    let zero = c .before .before .before .existential in (
-      turn-stopped (a .args .s) (a .args .sheet .now) (a .pre .1 .0 .holds) exists (a .args .r) (v .variable-at .result) (a .args .assignment .now) (c .before .before .before .existential .last .1 .1 .1 .1 .0)
-          (zero .result) (existential-owner t v) (existential-within t v) (v .variable-at .ensures) (existential-inside t v) (zero .ensures .0) (zero .ensures .1) ((c .if3 .taken)),
-      restore-one (a .args .assignment .now) (c .before .before .before .existential .last .1 .1 .1 .1 .0) (v .variable-at .result) (c .before .before .before .existential .ensures .1),
+    let a = c .before .before .before .before .before .before .before .before .before .before .before .before .before .before .before .before in
+    let v = c .before .before .before .before .before .before .before in
+    let zero = c .before .before .before .before .existential in (
+      turn-stopped (a .args .s) (a .args .sheet .now) (a .pre .1 .0 .holds) exists (a .args .r) (v .variable-at .result) (a .args .assignment .now) (c .before .before .before .before .existential .last .1 .1 .1 .1 .0)
+          (zero .result) (existential-owner t v) (existential-within t v) (v .variable-at .ensures) (existential-inside t v) (zero .ensures .0) (zero .ensures .1) (c .before .stops .result) (c .before .stops .ensures) (c .if3 .taken),
+      restore-one (a .args .assignment .now) (c .before .before .before .before .existential .last .1 .1 .1 .1 .0) (v .variable-at .result) (c .before .before .before .before .existential .ensures .1),
     )
 
 existential-add-existential-2 : (t : ℕ) → existential-lts.Need-add-existential-2 (existential-callees t) (existential-at t) existential.Post
-existential-add-existential-2 t c = omega (arith, existential-within t (c .before .before .before .before .before .before .before), c .before .before .before .before .before .before .before .before .before .before .before .before .before .before .before .before .pre .1 .0 .few)
+existential-add-existential-2 t c = omega (arith, existential-within t (c .before .before .before .before .before .before .before .before), c .before .before .before .before .before .before .before .before .before .before .before .before .before .before .before .before .before .pre .1 .0 .few)
 
 existential-existential-requires-2 : (t : ℕ) → existential-lts.Need-existential-requires-2 (existential-callees t) (existential-at t) existential.Post
 existential-existential-requires-2 t c κs =
-    let a = c .before .before .before .before .before .before .before .before .before .before .before .before .before .before .before .before in
-    let v = c .before .before .before .before .before .before .before in
+    let a = c .before .before .before .before .before .before .before .before .before .before .before .before .before .before .before .before .before in
+    let v = c .before .before .before .before .before .before .before .before in
     let x = v .variable-at .result in
-    let zero = c .before .before .before .before .existential in (
+    let zero = c .before .before .before .before .before .existential in (
       omega (arith, existential-falls (a .args .s) (a .args .sheet .now) (a .args .r) (existential-within t v), a .pre .0),
-      (ready-kept (a .pre .1 .0) (length-set (c .before .before .before .before .existential .last .1 .1 .1 .1 .0) x true ∙ ap length (zero .ensures .1) ∙ length-set (a .args .assignment .now) x false), omega (arith, existential-within t v)),
+      (ready-kept (a .pre .1 .0) (length-set (c .before .before .before .before .before .existential .last .1 .1 .1 .1 .0) x true ∙ ap length (zero .ensures .1) ∙ length-set (a .args .assignment .now) x false), omega (arith, existential-within t v)),
     )
 
 existential-slice-write-assignment-4 : (t : ℕ) → existential-lts.Need-slice-write-assignment-4 (existential-callees t) (existential-at t) existential.Post
 existential-slice-write-assignment-4 t c =
-    let v = c .before .before .before .before .before .before .before .before .before .before in
-    rw (c .before .before .existential2 .ensures .1, length-set, c .before .before .before .before .before .before .before .existential .ensures .1, length-set) (existential-inside t v)
+    let v = c .before .before .before .before .before .before .before .before .before .before .before in
+    rw (c .before .before .existential2 .ensures .1, length-set, c .before .before .before .before .before .before .before .before .existential .ensures .1, length-set) (existential-inside t v)
 
 existential-both-requires : (t : ℕ) → existential-lts.Need-both-requires (existential-callees t) (existential-at t) existential.Post
 existential-both-requires t c κs =
-    let a = c .before .before .before .before .before .before .before .before .before .before .before .before .before .before .before .before .before .before .before in
-    let v = c .before .before .before .before .before .before .before .before .before .before in
-    let zero = c .before .before .before .before .before .before .before .existential in
+    let a = c .before .before .before .before .before .before .before .before .before .before .before .before .before .before .before .before .before .before .before .before in
+    let v = c .before .before .before .before .before .before .before .before .before .before .before in
+    let zero = c .before .before .before .before .before .before .before .before .existential in
     let one = c .before .before .existential2 in
-    leaves-fit (a .args .s) (a .args .sheet .now) (a .pre .1 .0 .holds) exists (a .args .r) (v .variable-at .result) (a .args .assignment .now) (c .before .before .before .before .before .before .before .existential .last .1 .1 .1 .1 .0)
+    leaves-fit (a .args .s) (a .args .sheet .now) (a .pre .1 .0 .holds) exists (a .args .r) (v .variable-at .result) (a .args .assignment .now) (c .before .before .before .before .before .before .before .before .existential .last .1 .1 .1 .1 .0)
     (zero .result) (existential-owner t v) (existential-within t v) (v .variable-at .ensures) (existential-inside t v) (zero .ensures .0) (zero .ensures .1) (one .result) (one .ensures .0) (a .pre .1 .0 .few)
 
 existential-same-length-4 : (t : ℕ) → existential-lts.Need-same-length-4 (existential-callees t) (existential-at t) existential.Post
 existential-same-length-4 t c =
-    let a = c .before .before .before .before .before .before .before .before .before .before .before .before .before .before .before .before .before .before .before .before in
-    let v = c .before .before .before .before .before .before .before .before .before .before .before in
-    ap length (restore-both (a .args .assignment .now) (c .before .before .before .before .before .before .before .before .existential .last .1 .1 .1 .1 .0) (c .before .before .before .existential2 .last .1 .1 .1 .1 .0) (v .variable-at .result) (c .before .before .before .before .before .before .before .before .existential .ensures .1) (c .before .before .before .existential2 .ensures .1))
+    let a = c .before .before .before .before .before .before .before .before .before .before .before .before .before .before .before .before .before .before .before .before .before in
+    let v = c .before .before .before .before .before .before .before .before .before .before .before .before in
+    ap length (restore-both (a .args .assignment .now) (c .before .before .before .before .before .before .before .before .before .existential .last .1 .1 .1 .1 .0) (c .before .before .before .existential2 .last .1 .1 .1 .1 .0) (v .variable-at .result) (c .before .before .before .before .before .before .before .before .before .existential .ensures .1) (c .before .before .before .existential2 .ensures .1))
 
 existential-returns-4 : (t : ℕ) → existential-lts.Need-returns-4 (existential-callees t) (existential-at t) existential.Post
 existential-returns-4 t c =
-    let a = c .before .before .before .before .before .before .before .before .before .before .before .before .before .before .before .before .before .before .before .before in
-    let v = c .before .before .before .before .before .before .before .before .before .before .before in
-    let zero = c .before .before .before .before .before .before .before .before .existential in
+    let a = c .before .before .before .before .before .before .before .before .before .before .before .before .before .before .before .before .before .before .before .before .before in
+    let v = c .before .before .before .before .before .before .before .before .before .before .before .before in
+    let zero = c .before .before .before .before .before .before .before .before .before .existential in
     let one = c .before .before .before .existential2 in (
-      turn-went-on (a .args .s) (a .args .sheet .now) (a .pre .1 .0 .holds) exists (a .args .r) (v .variable-at .result) (a .args .assignment .now) (c .before .before .before .before .before .before .before .before .existential .last .1 .1 .1 .1 .0)
-          (zero .result) (existential-owner t v) (existential-within t v) (v .variable-at .ensures) (existential-inside t v) (zero .ensures .0) (zero .ensures .1) (one .result) (one .ensures .0) ((c .before .before .before .before .before .if3 .left)) (c .both .result) (c .both .ensures),
-      restore-both (a .args .assignment .now) (c .before .before .before .before .before .before .before .before .existential .last .1 .1 .1 .1 .0) (c .before .before .before .existential2 .last .1 .1 .1 .1 .0) (v .variable-at .result) (c .before .before .before .before .before .before .before .before .existential .ensures .1) (c .before .before .before .existential2 .ensures .1),
+      turn-went-on (a .args .s) (a .args .sheet .now) (a .pre .1 .0 .holds) exists (a .args .r) (v .variable-at .result) (a .args .assignment .now) (c .before .before .before .before .before .before .before .before .before .existential .last .1 .1 .1 .1 .0)
+          (zero .result) (existential-owner t v) (existential-within t v) (v .variable-at .ensures) (existential-inside t v) (zero .ensures .0) (zero .ensures .1) (one .result) (one .ensures .0) (c .before .before .before .before .before .before .stops .result) (c .before .before .before .before .before .before .stops .ensures) (c .before .before .before .before .before .if3 .left) (c .both .result) (c .both .ensures),
+      restore-both (a .args .assignment .now) (c .before .before .before .before .before .before .before .before .before .existential .last .1 .1 .1 .1 .0) (c .before .before .before .existential2 .last .1 .1 .1 .1 .0) (v .variable-at .result) (c .before .before .before .before .before .before .before .before .before .existential .ensures .1) (c .before .before .before .existential2 .ensures .1),
     )
 
 -- universal turns
@@ -252,6 +256,9 @@ universal-universal-requires t c κs =
       (ready-kept (a .pre .1 .0) (length-set (a .args .assignment .now) (v .variable-at .result) false), omega (arith, universal-within t v)),
     )
 
+universal-stops-requires : (t : ℕ) → universal-lts.Need-stops-requires (universal-callees t) (universal-at t) universal.Post
+universal-stops-requires t c κs = tt
+
 universal-slice-write-assignment-2 : (t : ℕ) → universal-lts.Need-slice-write-assignment-2 (universal-callees t) (universal-at t) universal.Post
 universal-slice-write-assignment-2 t c =
     let v = c .before .before .before .before .before .before .before in
@@ -274,7 +281,7 @@ universal-returns-3 t c =
     let v = c .before .before .before .before .before .before .before in
     let zero = c .before .before .before .before .universal in (
       turn-stopped (a .args .s) (a .args .sheet .now) (a .pre .1 .0 .holds) for-all (a .args .r) (v .variable-at .result) (a .args .assignment .now) (c .before .before .before .before .universal .last .1 .1 .1 .1 .0)
-          (zero .result) (universal-owner t v) (universal-within t v) (v .variable-at .ensures) (universal-inside t v) (zero .ensures .0) (zero .ensures .1) (not-true _ (c .if3 .taken)),
+          (zero .result) (universal-owner t v) (universal-within t v) (v .variable-at .ensures) (universal-inside t v) (zero .ensures .0) (zero .ensures .1) (c .before .stops .result) (c .before .stops .ensures) (c .if3 .taken),
       restore-one (a .args .assignment .now) (c .before .before .before .before .universal .last .1 .1 .1 .1 .0) (v .variable-at .result) (c .before .before .before .before .universal .ensures .1),
     )
 
@@ -318,9 +325,9 @@ universal-returns-4 t c =
     let zero = c .before .before .before .before .before .before .before .before .before .universal in
     let one = c .before .before .before .universal2 in (
       turn-went-on (a .args .s) (a .args .sheet .now) (a .pre .1 .0 .holds) for-all (a .args .r) (v .variable-at .result) (a .args .assignment .now) (c .before .before .before .before .before .before .before .before .before .universal .last .1 .1 .1 .1 .0)
-          (zero .result) (universal-owner t v) (universal-within t v) (v .variable-at .ensures) (universal-inside t v) (zero .ensures .0) (zero .ensures .1) (one .result) (one .ensures .0) (not-false _ (c .before .before .before .before .before .if3 .left)) (c .both .result) (c .both .ensures),
+          (zero .result) (universal-owner t v) (universal-within t v) (v .variable-at .ensures) (universal-inside t v) (zero .ensures .0) (zero .ensures .1) (one .result) (one .ensures .0) (c .before .before .before .before .before .before .stops .result) (c .before .before .before .before .before .before .stops .ensures) (c .before .before .before .before .before .if3 .left) (c .both .result) (c .both .ensures),
       restore-both (a .args .assignment .now) (c .before .before .before .before .before .before .before .before .before .universal .last .1 .1 .1 .1 .0) (c .before .before .before .universal2 .last .1 .1 .1 .1 .0) (v .variable-at .result) (c .before .before .before .before .before .before .before .before .before .universal .ensures .1) (c .before .before .before .universal2 .ensures .1),
     )
 
 pub +existential+universal-spec : {M : Type 1} → statement M
-+existential+universal-spec = close μ-existential μ-universal (λ t. existential-lts.spec (existential-callees t) (existential-at t) existential.Post (existential-leaf-requires t) (existential-same-length t) (existential-returns t) (existential-is-existential-requires t) (existential-universal-requires t) (existential-same-length-2 t) (existential-returns-2 t) (existential-variable-at-requires t) (existential-slice-read-old t) (existential-slice-write-assignment t) (existential-add-existential t) (existential-existential-requires t) (existential-slice-write-assignment-2 t) (existential-same-length-3 t) (existential-returns-3 t) (existential-slice-write-assignment-3 t) (existential-add-existential-2 t) (existential-existential-requires-2 t) (existential-slice-write-assignment-4 t) (existential-both-requires t) (existential-same-length-4 t) (existential-returns-4 t)) (λ t. universal-lts.spec (universal-callees t) (universal-at t) universal.Post (universal-leaf-requires t) (universal-same-length t) (universal-returns t) (universal-is-existential-requires t) (universal-existential-requires t) (universal-same-length-2 t) (universal-returns-2 t) (universal-variable-at-requires t) (universal-slice-read-old t) (universal-slice-write-assignment t) (universal-add-universal t) (universal-universal-requires t) (universal-slice-write-assignment-2 t) (universal-same-length-3 t) (universal-returns-3 t) (universal-slice-write-assignment-3 t) (universal-add-universal-2 t) (universal-universal-requires-2 t) (universal-slice-write-assignment-4 t) (universal-both-requires t) (universal-same-length-4 t) (universal-returns-4 t))
++existential+universal-spec = close μ-existential μ-universal (λ t. existential-lts.spec (existential-callees t) (existential-at t) existential.Post (existential-leaf-requires t) (existential-same-length t) (existential-returns t) (existential-is-existential-requires t) (existential-universal-requires t) (existential-same-length-2 t) (existential-returns-2 t) (existential-variable-at-requires t) (existential-slice-read-old t) (existential-slice-write-assignment t) (existential-add-existential t) (existential-existential-requires t) (existential-stops-requires t) (existential-slice-write-assignment-2 t) (existential-same-length-3 t) (existential-returns-3 t) (existential-slice-write-assignment-3 t) (existential-add-existential-2 t) (existential-existential-requires-2 t) (existential-slice-write-assignment-4 t) (existential-both-requires t) (existential-same-length-4 t) (existential-returns-4 t)) (λ t. universal-lts.spec (universal-callees t) (universal-at t) universal.Post (universal-leaf-requires t) (universal-same-length t) (universal-returns t) (universal-is-existential-requires t) (universal-existential-requires t) (universal-same-length-2 t) (universal-returns-2 t) (universal-variable-at-requires t) (universal-slice-read-old t) (universal-slice-write-assignment t) (universal-add-universal t) (universal-universal-requires t) (universal-stops-requires t) (universal-slice-write-assignment-2 t) (universal-same-length-3 t) (universal-returns-3 t) (universal-slice-write-assignment-3 t) (universal-add-universal-2 t) (universal-universal-requires-2 t) (universal-slice-write-assignment-4 t) (universal-both-requires t) (universal-same-length-4 t) (universal-returns-4 t))

@@ -1,4 +1,6 @@
-use mathlib.Core.Path.{_≡_, sym, subst, _∙_}
+-- `trial::build` meets its contract: the tables that `wire` fills over the ends that `mark_ends` finds evaluate the matrix.
+-- Assumes nothing.
+use mathlib.Core.Path.{sym, subst, _∙_}
 use native.Mathlib.Omega.{arith}
 use Rattle.sheet.specs.Sheet.{trees, root}
 use Rattle.trial.specs.Jumps.{matrix-rows, Targets}
@@ -7,10 +9,6 @@ use Rattle.trial.proofs.Jumps.{one-tree, jumps}
 use borrow.Author.Needs.{needs}
 use Rattle.trial.proofs.build.Statement.{statement}
 use Rattle.trial.proofs.build.Tie as tie
-use Rattle.trial.proofs.build.Reads as reads
-use Rattle.trial.proofs.build.Lts as lts
-use Rattle.trial.proofs.mark_ends.Reads as mark-ends-reads
-use Rattle.trial.proofs.wire.Reads as wire-reads
 
 slice-aggregate-mark-ends : tie.Need-slice-aggregate-mark-ends
 slice-aggregate-mark-ends c = search needs
@@ -31,7 +29,7 @@ wire-requires c κs =
     let called = c .before .before .before .before .before .mark-ends in
     let marked = called .ensures in
     let one = one-tree R (a .args .s .nodes) (length-matrix-rows (a .args .s) (a .args .sheet .now) (a .pre .0)) (a .pre .1) in
-    ((a .pre .0, one .0, marked, marked 0 (omega arith) (omega arith) ∙ one .1), (omega (arith, a .pre .0 .few-nodes, called .kept .1 .1 .0), omega (arith, a .pre .0 .few-nodes), a .pre .2, a .pre .3))
+    ((a .pre .0, one .0, marked, marked 0 (omega arith) (omega arith) ∙ one .1), (omega (arith, a .pre .0 .few-nodes, called .kept .1 .1 .0), omega (arith, a .pre .0 .few-nodes), a .pre .2))
 
 same-length : tie.Need-same-length
 same-length c = search needs

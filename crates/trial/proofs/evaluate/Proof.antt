@@ -1,4 +1,5 @@
-use mathlib.Core.Path.{_≡_, sym}
+-- `trial::evaluate` meets its contract. The loop's invariant: the row reached leads to the matrix's value. Each jump leads forward.
+-- Assumes nothing.
 use mathlib.Core.List.{List}
 use Prim.Native.Nat.{ℕ, _+_, _-_, _≤_, _<_}
 use native.Mathlib.Omega.{arith}
@@ -11,9 +12,6 @@ use Rattle.trial.proofs.Rows.{length-matrix-rows}
 use Rattle.trial.proofs.Evaluation.{next-on, verdict-at}
 use Rattle.trial.proofs.evaluate.Statement.{statement}
 use Rattle.trial.proofs.evaluate.Tie as tie
-use Rattle.trial.proofs.evaluate.Reads as reads
-use Rattle.trial.proofs.evaluate.Lts as lts
-use Rattle.trial.proofs.next.Reads as next-reads
 
 -- row r leads to the matrix's value
 abbrev Going : List Row → List ℕ → List ℕ → Assignment → ℕ → Type 0
@@ -40,7 +38,7 @@ loop-holds c =
 next-requires : tie.Need-next-requires Inv-loop μ-loop
 next-requires c κs =
     let a = c .before .before .before .before .before .before in
-    (a .pre .0, c .loop-test .taken, a .pre .2, a .pre .3)
+    (a .pre .0, c .loop-test .taken, a .pre .2)
 
 on : (c : tie.After-next Inv-loop μ-loop) → (head c .loop .r < c .next .result) × (c .next .result ≤ start c .args .s .nodes + 1) × Going (matrix-rows (start c .args .s) (start c .args .sheet .now)) (start c .args .high .now) (start c .args .low .now) (values (start c .args .assignment .now)) (c .next .result)
 on c =

@@ -1,3 +1,5 @@
+-- `trial::hop` meets its contract. The loop's invariant: the hops left from the row reached end where all of them do.
+-- Assumes nothing.
 use mathlib.Core.Path.{_≡_, refl, sym, _∙_}
 use Prim.Native.Nat.{_<_}
 use native.Mathlib.Omega.{arith}
@@ -6,9 +8,6 @@ use Rattle.trial.specs.Jumps.{hops, Hopping}
 use Rattle.trial.proofs.Loops.{hop-within, hop-on, hop-done}
 use Rattle.trial.proofs.hop.Statement.{statement}
 use Rattle.trial.proofs.hop.Tie as tie
-use Rattle.trial.proofs.hop.Reads as reads
-use Rattle.trial.proofs.hop.Lts as lts
-use Rattle.trial.proofs.to_row.Reads as to-row-reads
 
 abbrev Inv-loop : tie.InvT-loop
 Inv-loop ends count from left₀ r₀ left r = Hopping ends left r × (hops ends left r ≡ hops ends count from)

@@ -1,4 +1,6 @@
-use mathlib.Core.Path.{_≡_, refl, sym, ap, _∙_}
+-- `trial::mark_ends` meets its contract. The loop's invariant: the subtrees from row r on have their ends in the table.
+-- Assumes nothing.
+use mathlib.Core.Path.{_≡_, refl, _∙_}
 use mathlib.Core.List.{List}
 use Prim.Native.Nat.{_-_, _≤_, _<_}
 use native.Mathlib.Omega.{arith}
@@ -9,10 +11,6 @@ use Rattle.trial.proofs.Rows.{length-matrix-rows}
 use Rattle.trial.proofs.Loops.{mark-last, mark-hopping, mark}
 use Rattle.trial.proofs.mark_ends.Statement.{statement}
 use Rattle.trial.proofs.mark_ends.Tie as tie
-use Rattle.trial.proofs.mark_ends.Reads as reads
-use Rattle.trial.proofs.mark_ends.Lts as lts
-use Rattle.trial.proofs.hop.Reads as hop-reads
-use Rattle.trial.proofs.node_children.Reads as node-children-reads
 
 abbrev Inv-loop : tie.InvT-loop
 Inv-loop sheet s ends₀ r₀ ends r =

@@ -1,13 +1,10 @@
+-- `trial::next` meets its contract.
+-- Assumes nothing.
 use Rattle.trial.specs.Jumps.{matrix-rows, values}
 use Rattle.trial.proofs.Evaluation.{next-child, next-high, next-low}
 use borrow.Author.Needs.{needs}
 use Rattle.trial.proofs.next.Statement.{statement}
 use Rattle.trial.proofs.next.Tie as tie
-use Rattle.trial.proofs.next.Reads as reads
-use Rattle.trial.proofs.next.Lts as lts
-use Rattle.trial.proofs.node_children.Reads as node-children-reads
-use Rattle.trial.proofs.row_value.Reads as row-value-reads
-use Rattle.trial.proofs.to_row.Reads as to-row-reads
 
 node-children-requires : tie.Need-node-children-requires
 node-children-requires c κs = search needs

@@ -1,12 +1,10 @@
-use mathlib.Core.Path.{_≡_}
+-- `trial::parent_of` meets its contract. The loop's invariant: the subtrees between p and r have come to their ends.
+-- Assumes nothing.
 use Prim.Native.Nat.{_<_}
 use native.Mathlib.Omega.{arith}
 use Rattle.trial.proofs.Loops.{Closed, climb}
 use Rattle.trial.proofs.parent_of.Statement.{statement}
 use Rattle.trial.proofs.parent_of.Tie as tie
-use Rattle.trial.proofs.parent_of.Reads as reads
-use Rattle.trial.proofs.parent_of.Lts as lts
-use Rattle.trial.proofs.to_row.Reads as to-row-reads
 
 abbrev Inv-loop : tie.InvT-loop
 Inv-loop ends parents r p₀ p = (p < r) × Closed ends p r

@@ -1,3 +1,5 @@
+-- `trial::row_value` meets its contract.
+-- Assumes nothing.
 use lib.ListN.{getD}
 use Rattle.sheet.specs.Format.{row}
 use Rattle.trial.specs.Jumps.{matrix-rows, values}
@@ -5,11 +7,6 @@ use Rattle.trial.proofs.Evaluation.{value-literal, value-operator}
 use borrow.Author.Needs.{needs}
 use Rattle.trial.proofs.row_value.Statement.{statement}
 use Rattle.trial.proofs.row_value.Tie as tie
-use Rattle.trial.proofs.row_value.Reads as reads
-use Rattle.trial.proofs.row_value.Lts as lts
-use Rattle.trial.proofs.node_argument.Reads as node-argument-reads
-use Rattle.trial.proofs.node_kind.Reads as node-kind-reads
-use Rattle.trial.proofs.value_of.Reads as value-of-reads
 
 node-kind-requires : tie.Need-node-kind-requires
 node-kind-requires c κs = search needs

