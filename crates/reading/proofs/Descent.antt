@@ -1,12 +1,11 @@
 -- The descent to the deepest operator above all literals of a set.
 -- Assumes nothing.
-use mathlib.Core.Path.{_≡_, refl, sym, ap, ap₂, _∙_}
+use mathlib.Core.Path.{_≡_, refl, sym, ap, _∙_}
 use mathlib.Core.Bool.{Bool, true, false, not, _||_, cond, or-false, or-true, true≢false, false≢true}
 use mathlib.Core.List.{List, [], _∷_, _++_}
 use Prim.Native.Nat.{ℕ, zero, suc, _+_, _-_, _≤_, _<_}
-use native.Mathlib.Nat.{add-assoc}
 use native.Mathlib.Omega.{arith}
-use lib.Dec.{eqb, ltb, leb}
+use lib.Dec.{eqb, ltb}
 use lib.ListN.{length}
 use borrow.Author.Tests.{lt-ltb, le-ltb, ltb-true, ltb-false, eq-eqb, ne-eqb, eqb-false}
 use Rattle.formula.proofs.Booleans.{or-parts}
@@ -15,7 +14,7 @@ use Rattle.formula.specs.Tidy.{any, first-true}
 use Rattle.formula.specs.Settle.{is-lit}
 use Rattle.formula.specs.Expand.{relevant, one-relevant}
 use Rattle.sheet.specs.Format.{Bytes}
-use Rattle.sheet.specs.Sheet.{root, trees}
+use Rattle.sheet.specs.Sheet.{root}
 use Rattle.reading.specs.Reading.{node-rows-in, matrix-in, Readable}
 use Rattle.reading.specs.Subtrees.{forest-in, subtree-in}
 use Rattle.reading.specs.Cost.{hits, hits-all, first-row, relevant-part, part-below, operator-part, child-span, narrower, Last}

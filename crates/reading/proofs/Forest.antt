@@ -1,16 +1,16 @@
 -- Rows in preorder and the forest that is read off them: what stands at a row, below it and beside it.
 -- Assumes nothing.
 use mathlib.Core.Path.{_≡_, refl, sym, ap, _∙_}
-use mathlib.Core.Bool.{Bool, _||_, or-assoc}
+use mathlib.Core.Bool.{_||_, or-assoc}
 use mathlib.Core.List.{List, [], _∷_, _++_, append-nil, append-assoc}
-use Prim.Native.Nat.{ℕ, zero, suc, _+_, _-_, _≤_, _<_}
+use Prim.Native.Nat.{ℕ, zero, suc, _+_, _≤_, _<_}
 use native.Mathlib.Nat.{add-zero, add-assoc}
 use native.Mathlib.Omega.{arith}
-use lib.ListN.{length, getD, take, drop, length-append, length-drop}
+use lib.ListN.{length, getD, drop, length-append, length-drop}
 use lib.Seq.{drop-at, drop-cons, drop-drop}
 use Rattle.formula.specs.Tree.{Tree, lit, node, Forest, ∅, _▸_, Literals, rows, rows-all, has, has-any, count, _⧺_}
 use Rattle.formula.specs.Tidy.{faults, faults-all}
-use Rattle.sheet.specs.Format.{Row, row, children}
+use Rattle.sheet.specs.Format.{Row, row}
 use Rattle.sheet.specs.Sheet.{literal-kind, operator-kind, front, trees, root, tree-rows, forest-rows}
 use Rattle.sheet.proofs.Preorder.{trees-forest, length-tree-rows, length-forest-rows}
 use Rattle.reading.specs.Ends.{subtree-ends, forest-ends}

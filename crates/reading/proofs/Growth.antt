@@ -1,8 +1,8 @@
 -- The relevant part as numbers: E, whether every child is relevant, and the rows that an expansion adds.
 -- Assumes nothing.
 use mathlib.Core.Path.{_≡_, refl, sym, ap, ap₂, _∙_}
-use mathlib.Core.Bool.{Bool, true, false, not, _||_, cond, true≢false, false≢true}
-use Prim.Native.Nat.{ℕ, suc, _+_, _≤_, _<_}
+use mathlib.Core.Bool.{Bool, true, false, not, _||_, cond, false≢true}
+use Prim.Native.Nat.{ℕ, suc, _+_, _≤_}
 use native.Mathlib.Omega.{arith}
 use lib.Dec.{eqb}
 use borrow.Author.Tests.{eq-eqb, ne-eqb, eqb-true, eqb-false}
@@ -10,7 +10,7 @@ use Rattle.formula.specs.Tree.{Tree, lit, node, Forest, ∅, _▸_, Literals, r
 use Rattle.formula.specs.Expand.{relevant, one-relevant, all-relevant, growth, growth-below, raw-rows}
 use Rattle.sheet.proofs.Preorder.{rows-positive}
 use Rattle.reading.specs.Subtrees.{kids}
-use Rattle.reading.specs.Cost.{first-row, relevant-part, part-below, operator-part, child-span}
+use Rattle.reading.specs.Cost.{first-row, relevant-part, part-below, operator-part}
 use Rattle.reading.specs.declared.cost.Relevant.{Relevant}
 use Rattle.reading.specs.declared.cost.Span.{Span}
 use Rattle.reading.proofs.Forest.{rows-kids}

@@ -1,23 +1,21 @@
 -- Which rows are literals of a set, row by row.
 -- Assumes nothing.
 use mathlib.Core.Path.{_≡_, refl, sym, ap, ap₂, _∙_}
-use mathlib.Core.Bool.{Bool, true, false, _||_, cond, or-assoc, or-false}
+use mathlib.Core.Bool.{Bool, false, _||_, or-assoc, or-false}
 use mathlib.Core.List.{List, [], _∷_, _++_, append-assoc}
-use Prim.Native.Nat.{ℕ, zero, suc, _+_, _-_, _≤_, _<_}
+use Prim.Native.Nat.{ℕ, suc, _+_, _<_}
 use native.Mathlib.Omega.{arith}
-use lib.ListN.{length, getD, take, drop, length-append}
-use lib.Seq.{take-at}
+use lib.ListN.{length, length-append}
 use Rattle.formula.specs.Tree.{Tree, lit, node, Forest, ∅, _▸_, _⧺_, Literals, rows, rows-all, has, has-any}
 use Rattle.formula.specs.Tidy.{any}
 use Rattle.formula.specs.Settle.{is-lit}
 use Rattle.sheet.specs.Format.{Bytes}
-use Rattle.sheet.specs.Sheet.{trees, root}
 use Rattle.reading.specs.Reading.{node-rows-in, Readable}
 use Rattle.reading.specs.Subtrees.{forest-in, subtree-in}
 use Rattle.reading.specs.Cost.{hits, hits-all}
 use Rattle.reading.proofs.Forest.{kids, rest, stepped-at, siblings, all-⧺}
 use Rattle.reading.proofs.Matrix.{length-nodes, sound-nodes}
-use Rattle.reading.proofs.Siblings.{below-row, subtree-within}
+use Rattle.reading.proofs.Siblings.{below-row}
 
 -- any
 
@@ -71,54 +69,3 @@ module _ (L : Literals) {w v n : ℕ} (b : Bytes) (ok : Readable w v n b) (i : �
       ≡ hits L (subtree-in w v n b i) ++ hits-all L (forest-in w v n b (i + rows (subtree-in w v n b i)))
   unfolding forest-in subtree-in hits-all
   hits-subtree = ap (hits-all L) (siblings (node-rows-in w v n b) (sound-nodes b ok) i (omega (arith, length-nodes b ok)))
-
--- looking for a literal in the rows from i up to `to`
-pub record Scanning (L : Literals) (w v n : ℕ) (b : Bytes) (found : Bool) (i to : ℕ) : Type 0 where
-  pub within : to ≤ n
-  pub same : found ≡ any (take (to - i) (hits-all L (forest-in w v n b i)))
-
-module _ (L : Literals) {w v n : ℕ} (b : Bytes) (ok : Readable w v n b) where
-  pub scan-start : (from : ℕ) {to : ℕ} → from < n → to ≡ from + rows (subtree-in w v n b from)
-      → Scanning L w v n b (has L (subtree-in w v n b from)) from to
-  scan-start from {to} h e =
-      let t = subtree-in w v n b from in
-      record {
-        within = omega (arith, subtree-within b ok from h);
-        same =
-            has-hits L t ∙
-            ap any
-            (sym
-            (ap (take (to - from)) (hits-subtree L b ok from h) ∙
-            take-at (hits L t) _ (to - from) (length-hits L t ∙ omega arith)));
-      }
-
-  scanned : {found : Bool} (i : ℕ) {to : ℕ} → i < to → Scanning L w v n b found i to
-      → found ≡ (is-lit L (subtree-in w v n b i) || any (take (to - suc i) (hits-all L (forest-in w v n b (suc i)))))
-  unfolding any
-  scanned i {to} h s =
-      s .same ∙ ap (λ k. any (take k (hits-all L (forest-in w v n b i)))) (less h) ∙
-      ap (λ l. any (take (suc (to - suc i)) l)) (hits-row L b ok i (omega (arith, s .within)))
-    where
-      less : i < to → to - i ≡ suc (to - suc i)
-      less h = omega arith
-
-  pub scan-found : {found : Bool} (i : ℕ) {to : ℕ} → i < to → Scanning L w v n b found i to → is-lit L (subtree-in w v n b i) ≡ true
-      → found ≡ true
-  scan-found i {to} h s e =
-      scanned i h s ∙ ap (λ c. c || any (take (to - suc i) (hits-all L (forest-in w v n b (suc i))))) e
-
-  pub scan-on : {found : Bool} (i : ℕ) {j to : ℕ} → i < to → j ≡ suc i → Scanning L w v n b found i to
-      → is-lit L (subtree-in w v n b i) ≡ false → Scanning L w v n b found j to
-  scan-on i {j} {to} h next s e =
-      rw next
-      (record {
-        within = s .within;
-        same = scanned i h s ∙ ap (λ c. c || any (take (to - suc i) (hits-all L (forest-in w v n b (suc i))))) e;
-      })
-
-pub scan-none : (L : Literals) {w v n : ℕ} {b : Bytes} {found : Bool} {i to : ℕ} → to ≤ i → Scanning L w v n b found i to → found ≡ false
-unfolding any
-scan-none L {w} {v} {n} {b} {found} {i} {to} h s = s .same ∙ ap (λ k. any (take k (hits-all L (forest-in w v n b i)))) (nothing h)
-  where
-    nothing : to ≤ i → to - i ≡ 0
-    nothing h = omega arith

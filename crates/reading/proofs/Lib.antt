@@ -1,12 +1,16 @@
+-- Laws for callers, and the turns of this crate's own loops.
 pub mod Forest
 pub mod Table
 pub mod Matrix
 pub mod Siblings
+pub mod Sets
+pub mod Hits
 pub mod Places
+pub mod Growth
+pub mod Accepted
 mod TurnLiterals
 mod TurnFaults
-pub mod Hits
-pub mod TurnSigns
+mod TurnPlaces
+mod TurnSigns
 mod TurnCost
 mod Descent
-pub mod Growth

@@ -1,16 +1,16 @@
 -- The matrix of a readable sheet: its rows, and its table of ends.
 -- Assumes nothing.
-use mathlib.Core.Path.{_≡_, refl, sym, ap, _∙_}
+use mathlib.Core.Path.{_≡_, sym, ap, _∙_}
 use mathlib.Core.List.{List, append-nil}
-use Prim.Native.Nat.{ℕ, suc, _+_, _≤_, _<_}
+use Prim.Native.Nat.{ℕ, _+_, _≤_, _<_}
 use native.Mathlib.Omega.{arith}
-use lib.ListN.{length, getD, take, drop, length-drop}
+use lib.ListN.{length, getD, take, length-drop}
 use lib.Seq.{getD-drop}
-use Rattle.formula.specs.Tree.{Tree, Forest, ∅, _▸_, rows}
-use Rattle.sheet.specs.Format.{Bytes, Row, row}
+use Rattle.formula.specs.Tree.{∅, _▸_, rows}
+use Rattle.sheet.specs.Format.{Bytes, row}
 use Rattle.sheet.specs.Sheet.{trees, root, tree-rows, forest-rows}
 use Rattle.sheet.proofs.Preorder.{length-tree-rows}
-use Rattle.rows.specs.Rows.{rows-in, Room}
+use Rattle.rows.specs.Rows.{rows-in}
 use Rattle.rows.proofs.Rows.{length-rows-in}
 use Rattle.reading.specs.Reading.{node-rows-in, matrix-in, Readable}
 use Rattle.reading.specs.Ends.{subtree-ends, forest-ends, Ends}

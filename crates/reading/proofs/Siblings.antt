@@ -9,12 +9,12 @@ use native.Mathlib.Omega.{arith}
 use lib.ListN.{length, getD}
 use Rattle.formula.specs.Tree.{and, or, Tree, lit, node, Forest, ∅, _▸_, rows, count, _⧺_}
 use Rattle.sheet.specs.Format.{Bytes, Row, row, children}
-use Rattle.sheet.specs.Sheet.{front, trees, root}
+use Rattle.sheet.specs.Sheet.{front}
 use Rattle.rows.specs.Rows.{rows-in}
 use Rattle.reading.specs.Reading.{node-rows-in, matrix-in, Readable}
 use Rattle.reading.specs.Ends.{Ends}
 use Rattle.reading.specs.Subtrees.{forest-in, subtree-in, siblings-in, Beside}
-use Rattle.reading.proofs.Forest.{top, kids, rest, stepped-at, forest-at, some-row, siblings, end-within, front-⧺, count-⧺}
+use Rattle.reading.proofs.Forest.{top, kids, rest, stepped-at, some-row, siblings, end-within, front-⧺, count-⧺}
 use Rattle.reading.proofs.Table.{children-top}
 use Rattle.reading.proofs.Matrix.{node-row, length-nodes, sound-nodes, rows-nodes, end-of}
 

@@ -2,17 +2,17 @@
 -- Assumes nothing.
 use mathlib.Core.Path.{_≡_, refl, sym, ap, ap₂, _∙_}
 use mathlib.Core.Bool.{true, false}
-use mathlib.Core.List.{List, [], _∷_, _++_, append-nil}
+use mathlib.Core.List.{List, [], _∷_, _++_}
 use Prim.Native.Nat.{ℕ, zero, suc, _+_, _-_, _≤_, _<_}
 use native.Mathlib.Nat.{add-zero, add-assoc}
 use native.Mathlib.Omega.{arith}
-use lib.ListN.{length, getD, take, drop, set, length-set, length-drop}
-use lib.Seq.{drop-cons, drop-drop, getD-drop, getD-take, getD-set-same, drop-set-lt, take-set-lt, drop-set-add, length-take-le, drop-length}
-use Rattle.formula.specs.Tree.{Op, and, or, Tree, lit, node, Forest, ∅, _▸_, rows, rows-all, count, _⧺_}
+use lib.ListN.{length, getD, take, drop, set, length-set}
+use lib.Seq.{drop-cons, drop-drop, getD-drop, getD-take, getD-set-same, drop-set-lt, take-set-lt, length-take-le, drop-length}
+use Rattle.formula.specs.Tree.{and, or, Tree, lit, node, rows, rows-all, count, _⧺_}
 use Rattle.sheet.specs.Format.{Row, row, children}
-use Rattle.sheet.specs.Sheet.{front, trees, root, tree-rows, forest-rows}
+use Rattle.sheet.specs.Sheet.{front, trees, root}
 use Rattle.reading.specs.Ends.{subtree-ends, forest-ends, hops, Hops}
-use Rattle.reading.proofs.Forest.{top, kids, rest, Sound, Stepped, stepped-at, forest-at, some-row, siblings, end-within, rows-kids, front-⧺, count-⧺, ends-⧺}
+use Rattle.reading.proofs.Forest.{top, kids, rest, Sound, stepped-at, forest-at, some-row, siblings, end-within, rows-kids, front-⧺, count-⧺, ends-⧺}
 
 -- hops
 

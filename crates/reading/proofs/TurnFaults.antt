@@ -1,25 +1,24 @@
 -- Faults, child by child and row by row.
 -- Assumes nothing.
 use mathlib.Core.Path.{_≡_, refl, sym, ap, ap₂, _∙_}
-use mathlib.Core.Bool.{Bool, true, false, not, _&&_, _||_, cond, or-false, or-true, or-assoc, or-comm, and-false, and-true}
-use mathlib.Core.List.{List, [], _∷_, _++_, append-nil}
+use mathlib.Core.Bool.{Bool, true, false, not, _&&_, _||_, cond, or-false, or-true, and-false, and-true}
+use mathlib.Core.List.{List, [], _∷_, append-nil}
 use mathlib.Core.Logic.{_⊎_, inl, inr}
-use Prim.Native.Nat.{ℕ, zero, suc, _+_, _-_, _≤_, _<_}
+use Prim.Native.Nat.{ℕ, zero, suc, _+_, _≤_, _<_}
 use native.Mathlib.Omega.{arith}
-use lib.Dec.{eqb, leb}
-use lib.ListN.{length, getD, drop}
+use lib.Dec.{eqb}
+use lib.ListN.{drop}
 use lib.Seq.{drop-length}
 use borrow.Author.Tests.{eqb-true, eqb-false, eq-eqb, ne-eqb}
-use Rattle.formula.specs.Tree.{Op, and, or, same-op, Tree, lit, node, Forest, ∅, _▸_, count, some-child, some-two, _⧺_}
+use Rattle.formula.specs.Tree.{Op, and, or, Tree, lit, node, Forest, ∅, _▸_, count, some-child, some-two, _⧺_}
 use Rattle.formula.specs.Tidy.{is-op, same-variable, alone, childless, breaks, faults, faults-all, root-faults, any, first-true, is-tidy, first-fault}
 use Rattle.formula.specs.Settle.{is-lit}
 use Rattle.sheet.specs.Format.{Bytes}
-use Rattle.sheet.specs.Sheet.{literal-kind, operator-kind, trees, root}
+use Rattle.sheet.specs.Sheet.{operator-kind, trees}
 use Rattle.reading.specs.Reading.{node-rows-in, matrix-in, Readable}
 use Rattle.reading.specs.Subtrees.{forest-in, subtree-in, literals}
 use Rattle.reading.specs.Faults.{operator-of, clash, some-clash, at-fault}
-use Rattle.reading.specs.declared.literals.LiteralSet.{LiteralSet}
-use Rattle.reading.proofs.Forest.{top, kids, rest, Stepped, stepped-at, faults-⧺}
+use Rattle.reading.proofs.Forest.{top, kids, rest, stepped-at, faults-⧺}
 use Rattle.reading.proofs.Matrix.{length-nodes, sound-nodes, trees-nodes}
 use Rattle.reading.proofs.Siblings.{below-row}
 

@@ -1,20 +1,15 @@
 -- Literals of a set, at a row and among siblings.
 -- Assumes nothing.
-use mathlib.Core.Path.{_≡_, refl, sym, ap, _∙_}
-use mathlib.Core.Bool.{Bool, true, false, _&&_, _||_, and-false, and-true}
-use mathlib.Core.List.{List}
-use Prim.Native.Nat.{ℕ, _+_, _-_, _≤_, _<_}
+use mathlib.Core.Path.{_≡_, refl}
+use mathlib.Core.Bool.{Bool, false, _||_, and-false}
+use Prim.Native.Nat.{_≤_, _<_}
 use native.Mathlib.Omega.{arith}
-use lib.Dec.{eqb, leb}
-use lib.ListN.{getD}
+use lib.Dec.{eqb}
 use borrow.Author.Tests.{le-leb, lt-leb}
 use Rattle.formula.specs.Tree.{Op, and, or, Tree, lit, node, Forest, ∅, _▸_, some-child}
 use Rattle.formula.specs.Settle.{is-lit}
-use Rattle.sheet.specs.Format.{Bytes}
 use Rattle.sheet.specs.Sheet.{literal-kind, operator-kind}
-use Rattle.reading.specs.Reading.{Readable}
-use Rattle.reading.specs.Ends.{Ends}
-use Rattle.reading.specs.Subtrees.{subtree-in, siblings-in, Beside, literals}
+use Rattle.reading.specs.Subtrees.{literals}
 use Rattle.reading.specs.declared.literals.LiteralSet.{LiteralSet}
 use Rattle.reading.proofs.Forest.{top}
 

@@ -1,68 +1,25 @@
--- Signs: sets of literals by kind, and the value that settling puts in.
+-- Signs: the search for a literal row by row, literals at the root, and the value that settling puts in.
 -- Assumes nothing.
-use mathlib.Core.Path.{_≡_, refl, sym, ap, ap₂, _∙_, fun-ext}
-use mathlib.Core.Bool.{Bool, true, false, not, _||_, cond}
+use mathlib.Core.Path.{_≡_, refl, ap, sym, _∙_}
+use mathlib.Core.Bool.{Bool, true, false, not, _||_}
 use mathlib.Core.List.{[], _∷_}
-use mathlib.Core.Option.{Option, none, some}
-use mathlib.Core.Logic.{_⊎_, inl, inr}
-use Prim.Native.Nat.{ℕ, zero, suc, _+_, _-_, _≤_, _<_}
+use mathlib.Core.Option.{none, some}
+use Prim.Native.Nat.{ℕ, zero, suc, _-_, _≤_, _<_, _+_}
 use native.Mathlib.Omega.{arith}
 use lib.Dec.{eqb}
-use lib.ListN.{getD}
-use borrow.Author.Tests.{eqb-true, eqb-false}
-use Rattle.formula.specs.Tree.{Op, and, or, Quantifier, exists, for-all, same-op, Tree, lit, node, Forest, Literals, of, of-sign, has, some-child}
+use lib.ListN.{getD, take}
+use Rattle.formula.specs.Tree.{and, or, Quantifier, exists, for-all, same-op, Tree, lit, node, Literals, of, of-sign, has, some-child, rows}
 use Rattle.formula.specs.Settle.{is-lit, at-root, may-take, value, settling}
-use Rattle.reading.specs.Subtrees.{literals}
+use Rattle.reading.specs.Subtrees.{forest-in, subtree-in}
 use Rattle.reading.specs.Signs.{quantifier-at}
 use Rattle.reading.proofs.Forest.{top, kids}
-
--- 3 to 4 are all literals of x
-pub literals-of : (x : ℕ) → literals (record { variable = x; low = 3; high = 4 }) ≡ of x
-unfolding literals
-literals-of x = fun-ext (λ s. fun-ext (λ v. go s v))
-  where
-    go : (s : Bool) (v : ℕ) → literals (record { variable = x; low = 3; high = 4 }) s v ≡ of x s v
-    go true v = refl
-    go false v = refl
-
--- one kind is one sign
-literals-three : (x : ℕ) → literals (record { variable = x; low = 3; high = 3 }) ≡ of-sign true x
-unfolding literals
-literals-three x = fun-ext (λ s. fun-ext (λ v. go s v))
-  where
-    go : (s : Bool) (v : ℕ) → literals (record { variable = x; low = 3; high = 3 }) s v ≡ of-sign true x s v
-    go true v = refl
-    go false v = refl
-
-literals-four : (x : ℕ) → literals (record { variable = x; low = 4; high = 4 }) ≡ of-sign false x
-unfolding literals
-literals-four x = fun-ext (λ s. fun-ext (λ v. go s v))
-  where
-    go : (s : Bool) (v : ℕ) → literals (record { variable = x; low = 4; high = 4 }) s v ≡ of-sign false x s v
-    go true v = refl
-    go false v = refl
-
-three-or-four : (k : ℕ) → 3 ≤ k → k ≤ 4 → (k ≡ 3) ⊎ (k ≡ 4)
-three-or-four k low high = go (eqb k 3) refl
-  where
-    go : (t : Bool) → eqb k 3 ≡ t → (k ≡ 3) ⊎ (k ≡ 4)
-    go true e = inl (eqb-true k 3 e)
-    go false e = let other = eqb-false k 3 e in inr (omega arith)
-
-pub literals-of-sign : (x k : ℕ) → 3 ≤ k → k ≤ 4 → literals (record { variable = x; low = k; high = k }) ≡ of-sign (eqb k 3) x
-literals-of-sign x k low high = go (three-or-four k low high)
-  where
-    go : (k ≡ 3) ⊎ (k ≡ 4) → literals (record { variable = x; low = k; high = k }) ≡ of-sign (eqb k 3) x
-    go (inl e) = rw e (literals-three x)
-    go (inr e) = rw e (literals-four x)
-
-pub literals-of-other : (x k : ℕ) → 3 ≤ k → k ≤ 4
-    → literals (record { variable = x; low = 7 - k; high = 7 - k }) ≡ of-sign (not (eqb k 3)) x
-literals-of-other x k low high = go (three-or-four k low high)
-  where
-    go : (k ≡ 3) ⊎ (k ≡ 4) → literals (record { variable = x; low = 7 - k; high = 7 - k }) ≡ of-sign (not (eqb k 3)) x
-    go (inl e) = rw e (literals-four x)
-    go (inr e) = rw e (literals-three x)
+use lib.Seq.{take-at}
+use Rattle.formula.specs.Tidy.{any}
+use Rattle.sheet.specs.Format.{Bytes}
+use Rattle.reading.specs.Reading.{Readable}
+use Rattle.reading.specs.Cost.{hits, hits-all}
+use Rattle.reading.proofs.Siblings.{subtree-within}
+use Rattle.reading.proofs.Hits.{has-hits, length-hits, hits-row, hits-subtree}
 
 -- at-root
 
@@ -128,3 +85,56 @@ module _ (q : Quantifier) (x : ℕ) (t : Tree) where
   pub settling-not : has (of x) t ≡ true → may-take true x t ≡ false → may-take false x t ≡ false → settling q x t ≡ none
   unfolding settling
   settling-not e p m = rw (e, p, m)
+
+-- occurs
+
+-- looking for a literal in the rows from i up to `to`
+pub record Scanning (L : Literals) (w v n : ℕ) (b : Bytes) (found : Bool) (i to : ℕ) : Type 0 where
+  pub within : to ≤ n
+  pub same : found ≡ any (take (to - i) (hits-all L (forest-in w v n b i)))
+
+module _ (L : Literals) {w v n : ℕ} (b : Bytes) (ok : Readable w v n b) where
+  pub scan-start : (from : ℕ) {to : ℕ} → from < n → to ≡ from + rows (subtree-in w v n b from)
+      → Scanning L w v n b (has L (subtree-in w v n b from)) from to
+  scan-start from {to} h e =
+      let t = subtree-in w v n b from in
+      record {
+        within = omega (arith, subtree-within b ok from h);
+        same =
+            has-hits L t ∙
+            ap any
+            (sym
+            (ap (take (to - from)) (hits-subtree L b ok from h) ∙
+            take-at (hits L t) _ (to - from) (length-hits L t ∙ omega arith)));
+      }
+
+  scanned : {found : Bool} (i : ℕ) {to : ℕ} → i < to → Scanning L w v n b found i to
+      → found ≡ (is-lit L (subtree-in w v n b i) || any (take (to - suc i) (hits-all L (forest-in w v n b (suc i)))))
+  unfolding any
+  scanned i {to} h s =
+      s .same ∙ ap (λ k. any (take k (hits-all L (forest-in w v n b i)))) (less h) ∙
+      ap (λ l. any (take (suc (to - suc i)) l)) (hits-row L b ok i (omega (arith, s .within)))
+    where
+      less : i < to → to - i ≡ suc (to - suc i)
+      less h = omega arith
+
+  pub scan-found : {found : Bool} (i : ℕ) {to : ℕ} → i < to → Scanning L w v n b found i to → is-lit L (subtree-in w v n b i) ≡ true
+      → found ≡ true
+  scan-found i {to} h s e =
+      scanned i h s ∙ ap (λ c. c || any (take (to - suc i) (hits-all L (forest-in w v n b (suc i))))) e
+
+  pub scan-on : {found : Bool} (i : ℕ) {j to : ℕ} → i < to → j ≡ suc i → Scanning L w v n b found i to
+      → is-lit L (subtree-in w v n b i) ≡ false → Scanning L w v n b found j to
+  scan-on i {j} {to} h next s e =
+      rw next
+      (record {
+        within = s .within;
+        same = scanned i h s ∙ ap (λ c. c || any (take (to - suc i) (hits-all L (forest-in w v n b (suc i))))) e;
+      })
+
+pub scan-none : (L : Literals) {w v n : ℕ} {b : Bytes} {found : Bool} {i to : ℕ} → to ≤ i → Scanning L w v n b found i to → found ≡ false
+unfolding any
+scan-none L {w} {v} {n} {b} {found} {i} {to} h s = s .same ∙ ap (λ k. any (take k (hits-all L (forest-in w v n b i)))) (nothing h)
+  where
+    nothing : to ≤ i → to - i ≡ 0
+    nothing h = omega arith

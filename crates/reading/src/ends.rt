@@ -2,7 +2,7 @@
 // hops from one to the next.
 ghost use mathlib.Core.Path.{_≡_};
 ghost use Prim.Native.Nat.{_+_, _≤_, _<_};
-ghost use lib.ListN.{length, take, drop};
+ghost use lib.ListN.{length, drop};
 ghost use Rattle.reading.specs.Reading.{Readable};
 ghost use Rattle.reading.specs.Ends.{Ends, hops, Hops};
 

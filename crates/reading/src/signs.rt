@@ -54,16 +54,8 @@ pub fn is_at_root(b: &[u8], width: usize, v: usize, n: usize, ends: &[u16], set:
     if rows::kind_at(b, width, v + n, v) <= 4 {
         return is_literal(b, width, v, n, 0, set);
     }
-    literal_among(
-        b,
-        width,
-        v,
-        n,
-        ends,
-        1,
-        rows::argument_at(b, width, v + n, v),
-        set,
-    )
+    let children = rows::argument_at(b, width, v + n, v);
+    literal_among(b, width, v, n, ends, 1, children, set)
 }
 
 // Whether the literals of `x` have the sign of `kind` only, or one of that sign is the root or a child of the root.

@@ -1,4 +1,4 @@
 pub mod Rows
 mod Turn
 mod Stores
-mod Sealing
+pub mod Sealing

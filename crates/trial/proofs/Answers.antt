@@ -42,7 +42,8 @@ unfolding check trial-call
 check-refuses F b h = refused-first (check-tests F b) _ _ (trial (formula F b)) h
 
 -- every bound number is within the limit
-numbered-at : (F : Format) (p : Prefix) (r : ℕ) (z : Binding) → numbered F p ≡ true → r < length p → (getD p r z) .variable ≤ F .most-variables
+numbered-at : (F : Format) (p : Prefix) (r : ℕ) (z : Binding) → numbered F p ≡ true → r < length p
+    → (getD p r z) .variable ≤ F .most-variables
 numbered-at F [] r z h l = absurd (omega arith)
 numbered-at F (y ∷ p) zero z h l = numbered-∷ F y p h .0
 numbered-at F (y ∷ p) (suc r) z h l = numbered-at F p r z (numbered-∷ F y p h .1) (omega arith)
@@ -70,7 +71,8 @@ module _ {F : Format} {b : Bytes} {v n : ℕ} (m : Manageable F) (sheet : Accept
       let R = rows-in (F .width) (v + n) b in
       let within = accepted-within F b (sheet .tests-pass) in
       let z = binding (row 0 0) in
-      let bound = numbered-at F ((formula F b) .prefix) r z (within .is-numbered) (omega (arith, accepted-variables F b (sheet .tests-pass), sheet .right .variables-are)) in
+      let left : r < length ((formula F b) .prefix) = omega (arith, accepted-variables F b (sheet .tests-pass), sheet .right .variables-are) in
+      let bound = numbered-at F ((formula F b) .prefix) r z (within .is-numbered) left in
       omega (
         arith,
         bound,

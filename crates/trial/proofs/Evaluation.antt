@@ -48,13 +48,16 @@ next-forward : (R : List Row) (high low : List ℕ) (ρ : Assignment) (r : ℕ) 
 unfolding next
 next-forward R high low ρ r j h =
     let x = getD R r (row 0 0) in
-    either (eqb (children x) 0) _ (r + 1) (either (row-value x ρ) (entry high r) (entry low r) (j .high-forward r h) (j .low-forward r h)) (omega arith)
+    either (eqb (children x) 0) _ (r + 1)
+    (either (row-value x ρ) (entry high r) (entry low r) (j .high-forward r h) (j .low-forward r h)) (omega arith)
   where
-    either : (u : Bool) (a b : ℕ) → (r < a) × (a ≤ length R + 1) → (r < b) × (b ≤ length R + 1) → (r < cond u a b) × (cond u a b ≤ length R + 1)
+    either : (u : Bool) (a b : ℕ) → (r < a) × (a ≤ length R + 1) → (r < b) × (b ≤ length R + 1)
+        → (r < cond u a b) × (cond u a b ≤ length R + 1)
     either true a b p q = p
     either false a b p q = q
 
-pub next-on : (R : List Row) (n : ℕ) → length R ≡ n → (high low : List ℕ) (ρ : Assignment) (x : Bool) (r r′ : ℕ) → Jumps R high low → r < n
+pub next-on : (R : List Row) (n : ℕ) → length R ≡ n → (high low : List ℕ) (ρ : Assignment) (x : Bool) (r r′ : ℕ)
+    → Jumps R high low → r < n
     → Decides (length R) (next R high low ρ) x r → r′ ≡ next R high low ρ r
     → (r < r′) × (r′ ≤ n + 1) × Decides (length R) (next R high low ρ) x r′
 next-on R n all high low ρ x r r′ j h d e =

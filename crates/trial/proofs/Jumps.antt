@@ -58,12 +58,14 @@ module _ (R : List Row) (ends high low : List ℕ) (marked : Ends R ends 0) (tar
   wired-to : (b : Bool) (r : ℕ) (W : Wired R ends high low r)
       → to b r ≡ past (Bool·beq b (is-and R (W .parent))) (entry ends r) (entry ends (W .parent)) (to b (W .parent))
   unfolding to
-  wired-to true r W = W .high-target ∙ ap (λ u. past u (entry ends r) (entry ends (W .parent)) (entry high (W .parent))) (same (is-and R (W .parent)))
+  wired-to true r W =
+      W .high-target ∙ ap (λ u. past u (entry ends r) (entry ends (W .parent)) (entry high (W .parent))) (same (is-and R (W .parent)))
     where
       same : (u : Bool) → u ≡ Bool·beq true u
       same true = refl
       same false = refl
-  wired-to false r W = W .low-target ∙ ap (λ u. past u (entry ends r) (entry ends (W .parent)) (entry low (W .parent))) (same (is-and R (W .parent)))
+  wired-to false r W =
+      W .low-target ∙ ap (λ u. past u (entry ends r) (entry ends (W .parent)) (entry low (W .parent))) (same (is-and R (W .parent)))
     where
       same : (u : Bool) → not u ≡ Bool·beq false u
       same true = refl
@@ -202,13 +204,17 @@ module _ (R : List Row) (ends high low : List ℕ) (marked : Ends R ends 0) (tar
           step r (start o ts r (r + 1)) (head-within R r _ _ e) (next-operator o ts r (at-head R r _ _ e))
           (goes-forest ts o r (r + 1) rest (children-left o ts r rest e) g)
 
-      goes-forest : (ts : Forest) (o : Op) (p c : ℕ) (rest : List Row) → Left o ts p c rest → Goes (to (eval-all ts o ρ) p) → Goes (start o ts p c)
+      -- an operator's children go where its value's target does
+      goes-forest : (ts : Forest) (o : Op) (p c : ℕ) (rest : List Row) → Left o ts p c rest → Goes (to (eval-all ts o ρ) p)
+          → Goes (start o ts p c)
       goes-forest ∅ o p c rest l g = g
       goes-forest (t ▸ ts) o p c rest l g =
           goes-tree t c (forest-rows ts ++ rest) (first-tree t ts l)
-          (rw (first-target t ts l (eval t ρ), past-start o ts p (c + rows t) (eval t ρ)) (by o (eval t ρ) g (goes-forest ts o p (c + rows t) rest (others-left t ts l))))
+          (rw (first-target t ts l (eval t ρ), past-start o ts p (c + rows t) (eval t ρ))
+          (by o (eval t ρ) g (goes-forest ts o p (c + rows t) rest (others-left t ts l))))
         where
-          by : (o : Op) (b : Bool) → Goes (to (join o b (eval-all ts o ρ)) p) → (Goes (to (eval-all ts o ρ) p) → Goes (start o ts p (c + rows t)))
+          by : (o : Op) (b : Bool) → Goes (to (join o b (eval-all ts o ρ)) p)
+              → (Goes (to (eval-all ts o ρ) p) → Goes (start o ts p (c + rows t)))
               → Goes (cond (Bool·beq b (unit o)) (start o ts p (c + rows t)) (to b p))
           by and true g k = k g
           by and false g k = g
@@ -244,7 +250,9 @@ module _ (R : List Row) (ends high low : List ℕ) (marked : Ends R ends 0) (tar
       record {
         high-forward = λ r h. behind true r h;
         low-forward = λ r h. behind false r h;
-        decides = λ ρ. rw (ap (λ l. root (trees l)) e ∙ root-trees t) (goes-tree ρ (eval t ρ) t 0 [] (e ∙ sym (append-nil (tree-rows t))) (verdict ρ (eval t ρ)));
+        decides =
+            λ ρ. rw (ap (λ l. root (trees l)) e ∙ root-trees t)
+            (goes-tree ρ (eval t ρ) t 0 [] (e ∙ sym (append-nil (tree-rows t))) (verdict ρ (eval t ρ)));
       }
     where
       behind : (b : Bool) (r : ℕ) → r < length R → (r < to b r) × (to b r ≤ length R + 1)

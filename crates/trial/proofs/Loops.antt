@@ -36,7 +36,8 @@ module _ (ends : List ℕ) where
   hop-within zero r h w = absurd (omega arith)
   hop-within (suc k) r h w = w .0
 
-  pub hop-on : (k r x : ℕ) → 0 < k → Hopping ends k r → x ≡ entry ends r → Hopping ends (k - 1) x × (hops ends (k - 1) x ≡ hops ends k r)
+  pub hop-on : (k r x : ℕ) → 0 < k → Hopping ends k r → x ≡ entry ends r
+      → Hopping ends (k - 1) x × (hops ends (k - 1) x ≡ hops ends k r)
   unfolding hops
   hop-on zero r x h w e = absurd (omega arith)
   hop-on (suc k) r x h w e =
@@ -61,7 +62,8 @@ module _ (ends parents : List ℕ) (r : ℕ) (root-open : r < entry ends 0) (kno
       let P = known (suc p) (omega arith) l in
       rw q (P .before, λ y py yr. go y py yr (P .others-closed y py) (decLt y (suc p)) (decLt (suc p) y))
     where
-      go : (y : ℕ) → entry parents (suc p) < y → y < r → (y < suc p → entry ends y ≤ suc p) → Dec (y < suc p) → Dec (suc p < y) → entry ends y ≤ r
+      go : (y : ℕ) → entry parents (suc p) < y → y < r → (y < suc p → entry ends y ≤ suc p) → Dec (y < suc p) → Dec (suc p < y)
+          → entry ends y ≤ r
       go y py yr k (yes d) b = omega (arith, k d)
       go y py yr k (no f) (yes d) = closed y d yr
       go y py yr k (no f) (no g) =

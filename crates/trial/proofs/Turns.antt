@@ -7,7 +7,7 @@ use Prim.Native.Nat.{ℕ, zero, suc, _+_, _-_, _*_, _^_, _≤_, _<_}
 use native.Mathlib.Numerals.{add-one}
 use native.Mathlib.Omega.{arith}
 use lib.Dec.{eqb}
-use lib.ListN.{length, getD, replicate, take, drop, set, length-map, length-drop, drop-of-length-le}
+use lib.ListN.{length, getD, replicate, take, drop, set, length-set, length-map, length-drop, drop-of-length-le}
 use lib.Pow.{pow-mono}
 use lib.Seq.{length-take-le, drop-cons, getD-take, getD-set-same, getD-set-other, set-set, set-getD}
 use borrow.Author.Tests.{eqb-true, eqb-false}
@@ -22,7 +22,7 @@ use Rattle.rows.proofs.Rows.{length-rows-in}
 use Rattle.trial.specs.declared.Shape.{Shape}
 use Rattle.trial.specs.declared.Outcome.{Outcome}
 use Rattle.trial.specs.Jumps.{Holds, matrix-rows, values}
-use Rattle.trial.specs.Turns.{tried, prefix-row, unread, turns, semantic-tree, Ready}
+use Rattle.trial.specs.Turns.{tried, prefix-row, unread, turns, semantic-tree, Ready, Turned}
 
 -- the assignment
 
@@ -32,13 +32,6 @@ put-values table x v h = fun-ext (λ y. go y (eqb y x) refl)
     go : (y : ℕ) (e : Bool) → eqb y x ≡ e → cond e v (getD table y false) ≡ getD (set table x v) y false
     go y true e = sym (ap (λ z. getD (set table x v) z false) (eqb-true y x e) ∙ getD-set-same table x v false h)
     go y false e = sym (getD-set-other table x y v false (eqb-false y x e))
-
--- the old value put back after one turn, and after two
-pub restore-one : (table t₀ : List Bool) (x : ℕ) → t₀ ≡ set table x false → set t₀ x (getD table x false) ≡ table
-restore-one table t₀ x e = rw (e, set-set) (set-getD table x false)
-
-pub restore-both : (table t₀ t₁ : List Bool) (x : ℕ) → t₀ ≡ set table x false → t₁ ≡ set t₀ x true → set t₁ x (getD table x false) ≡ table
-restore-both table t₀ t₁ x e f = rw (f, set-set) (restore-one table t₀ x e)
 
 pub ready-kept : {s : Shape} {b : Bytes} {high low : List ℕ} {n m : ℕ} → Ready s b high low n → m ≡ n → Ready s b high low m
 ready-kept {s} {b} {high} {low} r e = subst (Ready s b high low) (sym e) r
@@ -76,8 +69,9 @@ module _ (s : Shape) (b : Bytes) (holds : Holds s (length b)) where
   unfolding turns unread try P
   turns-leaf table v e = rw (drop-of-length-le P {i = s .variables} (omega (arith, length-P))) (ap (λ u. record { verdict = u; leaves = 1 }) e)
 
-  pub turns-last : (o : Outcome) (r : ℕ) (table : List Bool) → r ≡ s .variables → tried o ≡ turns s b (s .variables) table → tried o ≡ turns s b r table
-  turns-last o r table e h = rw e h
+  pub turned-leaf : (o : Outcome) (r : ℕ) (table : List Bool) → r ≡ s .variables → tried o ≡ turns s b (s .variables) table
+      → Turned s b r table o table
+  turned-leaf o r table e h = record { outcome = rw e h; unchanged = refl }
 
   turns-leaves : (r : ℕ) (table : List Bool) → s .variables ≤ 20 → (turns s b r table) .leaves ≤ 2 ^ 20
   unfolding turns unread P
@@ -92,37 +86,69 @@ module _ (s : Shape) (b : Bytes) (holds : Holds s (length b)) where
   unfolding turns try binding
   turns-row r x table h e l = rw (unread-row r h, ← e, put-values table x false l, put-values table x true l)
 
-  -- row r is of the side q and binds x, and 0 was tried first
-  module _ (q : Quantifier) (r x : ℕ) (table t₀ : List Bool) (zero : Outcome)
-      (owner : cond (eqb ((prefix-row s b r) .kind) 1) exists for-all ≡ q) (h : r < s .variables) (e : x ≡ (prefix-row s b r) .argument)
-      (l : x < length table) (zero-tried : tried zero ≡ turns s b (r + 1) (set table x false)) (kept : t₀ ≡ set table x false) where
-    row-turn : turns s b r table ≡ turn q (tried zero) (turns s b (r + 1) (set table x true))
-    row-turn =
-        turns-row r x table h e l ∙
-        ap₂ (λ u t. turn u t (turns s b (r + 1) (set table x true))) owner (sym zero-tried)
+-- row r is of the side q and binds x
+pub record Own (q : Quantifier) (s : Shape) (b : Bytes) (r x : ℕ) (table : List Bool) : Type 0 where
+  pub holds : Holds s (length b)
+  pub few : s .variables ≤ 20
+  pub within : r < s .variables
+  pub owner : cond (eqb ((prefix-row s b r) .kind) 1) exists for-all ≡ q
+  pub binds : x ≡ (prefix-row s b r) .argument
+  pub inside : x < length table
 
-    pub turn-stopped : (stop : Bool) → stop ≡ Bool·beq (stops-at q) (zero .verdict) → stop ≡ true → tried zero ≡ turns s b r table
-    turn-stopped stop asked v = sym (row-turn ∙ turn-stops q (tried zero) (turns s b (r + 1) (set table x true)) (sym asked ∙ v))
+-- 0 was tried first
+module _ {q : Quantifier} {s : Shape} {b : Bytes} {r x : ℕ} {table t₀ : List Bool} {zero : Outcome} (own : Own q s b r x table)
+    (first : Turned s b (r + 1) (set table x false) zero t₀) where
+  row-turn : turns s b r table ≡ turn q (tried zero) (turns s b (r + 1) (set table x true))
+  row-turn =
+      turns-row s b (own .holds) r x table (own .within) (own .binds) (own .inside) ∙
+      ap₂ (λ u t. turn u t (turns s b (r + 1) (set table x true))) (own .owner) (sym (first .outcome))
 
-    module _ (one : Outcome) (one-tried : tried one ≡ turns s b (r + 1) (set t₀ x true)) where
-      pub leaves-fit : s .variables ≤ 20 → zero .leaves + one .leaves < 2 ^ 64
-      leaves-fit few =
-          omega (
-            arith,
-            turns-leaves (r + 1) (set table x false) few,
-            turns-leaves (r + 1) (set t₀ x true) few,
-            ap (λ (t : Tried). t .leaves) zero-tried,
-            ap (λ (t : Tried). t .leaves) one-tried,
-          )
+  pub restored-one : set t₀ x (getD table x false) ≡ table
+  restored-one = rw (first .unchanged, set-set) (set-getD table x false)
 
-      pub turn-went-on : (stop : Bool) → stop ≡ Bool·beq (stops-at q) (zero .verdict) → stop ≡ false
-          → (o : Outcome) → (o .verdict ≡ one .verdict) × (o .leaves ≡ zero .leaves + one .leaves) → tried o ≡ turns s b r table
-      turn-went-on stop asked v o sum =
-          ap₂ (λ u n. record { verdict = u; leaves = n }) (sum .0) (sum .1) ∙
-          sym
-          (row-turn ∙ ap (λ l. turn q (tried zero) (turns s b (r + 1) l)) (sym (ap (λ t. set t x true) kept ∙ set-set table x false true)) ∙
-          ap (turn q (tried zero)) (sym one-tried) ∙
-          turn-goes-on q (tried zero) (tried one) (sym asked ∙ v))
+  pub inside-one : x < length t₀
+  inside-one = rw (first .unchanged, length-set) (own .inside)
+
+  pub turn-stopped : {stop : Bool} → stop ≡ Bool·beq (stops-at q) (zero .verdict) → stop ≡ true
+      → Turned s b r table zero (set t₀ x (getD table x false))
+  turn-stopped asked v =
+      record {
+        outcome = sym (row-turn ∙ turn-stops q (tried zero) (turns s b (r + 1) (set table x true)) (sym asked ∙ v));
+        unchanged = restored-one;
+      }
+
+  -- then 1
+  module _ {one : Outcome} {t₁ : List Bool} (second : Turned s b (r + 1) (set t₀ x true) one t₁) where
+    pub leaves-fit : zero .leaves + one .leaves < 2 ^ 64
+    leaves-fit =
+        omega (
+          arith,
+          turns-leaves s b (own .holds) (r + 1) (set table x false) (own .few),
+          turns-leaves s b (own .holds) (r + 1) (set t₀ x true) (own .few),
+          ap (λ (t : Tried). t .leaves) (first .outcome),
+          ap (λ (t : Tried). t .leaves) (second .outcome),
+        )
+
+    pub restored-both : set t₁ x (getD table x false) ≡ table
+    restored-both = rw (second .unchanged, set-set) restored-one
+
+    pub inside-both : x < length t₁
+    inside-both = rw (second .unchanged, length-set) inside-one
+
+    pub turn-went-on : {stop : Bool} → stop ≡ Bool·beq (stops-at q) (zero .verdict) → stop ≡ false → (o : Outcome)
+        → (o .verdict ≡ one .verdict) × (o .leaves ≡ zero .leaves + one .leaves) → Turned s b r table o (set t₁ x (getD table x false))
+    turn-went-on asked v o sum =
+        record {
+          outcome =
+              ap₂ (λ u n. record { verdict = u; leaves = n }) (sum .0) (sum .1) ∙
+              sym
+              (row-turn ∙
+              ap (λ l. turn q (tried zero) (turns s b (r + 1) l))
+              (sym (ap (λ t. set t x true) (first .unchanged) ∙ set-set table x false true)) ∙
+              ap (turn q (tried zero)) (sym (second .outcome)) ∙
+              turn-goes-on q (tried zero) (tried one) (sym asked ∙ v));
+          unchanged = restored-both;
+        }
 
 -- the first turn, under the table of all false
 pub turns-first : (s : Shape) (b : Bytes) (n : ℕ) (o : Outcome) → tried o ≡ turns s b 0 (replicate n false) → tried o ≡ semantic-tree s b

@@ -1,5 +1,6 @@
 -- The turns of Trial from a prefix row on, under the assignment that a table holds.
 -- Assumes nothing.
+use mathlib.Core.Path.{_≡_}
 use mathlib.Core.Bool.{Bool, false}
 use mathlib.Core.List.{List, map}
 use Prim.Native.Nat.{ℕ, _+_, _≤_, _<_}
@@ -50,3 +51,8 @@ pub record Ready (s : Shape) (b : Bytes) (high low : List ℕ) (numbers : ℕ) :
   pub numbered : Numbered s b numbers
   pub jumps : Jumps (matrix-rows s b) high low
   pub rooms : Rooms (s .nodes) high low
+
+-- what a turn from row r on leaves: its outcome, and the assignment as it was
+pub record Turned (s : Shape) (b : Bytes) (r : ℕ) (table : List Bool) (o : Outcome) (table′ : List Bool) : Type 0 where
+  pub outcome : tried o ≡ turns s b r table
+  pub unchanged : table′ ≡ table

@@ -14,7 +14,7 @@ ghost use Rattle.checking.specs.Stages.{Manageable};
 ghost use Rattle.trial.specs.Answers.{tried-answer};
 ghost use Rattle.trial.specs.Jumps.{Holds, matrix-rows, entry, Ends, hops, Hopping, Parent, Parents, past, Targets, Rooms};
 ghost use Rattle.trial.specs.Jumps.{OneTree, values, row-value, next, Jumps};
-ghost use Rattle.trial.specs.Turns.{tried, prefix-row, turns, semantic-tree, Playable, Ready};
+ghost use Rattle.trial.specs.Turns.{tried, prefix-row, turns, semantic-tree, Playable, Ready, Turned};
 
 // What Trial answers: the verdict and the leaves tried, or a refusal's number and place.
 pub enum Tried {
@@ -103,7 +103,8 @@ fn mark_ends(sheet: &[u8], s: Shape, ends: &mut [u16])
 
 // The parent of row `r`: up from the row before it, past every subtree that has come to its end.
 fn parent_of(ends: &[u16], parents: &[u16], r: usize) -> usize
-    requires { ⌜ (0 < r) × (r < length (now ends)) × (r < length (now parents)) × (r < entry (now ends) 0) × Parents (now ends) (now parents) r ⌝ }
+    requires { ⌜ (0 < r) × (r < length (now ends)) × (r < length (now parents)) ×
+        (r < entry (now ends) 0) × Parents (now ends) (now parents) r ⌝ }
     ensures { λ p. ⌜ Parent (now (ends .entry)) p r ⌝ }
 {
     let mut p = r - 1;
@@ -135,7 +136,8 @@ fn wire(
     high: &mut [u16],
     low: &mut [u16],
 )
-    requires { ⌜ Holds s (length (now sheet)) × (0 < s .nodes) × Ends (matrix-rows s (now sheet)) (now ends) 0 × (entry (now ends) 0 ≡ s .nodes) ⌝ }
+    requires { ⌜ Holds s (length (now sheet)) × (0 < s .nodes) × Ends (matrix-rows s (now sheet)) (now ends) 0 ×
+        (entry (now ends) 0 ≡ s .nodes) ⌝ }
     requires { ⌜ (s .nodes < length (now ends)) × (s .nodes < length (now parents)) × Rooms (s .nodes) (now high) (now low) ⌝ }
     ensures { λ _. ⌜ Targets (matrix-rows s (now (sheet .entry))) (now (ends .entry)) (now (high .exit)) (now (low .exit)) (s .nodes) ⌝ }
 {
@@ -192,7 +194,8 @@ fn row_value(sheet: &[u8], s: Shape, assignment: &[bool], r: usize) -> bool
 // The row at which evaluation goes on after row `r`.
 fn next(sheet: &[u8], s: Shape, high: &[u16], low: &[u16], assignment: &[bool], r: usize) -> usize
     requires { ⌜ Holds s (length (now sheet)) × (r < s .nodes) × Rooms (s .nodes) (now high) (now low) ⌝ }
-    ensures { λ e. ⌜ e ≡ next (matrix-rows s (now (sheet .entry))) (now (high .entry)) (now (low .entry)) (values (now (assignment .entry))) r ⌝ }
+    ensures { λ e.
+        ⌜ e ≡ next (matrix-rows s (now (sheet .entry))) (now (high .entry)) (now (low .entry)) (values (now (assignment .entry))) r ⌝ }
 {
     if node_children(sheet, s, r) != 0 {
         return r + 1;
@@ -205,7 +208,8 @@ fn next(sheet: &[u8], s: Shape, high: &[u16], low: &[u16], assignment: &[bool], 
 
 // The matrix's value: one pass that jumps over every subtree once its parent is decided.
 fn evaluate(sheet: &[u8], s: Shape, high: &[u16], low: &[u16], assignment: &[bool]) -> bool
-    requires { ⌜ Holds s (length (now sheet)) × Jumps (matrix-rows s (now sheet)) (now high) (now low) × Rooms (s .nodes) (now high) (now low) ⌝ }
+    requires { ⌜ Holds s (length (now sheet)) × Jumps (matrix-rows s (now sheet)) (now high) (now low) ×
+        Rooms (s .nodes) (now high) (now low) ⌝ }
     ensures { λ v. ⌜ v ≡ eval (root (trees (matrix-rows s (now (sheet .entry))))) (values (now (assignment .entry))) ⌝ }
 {
     let n = s.nodes;
@@ -271,7 +275,7 @@ fn existential(
     r: usize,
 ) -> Outcome
     requires { ⌜ Ready s (now sheet) (now high) (now low) (length (now assignment)) × (r ≤ s .variables) ⌝ }
-    ensures { λ o. ⌜ (tried o ≡ turns s (now (sheet .entry)) r (now (assignment .entry))) × (now (assignment .exit) ≡ now (assignment .entry)) ⌝ }
+    ensures { λ o. ⌜ Turned s (now (sheet .entry)) r (now (assignment .entry)) o (now (assignment .exit)) ⌝ }
 {
     if r == s.variables {
         return leaf(sheet, s, high, low, assignment);
@@ -303,7 +307,7 @@ fn universal(
     r: usize,
 ) -> Outcome
     requires { ⌜ Ready s (now sheet) (now high) (now low) (length (now assignment)) × (r ≤ s .variables) ⌝ }
-    ensures { λ o. ⌜ (tried o ≡ turns s (now (sheet .entry)) r (now (assignment .entry))) × (now (assignment .exit) ≡ now (assignment .entry)) ⌝ }
+    ensures { λ o. ⌜ Turned s (now (sheet .entry)) r (now (assignment .entry)) o (now (assignment .exit)) ⌝ }
 {
     if r == s.variables {
         return leaf(sheet, s, high, low, assignment);

@@ -1,18 +1,17 @@
 -- The proof of the cycle of calls {existential, universal}. With each row read the rows left fall; a turn that hands its row over has one
 -- call more before it than the side that owns the row.
 -- Assumes nothing.
-use mathlib.Core.Path.{_≡_, refl, sym, ap, _∙_}
-use mathlib.Core.Bool.{true, false, cond}
-use Prim.Native.Nat.{ℕ, _<_}
+use mathlib.Core.Path.{refl, sym, ap, _∙_}
+use Prim.Native.Nat.{ℕ, _+_, _≤_, _<_}
 use native.Mathlib.Omega.{arith}
-use lib.Dec.{eqb}
 use lib.ListN.{length, length-set}
 use borrow.Author.Tests.{not-true, not-false}
 use borrow.Fn.Kinds.{In}
 use borrow.Fn.PlainCycle.{Measures, is, falls, and}
 use Rattle.formula.specs.Tree.{exists, for-all}
-use Rattle.trial.specs.Turns.{prefix-row}
-use Rattle.trial.proofs.Turns.{restore-one, restore-both, ready-kept, turns-last, turn-stopped, leaves-fit, turn-went-on, existential-calls, universal-calls, existential-falls, universal-falls, to-universal, to-existential}
+use Rattle.trial.proofs.Turns.{ready-kept, turned-leaf, Own, restored-one, inside-one, turn-stopped}
+use Rattle.trial.proofs.Turns.{leaves-fit, restored-both, inside-both, turn-went-on}
+use Rattle.trial.proofs.Turns.{existential-calls, universal-calls, existential-falls, universal-falls, to-universal, to-existential}
 use Rattle.trial.proofs.existential.Reads as existential
 use Rattle.trial.proofs.existential.Kinds as existential-kinds
 use Rattle.trial.proofs.+existential+universal.Lts-existential as existential-lts
@@ -49,13 +48,41 @@ universal-below t = and 4 universal-kinds.ps (falls 4 universal-kinds.ps _<_ μ-
 
 -- what an existential turn is told of the functions that it calls
 abbrev existential-callees : ℕ → existential-lts.Claims
-existential-callees t =
-    (leaf-reads.Asked, leaf-reads.Learnt, is-existential-reads.Asked, is-existential-reads.Learnt, universal-below t, universal.Post, variable-at-reads.Asked, variable-at-reads.Learnt, existential-below t, existential.Post, stops-reads.Asked, stops-reads.Learnt, both-reads.Asked, both-reads.Learnt)
+existential-callees t = (
+  leaf-reads.Asked,
+  leaf-reads.Learnt,
+  is-existential-reads.Asked,
+  is-existential-reads.Learnt,
+  universal-below t,
+  universal.Post,
+  variable-at-reads.Asked,
+  variable-at-reads.Learnt,
+  existential-below t,
+  existential.Post,
+  stops-reads.Asked,
+  stops-reads.Learnt,
+  both-reads.Asked,
+  both-reads.Learnt,
+)
 
 -- what a universal turn is told of the functions that it calls
 abbrev universal-callees : ℕ → universal-lts.Claims
-universal-callees t =
-    (leaf-reads.Asked, leaf-reads.Learnt, is-existential-reads.Asked, is-existential-reads.Learnt, existential-below t, existential.Post, variable-at-reads.Asked, variable-at-reads.Learnt, universal-below t, universal.Post, stops-reads.Asked, stops-reads.Learnt, both-reads.Asked, both-reads.Learnt)
+universal-callees t = (
+  leaf-reads.Asked,
+  leaf-reads.Learnt,
+  is-existential-reads.Asked,
+  is-existential-reads.Learnt,
+  existential-below t,
+  existential.Post,
+  variable-at-reads.Asked,
+  variable-at-reads.Learnt,
+  universal-below t,
+  universal.Post,
+  stops-reads.Asked,
+  stops-reads.Learnt,
+  both-reads.Asked,
+  both-reads.Learnt,
+)
 
 -- existential turns
 
@@ -68,7 +95,8 @@ existential-same-length t c = refl
 existential-returns : (t : ℕ) → existential-lts.Need-returns (existential-callees t) (existential-at t) existential.Post
 existential-returns t c =
     let a = c .before .before .before .before .before .before .before .before in
-    (turns-last (a .args .s) (a .args .sheet .now) (a .pre .1 .0 .holds) (c .leaf .result) (a .args .r) (a .args .assignment .now) (c .before .before .if1 .taken) (c .leaf .ensures), refl)
+    turned-leaf (a .args .s) (a .args .sheet .now) (a .pre .1 .0 .holds) (c .leaf .result) (a .args .r) (a .args .assignment .now)
+    (c .before .before .if1 .taken) (c .leaf .ensures)
 
 existential-is-existential-requires : (t : ℕ) → existential-lts.Need-is-existential-requires (existential-callees t) (existential-at t) existential.Post
 existential-is-existential-requires t c κs = (c .before .before .before .before .before .before .pre .1 .0 .holds, omega arith)
@@ -77,121 +105,138 @@ existential-universal-requires : (t : ℕ) → existential-lts.Need-universal-re
 existential-universal-requires t c κs =
     let a = c .before .before .before .before .before .before .before .before .before in
     let e = sym (c .before .before .is-existential .ensures) ∙ not-true _ (c .before .if2 .taken) in
-    (omega (arith, to-universal (a .args .s) (a .args .sheet .now) (a .args .r) e, a .pre .0), (a .pre .1 .0, a .pre .1 .1))
+    (omega (arith, to-universal (a .args .s) (a .args .sheet .now) (a .args .r) e, a .pre .0), a .pre .1)
 
 existential-same-length-2 : (t : ℕ) → existential-lts.Need-same-length-2 (existential-callees t) (existential-at t) existential.Post
 existential-same-length-2 t c = c .before .before .universal .kept .1 .1 .1 .1 .0
 
 existential-returns-2 : (t : ℕ) → existential-lts.Need-returns-2 (existential-callees t) (existential-at t) existential.Post
-existential-returns-2 t c = (c .before .before .universal .ensures .0, c .before .before .universal .ensures .1)
+existential-returns-2 t c =
+    let turned = c .before .before .universal .ensures in
+    record { outcome = turned .outcome; unchanged = turned .unchanged }
 
 existential-variable-at-requires : (t : ℕ) → existential-lts.Need-variable-at-requires (existential-callees t) (existential-at t) existential.Post
 existential-variable-at-requires t c κs = (c .before .before .before .before .before .before .before .before .pre .1 .0 .holds, omega arith)
 
--- a row of this side: it is not behind the last, and its variable is in the table
+-- a row of this side, and the turn that came to it
 abbrev existential-row : ℕ → Type 0
 existential-row t = existential-lts.After-variable-at (existential-callees t) (existential-at t) existential.Post
 
-existential-within : (t : ℕ) (c : existential-row t) → c .before .before .before .before .before .before .before .before .before .args .r < c .before .before .before .before .before .before .before .before .before .args .s .variables
-existential-within t c = omega (arith, c .before .before .before .before .before .before .before .before .before .pre .1 .1, c .before .before .before .if1 .left)
+abbrev existential-start : (t : ℕ) → existential-row t → existential-lts.Start (existential-callees t) (existential-at t) existential.Post
+existential-start t c = c .before .before .before .before .before .before .before .before .before
 
-existential-inside : (t : ℕ) (c : existential-row t) → c .variable-at .result < length (c .before .before .before .before .before .before .before .before .before .args .assignment .now)
-existential-inside t c =
-    let a = c .before .before .before .before .before .before .before .before .before in
-    rw (c .variable-at .ensures) (a .pre .1 .0 .numbered (a .args .r) (existential-within t c))
+existential-own : (t : ℕ) (c : existential-row t)
+    → let a = existential-start t c .args in
+    Own exists (a .s) (a .sheet .now) (a .r) (c .variable-at .result) (a .assignment .now)
+existential-own t c =
+    let a = existential-start t c in
+    let ready = a .pre .1 .0 in
+    let within : a .args .r < a .args .s .variables = omega (arith, a .pre .1 .1, c .before .before .before .if1 .left) in
+    record {
+      holds = ready .holds;
+      few = ready .few;
+      within = within;
+      owner = rw (sym (c .before .before .is-existential .ensures) ∙ not-false _ (c .before .if2 .left));
+      binds = c .variable-at .ensures;
+      inside = omega (arith, c .variable-at .ensures, ready .numbered (a .args .r) within);
+    }
 
-existential-owner : (t : ℕ) (c : existential-row t) → cond (eqb ((prefix-row (c .before .before .before .before .before .before .before .before .before .args .s) (c .before .before .before .before .before .before .before .before .before .args .sheet .now) (c .before .before .before .before .before .before .before .before .before .args .r)) .kind) 1) exists for-all ≡ exists
-existential-owner t c = rw (sym (c .before .before .is-existential .ensures) ∙ not-false _ (c .before .if2 .left))
+-- the next row's turn has fewer calls before it
+existential-next : (t : ℕ) (c : existential-row t)
+    → let a = existential-start t c .args in
+    (existential-calls (a .s) (a .sheet .now) (a .r + 1) < t) × (a .r + 1 ≤ a .s .variables)
+existential-next t c =
+    let a = existential-start t c in
+    let within = existential-own t c .within in
+    (omega (arith, existential-falls (a .args .s) (a .args .sheet .now) (a .args .r) within, a .pre .0), omega (arith, within))
 
 existential-slice-read-old : (t : ℕ) → existential-lts.Need-slice-read-old (existential-callees t) (existential-at t) existential.Post
-existential-slice-read-old t c = existential-inside t (c .before)
+existential-slice-read-old t c = existential-own t (c .before) .inside
 
 existential-slice-write-assignment : (t : ℕ) → existential-lts.Need-slice-write-assignment (existential-callees t) (existential-at t) existential.Post
-existential-slice-write-assignment t c = existential-inside t (c .before)
+existential-slice-write-assignment t c = existential-own t (c .before) .inside
 
 existential-add-existential : (t : ℕ) → existential-lts.Need-add-existential (existential-callees t) (existential-at t) existential.Post
-existential-add-existential t c = omega (arith, existential-within t (c .before .before), c .before .before .before .before .before .before .before .before .before .before .before .pre .1 .0 .few)
+existential-add-existential t c =
+    let own = existential-own t (c .before .before) in
+    omega (arith, own .within, own .few)
 
 existential-existential-requires : (t : ℕ) → existential-lts.Need-existential-requires (existential-callees t) (existential-at t) existential.Post
 existential-existential-requires t c κs =
-    let a = c .before .before .before .before .before .before .before .before .before .before .before in
-    let v = c .before .before in (
-      omega (arith, existential-falls (a .args .s) (a .args .sheet .now) (a .args .r) (existential-within t v), a .pre .0),
-      (ready-kept (a .pre .1 .0) (length-set (a .args .assignment .now) (v .variable-at .result) false), omega (arith, existential-within t v)),
-    )
+    let v = c .before .before in
+    let a = existential-start t v in
+    (existential-next t v .0, (ready-kept (a .pre .1 .0) (length-set (a .args .assignment .now) (v .variable-at .result) _), existential-next t v .1))
 
 existential-stops-requires : (t : ℕ) → existential-lts.Need-stops-requires (existential-callees t) (existential-at t) existential.Post
 existential-stops-requires t c κs = tt
 
 existential-slice-write-assignment-2 : (t : ℕ) → existential-lts.Need-slice-write-assignment-2 (existential-callees t) (existential-at t) existential.Post
 existential-slice-write-assignment-2 t c =
-    let v = c .before .before .before .before .before .before .before in
-    rw (c .before .before .before .before .existential .ensures .1, length-set) (existential-inside t v)
-
-existential-slice-write-assignment-3 : (t : ℕ) → existential-lts.Need-slice-write-assignment-3 (existential-callees t) (existential-at t) existential.Post
-existential-slice-write-assignment-3 t c =
-    let v = c .before .before .before .before .before .before .before in
-    rw (c .before .before .before .before .existential .ensures .1, length-set) (existential-inside t v)
+    let turn = c .before .before .before .before in
+    let own = existential-own t (turn .before .before .before) in
+    inside-one own (turn .existential .ensures)
 
 existential-same-length-3 : (t : ℕ) → existential-lts.Need-same-length-3 (existential-callees t) (existential-at t) existential.Post
 existential-same-length-3 t c =
-    let a = c .before .before .before .before .before .before .before .before .before .before .before .before .before .before .before .before in
-    let v = c .before .before .before .before .before .before .before in
-    ap length (restore-one (a .args .assignment .now) (c .before .before .before .before .existential .last .1 .1 .1 .1 .0) (v .variable-at .result) (c .before .before .before .before .existential .ensures .1))
+    let turn = c .before .before .before .before in
+    let own = existential-own t (turn .before .before .before) in
+    ap length (restored-one own (turn .existential .ensures))
 
 existential-returns-3 : (t : ℕ) → existential-lts.Need-returns-3 (existential-callees t) (existential-at t) existential.Post
 existential-returns-3 t c =
-    let a = c .before .before .before .before .before .before .before .before .before .before .before .before .before .before .before .before in
-    let v = c .before .before .before .before .before .before .before in
-    let zero = c .before .before .before .before .existential in (
-      turn-stopped (a .args .s) (a .args .sheet .now) (a .pre .1 .0 .holds) exists (a .args .r) (v .variable-at .result) (a .args .assignment .now) (c .before .before .before .before .existential .last .1 .1 .1 .1 .0)
-          (zero .result) (existential-owner t v) (existential-within t v) (v .variable-at .ensures) (existential-inside t v) (zero .ensures .0) (zero .ensures .1) (c .before .stops .result) (c .before .stops .ensures) (c .if3 .taken),
-      restore-one (a .args .assignment .now) (c .before .before .before .before .existential .last .1 .1 .1 .1 .0) (v .variable-at .result) (c .before .before .before .before .existential .ensures .1),
-    )
+    let turn = c .before .before .before .before in
+    let own = existential-own t (turn .before .before .before) in
+    turn-stopped own (turn .existential .ensures) (c .before .stops .ensures) (c .if3 .taken)
+
+existential-slice-write-assignment-3 : (t : ℕ) → existential-lts.Need-slice-write-assignment-3 (existential-callees t) (existential-at t) existential.Post
+existential-slice-write-assignment-3 t c =
+    let turn = c .before .before .before .before in
+    let own = existential-own t (turn .before .before .before) in
+    inside-one own (turn .existential .ensures)
 
 existential-add-existential-2 : (t : ℕ) → existential-lts.Need-add-existential-2 (existential-callees t) (existential-at t) existential.Post
-existential-add-existential-2 t c = omega (arith, existential-within t (c .before .before .before .before .before .before .before .before), c .before .before .before .before .before .before .before .before .before .before .before .before .before .before .before .before .before .pre .1 .0 .few)
+existential-add-existential-2 t c =
+    let own = existential-own t (c .before .before .before .before .before .before .before .before) in
+    omega (arith, own .within, own .few)
 
 existential-existential-requires-2 : (t : ℕ) → existential-lts.Need-existential-requires-2 (existential-callees t) (existential-at t) existential.Post
 existential-existential-requires-2 t c κs =
-    let a = c .before .before .before .before .before .before .before .before .before .before .before .before .before .before .before .before .before in
     let v = c .before .before .before .before .before .before .before .before in
+    let a = existential-start t v in
+    let zero = c .before .before .before .before .before .existential in
     let x = v .variable-at .result in
-    let zero = c .before .before .before .before .before .existential in (
-      omega (arith, existential-falls (a .args .s) (a .args .sheet .now) (a .args .r) (existential-within t v), a .pre .0),
-      (ready-kept (a .pre .1 .0) (length-set (c .before .before .before .before .before .existential .last .1 .1 .1 .1 .0) x true ∙ ap length (zero .ensures .1) ∙ length-set (a .args .assignment .now) x false), omega (arith, existential-within t v)),
-    )
+    let kept = length-set (zero .last .1 .1 .1 .1 .0) x _ ∙ ap length (zero .ensures .unchanged) ∙ length-set (a .args .assignment .now) x _ in
+    (existential-next t v .0, (ready-kept (a .pre .1 .0) kept, existential-next t v .1))
 
 existential-slice-write-assignment-4 : (t : ℕ) → existential-lts.Need-slice-write-assignment-4 (existential-callees t) (existential-at t) existential.Post
 existential-slice-write-assignment-4 t c =
-    let v = c .before .before .before .before .before .before .before .before .before .before .before in
-    rw (c .before .before .existential2 .ensures .1, length-set, c .before .before .before .before .before .before .before .before .existential .ensures .1, length-set) (existential-inside t v)
+    let again = c .before .before in
+    let turn = again .before .before .before .before .before .before in
+    let own = existential-own t (turn .before .before .before) in
+    inside-both own (turn .existential .ensures) (again .existential2 .ensures)
 
 existential-both-requires : (t : ℕ) → existential-lts.Need-both-requires (existential-callees t) (existential-at t) existential.Post
 existential-both-requires t c κs =
-    let a = c .before .before .before .before .before .before .before .before .before .before .before .before .before .before .before .before .before .before .before .before in
-    let v = c .before .before .before .before .before .before .before .before .before .before .before in
-    let zero = c .before .before .before .before .before .before .before .before .existential in
-    let one = c .before .before .existential2 in
-    leaves-fit (a .args .s) (a .args .sheet .now) (a .pre .1 .0 .holds) exists (a .args .r) (v .variable-at .result) (a .args .assignment .now) (c .before .before .before .before .before .before .before .before .existential .last .1 .1 .1 .1 .0)
-    (zero .result) (existential-owner t v) (existential-within t v) (v .variable-at .ensures) (existential-inside t v) (zero .ensures .0) (zero .ensures .1) (one .result) (one .ensures .0) (a .pre .1 .0 .few)
+    let again = c .before .before in
+    let turn = again .before .before .before .before .before .before in
+    let own = existential-own t (turn .before .before .before) in
+    leaves-fit own (turn .existential .ensures) (again .existential2 .ensures)
 
 existential-same-length-4 : (t : ℕ) → existential-lts.Need-same-length-4 (existential-callees t) (existential-at t) existential.Post
 existential-same-length-4 t c =
-    let a = c .before .before .before .before .before .before .before .before .before .before .before .before .before .before .before .before .before .before .before .before .before in
-    let v = c .before .before .before .before .before .before .before .before .before .before .before .before in
-    ap length (restore-both (a .args .assignment .now) (c .before .before .before .before .before .before .before .before .before .existential .last .1 .1 .1 .1 .0) (c .before .before .before .existential2 .last .1 .1 .1 .1 .0) (v .variable-at .result) (c .before .before .before .before .before .before .before .before .before .existential .ensures .1) (c .before .before .before .existential2 .ensures .1))
+    let again = c .before .before .before in
+    let turn = again .before .before .before .before .before .before in
+    let own = existential-own t (turn .before .before .before) in
+    ap length (restored-both own (turn .existential .ensures) (again .existential2 .ensures))
 
 existential-returns-4 : (t : ℕ) → existential-lts.Need-returns-4 (existential-callees t) (existential-at t) existential.Post
 existential-returns-4 t c =
-    let a = c .before .before .before .before .before .before .before .before .before .before .before .before .before .before .before .before .before .before .before .before .before in
-    let v = c .before .before .before .before .before .before .before .before .before .before .before .before in
-    let zero = c .before .before .before .before .before .before .before .before .before .existential in
-    let one = c .before .before .before .existential2 in (
-      turn-went-on (a .args .s) (a .args .sheet .now) (a .pre .1 .0 .holds) exists (a .args .r) (v .variable-at .result) (a .args .assignment .now) (c .before .before .before .before .before .before .before .before .before .existential .last .1 .1 .1 .1 .0)
-          (zero .result) (existential-owner t v) (existential-within t v) (v .variable-at .ensures) (existential-inside t v) (zero .ensures .0) (zero .ensures .1) (one .result) (one .ensures .0) (c .before .before .before .before .before .before .stops .result) (c .before .before .before .before .before .before .stops .ensures) (c .before .before .before .before .before .if3 .left) (c .both .result) (c .both .ensures),
-      restore-both (a .args .assignment .now) (c .before .before .before .before .before .before .before .before .before .existential .last .1 .1 .1 .1 .0) (c .before .before .before .existential2 .last .1 .1 .1 .1 .0) (v .variable-at .result) (c .before .before .before .before .before .before .before .before .before .existential .ensures .1) (c .before .before .before .existential2 .ensures .1),
-    )
+    let again = c .before .before .before in
+    let turn = again .before .before .before .before .before .before in
+    let own = existential-own t (turn .before .before .before) in
+    let asked = again .before .before in
+    turn-went-on own (turn .existential .ensures) (again .existential2 .ensures) (asked .before .stops .ensures) (asked .if3 .left) (c .both .result)
+    (c .both .ensures)
 
 -- universal turns
 
@@ -204,7 +249,8 @@ universal-same-length t c = refl
 universal-returns : (t : ℕ) → universal-lts.Need-returns (universal-callees t) (universal-at t) universal.Post
 universal-returns t c =
     let a = c .before .before .before .before .before .before .before .before in
-    (turns-last (a .args .s) (a .args .sheet .now) (a .pre .1 .0 .holds) (c .leaf .result) (a .args .r) (a .args .assignment .now) (c .before .before .if1 .taken) (c .leaf .ensures), refl)
+    turned-leaf (a .args .s) (a .args .sheet .now) (a .pre .1 .0 .holds) (c .leaf .result) (a .args .r) (a .args .assignment .now)
+    (c .before .before .if1 .taken) (c .leaf .ensures)
 
 universal-is-existential-requires : (t : ℕ) → universal-lts.Need-is-existential-requires (universal-callees t) (universal-at t) universal.Post
 universal-is-existential-requires t c κs = (c .before .before .before .before .before .before .pre .1 .0 .holds, omega arith)
@@ -213,121 +259,187 @@ universal-existential-requires : (t : ℕ) → universal-lts.Need-existential-re
 universal-existential-requires t c κs =
     let a = c .before .before .before .before .before .before .before .before .before in
     let e = sym (c .before .before .is-existential .ensures) ∙ (c .before .if2 .taken) in
-    (omega (arith, to-existential (a .args .s) (a .args .sheet .now) (a .args .r) e, a .pre .0), (a .pre .1 .0, a .pre .1 .1))
+    (omega (arith, to-existential (a .args .s) (a .args .sheet .now) (a .args .r) e, a .pre .0), a .pre .1)
 
 universal-same-length-2 : (t : ℕ) → universal-lts.Need-same-length-2 (universal-callees t) (universal-at t) universal.Post
 universal-same-length-2 t c = c .before .before .existential .kept .1 .1 .1 .1 .0
 
 universal-returns-2 : (t : ℕ) → universal-lts.Need-returns-2 (universal-callees t) (universal-at t) universal.Post
-universal-returns-2 t c = (c .before .before .existential .ensures .0, c .before .before .existential .ensures .1)
+universal-returns-2 t c =
+    let turned = c .before .before .existential .ensures in
+    record { outcome = turned .outcome; unchanged = turned .unchanged }
 
 universal-variable-at-requires : (t : ℕ) → universal-lts.Need-variable-at-requires (universal-callees t) (universal-at t) universal.Post
 universal-variable-at-requires t c κs = (c .before .before .before .before .before .before .before .before .pre .1 .0 .holds, omega arith)
 
--- a row of this side: it is not behind the last, and its variable is in the table
+-- a row of this side, and the turn that came to it
 abbrev universal-row : ℕ → Type 0
 universal-row t = universal-lts.After-variable-at (universal-callees t) (universal-at t) universal.Post
 
-universal-within : (t : ℕ) (c : universal-row t) → c .before .before .before .before .before .before .before .before .before .args .r < c .before .before .before .before .before .before .before .before .before .args .s .variables
-universal-within t c = omega (arith, c .before .before .before .before .before .before .before .before .before .pre .1 .1, c .before .before .before .if1 .left)
+abbrev universal-start : (t : ℕ) → universal-row t → universal-lts.Start (universal-callees t) (universal-at t) universal.Post
+universal-start t c = c .before .before .before .before .before .before .before .before .before
 
-universal-inside : (t : ℕ) (c : universal-row t) → c .variable-at .result < length (c .before .before .before .before .before .before .before .before .before .args .assignment .now)
-universal-inside t c =
-    let a = c .before .before .before .before .before .before .before .before .before in
-    rw (c .variable-at .ensures) (a .pre .1 .0 .numbered (a .args .r) (universal-within t c))
+universal-own : (t : ℕ) (c : universal-row t)
+    → let a = universal-start t c .args in
+    Own for-all (a .s) (a .sheet .now) (a .r) (c .variable-at .result) (a .assignment .now)
+universal-own t c =
+    let a = universal-start t c in
+    let ready = a .pre .1 .0 in
+    let within : a .args .r < a .args .s .variables = omega (arith, a .pre .1 .1, c .before .before .before .if1 .left) in
+    record {
+      holds = ready .holds;
+      few = ready .few;
+      within = within;
+      owner = rw (sym (c .before .before .is-existential .ensures) ∙ (c .before .if2 .left));
+      binds = c .variable-at .ensures;
+      inside = omega (arith, c .variable-at .ensures, ready .numbered (a .args .r) within);
+    }
 
-universal-owner : (t : ℕ) (c : universal-row t) → cond (eqb ((prefix-row (c .before .before .before .before .before .before .before .before .before .args .s) (c .before .before .before .before .before .before .before .before .before .args .sheet .now) (c .before .before .before .before .before .before .before .before .before .args .r)) .kind) 1) exists for-all ≡ for-all
-universal-owner t c = rw (sym (c .before .before .is-existential .ensures) ∙ (c .before .if2 .left))
+-- the next row's turn has fewer calls before it
+universal-next : (t : ℕ) (c : universal-row t)
+    → let a = universal-start t c .args in
+    (universal-calls (a .s) (a .sheet .now) (a .r + 1) < t) × (a .r + 1 ≤ a .s .variables)
+universal-next t c =
+    let a = universal-start t c in
+    let within = universal-own t c .within in
+    (omega (arith, universal-falls (a .args .s) (a .args .sheet .now) (a .args .r) within, a .pre .0), omega (arith, within))
 
 universal-slice-read-old : (t : ℕ) → universal-lts.Need-slice-read-old (universal-callees t) (universal-at t) universal.Post
-universal-slice-read-old t c = universal-inside t (c .before)
+universal-slice-read-old t c = universal-own t (c .before) .inside
 
 universal-slice-write-assignment : (t : ℕ) → universal-lts.Need-slice-write-assignment (universal-callees t) (universal-at t) universal.Post
-universal-slice-write-assignment t c = universal-inside t (c .before)
+universal-slice-write-assignment t c = universal-own t (c .before) .inside
 
 universal-add-universal : (t : ℕ) → universal-lts.Need-add-universal (universal-callees t) (universal-at t) universal.Post
-universal-add-universal t c = omega (arith, universal-within t (c .before .before), c .before .before .before .before .before .before .before .before .before .before .before .pre .1 .0 .few)
+universal-add-universal t c =
+    let own = universal-own t (c .before .before) in
+    omega (arith, own .within, own .few)
 
 universal-universal-requires : (t : ℕ) → universal-lts.Need-universal-requires (universal-callees t) (universal-at t) universal.Post
 universal-universal-requires t c κs =
-    let a = c .before .before .before .before .before .before .before .before .before .before .before in
-    let v = c .before .before in (
-      omega (arith, universal-falls (a .args .s) (a .args .sheet .now) (a .args .r) (universal-within t v), a .pre .0),
-      (ready-kept (a .pre .1 .0) (length-set (a .args .assignment .now) (v .variable-at .result) false), omega (arith, universal-within t v)),
-    )
+    let v = c .before .before in
+    let a = universal-start t v in
+    (universal-next t v .0, (ready-kept (a .pre .1 .0) (length-set (a .args .assignment .now) (v .variable-at .result) _), universal-next t v .1))
 
 universal-stops-requires : (t : ℕ) → universal-lts.Need-stops-requires (universal-callees t) (universal-at t) universal.Post
 universal-stops-requires t c κs = tt
 
 universal-slice-write-assignment-2 : (t : ℕ) → universal-lts.Need-slice-write-assignment-2 (universal-callees t) (universal-at t) universal.Post
 universal-slice-write-assignment-2 t c =
-    let v = c .before .before .before .before .before .before .before in
-    rw (c .before .before .before .before .universal .ensures .1, length-set) (universal-inside t v)
-
-universal-slice-write-assignment-3 : (t : ℕ) → universal-lts.Need-slice-write-assignment-3 (universal-callees t) (universal-at t) universal.Post
-universal-slice-write-assignment-3 t c =
-    let v = c .before .before .before .before .before .before .before in
-    rw (c .before .before .before .before .universal .ensures .1, length-set) (universal-inside t v)
+    let turn = c .before .before .before .before in
+    let own = universal-own t (turn .before .before .before) in
+    inside-one own (turn .universal .ensures)
 
 universal-same-length-3 : (t : ℕ) → universal-lts.Need-same-length-3 (universal-callees t) (universal-at t) universal.Post
 universal-same-length-3 t c =
-    let a = c .before .before .before .before .before .before .before .before .before .before .before .before .before .before .before .before in
-    let v = c .before .before .before .before .before .before .before in
-    ap length (restore-one (a .args .assignment .now) (c .before .before .before .before .universal .last .1 .1 .1 .1 .0) (v .variable-at .result) (c .before .before .before .before .universal .ensures .1))
+    let turn = c .before .before .before .before in
+    let own = universal-own t (turn .before .before .before) in
+    ap length (restored-one own (turn .universal .ensures))
 
 universal-returns-3 : (t : ℕ) → universal-lts.Need-returns-3 (universal-callees t) (universal-at t) universal.Post
 universal-returns-3 t c =
-    let a = c .before .before .before .before .before .before .before .before .before .before .before .before .before .before .before .before in
-    let v = c .before .before .before .before .before .before .before in
-    let zero = c .before .before .before .before .universal in (
-      turn-stopped (a .args .s) (a .args .sheet .now) (a .pre .1 .0 .holds) for-all (a .args .r) (v .variable-at .result) (a .args .assignment .now) (c .before .before .before .before .universal .last .1 .1 .1 .1 .0)
-          (zero .result) (universal-owner t v) (universal-within t v) (v .variable-at .ensures) (universal-inside t v) (zero .ensures .0) (zero .ensures .1) (c .before .stops .result) (c .before .stops .ensures) (c .if3 .taken),
-      restore-one (a .args .assignment .now) (c .before .before .before .before .universal .last .1 .1 .1 .1 .0) (v .variable-at .result) (c .before .before .before .before .universal .ensures .1),
-    )
+    let turn = c .before .before .before .before in
+    let own = universal-own t (turn .before .before .before) in
+    turn-stopped own (turn .universal .ensures) (c .before .stops .ensures) (c .if3 .taken)
+
+universal-slice-write-assignment-3 : (t : ℕ) → universal-lts.Need-slice-write-assignment-3 (universal-callees t) (universal-at t) universal.Post
+universal-slice-write-assignment-3 t c =
+    let turn = c .before .before .before .before in
+    let own = universal-own t (turn .before .before .before) in
+    inside-one own (turn .universal .ensures)
 
 universal-add-universal-2 : (t : ℕ) → universal-lts.Need-add-universal-2 (universal-callees t) (universal-at t) universal.Post
-universal-add-universal-2 t c = omega (arith, universal-within t (c .before .before .before .before .before .before .before .before), c .before .before .before .before .before .before .before .before .before .before .before .before .before .before .before .before .before .pre .1 .0 .few)
+universal-add-universal-2 t c =
+    let own = universal-own t (c .before .before .before .before .before .before .before .before) in
+    omega (arith, own .within, own .few)
 
 universal-universal-requires-2 : (t : ℕ) → universal-lts.Need-universal-requires-2 (universal-callees t) (universal-at t) universal.Post
 universal-universal-requires-2 t c κs =
-    let a = c .before .before .before .before .before .before .before .before .before .before .before .before .before .before .before .before .before in
     let v = c .before .before .before .before .before .before .before .before in
+    let a = universal-start t v in
+    let zero = c .before .before .before .before .before .universal in
     let x = v .variable-at .result in
-    let zero = c .before .before .before .before .before .universal in (
-      omega (arith, universal-falls (a .args .s) (a .args .sheet .now) (a .args .r) (universal-within t v), a .pre .0),
-      (ready-kept (a .pre .1 .0) (length-set (c .before .before .before .before .before .universal .last .1 .1 .1 .1 .0) x true ∙ ap length (zero .ensures .1) ∙ length-set (a .args .assignment .now) x false), omega (arith, universal-within t v)),
-    )
+    let kept = length-set (zero .last .1 .1 .1 .1 .0) x _ ∙ ap length (zero .ensures .unchanged) ∙ length-set (a .args .assignment .now) x _ in
+    (universal-next t v .0, (ready-kept (a .pre .1 .0) kept, universal-next t v .1))
 
 universal-slice-write-assignment-4 : (t : ℕ) → universal-lts.Need-slice-write-assignment-4 (universal-callees t) (universal-at t) universal.Post
 universal-slice-write-assignment-4 t c =
-    let v = c .before .before .before .before .before .before .before .before .before .before .before in
-    rw (c .before .before .universal2 .ensures .1, length-set, c .before .before .before .before .before .before .before .before .universal .ensures .1, length-set) (universal-inside t v)
+    let again = c .before .before in
+    let turn = again .before .before .before .before .before .before in
+    let own = universal-own t (turn .before .before .before) in
+    inside-both own (turn .universal .ensures) (again .universal2 .ensures)
 
 universal-both-requires : (t : ℕ) → universal-lts.Need-both-requires (universal-callees t) (universal-at t) universal.Post
 universal-both-requires t c κs =
-    let a = c .before .before .before .before .before .before .before .before .before .before .before .before .before .before .before .before .before .before .before .before in
-    let v = c .before .before .before .before .before .before .before .before .before .before .before in
-    let zero = c .before .before .before .before .before .before .before .before .universal in
-    let one = c .before .before .universal2 in
-    leaves-fit (a .args .s) (a .args .sheet .now) (a .pre .1 .0 .holds) for-all (a .args .r) (v .variable-at .result) (a .args .assignment .now) (c .before .before .before .before .before .before .before .before .universal .last .1 .1 .1 .1 .0)
-    (zero .result) (universal-owner t v) (universal-within t v) (v .variable-at .ensures) (universal-inside t v) (zero .ensures .0) (zero .ensures .1) (one .result) (one .ensures .0) (a .pre .1 .0 .few)
+    let again = c .before .before in
+    let turn = again .before .before .before .before .before .before in
+    let own = universal-own t (turn .before .before .before) in
+    leaves-fit own (turn .universal .ensures) (again .universal2 .ensures)
 
 universal-same-length-4 : (t : ℕ) → universal-lts.Need-same-length-4 (universal-callees t) (universal-at t) universal.Post
 universal-same-length-4 t c =
-    let a = c .before .before .before .before .before .before .before .before .before .before .before .before .before .before .before .before .before .before .before .before .before in
-    let v = c .before .before .before .before .before .before .before .before .before .before .before .before in
-    ap length (restore-both (a .args .assignment .now) (c .before .before .before .before .before .before .before .before .before .universal .last .1 .1 .1 .1 .0) (c .before .before .before .universal2 .last .1 .1 .1 .1 .0) (v .variable-at .result) (c .before .before .before .before .before .before .before .before .before .universal .ensures .1) (c .before .before .before .universal2 .ensures .1))
+    let again = c .before .before .before in
+    let turn = again .before .before .before .before .before .before in
+    let own = universal-own t (turn .before .before .before) in
+    ap length (restored-both own (turn .universal .ensures) (again .universal2 .ensures))
 
 universal-returns-4 : (t : ℕ) → universal-lts.Need-returns-4 (universal-callees t) (universal-at t) universal.Post
 universal-returns-4 t c =
-    let a = c .before .before .before .before .before .before .before .before .before .before .before .before .before .before .before .before .before .before .before .before .before in
-    let v = c .before .before .before .before .before .before .before .before .before .before .before .before in
-    let zero = c .before .before .before .before .before .before .before .before .before .universal in
-    let one = c .before .before .before .universal2 in (
-      turn-went-on (a .args .s) (a .args .sheet .now) (a .pre .1 .0 .holds) for-all (a .args .r) (v .variable-at .result) (a .args .assignment .now) (c .before .before .before .before .before .before .before .before .before .universal .last .1 .1 .1 .1 .0)
-          (zero .result) (universal-owner t v) (universal-within t v) (v .variable-at .ensures) (universal-inside t v) (zero .ensures .0) (zero .ensures .1) (one .result) (one .ensures .0) (c .before .before .before .before .before .before .stops .result) (c .before .before .before .before .before .before .stops .ensures) (c .before .before .before .before .before .if3 .left) (c .both .result) (c .both .ensures),
-      restore-both (a .args .assignment .now) (c .before .before .before .before .before .before .before .before .before .universal .last .1 .1 .1 .1 .0) (c .before .before .before .universal2 .last .1 .1 .1 .1 .0) (v .variable-at .result) (c .before .before .before .before .before .before .before .before .before .universal .ensures .1) (c .before .before .before .universal2 .ensures .1),
-    )
+    let again = c .before .before .before in
+    let turn = again .before .before .before .before .before .before in
+    let own = universal-own t (turn .before .before .before) in
+    let asked = again .before .before in
+    turn-went-on own (turn .universal .ensures) (again .universal2 .ensures) (asked .before .stops .ensures) (asked .if3 .left) (c .both .result)
+    (c .both .ensures)
 
 pub +existential+universal-spec : {M : Type 1} → statement M
-+existential+universal-spec = close μ-existential μ-universal (λ t. existential-lts.spec (existential-callees t) (existential-at t) existential.Post (existential-leaf-requires t) (existential-same-length t) (existential-returns t) (existential-is-existential-requires t) (existential-universal-requires t) (existential-same-length-2 t) (existential-returns-2 t) (existential-variable-at-requires t) (existential-slice-read-old t) (existential-slice-write-assignment t) (existential-add-existential t) (existential-existential-requires t) (existential-stops-requires t) (existential-slice-write-assignment-2 t) (existential-same-length-3 t) (existential-returns-3 t) (existential-slice-write-assignment-3 t) (existential-add-existential-2 t) (existential-existential-requires-2 t) (existential-slice-write-assignment-4 t) (existential-both-requires t) (existential-same-length-4 t) (existential-returns-4 t)) (λ t. universal-lts.spec (universal-callees t) (universal-at t) universal.Post (universal-leaf-requires t) (universal-same-length t) (universal-returns t) (universal-is-existential-requires t) (universal-existential-requires t) (universal-same-length-2 t) (universal-returns-2 t) (universal-variable-at-requires t) (universal-slice-read-old t) (universal-slice-write-assignment t) (universal-add-universal t) (universal-universal-requires t) (universal-stops-requires t) (universal-slice-write-assignment-2 t) (universal-same-length-3 t) (universal-returns-3 t) (universal-slice-write-assignment-3 t) (universal-add-universal-2 t) (universal-universal-requires-2 t) (universal-slice-write-assignment-4 t) (universal-both-requires t) (universal-same-length-4 t) (universal-returns-4 t))
++existential+universal-spec =
+    close μ-existential μ-universal
+    (λ t. existential-lts.spec (existential-callees t) (existential-at t) existential.Post
+    (existential-leaf-requires t)
+    (existential-same-length t)
+    (existential-returns t)
+    (existential-is-existential-requires t)
+    (existential-universal-requires t)
+    (existential-same-length-2 t)
+    (existential-returns-2 t)
+    (existential-variable-at-requires t)
+    (existential-slice-read-old t)
+    (existential-slice-write-assignment t)
+    (existential-add-existential t)
+    (existential-existential-requires t)
+    (existential-stops-requires t)
+    (existential-slice-write-assignment-2 t)
+    (existential-same-length-3 t)
+    (existential-returns-3 t)
+    (existential-slice-write-assignment-3 t)
+    (existential-add-existential-2 t)
+    (existential-existential-requires-2 t)
+    (existential-slice-write-assignment-4 t)
+    (existential-both-requires t)
+    (existential-same-length-4 t)
+    (existential-returns-4 t))
+    (λ t. universal-lts.spec (universal-callees t) (universal-at t) universal.Post
+    (universal-leaf-requires t)
+    (universal-same-length t)
+    (universal-returns t)
+    (universal-is-existential-requires t)
+    (universal-existential-requires t)
+    (universal-same-length-2 t)
+    (universal-returns-2 t)
+    (universal-variable-at-requires t)
+    (universal-slice-read-old t)
+    (universal-slice-write-assignment t)
+    (universal-add-universal t)
+    (universal-universal-requires t)
+    (universal-stops-requires t)
+    (universal-slice-write-assignment-2 t)
+    (universal-same-length-3 t)
+    (universal-returns-3 t)
+    (universal-slice-write-assignment-3 t)
+    (universal-add-universal-2 t)
+    (universal-universal-requires-2 t)
+    (universal-slice-write-assignment-4 t)
+    (universal-both-requires t)
+    (universal-same-length-4 t)
+    (universal-returns-4 t))

@@ -29,7 +29,10 @@ wire-requires c κs =
     let called = c .before .before .before .before .before .mark-ends in
     let marked = called .ensures in
     let one = one-tree R (a .args .s .nodes) (length-matrix-rows (a .args .s) (a .args .sheet .now) (a .pre .0)) (a .pre .1) in
-    ((a .pre .0, one .0, marked, marked 0 (omega arith) (omega arith) ∙ one .1), (omega (arith, a .pre .0 .few-nodes, called .kept .1 .1 .0), omega (arith, a .pre .0 .few-nodes), a .pre .2))
+    let few = a .pre .0 .few-nodes in (
+      (a .pre .0, one .0, marked, marked 0 (omega arith) (omega arith) ∙ one .1),
+      (omega (arith, few, called .kept .1 .1 .0), omega (arith, few), a .pre .2),
+    )
 
 same-length : tie.Need-same-length
 same-length c = search needs

@@ -40,12 +40,16 @@ next-requires c κs =
     let a = c .before .before .before .before .before .before in
     (a .pre .0, c .loop-test .taken, a .pre .2)
 
-on : (c : tie.After-next Inv-loop μ-loop) → (head c .loop .r < c .next .result) × (c .next .result ≤ start c .args .s .nodes + 1) × Going (matrix-rows (start c .args .s) (start c .args .sheet .now)) (start c .args .high .now) (start c .args .low .now) (values (start c .args .assignment .now)) (c .next .result)
+on : (c : tie.After-next Inv-loop μ-loop)
+    → let a = start c .args in
+    (head c .loop .r < c .next .result) × (c .next .result ≤ a .s .nodes + 1) ×
+    Going (matrix-rows (a .s) (a .sheet .now)) (a .high .now) (a .low .now) (values (a .assignment .now)) (c .next .result)
 on c =
     let a = start c in
     let R = matrix-rows (a .args .s) (a .args .sheet .now) in
     let ρ = values (a .args .assignment .now) in
-    next-on R (a .args .s .nodes) (length-matrix-rows (a .args .s) (a .args .sheet .now) (a .pre .0)) (a .args .high .now) (a .args .low .now) ρ (eval (root (trees R)) ρ)
+    let all = length-matrix-rows (a .args .s) (a .args .sheet .now) (a .pre .0) in
+    next-on R (a .args .s .nodes) all (a .args .high .now) (a .args .low .now) ρ (eval (root (trees R)) ρ)
     (head c .loop .r) (c .next .result) (a .pre .1) (c .before .loop-test .taken) (head c .loop .inv .1) (c .next .ensures)
 
 loop-less : tie.Need-loop-less Inv-loop μ-loop
@@ -57,7 +61,8 @@ loop-again c = (on c .1, on c .2)
 returns : tie.Need-returns Inv-loop μ-loop
 returns c =
     let a = c .before .before .before .before .before .before in
-    verdict-at _ (a .args .s .nodes) _ _ (c .before .loop .r) (length-matrix-rows (a .args .s) (a .args .sheet .now) (a .pre .0)) (c .loop-test .left) (c .before .loop .inv .1)
+    let all = length-matrix-rows (a .args .s) (a .args .sheet .now) (a .pre .0) in
+    verdict-at _ (a .args .s .nodes) _ _ (c .before .loop .r) all (c .loop-test .left) (c .before .loop .inv .1)
 
 pub evaluate-spec : {M : Type 1} → statement M
 evaluate-spec =

@@ -19,7 +19,9 @@ loop-holds : tie.Need-loop-holds Inv-loop μ-loop
 loop-holds c = (c .before .pre, refl)
 
 inside : (c : tie.In-loop Inv-loop μ-loop) → c .before .loop .r < length (c .before .before .before .args .ends .now)
-inside c = hop-within (c .before .before .before .args .ends .now) (c .before .loop .left) (c .before .loop .r) (c .loop-test .taken) (c .before .loop .inv .0)
+inside c =
+    let i = c .before .loop in
+    hop-within (c .before .before .before .args .ends .now) (i .left) (i .r) (c .loop-test .taken) (i .inv .0)
 
 mul-to-row : tie.Need-mul-to-row Inv-loop μ-loop
 mul-to-row c = omega (arith, inside c)
@@ -39,7 +41,10 @@ loop-less c = omega arith
 loop-again : tie.Need-loop-again Inv-loop μ-loop
 loop-again c =
     let head = c .before .before .before in
-    let on = hop-on (head .before .before .args .ends .now) (head .loop .left) (head .loop .r) (c .to-row .result) (c .before .before .loop-test .taken) (head .loop .inv .0) (c .to-row .ensures) in
+    let i = head .loop in
+    let on =
+    hop-on (head .before .before .args .ends .now) (i .left) (i .r) (c .to-row .result) (c .before .before .loop-test .taken) (i .inv .0)
+    (c .to-row .ensures) in
     (on .0, on .1 ∙ head .loop .inv .1)
 
 returns : tie.Need-returns Inv-loop μ-loop

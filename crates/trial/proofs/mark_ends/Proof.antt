@@ -60,10 +60,12 @@ hop-requires c κs =
     let head = c .before .before .before in
     let a = head .before .before .before in
     let i = head .loop .inv in
-    mark-hopping (R a) (a .args .s .nodes) (all a) (head .loop .ends) (i .1) (head .loop .r) (c .before .before .loop-test .taken) (i .2) (i .3) (c .node-children .result)
+    mark-hopping (R a) (a .args .s .nodes) (all a) (head .loop .ends) (i .1) (head .loop .r) (c .before .before .loop-test .taken) (i .2) (i .3)
+    (c .node-children .result)
 
 marked : (c : tie.After-hop Inv-loop μ-loop)
-    → (c .hop .result ≤ start c .args .s .nodes) × Ends (R (start c)) (set (head c .loop .ends) (head c .loop .r - 1) (c .hop .result)) (head c .loop .r - 1)
+    → let r = head c .loop .r - 1 in
+    (c .hop .result ≤ start c .args .s .nodes) × Ends (R (start c)) (set (head c .loop .ends) r (c .hop .result)) r
 marked c =
     let a = start c in
     let i = head c .loop .inv in

@@ -15,7 +15,8 @@ add-result c = search needs
 returns : tie.Need-returns
 returns c =
     let a = c .before .before .before .before .before .before .args in
-    next-child (matrix-rows (a .s) (a .sheet .now)) (a .high .now) (a .low .now) (values (a .assignment .now)) (a .r) (c .before .node-children .result) (c .before .node-children .ensures) (c .if1 .taken)
+    next-child (matrix-rows (a .s) (a .sheet .now)) (a .high .now) (a .low .now) (values (a .assignment .now)) (a .r)
+    (c .before .node-children .result) (c .before .node-children .ensures) (c .if1 .taken)
 
 row-value-requires : tie.Need-row-value-requires
 row-value-requires c κs = search needs
@@ -35,7 +36,8 @@ returns-2 c =
     let kids = c .before .before .before .before .before .node-children in
     let value = c .before .before .before .row-value in
     next-high (matrix-rows (a .s) (a .sheet .now)) (a .high .now) (a .low .now) (values (a .assignment .now)) (a .r) (kids .result) (kids .ensures)
-    (c .before .before .before .before .if1 .left) (value .result) (value .ensures) (c .to-row .result) (c .before .before .if2 .taken) (c .to-row .ensures)
+    (c .before .before .before .before .if1 .left) (value .result) (value .ensures) (c .to-row .result)
+    (c .before .before .if2 .taken) (c .to-row .ensures)
 
 mul-to-row-2 : tie.Need-mul-to-row-2
 mul-to-row-2 c = search needs
@@ -52,7 +54,8 @@ returns-3 c =
     let kids = c .before .before .before .before .before .node-children in
     let value = c .before .before .before .row-value in
     next-low (matrix-rows (a .s) (a .sheet .now)) (a .high .now) (a .low .now) (values (a .assignment .now)) (a .r) (kids .result) (kids .ensures)
-    (c .before .before .before .before .if1 .left) (value .result) (value .ensures) (c .to-row2 .result) (c .before .before .if2 .left) (c .to-row2 .ensures)
+    (c .before .before .before .before .if1 .left) (value .result) (value .ensures) (c .to-row2 .result)
+    (c .before .before .if2 .left) (c .to-row2 .ensures)
 
 pub next-spec : {M : Type 1} → statement M
 next-spec =

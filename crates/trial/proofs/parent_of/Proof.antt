@@ -42,7 +42,8 @@ shared-slice-read-to-row-2 c = omega arith
 to-row-requires-2 : tie.Need-to-row-requires-2 Inv-loop μ-loop
 to-row-requires-2 c κs = tt
 
-up : (c : tie.After-to-row2 Inv-loop μ-loop) → (c .to-row2 .result < head c .loop .p) × Closed (start c .args .ends .now) (c .to-row2 .result) (start c .args .r)
+up : (c : tie.After-to-row2 Inv-loop μ-loop)
+    → (c .to-row2 .result < head c .loop .p) × Closed (start c .args .ends .now) (c .to-row2 .result) (start c .args .r)
 up c =
     let a = start c in
     climb (a .args .ends .now) (a .args .parents .now) (a .args .r) (a .pre .3) (a .pre .4) (head c .loop .p) (c .to-row2 .result)

@@ -48,7 +48,7 @@ existential-requires c κs =
 returns : tie.Need-returns
 returns c =
     let a = c .before .before .before .before .before .before .before .before .before .before .before .args in
-    turns-first (a .s) (a .sheet .now) 1025 (c .before .existential .result) (c .before .existential .ensures .0)
+    turns-first (a .s) (a .sheet .now) 1025 (c .before .existential .result) (c .before .existential .ensures .outcome)
 
 pub semantic-tree-spec : {M : Type 1} → statement M
 semantic-tree-spec =

@@ -1,5 +1,5 @@
 -- `reading::cost::child_with` meets its contract: no subtree passed has the row. Assumes nothing.
-use mathlib.Core.Path.{refl, sym}
+use mathlib.Core.Path.{refl}
 use native.Mathlib.Omega.{arith}
 use Rattle.reading.specs.Subtrees.{siblings-in}
 use Rattle.reading.specs.Cost.{child-span}

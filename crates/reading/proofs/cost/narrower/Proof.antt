@@ -15,16 +15,16 @@ returns : tie.Need-returns
 returns c = let a = c .before .before .before in narrow-at (a .args .first) (a .args .last) (a .args .at) _ (c .if1 .taken)
 
 add-children-at : tie.Need-add-children-at
-add-children-at c = search needs
+add-children-at c = omega arith
 
 add-children-at-2 : tie.Need-add-children-at-2
-add-children-at-2 c = search needs
+add-children-at-2 c = omega arith
 
 children-at-requires : tie.Need-children-at-requires
 children-at-requires c κs = search needs
 
 add-child-with : tie.Need-add-child-with
-add-child-with c = search needs
+add-child-with c = omega arith
 
 children : (c : tie.After-children-at) →
     let a = c .before .before .before .before .args in

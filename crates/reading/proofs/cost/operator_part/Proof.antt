@@ -1,12 +1,11 @@
 -- `reading::cost::operator_part` meets its contract. Assumes nothing.
 use mathlib.Core.Path.{_≡_, ap, _∙_}
-use Prim.Native.Nat.{suc, _+_, _≤_}
+use Prim.Native.Nat.{_+_, _≤_}
 use borrow.Author.Needs.{needs}
 use native.Mathlib.Omega.{arith}
 use Rattle.formula.specs.Tree.{rows-all}
 use Rattle.formula.specs.Expand.{relevant}
 use Rattle.reading.specs.Subtrees.{kids, subtree-in, literals}
-use Rattle.reading.proofs.Matrix.{end-of}
 use Rattle.reading.proofs.Siblings.{Children, children-read, end-subtree}
 use Rattle.reading.proofs.TurnCost.{span-read, kept-within}
 use Rattle.reading.proofs.Growth.{operator-part-read}
@@ -14,16 +13,16 @@ use Rattle.reading.proofs.cost.operator_part.Statement.{statement}
 use Rattle.reading.proofs.cost.operator_part.Tie as tie
 
 add-children-at : tie.Need-add-children-at
-add-children-at c = search needs
+add-children-at c = omega arith
 
 add-children-at-2 : tie.Need-add-children-at-2
-add-children-at-2 c = search needs
+add-children-at-2 c = omega arith
 
 children-at-requires : tie.Need-children-at-requires
 children-at-requires c κs = search needs
 
 add-child-with : tie.Need-add-child-with
-add-child-with c = search needs
+add-child-with c = omega arith
 
 children : (c : tie.After-children-at) →
     let a = c .before .before .before .args in
@@ -52,7 +51,7 @@ child-with-requires c κs =
     (a .pre .0, a .pre .1, children c .few)
 
 add-relevant-rows : tie.Need-add-relevant-rows
-add-relevant-rows c = search needs
+add-relevant-rows c = omega arith
 
 relevant-rows-requires : tie.Need-relevant-rows-requires
 relevant-rows-requires c κs =
@@ -63,10 +62,10 @@ add-rows : tie.Need-add-rows
 add-rows c = omega (arith, within c, c .before .before .before .before .before .pre .0 .few-nodes)
 
 mul-end : tie.Need-mul-end
-mul-end c = search needs
+mul-end c = omega arith
 
 shared-slice-read-end : tie.Need-shared-slice-read-end
-shared-slice-read-end c = search needs
+shared-slice-read-end c = omega arith
 
 cast-end : tie.Need-cast-end
 cast-end c = omega (arith, c .shared-slice-known3 .given (c .before .before .before .before .before .before .args .at))

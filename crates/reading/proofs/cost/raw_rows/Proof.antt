@@ -1,7 +1,7 @@
 -- `reading::cost::raw_rows` meets its contract: N with no literal, N + E + 1 or N + E + 2 by the relevant part. Assumes nothing.
 use mathlib.Core.Path.{_≡_, sym, ap, ap₂, _∙_}
-use mathlib.Core.Bool.{Bool, true, cond}
-use Prim.Native.Nat.{ℕ, _+_, _≤_}
+use mathlib.Core.Bool.{Bool, cond}
+use Prim.Native.Nat.{_+_, _≤_}
 use native.Mathlib.Omega.{arith}
 use Rattle.formula.specs.Tree.{of, has}
 use Rattle.formula.specs.Expand.{raw-rows}
@@ -11,7 +11,7 @@ use Rattle.reading.specs.Cost.{relevant-part}
 use Rattle.reading.specs.declared.cost.Relevant.{Relevant}
 use Rattle.reading.proofs.Matrix.{rows-nodes}
 use Rattle.reading.proofs.Siblings.{subtree-root, root-end}
-use Rattle.reading.proofs.TurnSigns.{literals-of}
+use Rattle.reading.proofs.Sets.{literals-of}
 use Rattle.reading.proofs.Growth.{part-most, raw-absent, raw-part}
 use Rattle.reading.proofs.cost.raw_rows.Statement.{statement}
 use Rattle.reading.proofs.cost.raw_rows.Tie as tie

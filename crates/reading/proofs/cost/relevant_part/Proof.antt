@@ -2,7 +2,7 @@
 use mathlib.Core.Path.{_≡_, sym, _∙_}
 use Prim.Native.Nat.{_-_}
 use native.Mathlib.Omega.{arith}
-use Rattle.reading.specs.Subtrees.{kids, subtree-in, literals}
+use Rattle.reading.specs.Subtrees.{subtree-in, literals}
 use Rattle.reading.specs.Cost.{narrower}
 use Rattle.reading.proofs.Descent.{Narrowing, narrow-start, narrow-next, narrow-end, at-literal}
 use Rattle.reading.proofs.cost.relevant_part.Statement.{statement}

@@ -1,5 +1,4 @@
 -- `reading::cost::relevant_rows` meets its contract: the sum so far and what is left make the whole. Assumes nothing.
-use mathlib.Core.Path.{sym}
 use native.Mathlib.Omega.{arith}
 use Rattle.formula.specs.Tree.{rows-all}
 use Rattle.formula.specs.Expand.{relevant}

@@ -1,5 +1,5 @@
 -- `reading::ends::fill_ends` meets its contract: from row i on the table is filled, and past the node rows it is kept. Assumes nothing.
-use mathlib.Core.Path.{_≡_, sym, ap, _∙_}
+use mathlib.Core.Path.{_≡_, ap, _∙_}
 use Prim.Native.Nat.{_+_, _-_}
 use native.Mathlib.Omega.{arith}
 use Rattle.sheet.specs.Format.{children}

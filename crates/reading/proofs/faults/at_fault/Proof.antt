@@ -1,10 +1,10 @@
 -- `reading::faults::at_fault` meets its contract: by the row's kind and count of children, then by its children. Assumes nothing.
-use mathlib.Core.Path.{_≡_, sym, ap, ap₂, _∙_}
+use mathlib.Core.Path.{_≡_, sym, ap₂, _∙_}
 use native.Mathlib.Omega.{arith}
 use Prim.Native.Nat.{_+_}
 use Rattle.reading.specs.Subtrees.{subtree-in}
 use Rattle.reading.specs.Faults.{operator-of, some-clash}
-use Rattle.reading.proofs.Forest.{top, kids}
+use Rattle.reading.proofs.Forest.{top}
 use Rattle.reading.proofs.Siblings.{Children, children-of, kind-top, argument-top}
 use Rattle.reading.proofs.TurnFaults.{kind-high, fault-literal, fault-childless, fault-alone, fault-more}
 use borrow.Author.Needs.{needs}
@@ -25,10 +25,10 @@ argument-read c =
     argument-top (a .args .b .now) (a .pre .0) (a .args .i) (a .pre .2) (c .argument-at .ensures .0)
 
 add-kind-at : tie.Need-add-kind-at
-add-kind-at c = search needs
+add-kind-at c = omega arith
 
 add-kind-at-2 : tie.Need-add-kind-at-2
-add-kind-at-2 c = search needs
+add-kind-at-2 c = omega arith
 
 kind-at-requires : tie.Need-kind-at-requires
 kind-at-requires c κs = search needs
@@ -40,10 +40,10 @@ returns c =
     sym (fault-literal (a .args .i) _ (omega arith))
 
 add-argument-at : tie.Need-add-argument-at
-add-argument-at c = search needs
+add-argument-at c = omega arith
 
 add-argument-at-2 : tie.Need-add-argument-at-2
-add-argument-at-2 c = search needs
+add-argument-at-2 c = omega arith
 
 argument-at-requires : tie.Need-argument-at-requires
 argument-at-requires c κs = search needs
@@ -61,7 +61,7 @@ returns-3 c =
     sym (fault-alone (a .args .i) _ (omega arith) (sym (argument-read (c .before .before)) ∙ c .if3 .taken))
 
 add-some-clash : tie.Need-add-some-clash
-add-some-clash c = search needs
+add-some-clash c = omega arith
 
 -- the children stand from the next row on
 children : (c : tie.Else3) →

@@ -4,7 +4,6 @@ use native.Mathlib.Omega.{arith}
 use Rattle.reading.specs.Faults.{operator-of, clash}
 use Rattle.reading.proofs.Siblings.{Walked, walk-on, kind-top, argument-top}
 use Rattle.reading.proofs.TurnFaults.{clash-kind, clash-operator, clash-literal}
-use borrow.Author.Needs.{needs}
 use Rattle.reading.proofs.faults.clashes.Statement.{statement}
 use Rattle.reading.proofs.faults.clashes.Tie as tie
 
@@ -16,7 +15,7 @@ walked c =
     walk-on (a .args .b .now) (a .pre .0) (a .args .ends .now) (a .pre .1) (a .args .at) (a .pre .3) (a .pre .2)
 
 add-kind-at : tie.Need-add-kind-at
-add-kind-at c = search needs
+add-kind-at c = omega arith
 
 add-kind-at-2 : tie.Need-add-kind-at-2
 add-kind-at-2 c = let w = walked c in omega arith
@@ -43,7 +42,7 @@ returns-2 c =
     clash-operator _ _ (a .args .parent) (a .pre .4) (a .pre .5) (λ e. c .before .if1 .left (k ∙ e)) (omega arith))
 
 add-argument-at : tie.Need-add-argument-at
-add-argument-at c = search needs
+add-argument-at c = omega arith
 
 add-argument-at-2 : tie.Need-add-argument-at-2
 add-argument-at-2 c = let w = walked (c .before .before .before) in omega arith
@@ -66,7 +65,7 @@ cast-next : tie.Need-cast-next
 cast-next c = omega (arith, c .shared-slice-known3 .given (c .before .before .before .before .before .before .before .args .at))
 
 sub-literal-among : tie.Need-sub-literal-among
-sub-literal-among c = search needs
+sub-literal-among c = omega arith
 
 literal-among-requires : tie.Need-literal-among-requires
 literal-among-requires c κs =

@@ -9,10 +9,10 @@ use Rattle.reading.proofs.literals.is_literal.Statement.{statement}
 use Rattle.reading.proofs.literals.is_literal.Tie as tie
 
 add-kind-at : tie.Need-add-kind-at
-add-kind-at c = search needs
+add-kind-at c = omega arith
 
 add-kind-at-2 : tie.Need-add-kind-at-2
-add-kind-at-2 c = search needs
+add-kind-at-2 c = omega arith
 
 kind-at-requires : tie.Need-kind-at-requires
 kind-at-requires c κs = search needs
@@ -30,10 +30,10 @@ returns-2 c =
     sym (not-high (a .args .set) _ (omega arith))
 
 add-argument-at : tie.Need-add-argument-at
-add-argument-at c = search needs
+add-argument-at c = omega arith
 
 add-argument-at-2 : tie.Need-add-argument-at-2
-add-argument-at-2 c = search needs
+add-argument-at-2 c = omega arith
 
 argument-at-requires : tie.Need-argument-at-requires
 argument-at-requires c κs = search needs

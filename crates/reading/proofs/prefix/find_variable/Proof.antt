@@ -1,7 +1,7 @@
 -- `reading::prefix::find_variable` meets its contract: no row passed is that of x. Assumes nothing.
 use Prim.Native.Nat.{_-_}
 use native.Mathlib.Omega.{arith}
-use Rattle.reading.proofs.Places.{Finding, find-start, find-found, find-on, find-none}
+use Rattle.reading.proofs.TurnPlaces.{Finding, find-start, find-found, find-on, find-none}
 use Rattle.reading.proofs.prefix.find_variable.Statement.{statement}
 use Rattle.reading.proofs.prefix.find_variable.Tie as tie
 

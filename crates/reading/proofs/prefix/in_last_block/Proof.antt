@@ -1,6 +1,5 @@
 -- `reading::prefix::in_last_block` meets its contract: every row passed is of row i's kind. Assumes nothing.
-use mathlib.Core.Path.{refl, sym, ap, _∙_}
-use mathlib.Core.List.{List}
+use mathlib.Core.Path.{refl, sym}
 use Prim.Native.Nat.{suc, _-_}
 use native.Mathlib.Omega.{arith}
 use native.Mathlib.Numerals.{add-one}
@@ -8,7 +7,7 @@ use lib.ListN.{drop}
 use Rattle.formula.specs.Expand.{all-of}
 use Rattle.reading.specs.Reading.{prefix-in}
 use Rattle.reading.specs.Places.{binding-in}
-use Rattle.reading.proofs.Places.{Comparing, compare-on, compare-other, compare-all}
+use Rattle.reading.proofs.TurnPlaces.{Comparing, compare-on, compare-other, compare-all}
 use Rattle.reading.proofs.prefix.in_last_block.Statement.{statement}
 use Rattle.reading.proofs.prefix.in_last_block.Tie as tie
 

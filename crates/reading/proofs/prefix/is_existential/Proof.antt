@@ -2,13 +2,14 @@
 use mathlib.Core.Path.{sym, ap, _∙_}
 use borrow.Author.Needs.{needs}
 use lib.Dec.{eqb}
+use native.Mathlib.Omega.{arith}
 use Rattle.formula.specs.Tree.{Binding, same-op, exists}
 use Rattle.reading.proofs.Places.{is-exists, binding-row}
 use Rattle.reading.proofs.prefix.is_existential.Statement.{statement}
 use Rattle.reading.proofs.prefix.is_existential.Tie as tie
 
 add-kind-at : tie.Need-add-kind-at
-add-kind-at c = search needs
+add-kind-at c = omega arith
 
 kind-at-requires : tie.Need-kind-at-requires
 kind-at-requires c κs = search needs

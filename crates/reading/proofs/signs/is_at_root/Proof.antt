@@ -1,5 +1,5 @@
 -- `reading::signs::is_at_root` meets its contract: the root is the literal, or has it for a child. Assumes nothing.
-use mathlib.Core.Path.{_≡_, sym, ap, _∙_}
+use mathlib.Core.Path.{sym, ap, _∙_}
 use borrow.Author.Needs.{needs}
 use native.Mathlib.Omega.{arith}
 use Rattle.formula.specs.Tree.{some-child}
@@ -12,7 +12,7 @@ use Rattle.reading.proofs.signs.is_at_root.Statement.{statement}
 use Rattle.reading.proofs.signs.is_at_root.Tie as tie
 
 add-kind-at : tie.Need-add-kind-at
-add-kind-at c = search needs
+add-kind-at c = omega arith
 
 kind-at-requires : tie.Need-kind-at-requires
 kind-at-requires c κs = search needs
@@ -28,7 +28,7 @@ returns c =
     sym (at-root-literal (literals (a .args .set)) _ (omega arith))
 
 add-argument-at : tie.Need-add-argument-at
-add-argument-at c = search needs
+add-argument-at c = omega arith
 
 argument-at-requires : tie.Need-argument-at-requires
 argument-at-requires c κs = search needs

@@ -4,7 +4,7 @@ use Prim.Native.Nat.{_-_}
 use native.Mathlib.Omega.{arith}
 use Rattle.formula.specs.Tree.{has}
 use Rattle.reading.specs.Subtrees.{subtree-in, literals}
-use Rattle.reading.proofs.Hits.{Scanning, scan-start, scan-found, scan-on, scan-none}
+use Rattle.reading.proofs.TurnSigns.{Scanning, scan-start, scan-found, scan-on, scan-none}
 use Rattle.reading.proofs.signs.occurs.Statement.{statement}
 use Rattle.reading.proofs.signs.occurs.Tie as tie
 

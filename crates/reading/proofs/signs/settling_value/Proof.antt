@@ -1,21 +1,22 @@
 -- `reading::signs::settling_value` meets its contract: absent, positive, negative, or neither. Assumes nothing.
 use mathlib.Core.Path.{_≡_, sym, ap, ap₂, _∙_}
-use mathlib.Core.Bool.{Bool, true, false}
+use mathlib.Core.Bool.{true, false}
 use mathlib.Core.Option.{some}
 use borrow.Author.Needs.{needs}
 use native.Mathlib.Omega.{arith}
-use Rattle.formula.specs.Tree.{Quantifier, of, has}
+use Rattle.formula.specs.Tree.{of, has}
 use Rattle.formula.specs.Settle.{may-take, value}
 use Rattle.reading.specs.Reading.{matrix-in}
 use Rattle.reading.specs.Places.{binding-in}
 use Rattle.reading.proofs.Siblings.{subtree-root, root-end}
 use Rattle.reading.proofs.Places.{variable-row}
-use Rattle.reading.proofs.TurnSigns.{literals-of, settling-absent, settling-positive, settling-negative, settling-not}
+use Rattle.reading.proofs.Sets.{literals-of}
+use Rattle.reading.proofs.TurnSigns.{settling-absent, settling-positive, settling-negative, settling-not}
 use Rattle.reading.proofs.signs.settling_value.Statement.{statement}
 use Rattle.reading.proofs.signs.settling_value.Tie as tie
 
 add-argument-at : tie.Need-add-argument-at
-add-argument-at c = search needs
+add-argument-at c = omega arith
 
 argument-at-requires : tie.Need-argument-at-requires
 argument-at-requires c κs = search needs

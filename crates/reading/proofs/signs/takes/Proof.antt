@@ -8,12 +8,13 @@ use Rattle.formula.specs.Tree.{of-sign, has}
 use Rattle.formula.specs.Settle.{at-root}
 use Rattle.reading.specs.Reading.{matrix-in}
 use Rattle.reading.proofs.Siblings.{subtree-root, root-end}
-use Rattle.reading.proofs.TurnSigns.{literals-of-sign, literals-of-other, takes-one-sign, takes-at-root}
+use Rattle.reading.proofs.Sets.{literals-of-sign, literals-of-other}
+use Rattle.reading.proofs.TurnSigns.{takes-one-sign, takes-at-root}
 use Rattle.reading.proofs.signs.takes.Statement.{statement}
 use Rattle.reading.proofs.signs.takes.Tie as tie
 
 sub-opposite : tie.Need-sub-opposite
-sub-opposite c = search needs
+sub-opposite c = omega arith
 
 occurs-requires : tie.Need-occurs-requires
 occurs-requires c κs =

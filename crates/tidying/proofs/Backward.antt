@@ -1,0 +1,79 @@
+-- From the last row to the first: the rows before are as they were, and the others are blocks that hold the tidied trees.
+-- Assumes nothing.
+use mathlib.Core.Path.{_≡_, refl, sym, ap, ap₂, _∙_, subst}
+use mathlib.Core.List.{List, [], _∷_, _++_, append-nil}
+use Prim.Native.Nat.{ℕ, zero, suc, _+_, _-_, _≤_, _<_}
+use native.Mathlib.Omega.{arith}
+use lib.ListN.{length, getD, take, drop, drop-of-length-le}
+use lib.Seq.{take-all, take-suc, drop-cons, drop-drop, append-snoc, length-take-le, take-nil, drop-nil}
+use Rattle.formula.specs.Tidy.{tidy-all}
+use Rattle.sheet.specs.Format.{Row, row}
+use Rattle.sheet.specs.Sheet.{trees, grow}
+use Rattle.tidying.specs.Blocks.{none, block-rows, live, Replaced}
+use Rattle.tidying.specs.Steps.{Ready, ReadyAt, Preorder}
+use Rattle.tidying.proofs.Conclude.{replaced-as}
+
+abbrev pub Back : List Row → List Row → ℕ → ℕ → Type 0
+Back R₀ R r n = Replaced R r n (take r R₀) [] (tidy-all (trees (drop r R₀)))
+
+pub back-none : (R₀ : List Row) (n : ℕ) → length R₀ ≡ n → Back R₀ R₀ n n
+unfolding block-rows live trees tidy-all
+back-none R₀ n e =
+    record {
+      blocks = none;
+      laid =
+          record {
+            whole = sym (append-nil (take n R₀) ∙ take-all n R₀ (omega (arith, e)));
+            starts = length-take-le n R₀ (omega (arith, e));
+            ends = omega arith;
+          };
+      reads = ap (λ rs. tidy-all (trees rs)) (sym (drop-of-length-le R₀ {i = n} (omega (arith, e))));
+    }
+
+preorder-drop : (m : ℕ) (rs : List Row) → Preorder rs → Preorder (drop m rs)
+unfolding Preorder
+preorder-drop zero rs h = h
+preorder-drop (suc m) [] h = h
+preorder-drop (suc m) (r ∷ rs) h = preorder-drop m rs (h .2)
+
+module _ (R₀ : List Row) {v r n : ℕ} (counted : length R₀ ≡ n) (p : Preorder (drop v R₀)) (l : v < r) (u : r ≤ n) where
+  abbrev there : Row
+  there = getD R₀ (r - 1) (row 0 0)
+
+  last : suc (r - 1) ≡ r
+  last = omega arith
+
+  rows-from : drop (r - 1) R₀ ≡ there ∷ drop r R₀
+  rows-from = drop-cons R₀ (r - 1) (row 0 0) (omega (arith, counted)) ∙ ap (λ m. there ∷ drop m R₀) last
+
+  rows-to : take r R₀ ≡ take (r - 1) R₀ ++ (there ∷ [])
+  rows-to = ap (λ m. take m R₀) (sym last) ∙ take-suc R₀ (r - 1) (row 0 0) (omega (arith, counted))
+
+  nodes : Preorder (there ∷ drop r R₀)
+  nodes =
+      subst Preorder (drop-drop (r - 1 - v) v R₀ ∙ ap (λ m. drop m R₀) down ∙ rows-from) (preorder-drop (r - 1 - v) (drop v R₀) p)
+    where
+      down : v + (r - 1 - v) ≡ r - 1
+      down = omega arith
+
+  pub back-ready : {R : List Row} (b : Back R₀ R r n) → Ready R (r - 1) n (take (r - 1) R₀) there (b .blocks) (trees (drop r R₀))
+  unfolding Preorder
+  back-ready b =
+      record {
+        headed =
+            record {
+              whole = b .laid .whole ∙ ap (λ rs. rs ++ (block-rows (b .blocks) ++ [])) rows-to ∙ append-snoc (take (r - 1) R₀) there _;
+              starts = length-take-le (r - 1) R₀ (omega (arith, counted));
+              ends = omega (arith, b .laid .ends);
+            };
+        reads = b .reads;
+        node = nodes .0;
+        enough = nodes .1;
+      }
+
+  pub back-more : {R : List Row} → Replaced R (r - 1) n (take (r - 1) R₀) [] (tidy-all (grow there (trees (drop r R₀)))) → Back R₀ R (r - 1) n
+  unfolding trees
+  back-more h = replaced-as refl (ap (λ rs. tidy-all (trees rs)) (sym rows-from)) h
+
+pub back-end : (R₀ : List Row) {R : List Row} {v r n : ℕ} → v ≤ r → r ≤ v → Back R₀ R r n → Back R₀ R v n
+back-end R₀ {R} {v} {r} {n} l u b = subst (λ m. Back R₀ R m n) (omega arith) b

@@ -1,0 +1,237 @@
+-- All five rules at a row: what the steps at an operator make of its row and its children's blocks.
+-- Assumes nothing.
+use mathlib.Core.Path.{_≡_, refl, sym, ap, ap₂, _∙_, subst}
+use mathlib.Core.Bool.{Bool, true, false, not, cond}
+use mathlib.Core.List.{List, [], _∷_, _++_, append-assoc, append-nil}
+use Prim.Native.Nat.{ℕ, zero, suc, _+_, _-_, _≤_, _<_}
+use native.Mathlib.Omega.{arith}
+use lib.ListN.{length, getD, length-append}
+use lib.Seq.{append-snoc, getD-at}
+use Rattle.formula.specs.Tree.{Op, and, or, dual, Tree, lit, node, Forest, ∅, _▸_, _⧺_, some-child, count}
+use Rattle.formula.specs.Tidy.{splice, decides, firsts, unwrap, combine, tidy, tidy-all, is-tidy}
+use Rattle.formula.proofs.Booleans.{or-none}
+use Rattle.formula.proofs.Tidy.Limits.{tidy-is-tidy}
+use Rattle.sheet.specs.Format.{Row, row, children}
+use Rattle.sheet.specs.Sheet.{literal-kind, operator-kind, front, behind, grow}
+use Rattle.sheet.proofs.Preorder.{NodeKind, literal, operator, node-kind}
+use Rattle.tidying.specs.Blocks.{Blocks, none, _◂_, _⊕_, head, inner, block-rows, grown, live, Laid, Here, Headed, Region, Owed, OperatorKind, Replaced}
+use Rattle.tidying.specs.Blocks as blocks
+use Rattle.tidying.specs.Steps.{Hopped, Reduced, Ready, ReadyAt, all-tidy, TidyRegion}
+use Rattle.tidying.proofs.Walk.{live-⊕, rows-⊕, length-⊕, done-laid}
+use Rattle.tidying.proofs.Conclude.{behind-row}
+
+-- tidying children one by one
+
+pub tidy-front : (n : ℕ) (ts : Forest) → tidy-all (front n ts) ≡ front n (tidy-all ts)
+unfolding tidy-all front
+tidy-front zero ts = refl
+tidy-front (suc n) ∅ = refl
+tidy-front (suc n) (t ▸ ts) = ap (λ us. tidy t ▸ us) (tidy-front n ts)
+
+pub tidy-behind : (n : ℕ) (ts : Forest) → tidy-all (behind n ts) ≡ behind n (tidy-all ts)
+unfolding tidy-all behind
+tidy-behind zero ts = refl
+tidy-behind (suc n) ∅ = refl
+tidy-behind (suc n) (t ▸ ts) = tidy-behind n ts
+
+pub count-tidy : (ts : Forest) → count (tidy-all ts) ≡ count ts
+unfolding tidy-all count
+count-tidy ∅ = refl
+count-tidy (t ▸ ts) = ap suc (count-tidy ts)
+
+pub all-tidied : (ts : Forest) → all-tidy (tidy-all ts)
+unfolding tidy-all all-tidy some-child
+all-tidied ∅ = refl
+all-tidied (t ▸ ts) = or-none (ap not (tidy-is-tidy t)) (all-tidied ts)
+
+-- grow
+
+tidy-grow-literal : (s : Bool) (v : ℕ) (ts : Forest) → tidy-all (grow (row (literal-kind s) v) ts) ≡ lit s v ▸ tidy-all ts
+unfolding tidy-all grow
+tidy-grow-literal true v ts = refl
+tidy-grow-literal false v ts = refl
+
+tidy-grow-operator : (o : Op) (a : ℕ) (ts : Forest)
+    → tidy-all (grow (row (operator-kind o) a) ts) ≡ combine o (front a (tidy-all ts)) ▸ behind a (tidy-all ts)
+unfolding tidy-all grow
+tidy-grow-operator and a ts = ap₂ (λ us ws. combine and us ▸ ws) (tidy-front a ts) (tidy-behind a ts)
+tidy-grow-operator or a ts = ap₂ (λ us ws. combine or us ▸ ws) (tidy-front a ts) (tidy-behind a ts)
+
+-- a literal's row is its block already
+literal-kept : {R : List Row} {r n : ℕ} {before : List Row} {bs : Blocks} (ts : Forest) (k a : ℕ) → NodeKind k → k ≤ 4 → live bs ≡ tidy-all ts
+    → Headed R r n before (row k a) bs [] → Replaced R r n before [] (tidy-all (grow (row k a) ts))
+unfolding block-rows head inner live grown
+literal-kept {bs = bs} ts k a (literal s) l e h =
+    record {
+      blocks = blocks.literal s a ◂ bs;
+      laid = record { whole = h .whole; starts = h .starts; ends = omega (arith, h .ends) };
+      reads = ap (λ us. lit s a ▸ us) e ∙ sym (tidy-grow-literal s a ts);
+    }
+literal-kept ts k a (operator and) l e h = absurd (omega arith)
+literal-kept ts k a (operator or) l e h = absurd (omega arith)
+
+pub ready-literal : {R : List Row} {r n : ℕ} {before : List Row} {x : Row} {bs : Blocks} {ts : Forest} → x .kind ≤ 4
+    → Ready R r n before x bs ts → Replaced R r n before [] (tidy-all (grow x ts))
+ready-literal {x = x} {ts = ts} l h = literal-kept ts (x .kind) (x .argument) (node-kind (x .kind) (h .node .0) (h .node .1)) l (h .reads) (h .headed)
+
+-- an operator's row
+
+pub operator-of : (k : ℕ) → 4 < k → k ≤ 6 → OperatorKind k
+operator-of k l u = go k (node-kind k (omega arith) u) l
+  where
+    go : (k : ℕ) → NodeKind k → 4 < k → OperatorKind k
+    go k (literal true) l = absurd (omega arith)
+    go k (literal false) l = absurd (omega arith)
+    go k (operator o) l = record { op = o; is = refl }
+
+children-is : (k a : ℕ) → OperatorKind k → children (row k a) ≡ a
+unfolding children
+children-is k a o = ap (λ m. children (row m a)) (o .is) ∙ both (o .op)
+  where
+    both : (p : Op) → children (row (operator-kind p) a) ≡ a
+    both and = refl
+    both or = refl
+
+-- rules 2 to 5
+combine-decided : (o : Op) (us : Forest) → true ≡ decides o (splice o us) → node (dual o) ∅ ≡ combine o us
+unfolding combine
+combine-decided o us e = rw (← e)
+
+combine-undecided : (o : Op) (us ws : Forest) → false ≡ decides o (splice o us) → ws ≡ firsts (splice o us) → unwrap o ws ≡ combine o us
+unfolding combine
+combine-undecided o us ws e f = rw (← e) (ap (unwrap o) f)
+
+dual-kind : (k : ℕ) (o : Op) → k ≡ operator-kind o → 11 - k ≡ operator-kind (dual o)
+dual-kind k and e = omega (arith, e)
+dual-kind k or e = omega (arith, e)
+
+-- what the functions say that are called at an operator's row
+abbrev HopSays : List Row → ℕ → ℕ → ℕ → ℕ → Type 0
+HopSays R r n a end =
+    (before : List Row) (bs : Blocks) (after : List Row) → Laid R (r + 1) n before bs after → a ≤ count (live bs)
+    → Hopped R (r + 1) end n before after a (live bs)
+
+abbrev ReduceSays : List Row → List Row → ℕ → ℕ → ℕ → Bool → Type 0
+ReduceSays R R₁ from end kind d =
+    (before : List Row) (bs : Blocks) (after : List Row) → Laid R from end before bs after → (o : Op) → kind ≡ operator-kind o
+    → all-tidy (live bs) → Reduced R₁ from end before after o (live bs) d
+
+abbrev HollowSays : List Row → List Row → ℕ → ℕ → ℕ → Type 0
+HollowSays R R₁ r end kind =
+    (before : List Row) (x : Row) (bs : Blocks) (after : List Row) → Headed R r end before x bs after → (o : Op) → kind ≡ operator-kind o
+    → Replaced R₁ r end before after (node o ∅ ▸ ∅)
+
+abbrev ConcludeSays : List Row → List Row → ℕ → ℕ → ℕ → Type 0
+ConcludeSays R R₁ r end kind =
+    (before : List Row) (x : Row) (bs : Blocks) (after : List Row) → Headed R r end before x bs after → (o : Op) → kind ≡ operator-kind o
+    → Replaced R₁ r end before after (unwrap o (live bs) ▸ ∅)
+
+headed-row : {R : List Row} {r to : ℕ} {before after : List Row} {x : Row} {bs : Blocks} → Headed R r to before x bs after
+    → getD R r (row 0 0) ≡ x
+headed-row {r = r} {before = before} {after = after} {x = x} {bs = bs} h =
+    ap (λ (l : List Row). getD l r (row 0 0)) (h .whole) ∙ getD-at before x (block-rows bs ++ after) (row 0 0) r (h .starts)
+
+pub ready-literal-at : {R : List Row} {r n k : ℕ} → k ≡ (getD R r (row 0 0)) .kind → k ≤ 4
+    → (before : List Row) (x : Row) (bs : Blocks) (ts : Forest) → Ready R r n before x bs ts → Replaced R r n before [] (tidy-all (grow x ts))
+ready-literal-at e l before x bs ts h = ready-literal (omega (arith, e, ap (λ (q : Row). q .kind) (headed-row (h .headed)))) h
+
+-- An operator's row: its kind and its number of children as they were read.
+module _ {R : List Row} {r n k a : ℕ} (k-is : k ≡ (getD R r (row 0 0)) .kind) (a-is : a ≡ (getD R r (row 0 0)) .argument) (l : 4 < k)
+    {before : List Row} {x : Row} {bs : Blocks} {ts : Forest} (h : Ready R r n before x bs ts) where
+  kind-is : k ≡ x .kind
+  kind-is = k-is ∙ ap (λ (q : Row). q .kind) (headed-row (h .headed))
+
+  argument-is : a ≡ x .argument
+  argument-is = a-is ∙ ap (λ (q : Row). q .argument) (headed-row (h .headed))
+
+  pub ready-few : k ≤ 6
+  ready-few = omega (arith, kind-is, h .node .1)
+
+  pub ready-kind : OperatorKind k
+  ready-kind = operator-of k l (omega (arith, kind-is, h .node .1))
+
+  row-is : x ≡ row (operator-kind (ready-kind .op)) a
+  row-is = ap₂ row (sym kind-is ∙ ready-kind .is) (sym argument-is)
+
+  enough : a ≤ count (live bs)
+  enough =
+      omega
+      (arith, h .enough, ap children row-is, children-is (operator-kind (ready-kind .op)) a (record { op = ready-kind .op; is = refl }), ap count (h .reads), count-tidy ts)
+
+  pub ready-owed : Owed R (r + 1) n a
+  ready-owed = record { region = record { before = _; blocks = _; after = _; laid = behind-row (h .headed) }; enough = enough }
+
+  module _ {end : ℕ} (hop : HopSays R r n a end) where
+    hopped : Hopped R (r + 1) end n (before ++ (x ∷ [])) [] a (live bs)
+    hopped = hop (before ++ (x ∷ [])) bs [] (behind-row (h .headed)) enough
+
+    -- its children
+    kids : Forest
+    kids = live (hopped .first)
+
+    owned : kids ≡ tidy-all (front a ts)
+    unfolding kids
+    owned = hopped .owned ∙ ap (front a) (h .reads) ∙ sym (tidy-front a ts)
+
+    kids-tidy : all-tidy kids
+    kids-tidy = subst all-tidy (sym owned) (all-tidied (front a ts))
+
+    pub ready-region : TidyRegion R (r + 1) end
+    unfolding kids
+    ready-region = record { region = record { before = _; blocks = _; after = _; laid = done-laid (hopped .here) }; tidy = kids-tidy }
+
+    pub ready-within : (r < end) × (end ≤ n)
+    ready-within = (omega (arith, hopped .here .place), omega (arith, hopped .here .ends))
+
+    behind-them : List Row
+    behind-them = block-rows (hopped .others) ++ []
+
+    -- the node with what is behind it
+    combined : {R′ : List Row} {t : Tree} → Replaced R′ r end before behind-them (t ▸ ∅) → t ≡ combine (ready-kind .op) kids
+        → Replaced R′ r n before [] (tidy-all (grow x ts))
+    unfolding behind-them kids _⧺_
+    combined {R′} {t} q e =
+        record {
+          blocks = q .blocks ⊕ hopped .others;
+          laid =
+              record {
+                whole =
+                    q .laid .whole ∙
+                    ap (λ rs. before ++ rs)
+                    (sym (append-assoc (block-rows (q .blocks)) (block-rows (hopped .others)) []) ∙
+                    ap (λ rs. rs ++ []) (sym (rows-⊕ (q .blocks) (hopped .others))));
+                starts = q .laid .starts;
+                ends = omega (arith, length-⊕ (q .blocks) (hopped .others), q .laid .ends, hopped .here .ends);
+              };
+          reads =
+              live-⊕ (q .blocks) (hopped .others) ∙ ap (λ us. us ⧺ live (hopped .others)) (q .reads) ∙
+              ap₂ _▸_ (e ∙ ap (combine (ready-kind .op)) (hopped .owned ∙ ap (front a) (h .reads))) (hopped .left ∙ ap (behind a) (h .reads)) ∙
+              sym (ap (λ y. tidy-all (grow y ts)) row-is ∙ tidy-grow-operator (ready-kind .op) a ts);
+        }
+
+    module _ {R₁ : List Row} {d : Bool} (reduce : ReduceSays R R₁ (r + 1) end k d) where
+      reduced : Reduced R₁ (r + 1) end (before ++ (x ∷ [])) behind-them (ready-kind .op) kids d
+      unfolding behind-them kids
+      reduced = reduce (before ++ (x ∷ [])) (hopped .first) behind-them (done-laid (hopped .here)) (ready-kind .op) (ready-kind .is) kids-tidy
+
+      pub reduced-region : Region R₁ (r + 1) end
+      reduced-region = record { before = _; blocks = _; after = _; laid = reduced .laid }
+
+      -- its row is still before them
+      headed : Headed R₁ r end before x (reduced .blocks) behind-them
+      headed =
+          record {
+            whole = reduced .laid .whole ∙ append-snoc before x (block-rows (reduced .blocks) ++ behind-them);
+            starts = h .headed .starts;
+            ends = reduced .laid .ends;
+          }
+
+      pub ready-decided : {R₂ : List Row} → d ≡ true → HollowSays R₁ R₂ r end (11 - k) → Replaced R₂ r n before [] (tidy-all (grow x ts))
+      ready-decided e f =
+          combined (f before x (reduced .blocks) behind-them headed (dual (ready-kind .op)) (dual-kind k (ready-kind .op) (ready-kind .is)))
+          (combine-decided (ready-kind .op) kids (sym e ∙ reduced .decided-is))
+
+      pub ready-undecided : {R₂ : List Row} → d ≡ false → ConcludeSays R₁ R₂ r end k → Replaced R₂ r n before [] (tidy-all (grow x ts))
+      ready-undecided e f =
+          combined (f before x (reduced .blocks) behind-them headed (ready-kind .op) (ready-kind .is))
+          (combine-undecided (ready-kind .op) kids (live (reduced .blocks)) (sym e ∙ reduced .decided-is) (reduced .reads e))

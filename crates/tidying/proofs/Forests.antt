@@ -1,0 +1,234 @@
+-- The rules at children that come in groups: what a group adds to those before it.
+-- Assumes nothing.
+use mathlib.Core.Path.{_≡_, refl, sym, ap, ap₂, _∙_}
+use mathlib.Core.Bool.{Bool, true, false, not, _&&_, _||_, cond, or-assoc, or-comm, or-false, or-true, false≢true}
+use Prim.Native.Nat.{ℕ, zero, suc, _≤_}
+use native.Mathlib.Omega.{arith}
+use lib.Dec.{eqb}
+use borrow.Author.Tests.{not-true, not-false}
+use Rattle.formula.specs.Tree.{Op, and, or, dual, same-op, Tree, lit, node, Forest, ∅, _▸_, _⧺_, some-child, some-two, keep, count}
+use Rattle.formula.specs.Tidy.{is-empty, opposite, equal, same-variable, spliced, splice, decides, firsts, is-tidy, any, faults, root-faults}
+use Rattle.formula.proofs.Booleans.{cond-cases, or-parts, or-none}
+use Rattle.formula.proofs.Tidy.Children.{some-child-less, some-two-less, some-child-⧺, firsts-all}
+use Rattle.formula.proofs.Tidy.Truth.{equal-same}
+use Rattle.formula.proofs.Tidy.Limits.{Limits, limits, root-faulty, faulty, tidy-is-tidy}
+use Rattle.tidying.specs.Steps.{decisive, repeated, new, all-tidy}
+use Rattle.tidying.proofs.Walk.{⧺-none, ⧺-assoc}
+
+-- tests and keeping, pointwise and joined
+
+pub some-child-same : {P Q : Tree → Bool} → ((t : Tree) → P t ≡ Q t) → (ts : Forest) → some-child P ts ≡ some-child Q ts
+unfolding some-child
+some-child-same e ∅ = refl
+some-child-same e (t ▸ ts) = ap₂ _||_ (e t) (some-child-same e ts)
+
+pub keep-same : {P Q : Tree → Bool} → ((t : Tree) → P t ≡ Q t) → (ts : Forest) → keep P ts ≡ keep Q ts
+unfolding keep
+keep-same e ∅ = refl
+keep-same {P} {Q} e (t ▸ ts) = rw (e t) (ap (λ us. cond (Q t) (t ▸ us) us) (keep-same e ts))
+
+pub keep-⧺ : (P : Tree → Bool) (ts us : Forest) → keep P (ts ⧺ us) ≡ keep P ts ⧺ keep P us
+unfolding keep _⧺_
+keep-⧺ P ∅ us = refl
+keep-⧺ P (t ▸ ts) us = ap (λ ws. cond (P t) (t ▸ ws) ws) (keep-⧺ P ts us) ∙ out (P t)
+  where
+    out : (b : Bool) → cond b (t ▸ (keep P ts ⧺ keep P us)) (keep P ts ⧺ keep P us) ≡ cond b (t ▸ keep P ts) (keep P ts) ⧺ keep P us
+    out true = refl
+    out false = refl
+
+keep-keep : (P Q S : Tree → Bool) → ((t : Tree) → S t ≡ (Q t && P t)) → (ts : Forest) → keep P (keep Q ts) ≡ keep S ts
+unfolding keep
+keep-keep P Q S e ∅ = refl
+keep-keep P Q S e (t ▸ ts) = go (Q t) refl (keep-keep P Q S e ts)
+  where
+    kept : (b : Bool) → Q t ≡ b → cond (b && P t) (t ▸ keep S ts) (keep S ts) ≡ cond (S t) (t ▸ keep S ts) (keep S ts)
+    kept b q = ap (λ c. cond c (t ▸ keep S ts) (keep S ts)) (sym (e t ∙ ap (λ c. c && P t) q))
+
+    go : (b : Bool) → Q t ≡ b → keep P (keep Q ts) ≡ keep S ts
+        → keep P (cond b (t ▸ keep Q ts) (keep Q ts)) ≡ cond (S t) (t ▸ keep S ts) (keep S ts)
+    go true q ih = ap (λ us. cond (P t) (t ▸ us) us) ih ∙ kept true q
+    go false q ih = ih ∙ kept false q
+
+some-child-or : (P Q : Tree → Bool) (ts : Forest) → some-child (λ t. P t || Q t) ts ≡ (some-child P ts || some-child Q ts)
+unfolding some-child
+some-child-or P Q ∅ = refl
+some-child-or P Q (t ▸ ts) = ap (λ b. (P t || Q t) || b) (some-child-or P Q ts) ∙ mixed (P t) (Q t) (some-child P ts) (some-child Q ts)
+  where
+    mixed : (a b c d : Bool) → ((a || b) || (c || d)) ≡ ((a || c) || (b || d))
+    mixed true b c d = refl
+    mixed false true true d = refl
+    mixed false true false d = refl
+    mixed false false c d = refl
+
+-- rule 3: two of the children before, one of them and one of the group, or two of the group
+some-two-⧺ : (R : Tree → Tree → Bool) (ts us : Forest)
+    → some-two R (ts ⧺ us) ≡ (some-two R ts || (some-child (λ u. some-child (λ t. R t u) ts) us || some-two R us))
+unfolding some-two some-child _⧺_
+some-two-⧺ R ∅ us = sym (ap (λ b. b || some-two R us) (none us))
+  where
+    none : (us : Forest) → some-child (λ u. false) us ≡ false
+    none ∅ = refl
+    none (u ▸ us) = none us
+some-two-⧺ R (t ▸ ts) us =
+    ap₂ _||_ (some-child-⧺ (R t) ts us) (some-two-⧺ R ts us) ∙
+    mixed (some-child (R t) ts) (some-child (R t) us) (some-two R ts) (some-child (λ u. some-child (λ t′. R t′ u) ts) us) (some-two R us) ∙
+    ap (λ b. (some-child (R t) ts || some-two R ts) || (b || some-two R us)) (sym (some-child-or (R t) (λ u. some-child (λ t′. R t′ u) ts) us))
+  where
+    mixed : (a b c d e : Bool) → ((a || b) || (c || (d || e))) ≡ ((a || c) || ((b || d) || e))
+    mixed true b c d e = refl
+    mixed false true true d e = refl
+    mixed false true false d e = refl
+    mixed false false c d e = refl
+
+pub decides-⧺ : (o : Op) (ts us : Forest) → some-two opposite us ≡ false
+    → decides o (ts ⧺ us) ≡ (decides o ts || some-child (decisive o ts) us)
+unfolding decides decisive
+decides-⧺ o ts us two =
+    ap₂ _||_ (some-child-⧺ (is-empty (dual o)) ts us) (some-two-⧺ opposite ts us) ∙
+    ap (λ b. (E ts || E us) || (some-two opposite ts || (X || b))) two ∙
+    mixed (E ts) (E us) (some-two opposite ts) X ∙
+    ap (λ b. (E ts || some-two opposite ts) || b) (sym (some-child-or (is-empty (dual o)) (λ u. some-child (λ t. opposite t u) ts) us))
+  where
+    E : Forest → Bool
+    E = some-child (is-empty (dual o))
+
+    X : Bool
+    X = some-child (λ u. some-child (λ t. opposite t u) ts) us
+
+    mixed : (a b c d : Bool) → ((a || b) || (c || (d || false))) ≡ ((a || c) || (b || d))
+    mixed true b c d = refl
+    mixed false true true d = refl
+    mixed false true false d = refl
+    mixed false false c true = refl
+    mixed false false c false = refl
+
+pub decides-before : (o : Op) (ts us : Forest) → decides o ts ≡ true → decides o (ts ⧺ us) ≡ true
+unfolding decides
+decides-before o ts us e =
+    ap₂ _||_ (some-child-⧺ (is-empty (dual o)) ts us) (some-two-⧺ opposite ts us) ∙ still (some-child (is-empty (dual o)) ts) _ (some-two opposite ts) _ e
+  where
+    still : (a b c d : Bool) → (a || c) ≡ true → ((a || b) || (c || d)) ≡ true
+    still true b c d e = refl
+    still false true c d e = refl
+    still false false true d e = refl
+    still false false false d e = absurd (false≢true e)
+
+-- rule 4
+
+keep-all-of : (P : Tree → Bool) → ((t : Tree) → P t ≡ true) → (ts : Forest) → keep P ts ≡ ts
+unfolding keep
+keep-all-of P e ∅ = refl
+keep-all-of P e (t ▸ ts) = rw (e t) (ap (λ us. t ▸ us) (keep-all-of P e ts))
+
+pub firsts-⧺ : (ts us : Forest) → firsts (ts ⧺ us) ≡ firsts ts ⧺ new ts (firsts us)
+unfolding firsts _⧺_ repeated some-child
+firsts-⧺ ∅ us = sym (keep-all-of _ (λ t. refl) (firsts us))
+firsts-⧺ (t ▸ ts) us =
+    ap (λ ws. t ▸ ws)
+    (ap (keep (λ u. not (equal t u))) (firsts-⧺ ts us) ∙ keep-⧺ (λ u. not (equal t u)) (firsts ts) (new ts (firsts us)) ∙
+    ap (λ ws. keep (λ u. not (equal t u)) (firsts ts) ⧺ ws)
+    (keep-keep (λ u. not (equal t u)) (λ u. not (repeated ts u)) (λ u. not (repeated (t ▸ ts) u)) (λ u. both (equal t u) (repeated ts u)) (firsts us)))
+  where
+    both : (a b : Bool) → not (a || b) ≡ (not b && not a)
+    both true true = refl
+    both true false = refl
+    both false true = refl
+    both false false = refl
+
+swap : (a b c : Bool) → (a || (b || c)) ≡ (b || (a || c))
+swap true true c = refl
+swap true false c = refl
+swap false b c = refl
+
+twice : (a b : Bool) → (a || b) ≡ (a || (a || b))
+twice true b = refl
+twice false b = refl
+
+-- the first of equal children passes the tests that the others do
+pub some-child-firsts-is : (P : Tree → Bool) (ts : Forest) → some-child P (firsts ts) ≡ some-child P ts
+unfolding some-child firsts keep
+some-child-firsts-is P ∅ = refl
+some-child-firsts-is P (t ▸ ts) = dropped (firsts ts) ∙ ap (λ b. P t || b) (some-child-firsts-is P ts)
+  where
+    dropped : (us : Forest) → (P t || some-child P (keep (λ u. not (equal t u)) us)) ≡ (P t || some-child P us)
+    dropped ∅ = refl
+    dropped (u ▸ us) =
+        let rest = dropped us in
+        cond-cases (λ ws. (P t || some-child P ws) ≡ (P t || (P u || some-child P us))) (not (equal t u))
+        (λ _. swap (P t) (P u) _ ∙ ap (λ b. P u || b) rest ∙ swap (P u) (P t) _)
+        (λ e. rest ∙ twice (P t) _ ∙ ap (λ w. P t || (P w || some-child P us)) (equal-same t u (not-false (equal t u) e)))
+
+pub decisive-firsts : (o : Op) (ts us : Forest) → some-child (decisive o (firsts ts)) us ≡ some-child (decisive o ts) us
+unfolding decisive
+decisive-firsts o ts us = some-child-same (λ u. ap (λ b. is-empty (dual o) u || b) (some-child-firsts-is (λ t. opposite t u) ts)) us
+
+pub new-firsts : (ts us : Forest) → new (firsts ts) us ≡ new ts us
+unfolding repeated
+new-firsts ts us = keep-same (λ u. ap not (some-child-firsts-is (λ t. equal t u) ts)) us
+
+-- rule 1
+
+spliced-⧺ : (o : Op) (t : Tree) (us ws : Forest) → spliced o t (us ⧺ ws) ≡ spliced o t us ⧺ ws
+unfolding spliced _⧺_
+spliced-⧺ o (lit s v) us ws = refl
+spliced-⧺ and (node and ts) us ws = sym (⧺-assoc ts us ws)
+spliced-⧺ and (node or ts) us ws = refl
+spliced-⧺ or (node and ts) us ws = refl
+spliced-⧺ or (node or ts) us ws = sym (⧺-assoc ts us ws)
+
+pub splice-⧺ : (o : Op) (ts us : Forest) → splice o (ts ⧺ us) ≡ splice o ts ⧺ splice o us
+unfolding splice _⧺_
+splice-⧺ o ∅ us = refl
+splice-⧺ o (t ▸ ts) us = ap (spliced o t) (splice-⧺ o ts us) ∙ spliced-⧺ o t (splice o ts) (splice o us)
+
+-- the children of a tidy operator are no two opposite or equal literals, so a spliced child adds none
+pub record Calm (ts : Forest) : Type 0 where
+  pub unopposed : some-two opposite ts ≡ false
+  pub unequal : some-two equal ts ≡ false
+
+apart-opposite : (t u : Tree) → same-variable t u ≡ false → opposite t u ≡ false
+unfolding same-variable opposite
+apart-opposite (node o ts) u e = refl
+apart-opposite (lit s v) (node o ts) e = refl
+apart-opposite (lit s v) (lit s′ v′) e = rw e
+
+apart-equal : (t u : Tree) → same-variable t u ≡ false → equal t u ≡ false
+unfolding same-variable equal
+apart-equal (node o ts) u e = refl
+apart-equal (lit s v) (node o ts) e = refl
+apart-equal (lit s v) (lit s′ v′) e = rw e
+
+calm-kids : (o : Op) (ks : Forest) → is-tidy (node o ks) ≡ true → Calm ks
+unfolding is-tidy
+calm-kids o ks e =
+    let l = limits o ks (not-true _ e) in
+    record {
+      unopposed = some-two-less same-variable opposite apart-opposite ks (l .variables);
+      unequal = some-two-less same-variable equal apart-equal ks (l .variables);
+    }
+
+calm-one : (t : Tree) → Calm (t ▸ ∅)
+unfolding some-two some-child
+calm-one t = record { unopposed = refl; unequal = refl }
+
+calm-spliced : (o : Op) (t : Tree) → is-tidy t ≡ true → Calm (spliced o t ∅)
+unfolding spliced
+calm-spliced o (lit s v) e = calm-one (lit s v)
+calm-spliced and (node and ks) e = rw ⧺-none (calm-kids and ks e)
+calm-spliced and (node or ks) e = calm-one (node or ks)
+calm-spliced or (node and ks) e = calm-one (node and ks)
+calm-spliced or (node or ks) e = rw ⧺-none (calm-kids or ks e)
+
+pub all-tidy-⧺ : (ts us : Forest) → all-tidy (ts ⧺ us) → all-tidy ts × all-tidy us
+unfolding all-tidy
+all-tidy-⧺ ts us e = or-parts _ _ (sym (some-child-⧺ (λ t. not (is-tidy t)) ts us) ∙ e)
+
+-- a group is what one child is spliced to
+pub calm-splice : (o : Op) (ts : Forest) → count ts ≤ 1 → all-tidy ts → Calm (splice o ts)
+unfolding splice all-tidy some-child some-two count
+calm-splice o ∅ few e = record { unopposed = refl; unequal = refl }
+calm-splice o (t ▸ ∅) few e = calm-spliced o t (not-false _ (or-parts (not (is-tidy t)) _ e .0))
+calm-splice o (t ▸ u ▸ ts) few e = absurd (omega arith)
+
+pub firsts-calm : {ts : Forest} → Calm ts → firsts ts ≡ ts
+firsts-calm {ts} c = firsts-all ts (c .unequal)

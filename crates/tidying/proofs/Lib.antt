@@ -1,0 +1,12 @@
+pub mod Walk
+pub mod Scan
+pub mod Forests
+pub mod Hop
+pub mod Rules
+pub mod Sift
+pub mod Reduce
+pub mod Conclude
+pub mod Combine
+pub mod Backward
+pub mod Packing
+pub mod InPlace

@@ -1,0 +1,191 @@
+-- A walk over all children of an operator: rules 1 to 4, a child's group at a time.
+-- Assumes nothing.
+use mathlib.Core.Path.{_≡_, refl, sym, ap, ap₂, _∙_, subst}
+use mathlib.Core.Bool.{Bool, true, false, _||_, cond, true≢false}
+use mathlib.Core.List.{List, _++_}
+use Prim.Native.Nat.{ℕ, suc, _+_, _≤_, _<_}
+use native.Mathlib.Omega.{arith}
+use lib.Dec.{eqb}
+use lib.ListN.{length, getD, set}
+use Rattle.formula.specs.Tree.{Op, Tree, Forest, ∅, _▸_, _⧺_, some-child, some-two, count}
+use Rattle.formula.specs.Tidy.{splice, decides, firsts}
+use Rattle.sheet.specs.Format.{Bytes, Row, row}
+use Rattle.sheet.specs.Sheet.{operator-kind}
+use Rattle.rows.specs.Rows.{rows-in, Room}
+use Rattle.rows.proofs.Rows.{length-rows-in}
+use Rattle.tidying.specs.Blocks.{Block, gone, literal, operator, Blocks, none, _◂_, _⊕_, block-rows, size, extent, grown, live, Laid, Here, Region, Regions, OperatorKind}
+use Rattle.tidying.specs.Steps.{decisive, new, Grouped, Reduced, all-tidy, TidyRegion}
+use Rattle.tidying.proofs.Walk.{⧺-none, ⧺-assoc, live-⊕, live-◂, length-◂, extent-head, start, all-laid, within, Next, next, part-here, part-done}
+use Rattle.tidying.proofs.Scan.{Turn, safe, rest-none}
+use Rattle.tidying.proofs.Forests.{decides-⧺, decides-before, firsts-⧺, decisive-firsts, new-firsts, splice-⧺, Calm, calm-splice, firsts-calm, all-tidy-⧺}
+use Rattle.tidying.proofs.Rules.{Beheaded, beheaded}
+use Rattle.tidying.proofs.Sift.{Sifted, block-here}
+
+pub record Reducing (R : List Row) (from at to : ℕ) (before : List Row) (bs : Blocks) (after : List Row) (o : Op) : Type 0 where
+  pub trees : Forest
+  pub done : Blocks
+  pub rest : Blocks
+  pub here : Here R from at to before done rest after
+  pub ahead : splice o (live bs) ≡ trees ⧺ splice o (live rest)
+  pub undecided : decides o trees ≡ false
+  pub stays : live done ≡ firsts trees
+  pub tidy : all-tidy (live rest)
+
+abbrev pub Reduce : List Row → List Row → ℕ → ℕ → ℕ → ℕ → Type 0
+Reduce R₀ R from at to kind =
+    (before : List Row) (bs : Blocks) (after : List Row) → Laid R₀ from to before bs after → (o : Op) → kind ≡ operator-kind o
+    → all-tidy (live bs) → Reducing R from at to before bs after o
+
+pub reduce-none : {R : List Row} {from to kind : ℕ} → Reduce R R from from to kind
+unfolding live _⧺_ decides firsts some-child some-two
+reduce-none before bs after l o k t =
+    record { trees = ∅; done = none; rest = bs; here = start l; ahead = refl; undecided = refl; stays = refl; tidy = t }
+
+few : (x : Block) → count (live (x ◂ none)) ≤ 1
+unfolding live grown count
+few (gone rs) = omega arith
+few (literal s v) = omega arith
+few (operator o ks) = omega arith
+
+-- one child's group
+record Group (R₀ R : List Row) (from at end to : ℕ) (before : List Row) (bs : Blocks) (after : List Row) (o : Op) (decided : Bool) : Type 0 where
+  pub trees : Forest
+  pub group : Forest
+  pub done : Blocks
+  pub blocks : Blocks
+  pub rest : Blocks
+  pub here : Here R from end to before (done ⊕ blocks) rest after
+  pub ahead : splice o (live bs) ≡ (trees ⧺ group) ⧺ splice o (live rest)
+  pub undecided : decided ≡ decides o (trees ⧺ group)
+  pub stays : decided ≡ false → live (done ⊕ blocks) ≡ firsts (trees ⧺ group)
+  pub tidy : all-tidy (live rest)
+
+abbrev behead-rows : List Row → ℕ → ℕ → List Row
+behead-rows R at kind = cond (eqb ((getD R at (row 0 0)) .kind) kind) (set R at (row 0 1)) R
+
+abbrev after-children : Blocks → List Row → List Row
+after-children others after = block-rows others ++ after
+
+group-here : {R : List Row} {from at to s : ℕ} {before after : List Row} {done others : Blocks} {o : Op} {x : Block}
+    → (b : Beheaded R from at to before done others after o x) → s ≡ size x
+    → Here R from at (at + s) before done (b .group) (after-children others after)
+group-here {R} {from} {at} {to} {s} {before} {after} {done} {others} b e =
+    subst (λ m. Here R from at (at + m) before done (b .group) (after-children others after)) (b .same-size ∙ sym e)
+    (part-here (b .group) others (b .here))
+
+pub reduce-regions : {R₀ R R₁ : List Row} {from at to kind s : ℕ} → Reduce R₀ R from at to kind → TidyRegion R₀ from to → OperatorKind kind → at < to
+    → s ≡ extent (getD R at (row 0 0)) → R₁ ≡ behead-rows R at kind → Regions R₁ from at (at + s)
+reduce-regions {R₀} {R} {R₁} {from} {at} {to} {kind} {s} w g k l e b =
+    let r = g .region in
+    let st = w (r .before) (r .blocks) (r .after) (r .laid) (k .op) (k .is) (g .tidy) in
+    let m = next (st .here) l in
+    let h = beheaded kind (k .op) (m .block) (k .is) (block-here (st .here) m) in
+    subst (λ rs. Regions rs from at (at + s)) (sym b)
+    (record { before = _; done = _; rest = _; after = _; here = group-here h (e ∙ ap extent (m .row-is) ∙ extent-head (m .block)) })
+
+pub reduce-turn : {w n from at to kind : ℕ} {R₀ : List Row} (b : Bytes) → Room w n (length b) → Reduce R₀ (rows-in w n b) from at to kind
+    → TidyRegion R₀ from to → OperatorKind kind → at < to → Turn w n b at to
+reduce-turn b room w g k l =
+    let r = g .region in
+    let st = w (r .before) (r .blocks) (r .after) (r .laid) (k .op) (k .is) (g .tidy) in
+    let t = safe (st .here) l in
+    let i = within (st .here) in
+    let counted = length-rows-in b room in
+    record {
+      row-within = omega (arith, i .1, counted);
+      some-rows = t .some-rows;
+      inside = t .inside;
+      end-within = omega (arith, i .1, counted);
+    }
+
+grouped : {R₀ R R₁ R₂ : List Row} {from at to kind s : ℕ} {decided : Bool} → Reduce R₀ R from at to kind → at < to
+    → s ≡ extent (getD R at (row 0 0)) → R₁ ≡ behead-rows R at kind → Sifted R₁ R₂ from at (at + s) kind decided
+    → (before : List Row) (bs : Blocks) (after : List Row) → Laid R₀ from to before bs after → (o : Op) → kind ≡ operator-kind o
+    → all-tidy (live bs) → Group R₀ R₂ from at (at + s) to before bs after o decided
+grouped {R₀} {R} {R₁} {R₂} {from} {at} {to} {kind} {s} {decided} w l e b f before bs after laid o k t =
+    let st = w before bs after laid o k t in
+    let m = next (st .here) l in
+    let e′ = e ∙ ap extent (m .row-is) ∙ extent-head (m .block) in
+    let h = beheaded kind o (m .block) k (block-here (st .here) m) in
+    let inside = subst (λ rs. Here rs from at (at + s) before (st .done) (h .group) (after-children (m .others) after)) (sym b) (group-here h e′) in
+    let g = f before (st .done) (h .group) (after-children (m .others) after) inside o k in
+    let opened : live (st .rest) ≡ live (m .block ◂ none) ⧺ live (m .others) = ap live (m .is) ∙ live-◂ (m .block) (m .others) in
+    let tidied = all-tidy-⧺ (live (m .block ◂ none)) (live (m .others)) (subst all-tidy opened (st .tidy)) in
+    let calm = subst Calm (sym (h .holds)) (calm-splice o (live (m .block ◂ none)) (few (m .block)) (tidied .0)) in
+    record {
+      trees = st .trees;
+      group = live (h .group);
+      done = st .done;
+      blocks = g .blocks;
+      rest = m .others;
+      here =
+          subst (λ q. Here R₂ from (at + s) q before (st .done ⊕ g .blocks) (m .others) after)
+          (omega (arith, st .here .ends, e′, ap (λ cs. length (block-rows cs)) (m .is), length-◂ (m .block) (m .others)))
+          (part-done (m .others) (g .here));
+      ahead =
+          st .ahead ∙
+          ap (λ ts. st .trees ⧺ ts)
+          (ap (splice o) opened ∙ splice-⧺ o (live (m .block ◂ none)) (live (m .others)) ∙
+          ap (λ ts. ts ⧺ splice o (live (m .others))) (sym (h .holds))) ∙
+          sym (⧺-assoc (st .trees) (live (h .group)) (splice o (live (m .others))));
+      undecided =
+          g .decided-is ∙ ap (λ ts. some-child (decisive o ts) (live (h .group))) (st .stays) ∙
+          decisive-firsts o (st .trees) (live (h .group)) ∙
+          sym
+          (decides-⧺ o (st .trees) (live (h .group)) (calm .unopposed) ∙
+          ap (λ q. q || some-child (decisive o (st .trees)) (live (h .group))) (st .undecided));
+      stays =
+          λ n.
+          live-⊕ (st .done) (g .blocks) ∙ ap₂ _⧺_ (st .stays) (g .reads n ∙ ap (λ ts. new ts (live (h .group))) (st .stays)) ∙
+          ap (λ ts. firsts (st .trees) ⧺ ts)
+          (new-firsts (st .trees) (live (h .group)) ∙ ap (new (st .trees)) (sym (firsts-calm calm))) ∙
+          sym (firsts-⧺ (st .trees) (live (h .group)));
+      tidy = tidied .1;
+    }
+
+pub reduce-more : {R₀ R R₁ R₂ : List Row} {from at to kind s : ℕ} → Reduce R₀ R from at to kind → at < to
+    → s ≡ extent (getD R at (row 0 0)) → R₁ ≡ behead-rows R at kind → Sifted R₁ R₂ from at (at + s) kind false
+    → Reduce R₀ R₂ from (at + s) to kind
+reduce-more w l e b f before bs after laid o k t =
+    let g = grouped w l e b f before bs after laid o k t in
+    record {
+      trees = g .trees ⧺ g .group;
+      done = g .done ⊕ g .blocks;
+      rest = g .rest;
+      here = g .here;
+      ahead = g .ahead;
+      undecided = sym (g .undecided);
+      stays = g .stays refl;
+      tidy = g .tidy;
+    }
+
+abbrev Reduces : List Row → List Row → ℕ → ℕ → ℕ → Bool → Type 0
+Reduces R₀ R from to kind r =
+    (before : List Row) (bs : Blocks) (after : List Row) → Laid R₀ from to before bs after → (o : Op) → kind ≡ operator-kind o
+    → all-tidy (live bs) → Reduced R from to before after o (live bs) r
+
+pub reduce-found : {R₀ R R₁ R₂ : List Row} {from at to kind s : ℕ} → Reduce R₀ R from at to kind → at < to
+    → s ≡ extent (getD R at (row 0 0)) → R₁ ≡ behead-rows R at kind → Sifted R₁ R₂ from at (at + s) kind true
+    → Reduces R₀ R₂ from to kind true
+reduce-found w l e b f before bs after laid o k t =
+    let g = grouped w l e b f before bs after laid o k t in
+    record {
+      blocks = (g .done ⊕ g .blocks) ⊕ g .rest;
+      laid = all-laid (g .here);
+      decided-is = sym (ap (decides o) (g .ahead) ∙ decides-before o (g .trees ⧺ g .group) (splice o (live (g .rest))) (sym (g .undecided)));
+      reads = λ n. absurd (true≢false n);
+    }
+
+pub reduce-end : {R₀ R : List Row} {from at to kind : ℕ} → Reduce R₀ R from at to kind → to ≤ at → Reduces R₀ R from to kind false
+unfolding splice
+reduce-end w l before bs after laid o k t =
+    let st = w before bs after laid o k t in
+    let gone = rest-none (st .here) l in
+    let all : splice o (live bs) ≡ st .trees = st .ahead ∙ ap (λ ts. st .trees ⧺ splice o ts) gone ∙ ⧺-none (st .trees) in
+    record {
+      blocks = st .done ⊕ st .rest;
+      laid = all-laid (st .here);
+      decided-is = sym (ap (decides o) all ∙ st .undecided);
+      reads =
+          λ _. live-⊕ (st .done) (st .rest) ∙ ap (λ ts. live (st .done) ⧺ ts) gone ∙ ⧺-none (live (st .done)) ∙ st .stays ∙ ap firsts (sym all);
+    }
