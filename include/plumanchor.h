@@ -25,4 +25,8 @@ uint64_t plumanchor_trial(const uint8_t *sheet, size_t length);
 /* Part: how many kind bytes the subtree at a node covers, from sheet + 4 + V + node on. 0 if the sheet or the node is bad. */
 size_t plumanchor_part(const uint8_t *sheet, size_t length, size_t node);
 
+/* Tidy: the tidied sheet to the front of the output, zeros behind it. Accepted: the sheet's length in HIGH. Refused: no byte of the
+ * output changes. The two may not overlap. */
+uint64_t plumanchor_tidy(const uint8_t *sheet, size_t length, uint8_t *output, size_t room);
+
 #endif

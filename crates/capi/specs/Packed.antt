@@ -22,3 +22,8 @@ verdict-word true = 1
 unfoldable pub packed-trial : Answer Tried → ℕ
 packed-trial (refused number place) = packed number 0 place 0
 packed-trial (accepted t) = packed 0 (verdict-word (t .verdict)) 0 (t .leaves)
+
+-- an operation that writes a sheet: number and place, or the new sheet's length
+unfoldable pub packed-written : Answer ℕ → ℕ
+packed-written (refused number place) = packed number 0 place 0
+packed-written (accepted length) = packed 0 0 0 length

@@ -3,8 +3,8 @@ ghost use mathlib.Core.Path.{_≡_};
 ghost use lib.ListN.{length};
 ghost use Rattle.sheet.specs.Format.{narrow};
 ghost use Rattle.sheet.specs.Check.{check};
-ghost use Rattle.sheet.specs.Operations.{trial-call, part-call};
-ghost use Rattle.capi.specs.Packed.{packed, packed-check, packed-trial};
+ghost use Rattle.sheet.specs.Operations.{trial-call, part-call, tidy-call};
+ghost use Rattle.capi.specs.Packed.{packed, packed-check, packed-trial, packed-written};
 
 // An answer in one number: refusal number, word and two values.
 fn pack(number: usize, word: usize, low: usize, high: u64) -> u64
@@ -44,4 +44,16 @@ pub extern "C" fn plumanchor_part(sheet: &[u8], node: usize) -> usize
     ensures { λ r. ⌜ r ≡ length (part-call narrow (now (sheet .entry)) node) ⌝ }
 {
     part::part(sheet, node).len()
+}
+
+// Tidy: refusal number and place, or the new sheet's length.
+#[no_mangle]
+pub extern "C" fn plumanchor_tidy(sheet: &[u8], out: &mut [u8]) -> u64
+    ensures { λ r. ⌜ r ≡ packed-written ((tidy-call narrow (now (sheet .entry)) (now (out .entry))) .answer) ⌝ }
+    ensures { λ _. ⌜ now (out .exit) ≡ (tidy-call narrow (now (sheet .entry)) (now (out .entry))) .output ⌝ }
+{
+    match tidying::tidy(sheet, out) {
+        tidying::Written::Accepted(length) => pack(0, 0, 0, length as u64),
+        tidying::Written::Refused(number, place) => pack(number, 0, place, 0),
+    }
 }

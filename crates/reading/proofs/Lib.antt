@@ -6,7 +6,9 @@ pub mod Siblings
 pub mod Sets
 pub mod Hits
 pub mod Places
+pub mod Tidiness
 pub mod Growth
+pub mod Around
 pub mod Accepted
 mod TurnLiterals
 mod TurnFaults

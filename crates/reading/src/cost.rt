@@ -156,7 +156,8 @@ fn narrower(
     at
 }
 
-// What is relevant of the operator at row `at`, whose first relevant child has the row `first`.
+// What is relevant of the operator at row `at`. Its first relevant child is the one that node row `first`, the first literal, lies in;
+// every child is relevant exactly if the relevant ones have all of its rows.
 fn operator_part(
     b: &[u8],
     width: usize,
@@ -213,7 +214,8 @@ pub fn relevant_part(
     operator_part(b, width, v, n, ends, at, first, set)
 }
 
-// How many node rows the raw sheet of an expansion of `x` has.
+// How many node rows the raw sheet of an expansion of `x` has: N + E + 1 for a single literal and where every child is relevant,
+// N + E + 2 otherwise, N with no literal.
 pub fn raw_rows(b: &[u8], width: usize, v: usize, n: usize, ends: &[u16], x: usize) -> usize
     requires { ⌜ Readable width v n (now b) × Ends width v n (now b) (now ends) ⌝ }
     ensures { λ r. ⌜ r ≡ raw-rows (of x) (matrix-in width v n (now (b .entry))) ⌝ }

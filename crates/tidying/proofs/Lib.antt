@@ -10,3 +10,4 @@ pub mod Combine
 pub mod Backward
 pub mod Packing
 pub mod InPlace
+pub mod Call

@@ -2,3 +2,4 @@
 pub mod Blocks
 pub mod Steps
 pub mod InPlace
+pub mod Answers

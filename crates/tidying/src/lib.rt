@@ -1,22 +1,34 @@
-// Tidying in place: the rows of a raw sheet are worked on from the last to the first, packed, and made a sheet again.
+// Tidy. The rows of a raw sheet are worked on in place, from the last to the first, packed, and made a sheet again.
 use crate::operator::tidy_rows;
 use crate::pack::pack;
+use checking::Checked;
 use rows::Format;
 use rows::seal::seal;
 ghost use mathlib.Core.Path.{_≡_};
-ghost use Prim.Native.Nat.{_+_, _^_, _<_};
-ghost use lib.ListN.{length};
+ghost use mathlib.Core.Bool.{true};
+ghost use mathlib.Core.List.{_++_};
+ghost use Prim.Native.Nat.{_+_, _^_, _≤_, _<_};
+ghost use lib.ListN.{length, drop};
 ghost use Rattle.formula.specs.Tidy.{tidied};
 ghost use Rattle.sheet.specs.Sheet.{formula-rows, sheet};
-ghost use Rattle.sheet.specs.Operations.{padded};
+ghost use Rattle.sheet.specs.Format.{narrow, variables, nodes};
+ghost use Rattle.sheet.specs.Check.{passes, check-tests};
+ghost use Rattle.sheet.specs.Operations.{padded, tidy-call};
 ghost use Rattle.rows.specs.Rows.{rows-in, Room};
 ghost use Rattle.rows.specs.Formats.{format-of};
 ghost use Rattle.tidying.specs.InPlace.{rows-formula};
+ghost use Rattle.tidying.specs.Answers.{written-answer};
 
 pub mod blocks;
 pub mod children;
 pub mod operator;
 pub mod pack;
+
+// What an operation that writes a sheet answers: the new sheet's length, or a refusal's number and place.
+pub enum Written {
+    Accepted(usize),
+    Refused(usize, usize),
+}
 
 // Tidies the sheet of `v` variables and `n` nodes whose rows, those of a formula, stand in `b`, and returns the tidied sheet's length.
 // The sizes need not have been written.
@@ -29,4 +41,43 @@ pub fn tidy_in_place(b: &mut [u8], f: Format, v: usize, n: usize) -> usize
     tidy_rows(b, width, v + n, v);
     let rows = pack(b, width, v + n, v);
     seal(b, width, v + n, rows, v)
+}
+
+// Copies a sheet to the front of an output.
+fn copy_front(sheet: &[u8], out: &mut [u8])
+    requires { ⌜ length (now sheet) ≤ length (now out) ⌝ }
+    ensures { λ _. ⌜ now (out .exit) ≡ now (sheet .entry) ++ drop (length (now (sheet .entry))) (now (out .entry)) ⌝ }
+{
+    let mut i: usize = 0;
+    while i < sheet.len() {
+        out[i] = sheet[i];
+        i += 1;
+    }
+}
+
+// Tidies a sheet that Check accepts with these sizes: 13 output shorter than the sheet.
+fn tidy_checked(sheet: &[u8], out: &mut [u8], v: usize, n: usize) -> Written
+    requires { ⌜ (passes (check-tests narrow (now sheet)) ≡ true) × (v ≡ variables narrow (now sheet)) × (n ≡ nodes narrow (now sheet)) ⌝ }
+    ensures { λ r. ⌜ written-answer r ≡ (tidy-call narrow (now (sheet .entry)) (now (out .entry))) .answer ⌝ }
+    ensures { λ _. ⌜ now (out .exit) ≡ (tidy-call narrow (now (sheet .entry)) (now (out .entry))) .output ⌝ }
+{
+    if out.len() < sheet.len() {
+        return Written::Refused(13, 0);
+    }
+    copy_front(sheet, out);
+    let length = tidy_in_place(out, rows::narrow(), v, n);
+    Written::Accepted(length)
+}
+
+// Writes the tidied sheet to the front of `out`, with zeros behind it, and returns its length; or refuses the sheet or the output,
+// and alters nothing.
+pub fn tidy(sheet: &[u8], out: &mut [u8]) -> Written
+    ensures { λ r. ⌜ written-answer r ≡ (tidy-call narrow (now (sheet .entry)) (now (out .entry))) .answer ⌝ }
+    ensures { λ _. ⌜ now (out .exit) ≡ (tidy-call narrow (now (sheet .entry)) (now (out .entry))) .output ⌝ }
+{
+    let c = checking::check(sheet);
+    match c {
+        Checked::Accepted(v, n) => tidy_checked(sheet, out, v, n),
+        Checked::Refused(number, place) => Written::Refused(number, place),
+    }
 }

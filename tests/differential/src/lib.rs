@@ -9,6 +9,12 @@ mod foreign {
         pub fn plumanchor_check(sheet: *const u8, length: usize) -> u64;
         pub fn plumanchor_trial(sheet: *const u8, length: usize) -> u64;
         pub fn plumanchor_part(sheet: *const u8, length: usize, node: usize) -> usize;
+        pub fn plumanchor_tidy(
+            sheet: *const u8,
+            length: usize,
+            output: *mut u8,
+            room: usize,
+        ) -> u64;
     }
 }
 
@@ -57,4 +63,18 @@ pub fn part(sheet: &[u8], node: usize) -> Range<usize> {
             start..start + rows
         }
     }
+}
+
+fn written(answer: u64) -> Answer<usize> {
+    let answer = Packed::from(answer);
+    match answer.number {
+        0 => Answer::Accepted(answer.high as usize),
+        number => Answer::Refused(number, answer.low),
+    }
+}
+
+pub fn tidy(sheet: &[u8], output: &mut [u8]) -> Answer<usize> {
+    written(unsafe {
+        foreign::plumanchor_tidy(sheet.as_ptr(), sheet.len(), output.as_mut_ptr(), output.len())
+    })
 }

@@ -1,7 +1,6 @@
 -- `reading::cost::narrower` meets its contract. Assumes nothing.
 use mathlib.Core.Path.{_≡_}
 use Prim.Native.Nat.{suc, _+_}
-use borrow.Author.Needs.{needs}
 use native.Mathlib.Omega.{arith}
 use Rattle.reading.specs.Subtrees.{kids, subtree-in}
 use Rattle.reading.specs.Cost.{child-span}
@@ -21,7 +20,7 @@ add-children-at-2 : tie.Need-add-children-at-2
 add-children-at-2 c = omega arith
 
 children-at-requires : tie.Need-children-at-requires
-children-at-requires c κs = search needs
+children-at-requires c κs = let a = c .before .before .before in (a .pre .0 .room, omega arith)
 
 add-child-with : tie.Need-add-child-with
 add-child-with c = omega arith

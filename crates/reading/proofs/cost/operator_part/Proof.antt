@@ -1,7 +1,6 @@
 -- `reading::cost::operator_part` meets its contract. Assumes nothing.
 use mathlib.Core.Path.{_≡_, ap, _∙_}
 use Prim.Native.Nat.{_+_, _≤_}
-use borrow.Author.Needs.{needs}
 use native.Mathlib.Omega.{arith}
 use Rattle.formula.specs.Tree.{rows-all}
 use Rattle.formula.specs.Expand.{relevant}
@@ -19,7 +18,7 @@ add-children-at-2 : tie.Need-add-children-at-2
 add-children-at-2 c = omega arith
 
 children-at-requires : tie.Need-children-at-requires
-children-at-requires c κs = search needs
+children-at-requires c κs = let a = c .before .before in (a .pre .0 .room, omega arith)
 
 add-child-with : tie.Need-add-child-with
 add-child-with c = omega arith

@@ -1,7 +1,6 @@
 -- `reading::cost::rows_if_relevant` meets its contract. Assumes nothing.
 use mathlib.Core.Path.{sym, ap, _∙_}
 use mathlib.Core.Bool.{cond}
-use borrow.Author.Needs.{needs}
 use native.Mathlib.Omega.{arith}
 use Rattle.formula.specs.Tree.{rows}
 use Rattle.reading.specs.Subtrees.{subtree-in}
@@ -9,10 +8,10 @@ use Rattle.reading.proofs.cost.rows_if_relevant.Statement.{statement}
 use Rattle.reading.proofs.cost.rows_if_relevant.Tie as tie
 
 occurs-requires : tie.Need-occurs-requires
-occurs-requires c κs = search needs
+occurs-requires c κs = c .before .pre
 
 sub-result : tie.Need-sub-result
-sub-result c = search needs
+sub-result c = omega (arith, c .before .before .before .pre .2)
 
 returns : tie.Need-returns
 returns c =

@@ -7,7 +7,6 @@ use Rattle.reading.specs.Faults.{operator-of, some-clash}
 use Rattle.reading.proofs.Forest.{top}
 use Rattle.reading.proofs.Siblings.{Children, children-of, kind-top, argument-top}
 use Rattle.reading.proofs.TurnFaults.{kind-high, fault-literal, fault-childless, fault-alone, fault-more}
-use borrow.Author.Needs.{needs}
 use Rattle.reading.proofs.faults.at_fault.Statement.{statement}
 use Rattle.reading.proofs.faults.at_fault.Tie as tie
 
@@ -31,7 +30,7 @@ add-kind-at-2 : tie.Need-add-kind-at-2
 add-kind-at-2 c = omega arith
 
 kind-at-requires : tie.Need-kind-at-requires
-kind-at-requires c κs = search needs
+kind-at-requires c κs = let a = c .before .before in (a .pre .0 .room, omega arith)
 
 returns : tie.Need-returns
 returns c =
@@ -46,7 +45,7 @@ add-argument-at-2 : tie.Need-add-argument-at-2
 add-argument-at-2 c = omega arith
 
 argument-at-requires : tie.Need-argument-at-requires
-argument-at-requires c κs = search needs
+argument-at-requires c κs = let a = c .before .before .before .before in (a .pre .0 .room, omega arith)
 
 returns-2 : tie.Need-returns-2
 returns-2 c =

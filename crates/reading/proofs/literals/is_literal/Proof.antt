@@ -1,6 +1,5 @@
 -- `reading::literals::is_literal` meets its contract: by the row's kind and argument. Assumes nothing.
 use mathlib.Core.Path.{sym, ap, _∙_}
-use borrow.Author.Needs.{needs}
 use native.Mathlib.Omega.{arith}
 use lib.Dec.{eqb}
 use Rattle.reading.proofs.Siblings.{kind-top, argument-top}
@@ -15,7 +14,7 @@ add-kind-at-2 : tie.Need-add-kind-at-2
 add-kind-at-2 c = omega arith
 
 kind-at-requires : tie.Need-kind-at-requires
-kind-at-requires c κs = search needs
+kind-at-requires c κs = let a = c .before in (a .pre .0 .room, omega arith)
 
 returns : tie.Need-returns
 returns c =
@@ -36,7 +35,7 @@ add-argument-at-2 : tie.Need-add-argument-at-2
 add-argument-at-2 c = omega arith
 
 argument-at-requires : tie.Need-argument-at-requires
-argument-at-requires c κs = search needs
+argument-at-requires c κs = let a = c .before .before .before .before .before .before in (a .pre .0 .room, omega arith)
 
 returns-3 : tie.Need-returns-3
 returns-3 c =

@@ -1,6 +1,5 @@
 -- `reading::prefix::is_existential` meets its contract: by the row's kind. Assumes nothing.
 use mathlib.Core.Path.{sym, ap, _∙_}
-use borrow.Author.Needs.{needs}
 use lib.Dec.{eqb}
 use native.Mathlib.Omega.{arith}
 use Rattle.formula.specs.Tree.{Binding, same-op, exists}
@@ -12,7 +11,7 @@ add-kind-at : tie.Need-add-kind-at
 add-kind-at c = omega arith
 
 kind-at-requires : tie.Need-kind-at-requires
-kind-at-requires c κs = search needs
+kind-at-requires c κs = let a = c .before in (a .pre .0 .room, omega arith)
 
 returns : tie.Need-returns
 returns c =

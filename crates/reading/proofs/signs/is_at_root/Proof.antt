@@ -1,6 +1,5 @@
 -- `reading::signs::is_at_root` meets its contract: the root is the literal, or has it for a child. Assumes nothing.
 use mathlib.Core.Path.{sym, ap, _∙_}
-use borrow.Author.Needs.{needs}
 use native.Mathlib.Omega.{arith}
 use Rattle.formula.specs.Tree.{some-child}
 use Rattle.formula.specs.Settle.{is-lit}
@@ -15,10 +14,10 @@ add-kind-at : tie.Need-add-kind-at
 add-kind-at c = omega arith
 
 kind-at-requires : tie.Need-kind-at-requires
-kind-at-requires c κs = search needs
+kind-at-requires c κs = let a = c .before .before in (a .pre .0 .room, omega arith)
 
 is-literal-requires : tie.Need-is-literal-requires
-is-literal-requires c κs = search needs
+is-literal-requires c κs = let a = c .before .before .before .before in (a .pre .0, a .pre .0 .some-nodes, a .pre .2)
 
 returns : tie.Need-returns
 returns c =
@@ -31,7 +30,7 @@ add-argument-at : tie.Need-add-argument-at
 add-argument-at c = omega arith
 
 argument-at-requires : tie.Need-argument-at-requires
-argument-at-requires c κs = search needs
+argument-at-requires c κs = let a = c .before .before .before .before in (a .pre .0 .room, omega arith)
 
 -- the root's children stand from row 1 on
 children : (c : tie.After-argument-at) →

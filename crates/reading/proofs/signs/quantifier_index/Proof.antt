@@ -1,13 +1,12 @@
 -- `reading::signs::quantifier_index` meets its contract. Assumes nothing.
 use mathlib.Core.Path.{sym, _∙_}
-use borrow.Author.Needs.{needs}
 use native.Mathlib.Omega.{arith}
 use Rattle.reading.proofs.TurnSigns.{is-exists, is-for-all}
 use Rattle.reading.proofs.signs.quantifier_index.Statement.{statement}
 use Rattle.reading.proofs.signs.quantifier_index.Tie as tie
 
 is-existential-requires : tie.Need-is-existential-requires
-is-existential-requires c κs = search needs
+is-existential-requires c κs = c .before .pre
 
 returns : tie.Need-returns
 returns c = (omega arith, is-exists _ (sym (c .before .is-existential .ensures) ∙ c .if1 .taken))

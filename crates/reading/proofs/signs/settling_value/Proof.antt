@@ -2,7 +2,6 @@
 use mathlib.Core.Path.{_≡_, sym, ap, ap₂, _∙_}
 use mathlib.Core.Bool.{true, false}
 use mathlib.Core.Option.{some}
-use borrow.Author.Needs.{needs}
 use native.Mathlib.Omega.{arith}
 use Rattle.formula.specs.Tree.{of, has}
 use Rattle.formula.specs.Settle.{may-take, value}
@@ -19,7 +18,7 @@ add-argument-at : tie.Need-add-argument-at
 add-argument-at c = omega arith
 
 argument-at-requires : tie.Need-argument-at-requires
-argument-at-requires c κs = search needs
+argument-at-requires c κs = let a = c .before .before in (a .pre .0 .room, omega arith)
 
 occurs-requires : tie.Need-occurs-requires
 occurs-requires c κs =
@@ -59,13 +58,13 @@ negative c =
     c .takes2 .ensures ∙ ap (λ x. may-take false x (matrix-in (a .width) (a .v) (a .n) (a .b .now))) (variable (c .before .before .before .before .before .before))
 
 quantifier-index-requires : tie.Need-quantifier-index-requires
-quantifier-index-requires c κs = search needs
+quantifier-index-requires c κs = let a = c .before .before .before .before .before in (a .pre .0, a .pre .2)
 
 takes-requires : tie.Need-takes-requires
-takes-requires c κs = search needs
+takes-requires c κs = let a = c .before .before .before .before .before .before in (a .pre .0, a .pre .1, omega arith, omega arith)
 
 table-value-requires : tie.Need-table-value-requires
-table-value-requires c κs = search needs
+table-value-requires c κs = (c .before .before .quantifier-index .ensures .0, omega arith)
 
 returns : tie.Need-returns
 returns c =
@@ -76,10 +75,10 @@ returns c =
     (sym (positive (c .before .before)) ∙ c .before .if2 .taken))
 
 takes-requires-2 : tie.Need-takes-requires-2
-takes-requires-2 c κs = search needs
+takes-requires-2 c κs = let a = c .before .before .before .before .before .before .before .before in (a .pre .0, a .pre .1, omega arith, omega arith)
 
 table-value-requires-2 : tie.Need-table-value-requires-2
-table-value-requires-2 c κs = search needs
+table-value-requires-2 c κs = (c .before .before .before .before .quantifier-index .ensures .0, omega arith)
 
 returns-2 : tie.Need-returns-2
 returns-2 c =

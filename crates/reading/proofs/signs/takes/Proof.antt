@@ -1,7 +1,6 @@
 -- `reading::signs::takes` meets its contract. Assumes nothing.
 use mathlib.Core.Path.{_≡_, sym, ap, ap₂, _∙_}
 use mathlib.Core.Bool.{not}
-use borrow.Author.Needs.{needs}
 use native.Mathlib.Omega.{arith}
 use lib.Dec.{eqb}
 use Rattle.formula.specs.Tree.{of-sign, has}
@@ -31,7 +30,7 @@ other c =
     ap₂ has (literals-of-other (a .args .x) (a .args .kind) (a .pre .2) (a .pre .3)) (subtree-root (a .args .b .now) (a .pre .0))
 
 is-at-root-requires : tie.Need-is-at-root-requires
-is-at-root-requires c κs = search needs
+is-at-root-requires c κs = let a = c .before .before .before .before in (a .pre .0, a .pre .1, a .pre .3)
 
 returns : tie.Need-returns
 returns c =
