@@ -5,14 +5,14 @@ use mathlib.Core.Bool.{Bool, true, false, not, _||_, cond, Bool·beq, false≢tr
 use mathlib.Core.List.{List, _∷_, _++_, append-nil, append-assoc, map}
 use Prim.Native.Nat.{ℕ, suc, _+_, _-_, _≤_}
 use native.Mathlib.Omega.{arith}
-use Rattle.formula.specs.Tree.{Op, Quantifier, Tree, lit, node, Forest, ∅, _▸_, Literals, of, has, has-any, replace, replace-all, assigned, count, keep}
-use Rattle.formula.specs.Expand.{Copying, copying, one-relevant, relevant, copies, at-first, expand-tree}
+use Rattle.formula.specs.Tree.{Op, Quantifier, Tree, lit, node, Forest, ∅, _▸_, Literals, of, has, has-any, replace, replace-all, assigned, count, keep, assign}
+use Rattle.formula.specs.Expand.{Copying, copying, one-relevant, relevant, copies, at-first, expand-tree, raw-tree}
 use Rattle.formula.proofs.Expand.{one-later, one-counts, no-child}
 use Rattle.sheet.specs.Format.{Row, row}
 use Rattle.sheet.specs.Sheet.{literal-kind, operator-kind, tree-rows, forest-rows}
 use Rattle.copying.specs.Copying.{assigned-row}
 use Rattle.copying.specs.Expansion.{ancestor, ancestor-below, whole, children-of, before-first, from-first, pick, kept}
-use Rattle.copying.proofs.Assigned.{count-replace-all, rows-replaced, rows-replaced-all, rows-unassigned-all}
+use Rattle.copying.proofs.Assigned.{count-replace-all, rows-replaced, rows-replaced-all, rows-unassigned-all, rows-assigned, rows-unassigned}
 
 -- some literal is chosen, and no single child has them all
 abbrev pub Deepest : Literals → Tree → Type 0
@@ -234,3 +234,9 @@ module _ (q : Quantifier) (x : ℕ) where
   unfolding whole expand-tree children-of top-row
   some-rows (lit s v) d h r e = absurd (true≢false h)
   some-rows (node o ts) d h r e = rw (d .1, h) (at-first-rows o ts (d .0) r e)
+
+-- with no literal of x only its row goes: the raw sheet is that of settling
+pub raw-unchanged : (q : Quantifier) (x : ℕ) (t : Tree) → has (of x) t ≡ false
+    → tree-rows (raw-tree (copying q x) t) ≡ tree-rows (assign x false t)
+unfolding raw-tree
+raw-unchanged q x t h = rw h (sym (rows-assigned x false t ∙ rows-unassigned x false t h))

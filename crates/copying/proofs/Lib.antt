@@ -3,8 +3,8 @@ mod Turn
 mod Splice
 mod Fits
 pub mod Source
-mod Around
-mod Copies
+pub mod Around
+pub mod Copies
 mod Walk
 mod TurnChildren
 mod Located

@@ -1,0 +1,4 @@
+pub mod Accepted
+mod Decision
+mod Chosen
+mod Settled

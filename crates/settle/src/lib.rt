@@ -1,0 +1,40 @@
+// Settle: a variable is put in by a pure or a unit literal, its row goes, and the tree is tidied ("Settle x").
+use crate::plan::Plan;
+use crate::plan::plan_settle;
+use copying::settle::write_settled;
+use tidying::Written;
+use tidying::tidy_in_place;
+ghost use mathlib.Core.Path.{_≡_};
+ghost use Rattle.sheet.specs.Format.{narrow};
+ghost use Rattle.sheet.specs.Operations.{settle-call};
+ghost use Rattle.rows.specs.Formats.{format-of};
+ghost use Rattle.tidying.specs.Answers.{written-answer};
+ghost use Rattle.settle.specs.Limits.{Countable};
+
+pub mod plan;
+
+// Settles `x` in a sheet of any format whose rows this code can count. The raw sheet is written to `out` and tidied there.
+pub fn settle_in(sheet: &[u8], f: rows::Format, x: usize, out: &mut [u8]) -> Written
+    requires { ⌜ Countable (format-of f) ⌝ }
+    ensures { λ r. ⌜ written-answer r ≡ (settle-call (format-of f) (now (sheet .entry)) x (now (out .entry))) .answer ⌝ }
+    ensures { λ _. ⌜ now (out .exit) ≡ (settle-call (format-of f) (now (sheet .entry)) x (now (out .entry))) .output ⌝ }
+{
+    let p = plan_settle(sheet, f, x, out.len());
+    match p {
+        Plan::Refused(number, place) => Written::Refused(number, place),
+        Plan::Put(v, n, i, value) => {
+            write_settled(sheet, f.width, v, n, i, x, value, out);
+            let length = tidy_in_place(out, f, v - 1, n);
+            Written::Accepted(length)
+        }
+    }
+}
+
+// Settles `x` in a sheet of document 01: the new sheet stands at the front of `out` with zeros behind it, and its length is returned;
+// or the call is refused with number and place, and `out` is left as it was.
+pub fn settle(sheet: &[u8], x: usize, out: &mut [u8]) -> Written
+    ensures { λ r. ⌜ written-answer r ≡ (settle-call narrow (now (sheet .entry)) x (now (out .entry))) .answer ⌝ }
+    ensures { λ _. ⌜ now (out .exit) ≡ (settle-call narrow (now (sheet .entry)) x (now (out .entry))) .output ⌝ }
+{
+    settle_in(sheet, rows::narrow(), x, out)
+}
