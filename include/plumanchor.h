@@ -29,4 +29,7 @@ size_t plumanchor_part(const uint8_t *sheet, size_t length, size_t node);
  * output changes. The two may not overlap. */
 uint64_t plumanchor_tidy(const uint8_t *sheet, size_t length, uint8_t *output, size_t room);
 
+/* Settle x, any number, in the same way. */
+uint64_t plumanchor_settle(const uint8_t *sheet, size_t length, size_t x, uint8_t *output, size_t room);
+
 #endif

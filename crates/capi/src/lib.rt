@@ -3,7 +3,8 @@ ghost use mathlib.Core.Path.{_≡_};
 ghost use lib.ListN.{length};
 ghost use Rattle.sheet.specs.Format.{narrow};
 ghost use Rattle.sheet.specs.Check.{check};
-ghost use Rattle.sheet.specs.Operations.{trial-call, part-call, tidy-call};
+ghost use Rattle.sheet.specs.Operations.{trial-call, part-call, tidy-call, settle-call};
+ghost use Rattle.tidying.specs.Answers.{written-answer};
 ghost use Rattle.capi.specs.Packed.{packed, packed-check, packed-trial, packed-written};
 
 // An answer in one number: refusal number, word and two values.
@@ -46,14 +47,30 @@ pub extern "C" fn plumanchor_part(sheet: &[u8], node: usize) -> usize
     part::part(sheet, node).len()
 }
 
+// What an operation that writes a sheet answers: refusal number and place, or the new sheet's length.
+fn pack_written(answer: tidying::Written) -> u64
+    ensures { λ r. ⌜ r ≡ packed-written (written-answer answer) ⌝ }
+{
+    match answer {
+        tidying::Written::Accepted(length) => pack(0, 0, 0, length as u64),
+        tidying::Written::Refused(number, place) => pack(number, 0, place, 0),
+    }
+}
+
 // Tidy: refusal number and place, or the new sheet's length.
 #[no_mangle]
 pub extern "C" fn plumanchor_tidy(sheet: &[u8], out: &mut [u8]) -> u64
     ensures { λ r. ⌜ r ≡ packed-written ((tidy-call narrow (now (sheet .entry)) (now (out .entry))) .answer) ⌝ }
     ensures { λ _. ⌜ now (out .exit) ≡ (tidy-call narrow (now (sheet .entry)) (now (out .entry))) .output ⌝ }
 {
-    match tidying::tidy(sheet, out) {
-        tidying::Written::Accepted(length) => pack(0, 0, 0, length as u64),
-        tidying::Written::Refused(number, place) => pack(number, 0, place, 0),
-    }
+    pack_written(tidying::tidy(sheet, out))
+}
+
+// Settle: refusal number and place, or the new sheet's length.
+#[no_mangle]
+pub extern "C" fn plumanchor_settle(sheet: &[u8], x: usize, out: &mut [u8]) -> u64
+    ensures { λ r. ⌜ r ≡ packed-written ((settle-call narrow (now (sheet .entry)) x (now (out .entry))) .answer) ⌝ }
+    ensures { λ _. ⌜ now (out .exit) ≡ (settle-call narrow (now (sheet .entry)) x (now (out .entry))) .output ⌝ }
+{
+    pack_written(settle::settle(sheet, x, out))
 }

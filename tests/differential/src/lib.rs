@@ -1,6 +1,6 @@
 //! Safe calls of the proved operations, with the answers of `outside::reference`.
 
-use outside::reference::{Answer, Refusal};
+use outside::reference::{Answer, Refusal, Variable};
 use std::ops::Range;
 
 mod foreign {
@@ -12,6 +12,13 @@ mod foreign {
         pub fn plumanchor_tidy(
             sheet: *const u8,
             length: usize,
+            output: *mut u8,
+            room: usize,
+        ) -> u64;
+        pub fn plumanchor_settle(
+            sheet: *const u8,
+            length: usize,
+            x: usize,
             output: *mut u8,
             room: usize,
         ) -> u64;
@@ -76,5 +83,12 @@ fn written(answer: u64) -> Answer<usize> {
 pub fn tidy(sheet: &[u8], output: &mut [u8]) -> Answer<usize> {
     written(unsafe {
         foreign::plumanchor_tidy(sheet.as_ptr(), sheet.len(), output.as_mut_ptr(), output.len())
+    })
+}
+
+pub fn settle(sheet: &[u8], x: Variable, output: &mut [u8]) -> Answer<usize> {
+    let (length, room) = (sheet.len(), output.len());
+    written(unsafe {
+        foreign::plumanchor_settle(sheet.as_ptr(), length, x, output.as_mut_ptr(), room)
     })
 }

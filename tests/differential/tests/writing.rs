@@ -3,7 +3,7 @@
 //! contents.
 
 use outside::generate::{self, cases, limit_sheets, Limits, Rng};
-use outside::reference::{self, Answer};
+use outside::reference::{self, sheet_length, Answer, Formula, Variable};
 use outside::with_deep_stack;
 
 fn hexadecimal(bytes: &[u8]) -> String {
@@ -61,6 +61,53 @@ fn tidy_on_large_sheets() {
             agree_on_tidy(rng, &sheet);
             let sheet = generate::sheet(rng, Limits::FULL);
             agree_on_tidy(rng, &sheet);
+        });
+    });
+}
+
+/// A variable of the formula, or any other number.
+fn variable(rng: &mut Rng, formula: &Formula) -> Variable {
+    if formula.prefix.is_empty() || rng.one_in(8) {
+        return rng.pick(&[0, 1, 256, 257, 65_537, usize::MAX]);
+    }
+    let row = rng.below(formula.prefix.len());
+    formula.prefix[row].1
+}
+
+/// Settle with an output about as long as it needs; how often it was accepted is told.
+fn agree_on_settle(rng: &mut Rng, formula: &Formula, sheet: &[u8]) -> bool {
+    let x = variable(rng, formula);
+    let needed = sheet_length(formula.prefix.len().saturating_sub(1), formula.matrix.rows());
+    let room = generate::length_around(rng, needed);
+    let before = generate::dirty(rng, room);
+    let proved = |sheet: &[u8], output: &mut [u8]| differential::settle(sheet, x, output);
+    let reference = |sheet: &[u8], output: &mut [u8]| reference::settle(sheet, x, output);
+    matches!(agree(sheet, &before, proved, reference), Answer::Accepted(_))
+}
+
+#[test]
+fn settle_on_small_sheets() {
+    let mut accepted = 0;
+    cases(40_000, |rng| {
+        let formula = generate::tidy_formula(rng, Limits::SMALL);
+        let sheet = reference::encode(&formula);
+        accepted += u32::from(agree_on_settle(rng, &formula, &sheet));
+        let untidy = generate::formula(rng, Limits::SMALL);
+        agree_on_settle(rng, &untidy, &reference::encode(&untidy));
+        let damaged = generate::damage(rng, &sheet);
+        agree_on_settle(rng, &formula, &damaged);
+    });
+    assert!(accepted > 4_000, "{accepted} accepted");
+}
+
+#[test]
+fn settle_on_large_sheets() {
+    with_deep_stack(|| {
+        cases(200, |rng| {
+            for limits in [Limits::MEDIUM, Limits::FULL] {
+                let formula = generate::tidy_formula(rng, limits);
+                agree_on_settle(rng, &formula, &reference::encode(&formula));
+            }
         });
     });
 }
