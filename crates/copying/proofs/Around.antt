@@ -14,7 +14,7 @@ use Rattle.sheet.specs.Format.{Row, row}
 use Rattle.sheet.specs.Sheet.{operator-kind, tree-rows, forest-rows}
 use Rattle.sheet.proofs.Preorder.{length-tree-rows}
 use Rattle.copying.specs.Copying.{assigned-row}
-use Rattle.copying.specs.Ends.{subtree-ends, forest-ends}
+use Rattle.reading.specs.Ends.{subtree-ends, forest-ends}
 use Rattle.copying.specs.Expansion.{ancestor, ancestor-below, ancestor-row, row-below}
 use Rattle.copying.proofs.Assigned.{map-append, assigned-operator, rows-unassigned, rows-unassigned-all}
 

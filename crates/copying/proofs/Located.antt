@@ -16,8 +16,9 @@ use Rattle.sheet.specs.Sheet.{trees, tree-rows, forest-rows}
 use Rattle.sheet.proofs.Preorder.{length-tree-rows, length-forest-rows, rows-positive, trees-forest}
 use Rattle.rows.specs.Rows.{rows-in}
 use Rattle.copying.specs.Copying.{assigned-row, copied}
-use Rattle.copying.specs.Reading.{Readable, node-rows-in, matrix-in}
-use Rattle.copying.specs.Ends.{subtree-ends, forest-ends, between, Siblings, Ends}
+use Rattle.reading.specs.Reading.{Readable, node-rows-in, matrix-in}
+use Rattle.reading.specs.Ends.{subtree-ends, forest-ends, Ends}
+use Rattle.copying.specs.Ends.{between, Siblings}
 use Rattle.copying.specs.Expansion.{ancestor-row, children-of, before-first, from-first, joint-in, copying-in, ancestor-in, Place}
 use Rattle.copying.proofs.Assigned.{rows-unassigned-all}
 use Rattle.copying.proofs.Around.{Around, around, length-subtree-ends, length-forest-ends}

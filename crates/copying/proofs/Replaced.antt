@@ -17,7 +17,7 @@ use Rattle.sheet.proofs.Preorder.{length-tree-rows}
 use Rattle.rows.specs.Rows.{rows-in}
 use Rattle.rows.proofs.Rows.{length-rows-in}
 use Rattle.copying.specs.Copying.{copied}
-use Rattle.copying.specs.Reading.{Readable, matrix-in}
+use Rattle.reading.specs.Reading.{Readable, matrix-in}
 use Rattle.copying.specs.Ends.{between}
 use Rattle.copying.specs.Expansion.{kept, joint-in, copying-in, ancestor-in, Place}
 use Rattle.copying.proofs.Copies.{Deepest, deepest, top-row, relevant-few, whole-rows, some-rows}

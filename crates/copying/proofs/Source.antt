@@ -17,8 +17,8 @@ use Rattle.sheet.specs.Sheet.{quantifier-kind, binding-row, tree-rows, operator
 use Rattle.rows.specs.Rows.{rows-in}
 use Rattle.rows.proofs.Rows.{length-rows-in}
 use Rattle.copying.specs.Copying.{literal-of, assigned-row, copied}
-use Rattle.copying.specs.Reading.{Readable, Quantified, prefix-in, matrix-in, node-rows-in}
-use Rattle.copying.specs.Places.{place}
+use Rattle.reading.specs.Reading.{Readable, prefix-in, matrix-in, node-rows-in, Quantified}
+use Rattle.reading.specs.Places.{place}
 use Rattle.copying.proofs.Assigned.{map-append, assigned-other}
 
 -- lists

@@ -13,7 +13,7 @@ use Rattle.sheet.specs.Format.{Bytes, Row}
 use Rattle.sheet.specs.Sheet.{forest-rows}
 use Rattle.rows.specs.Rows.{rows-in}
 use Rattle.copying.specs.Copying.{some-literal, copied, picked}
-use Rattle.copying.specs.Reading.{Readable, node-rows-in}
+use Rattle.reading.specs.Reading.{Readable, node-rows-in}
 use Rattle.copying.specs.Ends.{Siblings}
 use Rattle.copying.specs.Expansion.{before-first, pick, kept}
 use Rattle.copying.specs.Output.{Written}

@@ -16,8 +16,9 @@ use Rattle.sheet.proofs.Preorder.{length-tree-rows, rows-positive}
 use Rattle.rows.specs.Rows.{rows-in}
 use Rattle.rows.proofs.Rows.{length-rows-in}
 use Rattle.copying.specs.Copying.{literal-of, assigned-row, copied, some-literal, picked}
-use Rattle.copying.specs.Reading.{Readable, node-rows-in}
-use Rattle.copying.specs.Ends.{subtree-ends, forest-ends, Siblings}
+use Rattle.reading.specs.Reading.{Readable, node-rows-in}
+use Rattle.reading.specs.Ends.{subtree-ends, forest-ends}
+use Rattle.copying.specs.Ends.{Siblings}
 use Rattle.copying.specs.Expansion.{pick, kept}
 use Rattle.copying.proofs.Assigned.{literal-of-literal, literal-of-operator, rows-replaced}
 use Rattle.copying.proofs.Around.{length-subtree-ends}

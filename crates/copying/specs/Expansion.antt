@@ -8,7 +8,7 @@ use Rattle.formula.specs.Tree.{Op, or, Tree, lit, node, Forest, ∅, _▸_, Lit
 use Rattle.formula.specs.Expand.{Copying, copying, relevant, one-relevant, all-relevant}
 use Rattle.sheet.specs.Format.{Bytes, Row}
 use Rattle.sheet.specs.Sheet.{forest-rows}
-use Rattle.copying.specs.Reading.{prefix-in, matrix-in}
+use Rattle.reading.specs.Reading.{prefix-in, matrix-in}
 
 -- The subtree that an expansion replaces, whole or in part: a literal that is alone, or the least common ancestor of the chosen
 -- literals, the deepest operator above all of them.

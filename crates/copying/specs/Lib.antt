@@ -1,7 +1,5 @@
 -- What Settle and Expand write before the tree is tidied.
 pub mod Copying
 pub mod Output
-pub mod Reading
-pub mod Places
 pub mod Ends
 pub mod Expansion

@@ -7,7 +7,7 @@ ghost use lib.Seq.{slice};
 ghost use Rattle.formula.specs.Tree.{of, rows-all};
 ghost use Rattle.rows.specs.Rows.{rows-in, Room};
 ghost use Rattle.copying.specs.Copying.{some-literal, picked};
-ghost use Rattle.copying.specs.Reading.{Readable, node-rows-in};
+ghost use Rattle.reading.specs.Reading.{Readable, node-rows-in};
 ghost use Rattle.copying.specs.Ends.{between, Siblings};
 ghost use Rattle.copying.specs.Expansion.{before-first, kept};
 ghost use Rattle.copying.specs.Output.{Written};

@@ -6,8 +6,8 @@ ghost use lib.ListN.{length};
 ghost use Rattle.formula.specs.Tree.{without, assign};
 ghost use Rattle.sheet.specs.Sheet.{binding-row, tree-rows};
 ghost use Rattle.rows.specs.Rows.{Room};
-ghost use Rattle.copying.specs.Reading.{Readable, Quantified, prefix-in, matrix-in};
-ghost use Rattle.copying.specs.Places.{place};
+ghost use Rattle.reading.specs.Reading.{Readable, prefix-in, matrix-in, Quantified};
+ghost use Rattle.reading.specs.Places.{place};
 ghost use Rattle.copying.specs.Output.{Written, Raw};
 use crate::write::write_copy;
 

@@ -19,18 +19,6 @@ use Rattle.checking.proofs.Accepted.{AcceptedSheet, accepted-room, accepted-row
 use Rattle.reading.specs.Reading.{node-rows-in, prefix-in, matrix-in, Readable}
 use Rattle.settle.specs.Plan.{Choice, choice, formula-in, choice-in, later-tests, settle-plan}
 
--- a refusal of the first tests is the answer, whatever would be returned and whichever tests follow
-pub refused-first : {A B : Type 0} {n i : ℕ} (ts us : List Test) (a : A) (b : B) → refused n i ≡ answer ts a → refused n i ≡ answer (ts ++ us) b
-unfolding answer
-refused-first [] us a b h = let z : _≡_ {A = ℕ} 0 1 = cc in absurd (omega arith)
-refused-first {A} {B} {n} {i} (t ∷ ts) us a b h = go (t .fails) h (refused-first ts us a b)
-  where
-    go : (f : Bool) → refused n i ≡ cond f (refused (t .number) (t .place)) (answer ts a)
-        → (refused n i ≡ answer ts a → refused n i ≡ answer (ts ++ us) b)
-        → refused n i ≡ cond f (refused (t .number) (t .place)) (answer (ts ++ us) b)
-    go true e ih = cc
-    go false e ih = ih e
-
 -- 1 to 8
 pub check-refuses : {k i : ℕ} (F : Format) (b : Bytes) (x room : ℕ) → refused k i ≡ check F b → refused k i ≡ settle-plan F b x room
 unfolding check settle-plan settle-tests

@@ -45,3 +45,18 @@ accepted-passes {A} (t ∷ ts) a a′ h = go (t .fails) h (accepted-passes ts a 
         → (answer ts a ≡ accepted a′ → (passes ts ≡ true) × (a ≡ a′)) → ((not b && passes ts) ≡ true) × (a ≡ a′)
     go true e ih = let z : _≡_ {A = ℕ} 0 1 = cc in absurd (omega arith)
     go false e ih = ih e
+
+-- a refusal of the first tests is the answer, whatever would be returned and whichever tests follow
+pub refused-first : {A B : Type 0} {n i : ℕ} (ts us : List Test) (a : A) (b : B) → refused n i ≡ answer ts a → refused n i ≡ answer (ts ++ us) b
+unfolding answer
+refused-first [] us a b h = let z : _≡_ {A = ℕ} 0 1 = cc in absurd (omega arith)
+refused-first {A} {B} {n} {i} (t ∷ ts) us a b h = go (t .fails) h (refused-first ts us a b)
+  where
+    go : (f : Bool) → refused n i ≡ cond f (refused (t .number) (t .place)) (answer ts a)
+        → (refused n i ≡ answer ts a → refused n i ≡ answer (ts ++ us) b)
+        → refused n i ≡ cond f (refused (t .number) (t .place)) (answer (ts ++ us) b)
+    go true e ih = cc
+    go false e ih = ih e
+
+pub refused-alike : {A B : Type 0} {n i : ℕ} (ts : List Test) (a : A) (b : B) → refused n i ≡ answer ts a → refused n i ≡ answer ts b
+refused-alike ts a b h = refused-first ts [] a b h ∙ ap (λ l. answer l b) (append-nil ts)

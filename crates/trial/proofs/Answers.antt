@@ -15,7 +15,7 @@ use Rattle.sheet.specs.Format.{Bytes, Format, Row, row, variables, nodes, prefi
 use Rattle.sheet.specs.Sheet.{binding, formula}
 use Rattle.sheet.specs.Check.{refused, accepted, Test, test, answer, check-tests, check}
 use Rattle.sheet.specs.Operations.{trial-call}
-use Rattle.sheet.proofs.Tests.{answer-++}
+use Rattle.sheet.proofs.Tests.{answer-++, refused-first}
 use Rattle.sheet.proofs.Limits.{numbered, numbered-∷}
 use Rattle.sheet.proofs.Accepted.{rows-matrix, accepted-within, accepted-variables}
 use Rattle.rows.specs.Rows.{rows-in}
@@ -24,18 +24,6 @@ use Rattle.checking.proofs.Accepted.{AcceptedSheet, accepted-room, accepted-row
 use Rattle.trial.specs.declared.Shape.{Shape}
 use Rattle.trial.specs.Jumps.{matrix-rows, OneTree}
 use Rattle.trial.specs.Turns.{unread, semantic-tree, Numbered, Playable}
-
--- a refusal of the first tests is the answer, whatever would be returned and whichever tests follow
-refused-first : {A B : Type 0} {n i : ℕ} (ts us : List Test) (a : A) (b : B) → refused n i ≡ answer ts a → refused n i ≡ answer (ts ++ us) b
-unfolding answer
-refused-first [] us a b h = let z : _≡_ {A = ℕ} 0 1 = cc in absurd (omega arith)
-refused-first {A} {B} {n} {i} (t ∷ ts) us a b h = go (t .fails) h (refused-first ts us a b)
-  where
-    go : (f : Bool) → refused n i ≡ cond f (refused (t .number) (t .place)) (answer ts a)
-        → (refused n i ≡ answer ts a → refused n i ≡ answer (ts ++ us) b)
-        → refused n i ≡ cond f (refused (t .number) (t .place)) (answer (ts ++ us) b)
-    go true e ih = cc
-    go false e ih = ih e
 
 pub check-refuses : {n i : ℕ} (F : Format) (b : Bytes) → refused n i ≡ check F b → refused n i ≡ trial-call F b
 unfolding check trial-call

@@ -3,7 +3,7 @@ use mathlib.Core.Path.{refl, sym, _∙_}
 use Prim.Native.Nat.{_+_, _-_}
 use native.Mathlib.Omega.{arith}
 use Rattle.formula.specs.Tree.{of, rows-all}
-use Rattle.copying.specs.Reading.{node-rows-in}
+use Rattle.reading.specs.Reading.{node-rows-in}
 use Rattle.copying.specs.Ends.{between}
 use Rattle.copying.specs.Expansion.{before-first}
 use Rattle.copying.proofs.TurnChildren.{Sought, Hop, hop, sought-found, sought-next, sought-all}

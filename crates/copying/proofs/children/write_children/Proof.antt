@@ -3,7 +3,7 @@ use mathlib.Core.Path.{refl}
 use mathlib.Core.List.{[]}
 use Prim.Native.Nat.{_-_}
 use native.Mathlib.Omega.{arith}
-use Rattle.copying.specs.Reading.{node-rows-in}
+use Rattle.reading.specs.Reading.{node-rows-in}
 use Rattle.copying.specs.Ends.{between}
 use Rattle.copying.specs.Expansion.{kept}
 use Rattle.copying.proofs.TurnChildren.{Picking, Hop, hop, nothing-written, picking-room, picking-next, picking-all}

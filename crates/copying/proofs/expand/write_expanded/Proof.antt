@@ -8,7 +8,7 @@ use Rattle.formula.specs.Tree.{without}
 use Rattle.formula.specs.Expand.{expand-tree}
 use Rattle.sheet.specs.Sheet.{binding-row, operator-kind, tree-rows}
 use Rattle.rows.specs.Rows.{Room}
-use Rattle.copying.specs.Reading.{prefix-in}
+use Rattle.reading.specs.Reading.{prefix-in}
 use Rattle.copying.specs.Expansion.{copying-in, ancestor-in}
 use Rattle.copying.proofs.Splice.{written-rest, raw-written}
 use Rattle.copying.proofs.Source.{joint-of}

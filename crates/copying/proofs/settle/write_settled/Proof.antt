@@ -4,7 +4,7 @@ use mathlib.Core.List.{map, _++_}
 use native.Mathlib.Omega.{arith}
 use Rattle.formula.specs.Tree.{without}
 use Rattle.sheet.specs.Sheet.{binding-row}
-use Rattle.copying.specs.Reading.{prefix-in}
+use Rattle.reading.specs.Reading.{prefix-in}
 use Rattle.copying.proofs.Assigned.{rows-assigned}
 use Rattle.copying.proofs.Splice.{written-rest, raw-written}
 use Rattle.copying.proofs.Source.{matrix-copied}
