@@ -13,7 +13,7 @@ use Rattle.sheet.specs.Format.{Bytes, Format, variables, nodes}
 use Rattle.sheet.specs.Sheet.{formula}
 use Rattle.sheet.specs.Check.{Answer, refused, accepted, Test, test, answer}
 use Rattle.sheet.specs.Operations.{settle-tests}
-use Rattle.reading.specs.Reading.{prefix-in, matrix-in}
+use Rattle.reading.specs.Reading.{formula-in}
 use Rattle.reading.specs.Places.{place}
 use Rattle.settle.specs.declared.plan.Plan.{Plan}
 use Rattle.settle.specs.declared.plan.Plan.the-variants.{Refused, Put}
@@ -38,9 +38,6 @@ unfoldable pub settle-plan : Format → Bytes → ℕ → ℕ → Answer Choice
 settle-plan F b x room = answer (settle-tests F b x room) (choice (variables F b) (nodes F b) x (formula F b))
 
 -- the same on a sheet that Check accepts: v quantifier rows and n node rows, numbers being w bytes wide
-unfoldable pub formula-in : ℕ → ℕ → ℕ → Bytes → Formula
-formula-in w v n b = record { prefix = prefix-in w v n b; matrix = matrix-in w v n b }
-
 unfoldable pub choice-in : ℕ → ℕ → ℕ → Bytes → ℕ → Choice
 choice-in w v n b x = choice v n x (formula-in w v n b)
 

@@ -12,7 +12,7 @@ ghost use Rattle.checking.specs.Stages.{Manageable};
 ghost use Rattle.reading.specs.Reading.{Readable};
 ghost use Rattle.settle.specs.Plan.{plan-answer, choice-in, later-tests, settle-plan};
 
-// The most node rows of a sheet.
+// The most node rows of a sheet of the wider format.
 const ROWS: usize = 8192;
 
 // A refusal's number and place; or V, N, the prefix row of the variable, and the value that goes in.

@@ -7,7 +7,7 @@ use lib.ListN.{length}
 use Rattle.rows.specs.Formats.{format-of}
 use Rattle.settle.specs.Plan.{plan-answer}
 use Rattle.settle.proofs.Chosen.{Chosen, chosen}
-use Rattle.settle.proofs.Settled.{refused-call, source, quantified, row-source, raw-room, raw-few, raw-sound, settled-answer, settled-output}
+use Rattle.settle.proofs.Settled.{refused-call, source, rows-source, row-source, raw-room, raw-few, raw-sound, settled-answer, settled-output}
 use Rattle.settle.proofs.settle_in.Statement.{statement}
 use Rattle.settle.proofs.settle_in.Tie as tie
 
@@ -38,7 +38,7 @@ write-settled-requires c κs =
     let k = start told .pre in
     let out = start told .args .out .now in
     let ch = put told in
-    (source k out ch, quantified k out ch, ch .has-row, row-source k out ch, raw-room k out ch refl)
+    (source k out ch, rows-source k out ch, ch .has-row, row-source k out ch, raw-room k out ch refl)
 
 sub-tidy-in-place : tie.Need-sub-tidy-in-place
 sub-tidy-in-place c = omega (arith, put (c .before .before .before .before .before .before) .has-row)
