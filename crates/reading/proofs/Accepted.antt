@@ -2,60 +2,58 @@
 -- Assumes nothing.
 use mathlib.Core.Path.{_≡_, sym, ap, ap₂, _∙_}
 use mathlib.Core.Bool.{true}
-use mathlib.Core.List.{map}
-use Prim.Native.Nat.{ℕ, _≤_, _<_}
+use Prim.Native.Nat.{ℕ, _+_, _≤_, _<_}
 use native.Mathlib.Omega.{arith}
 use lib.ListN.{length, take, drop}
-use Rattle.formula.specs.Tree.{Prefix, Tree, Formula}
+use Rattle.formula.specs.Tree.{Formula}
 use Rattle.formula.specs.Settle.{settling, may-settle}
-use Rattle.sheet.specs.Format.{Bytes, Format, sheet-length, variables, nodes, prefix-rows, node-rows}
-use Rattle.sheet.specs.Sheet.{binding, binding-row, trees, root, tree-rows, formula}
+use Rattle.sheet.specs.Format.{Bytes, Format, sheet-length, variables, nodes, all-rows, prefix-rows, node-rows}
+use Rattle.sheet.specs.Sheet.{formula}
 use Rattle.sheet.specs.Check.{passes, check-tests}
 use Rattle.sheet.proofs.CheckTests.{passed, passed-sizes, passed-quantifiers}
 use Rattle.sheet.proofs.Accepted.{accepted-length, rows-matrix}
+use Rattle.rows.specs.Rows.{rows-in}
 use Rattle.rows.proofs.Rows.{all-rows-in}
 use Rattle.reading.specs.Reading.{node-rows-in, prefix-in, matrix-in, formula-in, Readable, Quantified}
 use Rattle.reading.specs.Places.{place, binding-at}
 use Rattle.reading.proofs.Places.{quantifier-of-place, variable-place}
 
-module _ (F : Format) (b : Bytes) where
-  node-rows-read : node-rows-in (F .width) (variables F b) (nodes F b) b ≡ node-rows F b
+module _ (F : Format) (b : Bytes) {v n : ℕ} (vs : v ≡ variables F b) (ns : n ≡ nodes F b) where
+  rows-read : rows-in (F .width) (v + n) b ≡ all-rows F b
+  rows-read = rw (vs, ns) (sym (all-rows-in F b))
+
+  node-rows-read : node-rows-in (F .width) v n b ≡ node-rows F b
   unfolding node-rows-in node-rows
-  node-rows-read = ap (drop (variables F b)) (sym (all-rows-in F b))
+  node-rows-read = ap₂ drop vs rows-read
 
-  pub matrix-read : matrix-in (F .width) (variables F b) (nodes F b) b ≡ (formula F b) .matrix
-  unfolding matrix-in formula
-  matrix-read = ap (λ rs. root (trees rs)) node-rows-read
+  prefix-rows-read : take v (rows-in (F .width) (v + n) b) ≡ prefix-rows F b
+  unfolding prefix-rows
+  prefix-rows-read = ap₂ take vs rows-read
 
-  pub prefix-read : prefix-in (F .width) (variables F b) (nodes F b) b ≡ (formula F b) .prefix
-  unfolding prefix-in formula prefix-rows
-  prefix-read = ap (λ rs. map binding (take (variables F b) rs)) (sym (all-rows-in F b))
+  pub formula-read : formula-in (F .width) v n b ≡ formula F b
+  unfolding formula-in prefix-in matrix-in formula
+  formula-read = rw (prefix-rows-read, node-rows-read)
 
-  pub formula-read : formula-in (F .width) (variables F b) (nodes F b) b ≡ formula F b
-  unfolding formula-in formula
-  formula-read = ap₂ (λ (p : Prefix) (t : Tree). record { prefix = p; matrix = t }) prefix-read matrix-read
+  module _ (h : passes (check-tests F b) ≡ true) where
+    pub quantified : Quantified (F .width) v n b
+    unfolding prefix-in
+    quantified =
+        record {
+          quantifiers =
+              rw prefix-rows-read (passed-quantifiers F (prefix-rows F b) (passed F b h .quantifiers) .rows-of-prefix);
+        }
 
-  pub quantified : passes (check-tests F b) ≡ true → Quantified (F .width) (variables F b) (nodes F b) b
-  unfolding formula prefix-rows
-  quantified h =
-      record {
-        quantifiers =
-            ap (map binding-row) prefix-read ∙
-            passed-quantifiers F (prefix-rows F b) (passed F b h .quantifiers) .rows-of-prefix ∙ ap (take (variables F b)) (all-rows-in F b);
-      }
-
-  pub readable : F .width ≤ 4 → F .most-variables ≤ 1024 → F .most-nodes ≤ 8192 → passes (check-tests F b) ≡ true
-      → Readable (F .width) (variables F b) (nodes F b) b
-  unfolding sheet-length
-  readable narrow few-variables few-nodes h =
-      let sizes = passed-sizes F b (passed F b h .sizes) in
-      record {
-        room = record { few-bytes = narrow; holds = omega (arith, accepted-length F b h) };
-        few-variables = omega (arith, sizes .few-variables);
-        some-nodes = sizes .some-node;
-        few-nodes = omega (arith, sizes .few-nodes);
-        one-tree = ap tree-rows matrix-read ∙ rows-matrix F b h ∙ sym node-rows-read;
-      }
+    pub readable : F .width ≤ 4 → F .most-variables ≤ 1024 → F .most-nodes ≤ 8192 → Readable (F .width) v n b
+    unfolding sheet-length matrix-in formula
+    readable narrow few-variables few-nodes =
+        let sizes = passed-sizes F b (passed F b h .sizes) in
+        record {
+          room = record { few-bytes = narrow; holds = rw (vs, ns) (omega (arith, accepted-length F b h)) };
+          few-variables = omega (arith, vs, sizes .few-variables);
+          some-nodes = omega (arith, ns, sizes .some-node);
+          few-nodes = omega (arith, ns, sizes .few-nodes);
+          one-tree = rw node-rows-read (rows-matrix F b h);
+        }
 
 -- the value for x is the one for its row
 pub may-settle-place : (x : ℕ) (f : Formula) → place x (f .prefix) < length (f .prefix)

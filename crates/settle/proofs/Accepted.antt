@@ -21,15 +21,15 @@ check-refuses F b x room h = rw append-assoc (refused-first (check-tests F b) _ 
 
 module _ {F : Format} {b : Bytes} {v n : ℕ} (m : Manageable F) (sheet : AcceptedSheet F b v n) where
   pub formula-of : formula-in (F .width) v n b ≡ formula F b
-  formula-of = rw (sheet .right .variables-are, sheet .right .nodes-are) (reading.formula-read F b)
+  formula-of = reading.formula-read F b (sheet .right .variables-are) (sheet .right .nodes-are)
+
+  pub quantified : Quantified (F .width) v n b
+  quantified = reading.quantified F b (sheet .right .variables-are) (sheet .right .nodes-are) (sheet .tests-pass)
 
   pub readable : Readable (F .width) v n b
   readable =
-      rw (sheet .right .variables-are, sheet .right .nodes-are)
-      (reading.readable F b (m .few-bytes) (m .few-variables) (m .few-nodes) (sheet .tests-pass))
-
-  pub quantified : Quantified (F .width) v n b
-  quantified = rw (sheet .right .variables-are, sheet .right .nodes-are) (reading.quantified F b (sheet .tests-pass))
+      reading.readable F b (sheet .right .variables-are) (sheet .right .nodes-are) (sheet .tests-pass)
+      (m .few-bytes) (m .few-variables) (m .few-nodes)
 
   -- 9 to 13, once 1 to 8 have passed
   pub plan-later : (x room : ℕ) → answer (later-tests (F .width) v n b x room) (choice-in (F .width) v n b x) ≡ settle-plan F b x room

@@ -7,32 +7,26 @@ use mathlib.Core.List.{List, _++_, map}
 use mathlib.Core.Option.{Option·getD}
 use Prim.Native.Nat.{ℕ, _+_, _-_, _^_, _<_}
 use native.Mathlib.Omega.{arith}
-use lib.ListN.{length, length-map}
-use lib.Seq.{take-at, drop-at}
+use lib.ListN.{length}
 use Rattle.formula.specs.Tree.{Formula, without, assign}
 use Rattle.formula.specs.Tidy.{tidied}
 use Rattle.formula.specs.Settle.{may-settle, settled}
 use Rattle.formula.proofs.Closed.{length-without}
-use Rattle.sheet.specs.Format.{Bytes, Format, narrow, Row}
+use Rattle.sheet.specs.Format.{Bytes, Format, Row}
 use Rattle.sheet.specs.Sheet.{binding-row, tree-rows, formula, formula-rows, sheet}
 use Rattle.sheet.specs.Check.{Answer, refused, accepted, answer}
 use Rattle.sheet.specs.Operations.{padded, output-after, write, settle-tests, settle-call}
 use Rattle.sheet.proofs.Tests.{answer-passes, refused-alike}
-use Rattle.sheet.proofs.Preorder.{root-trees}
-use Rattle.sheet.proofs.CheckTests.{map-binding-row}
 use Rattle.sheet.proofs.Accepted.{accepted-variables}
 use Rattle.rows.specs.Rows.{Room}
-use Rattle.checking.proofs.Accepted.{narrow-manageable}
 use Rattle.reading.specs.Reading.{Readable, Quantified, prefix-in, matrix-in, formula-in}
 use Rattle.reading.specs.Places.{place}
 use Rattle.tidying.specs.InPlace.{rows-formula}
-use Rattle.settle.specs.Limits.{Countable}
+use Rattle.tidying.specs.Limits.{Countable}
+use Rattle.tidying.proofs.Raw as raw
 use Rattle.settle.specs.Plan.{settle-plan}
 use Rattle.settle.proofs.Accepted.{formula-of, readable, quantified}
 use Rattle.settle.proofs.Chosen.{Chosen}
-
-pub narrow-countable : Countable narrow
-narrow-countable = record { manageable = narrow-manageable; few-rows = omega arith }
 
 -- refused: the answer is the plan's, and no byte of the output changes
 
@@ -43,14 +37,6 @@ refused-call {k} {p} F b x out h =
     let new = sheet F (settled x (Option·getD (may-settle x (formula F b)) false) (formula F b)) in
     let e = refused-alike (settle-tests F b x (length out)) _ (length new) h in
     (e, ap (λ (a : Answer ℕ). output-after a new out) e)
-
--- the rows of a formula, read again
-read-back : (f : Formula) (v : ℕ) → v ≡ length (f .prefix) → rows-formula v (formula-rows f) ≡ f
-unfolding rows-formula formula-rows
-read-back f v e =
-    let P = map binding-row (f .prefix) in
-    let counted : length P ≡ v = length-map (f .prefix) binding-row ∙ sym e in
-    rw (take-at P (tree-rows (f .matrix)) v counted, drop-at P (tree-rows (f .matrix)) v counted, map-binding-row, root-trees)
 
 module _ {F : Format} {b : Bytes} {x v n i : ℕ} {c : Bool} (k : Countable F) (out : Bytes) (ch : Chosen F b x (length out) v n i c) where
   pub source : Readable (F .width) v n b
@@ -87,21 +73,18 @@ module _ {F : Format} {b : Bytes} {x v n i : ℕ} {c : Bool} (k : Countable F) (
       )
 
   module _ {R : List Row}
-      (raw : R ≡ map binding-row (without x (prefix-in (F .width) v n b)) ++ tree-rows (assign x c (matrix-in (F .width) v n b))) where
+      (written : R ≡ map binding-row (without x (prefix-in (F .width) v n b)) ++ tree-rows (assign x c (matrix-in (F .width) v n b))) where
     raw-rows : R ≡ formula-rows put-in
     unfolding formula-rows formula-in
     raw-rows =
-        raw ∙ ap (λ (f : Formula). map binding-row (without x (f .prefix)) ++ tree-rows (assign x c (f .matrix))) same-formula
-
-    raw-formula : rows-formula (v - 1) R ≡ put-in
-    raw-formula = ap (rows-formula (v - 1)) raw-rows ∙ read-back put-in (v - 1) one-less
+        written ∙ ap (λ (f : Formula). map binding-row (without x (f .prefix)) ++ tree-rows (assign x c (f .matrix))) same-formula
 
     pub raw-sound : formula-rows (rows-formula (v - 1) R) ≡ R
-    raw-sound = ap formula-rows raw-formula ∙ sym raw-rows
+    raw-sound = raw.raw-sound put-in (v - 1) one-less raw-rows
 
     tidied-raw : tidied (rows-formula (v - 1) R) ≡ settled x (Option·getD (may-settle x (formula F b)) false) (formula F b)
     unfolding tidied settled
-    tidied-raw = ap tidied raw-formula ∙ ap (λ d. settled x d (formula F b)) (ch .value-is)
+    tidied-raw = ap tidied (raw.raw-formula put-in (v - 1) one-less raw-rows) ∙ ap (λ d. settled x d (formula F b)) (ch .value-is)
 
     new-answer : answer (settle-tests F b x (length out)) (length (sheet F (tidied (rows-formula (v - 1) R)))) ≡
         accepted (length (sheet F (tidied (rows-formula (v - 1) R))))

@@ -1,3 +1,2 @@
--- What Settle decides, and the formats that its code takes.
+-- What Settle decides.
 pub mod Plan
-pub mod Limits

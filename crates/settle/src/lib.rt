@@ -9,7 +9,7 @@ ghost use Rattle.sheet.specs.Format.{narrow};
 ghost use Rattle.sheet.specs.Operations.{settle-call};
 ghost use Rattle.rows.specs.Formats.{format-of};
 ghost use Rattle.tidying.specs.Answers.{written-answer};
-ghost use Rattle.settle.specs.Limits.{Countable};
+ghost use Rattle.tidying.specs.Limits.{Countable};
 
 pub mod plan;
 

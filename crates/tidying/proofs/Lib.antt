@@ -11,3 +11,4 @@ pub mod Backward
 pub mod Packing
 pub mod InPlace
 pub mod Call
+pub mod Raw

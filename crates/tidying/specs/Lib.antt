@@ -3,3 +3,4 @@ pub mod Blocks
 pub mod Steps
 pub mod InPlace
 pub mod Answers
+pub mod Limits

@@ -1,4 +1,4 @@
--- The formats that Settle's code takes.
+-- The formats that code which writes sheets takes.
 -- Assumes nothing.
 use Prim.Native.Nat.{_+_, _^_, _<_}
 use Rattle.sheet.specs.Format.{Format}
