@@ -1,0 +1,3 @@
+mod TurnCount
+mod Place
+mod Expanded

@@ -1,0 +1,86 @@
+-- `expand::raw::count_relevant` meets its contract. Assumes nothing.
+use native.Mathlib.Omega.{arith}
+use Rattle.formula.specs.Tree.{count}
+use Rattle.formula.specs.Expand.{relevant}
+use Rattle.reading.specs.Subtrees.{siblings-in, literals}
+use Rattle.reading.proofs.Siblings.{Walked, walk-on}
+use Rattle.expand.proofs.TurnCount.{Counting, count-on, count-fits, count-none}
+use Rattle.expand.proofs.raw.count_relevant.Statement.{statement}
+use Rattle.expand.proofs.raw.count_relevant.Tie as tie
+
+abbrev Inv-loop : tie.InvT-loop
+Inv-loop b width v n ends from children set at₀ left₀ sum₀ at left sum =
+    Counting (literals set) width v n b (count (relevant (literals set) (siblings-in width v n b from children))) at left sum
+
+abbrev μ-loop : tie.MeasureT-loop
+μ-loop b width v n ends from children set at₀ left₀ sum₀ at left sum = left
+
+loop-holds : tie.Need-loop-holds Inv-loop μ-loop
+loop-holds c =
+    let a = c .before .before in
+    record { few = a .pre .2; within = a .pre .3; small = omega arith; same = omega arith }
+
+walked : (c : tie.In-loop Inv-loop μ-loop) →
+    let a = c .before .before .before .before .args in
+    Walked (a .width) (a .v) (a .n) (a .b .now) (a .ends .now) (c .before .loop .at) (c .before .loop .left)
+walked c =
+    let a = c .before .before .before .before in
+    walk-on (a .args .b .now) (a .pre .0) (a .args .ends .now) (a .pre .1) (c .before .loop .at) (c .loop-test .taken)
+    (c .before .loop .inv .few)
+
+mul-end : tie.Need-mul-end Inv-loop μ-loop
+mul-end c = omega (arith, c .before .loop .inv .within, c .before .before .before .before .pre .0 .few-nodes)
+
+shared-slice-read-end : tie.Need-shared-slice-read-end Inv-loop μ-loop
+shared-slice-read-end c = let w = walked (c .before) in omega (arith, c .before .before .before .before .before .pre .1 .holds)
+
+cast-end : tie.Need-cast-end Inv-loop μ-loop
+cast-end c = omega (arith, c .shared-slice-known3 .given (c .before .before .loop .at))
+
+one-if-relevant-requires : tie.Need-one-if-relevant-requires Inv-loop μ-loop
+one-if-relevant-requires c κs =
+    let a = c .before .before .before .before .before in
+    let w = walked (c .before) in
+    (a .pre .0, w .inside, w .next, a .pre .4)
+
+add-sum : tie.Need-add-sum Inv-loop μ-loop
+add-sum c =
+    let head = c .before .before .before in
+    let a = head .before .before .before in
+    omega (
+      arith,
+      count-fits (literals (a .args .set)) (walked (c .before .before)) (head .loop .inv) (c .one-if-relevant .ensures),
+      a .pre .0 .few-nodes,
+    )
+
+sub-left : tie.Need-sub-left Inv-loop μ-loop
+sub-left c = omega arith
+
+loop-less : tie.Need-loop-less Inv-loop μ-loop
+loop-less c = omega arith
+
+loop-again : tie.Need-loop-again Inv-loop μ-loop
+loop-again c =
+    let head = c .before .before .before in
+    let a = head .before .before .before in
+    count-on (literals (a .args .set)) (walked (c .before .before)) (head .loop .inv) (c .one-if-relevant .ensures)
+
+returns : tie.Need-returns Inv-loop μ-loop
+returns c = count-none (literals (c .before .before .before .before .args .set)) (c .loop-test .left) (c .before .loop .inv)
+
+pub count-relevant-spec : {M : Type 1} → statement M
+count-relevant-spec =
+    tie.close
+    (tie.spec
+    Inv-loop
+    μ-loop
+    loop-holds
+    mul-end
+    shared-slice-read-end
+    cast-end
+    one-if-relevant-requires
+    add-sum
+    sub-left
+    loop-less
+    loop-again
+    returns)

@@ -1,0 +1,1 @@
+-- What Expand decides.
