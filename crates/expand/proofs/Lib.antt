@@ -1,3 +1,5 @@
 mod TurnCount
 mod Place
 mod Expanded
+mod Accepted
+mod Decision

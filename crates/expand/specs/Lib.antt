@@ -1,1 +1,2 @@
 -- What Expand decides.
+pub mod Plan

@@ -1,0 +1,54 @@
+-- `expand::plan::plan_expand` meets its contract: a refusal of Check is Expand's, and else the later tests decide.
+-- Assumes nothing.
+use mathlib.Core.Path.{sym, ap, _∙_}
+use borrow.Author.Needs.{needs}
+use Rattle.rows.specs.Formats.{format-of}
+use Rattle.checking.specs.Answers.{checked-answer}
+use Rattle.checking.proofs.Accepted.{AcceptedSheet, accepted-sheet}
+use Rattle.expand.proofs.Accepted.{check-refuses, readable, plan-later}
+use Rattle.expand.proofs.plan.plan_expand.Statement.{statement}
+use Rattle.expand.proofs.plan.plan_expand.Tie as tie
+
+abbrev start : tie.After-c2 → tie.Start
+start c = c .before .before .before .before
+
+-- the sheet that Check accepted
+accepted : (c : tie.After-c2)
+    → AcceptedSheet (format-of (start c .args .f)) (start c .args .sheet .now) (c .c2 .given .0 .0) (c .c2 .given .0 .1 .0)
+accepted c = accepted-sheet (c .c2 .given .1) (c .before .before .check-in .ensures)
+
+check-in-requires : tie.Need-check-in-requires
+check-in-requires c κs = search needs
+
+enum-known-c : tie.Need-enum-known-c
+enum-known-c c = search needs
+
+enum-known-c-2 : tie.Need-enum-known-c-2
+enum-known-c-2 c = search needs
+
+plan-checked-requires : tie.Need-plan-checked-requires
+plan-checked-requires c κs = let m = start (c .before) .pre in (m, readable m (accepted (c .before)))
+
+returns : tie.Need-returns
+returns c =
+    let told = c .before in
+    let checked = told .before .before in
+    let a = checked .before .before .args in
+    check-refuses (format-of (a .f)) (a .sheet .now) (a .x) (a .room) (sym (ap checked-answer (told .c .given .1)) ∙ checked .check-in .ensures)
+
+returns-2 : tie.Need-returns-2
+returns-2 c =
+    let told = c .before .before in
+    let a = start told .args in
+    c .plan-checked .ensures ∙ plan-later (start told .pre) (accepted told) (a .x) (a .room)
+
+pub plan-expand-spec : {M : Type 1} → statement M
+plan-expand-spec =
+    tie.close
+    (tie.spec
+    check-in-requires
+    enum-known-c
+    enum-known-c-2
+    plan-checked-requires
+    returns
+    returns-2)
