@@ -1,5 +1,7 @@
 mod TurnCount
 mod Place
-mod Expanded
+mod RawRows
 mod Accepted
 mod Decision
+mod Chosen
+mod Expanded

@@ -14,7 +14,7 @@ ghost use Rattle.reading.specs.Reading.{Readable};
 ghost use Rattle.expand.specs.Plan.{plan-answer, choice-in, later-tests, expand-plan};
 
 // The most node rows of a sheet of the wider format.
-const ROWS: usize = 8192;
+pub const ROWS: usize = 8192;
 
 // A refusal's number and place; or V, N, the prefix row of the variable, and the raw sheet's node rows.
 pub enum Plan {

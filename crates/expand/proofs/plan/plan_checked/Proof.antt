@@ -1,6 +1,5 @@
 -- `expand::plan::plan_checked` meets its contract: 9, 10, 11 and 13 in this order, and else the row and the raw rows.
 -- Assumes nothing.
-use mathlib.Core.Path.{_≡_}
 use Prim.Native.Nat.{_+_, _*_, _-_, _≤_}
 use native.Mathlib.Omega.{arith}
 use borrow.Author.Needs.{needs}

@@ -34,7 +34,8 @@ returns c =
     let told = c .before in
     let checked = told .before .before in
     let a = checked .before .before .args in
-    check-refuses (format-of (a .f)) (a .sheet .now) (a .x) (a .room) (sym (ap checked-answer (told .c .given .1)) ∙ checked .check-in .ensures)
+    check-refuses (format-of (a .f)) (a .sheet .now) (a .x) (a .room)
+    (sym (ap checked-answer (told .c .given .1)) ∙ checked .check-in .ensures)
 
 returns-2 : tie.Need-returns-2
 returns-2 c =

@@ -14,7 +14,7 @@ use Rattle.reading.specs.Cost.{relevant-part}
 use Rattle.reading.proofs.Siblings.{subtree-root, root-end}
 use Rattle.reading.proofs.Sets.{literals-of}
 use Rattle.expand.proofs.Place.{part-within, place-found}
-use Rattle.expand.proofs.Expanded.{raw-expanded, rows-absent, raw-settled}
+use Rattle.expand.proofs.RawRows.{raw-expanded, rows-absent, raw-settled}
 use Rattle.expand.proofs.raw.write_raw.Statement.{statement}
 use Rattle.expand.proofs.raw.write_raw.Tie as tie
 
