@@ -15,6 +15,7 @@ use Rattle.copying.specs.Expansion.{copying-in}
 use Rattle.copying.specs.Output.{Raw}
 use Rattle.copying.proofs.Copies.{raw-unchanged}
 
+-- prefix and matrix as they are copied
 pub raw-expanded : (w v n : ℕ) (b : Bytes) (x : ℕ)
     → formula-rows (raw x (formula-in w v n b)) ≡
     map binding-row (without x (prefix-in w v n b)) ++ tree-rows (raw-tree (copying-in w v n b x) (matrix-in w v n b))

@@ -1,4 +1,4 @@
--- `expand::raw::count_relevant` meets its contract. Assumes nothing.
+-- `expand::raw::count_relevant` meets its contract: the count so far and what is left make the whole. Assumes nothing.
 use native.Mathlib.Omega.{arith}
 use Rattle.formula.specs.Tree.{count}
 use Rattle.formula.specs.Expand.{relevant}
