@@ -1,0 +1,4 @@
+-- The prefix of distinct numbers by its rows, and the turns of this crate's loops.
+mod Rows
+mod TurnSettle
+mod TurnExpand

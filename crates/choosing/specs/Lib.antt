@@ -1,0 +1,2 @@
+-- Which variable Solve takes next.
+pub mod Choosing
