@@ -42,6 +42,14 @@ pub record Choosing (w v n : ℕ) (b : Bytes) (i : ℕ) (best : SettleChoice) : 
   pub within : i ≤ v
   pub chosen : SettleOf w v n b (lowest-from i (formula-in w v n b)) best
 
+pub settle-start : {w v n : ℕ} (b : Bytes) → Readable w v n b → Choosing w v n b v Nothing
+unfolding lowest-from formula-in those least
+settle-start {w} {v} {n} b ok =
+    record {
+      within = omega arith;
+      chosen = ap (λ p. least ltb (those (λ x. is-some (may-settle x (formula-in w v n b))) p)) (no-rows b ok v refl);
+    }
+
 pub settle-back : {w v n : ℕ} (b : Bytes) {i : ℕ} {best : SettleChoice} → 0 < i → Choosing w v n b i best
     → SettleOf w v n b (lowest-from (suc (i - 1)) (formula-in w v n b)) best
 settle-back {w} {v} {n} b {i} {best} h c =
@@ -55,14 +63,6 @@ settle-all {w} {v} {n} b {i} {best} h c =
     subst (λ k. SettleOf w v n b (lowest-from k (formula-in w v n b)) best) first (c .chosen)
 
 module _ {w v n : ℕ} (b : Bytes) (ok : Readable w v n b) (bound : Bound w v n b) where
-  pub settle-start : Choosing w v n b v Nothing
-  unfolding lowest-from formula-in those least
-  settle-start =
-      record {
-        within = omega arith;
-        chosen = ap (λ p. least ltb (those (λ x. is-some (may-settle x (formula-in w v n b))) p)) (no-rows b ok v refl);
-      }
-
   -- by whether row i's variable may be settled
   lowest-row : (i : ℕ) (o : Option Bool) → i < v
       → o ≡ settling ((binding-in w v n b i) .quantifier) ((binding-in w v n b i) .variable) (matrix-in w v n b)
