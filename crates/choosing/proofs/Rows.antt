@@ -30,7 +30,7 @@ binds-row (z ∷ p) (suc i) h =
     ap (λ (e : Bool). eqb (z .variable) x || e) (binds-row p i (omega arith)) ∙ or-true (eqb (z .variable) x)
 
 -- the row of a row's number is that row
-pub place-row : (p : Prefix) (i : ℕ) → distinct p ≡ true → i < length p → place ((binding-at p i) .variable) p ≡ i
+place-row : (p : Prefix) (i : ℕ) → distinct p ≡ true → i < length p → place ((binding-at p i) .variable) p ≡ i
 unfolding place binding-at distinct
 place-row [] i d h = absurd (omega arith)
 place-row (z ∷ p) zero d h = ap (λ (e : Bool). cond e 0 (suc (place (z .variable) p))) (eq-eqb (z .variable) (z .variable) refl)

@@ -33,7 +33,7 @@ literal-of-kind k x (lit false v) low high e = rw (← e)
 literal-of-kind k x (node and ts) low high e = absurd (omega arith)
 literal-of-kind k x (node or ts) low high e = absurd (omega arith)
 
-pub not-of-kind : (k x : ℕ) (t : Tree) → 3 ≤ k → k ≤ 4 → ((top t) .kind ≡ k → ⊥) → is-lit (of-sign (eqb k 3) x) t ≡ false
+not-of-kind : (k x : ℕ) (t : Tree) → 3 ≤ k → k ≤ 4 → ((top t) .kind ≡ k → ⊥) → is-lit (of-sign (eqb k 3) x) t ≡ false
 unfolding is-lit
 not-of-kind k x (lit true v) low high e = rw (ne-eqb k 3 (λ p. e (sym p)))
 not-of-kind k x (lit false v) low high e = let three : k ≡ 3 = omega arith in rw three
@@ -41,15 +41,15 @@ not-of-kind k x (node o ts) low high e = refl
 
 -- one row marked
 
-pub mark-none : (table : List Bool) {P : ℕ → Bool} → ((x : ℕ) → x < length table → P x ≡ false) → Marked table table P
+mark-none : (table : List Bool) {P : ℕ → Bool} → ((x : ℕ) → x < length table → P x ≡ false) → Marked table table P
 mark-none table {P} fails =
     record { same-length = refl; entry = λ x h. sym (ap (λ c. getD table x false || c) (fails x h) ∙ or-false (getD table x false)) }
 
-module _ (table : List Bool) (k y : ℕ) (t : Tree) (low : 3 ≤ k) (high : k ≤ 4) where
+module _ (table : List Bool) (k : ℕ) (t : Tree) (low : 3 ≤ k) (high : k ≤ 4) where
   pub mark-other : ((top t) .kind ≡ k → ⊥) → Marked table table (λ x. is-lit (of-sign (eqb k 3) x) t)
   mark-other e = mark-none table (λ x h. not-of-kind k x t low high e)
 
-  module _ (same : (top t) .kind ≡ k) (is : y ≡ (top t) .argument) where
+  module _ {y : ℕ} (same : (top t) .kind ≡ k) (is : y ≡ (top t) .argument) where
     marked-by : (x : ℕ) → is-lit (of-sign (eqb k 3) x) t ≡ eqb y x
     marked-by x = literal-of-kind k x t low high same ∙ ap (λ z. eqb z x) (sym is)
 

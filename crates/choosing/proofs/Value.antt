@@ -47,7 +47,7 @@ unfolding settling may-take
 settling-signs q x t = rw (has-signs x t)
 
 -- an entry of a table
-pub marks-entry : {table : List Bool} {P : ℕ → Bool} (x : ℕ) → x ≤ 1024 → Marks table P → getD table x false ≡ P x
+marks-entry : {table : List Bool} {P : ℕ → Bool} (x : ℕ) → x ≤ 1024 → Marks table P → getD table x false ≡ P x
 marks-entry {table} {P} x h m =
     m .entry x (omega (arith, length-replicate 1025 false)) ∙ ap (λ c. c || P x) (empty 1025 x)
   where

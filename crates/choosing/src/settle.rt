@@ -16,7 +16,7 @@ ghost use Rattle.reading.specs.Signs.{quantifier-at, value-of};
 ghost use Rattle.choosing.specs.Choosing.{Bound, SettleOf, ToSettle, lowest-from, lower-of};
 ghost use Rattle.choosing.specs.Marks.{SignMarks, settling-by};
 
-// The highest variable number of the wider format, and one more.
+// Entries of a table by variable number, which is at most 1,024.
 const NUMBERS: usize = 1025;
 
 // The variable to settle: its prefix row, its number and the value that goes in; or none may be settled.

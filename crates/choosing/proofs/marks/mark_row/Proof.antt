@@ -19,7 +19,7 @@ returns : tie.Need-returns
 returns c =
     let a = c .before .before .before .before in
     let k = kind-top (a .args .b .now) (a .pre .0) (a .args .i) (a .pre .1) (c .before .kind-at .ensures) in
-    mark-other (a .args .table .now) (a .args .kind) 0 _ (a .pre .2) (a .pre .3) (λ e. c .if1 .taken (k ∙ e))
+    mark-other (a .args .table .now) (a .args .kind) _ (a .pre .2) (a .pre .3) (λ e. c .if1 .taken (k ∙ e))
 
 add-argument-at : tie.Need-add-argument-at
 add-argument-at c = search needs
@@ -35,7 +35,7 @@ returns-2 c =
     let read = c .before in
     let test = read .before in
     let a = test .before .before .before .before in
-    mark-past (a .args .table .now) (a .args .kind) (read .argument-at .result) _ (a .pre .2) (a .pre .3)
+    mark-past (a .args .table .now) (a .args .kind) _ (a .pre .2) (a .pre .3)
     (sym (kind-top (a .args .b .now) (a .pre .0) (a .args .i) (a .pre .1) (test .before .kind-at .ensures)) ∙ test .if1 .left)
     (argument-top (a .args .b .now) (a .pre .0) (a .args .i) (a .pre .1) (read .argument-at .ensures .0)) (c .if2 .taken)
 
@@ -50,7 +50,7 @@ returns-3 c =
     let read = c .before in
     let test = read .before in
     let a = test .before .before .before .before in
-    mark-one (a .args .table .now) (a .args .kind) (read .argument-at .result) _ (a .pre .2) (a .pre .3)
+    mark-one (a .args .table .now) (a .args .kind) _ (a .pre .2) (a .pre .3)
     (sym (kind-top (a .args .b .now) (a .pre .0) (a .args .i) (a .pre .1) (test .before .kind-at .ensures)) ∙ test .if1 .left)
     (argument-top (a .args .b .now) (a .pre .0) (a .args .i) (a .pre .1) (read .argument-at .ensures .0)) (c .if2 .left)
 
