@@ -13,6 +13,6 @@ pub mod Accepted
 mod TurnLiterals
 mod TurnFaults
 mod TurnPlaces
-mod TurnSigns
+pub mod TurnSigns
 mod TurnCost
 mod Descent

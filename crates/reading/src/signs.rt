@@ -94,7 +94,7 @@ fn takes(b: &[u8], width: usize, v: usize, n: usize, ends: &[u16], x: usize, kin
 }
 
 // The value that the table has for a quantifier and a sign.
-fn table_value(quantifier: usize, sign: usize) -> bool
+pub fn table_value(quantifier: usize, sign: usize) -> bool
     requires { ⌜ (quantifier < 2) × (sign < 2) ⌝ }
     ensures { λ r. ⌜ r ≡ value (quantifier-at quantifier) (eqb sign 1) ⌝ }
 {
@@ -102,7 +102,7 @@ fn table_value(quantifier: usize, sign: usize) -> bool
 }
 
 // The table's index of the quantifier of prefix row `i`.
-fn quantifier_index(b: &[u8], width: usize, v: usize, n: usize, i: usize) -> usize
+pub fn quantifier_index(b: &[u8], width: usize, v: usize, n: usize, i: usize) -> usize
     requires { ⌜ Readable width v n (now b) × (i < v) ⌝ }
     ensures { λ r. ⌜ (r < 2) × (quantifier-at r ≡ (binding-in width v n (now (b .entry)) i) .quantifier) ⌝ }
 {
