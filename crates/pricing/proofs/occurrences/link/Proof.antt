@@ -1,6 +1,6 @@
 -- `pricing::occurrences::link` meets its contract: of the rows from i on, the literals are in the tables. Assumes nothing.
 use mathlib.Core.Path.{_≡_, refl, sym, _∙_}
-use Prim.Native.Nat.{_-_, _≤_}
+use Prim.Native.Nat.{_≤_}
 use native.Mathlib.Omega.{arith}
 use lib.ListN.{length, length-set}
 use Rattle.pricing.specs.Occurrences.{Linked}
