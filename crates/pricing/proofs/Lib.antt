@@ -1,3 +1,4 @@
 -- Laws of the tables, and the turns of this crate's loops.
 mod Tables
 mod TurnOccurrences
+mod TurnCost

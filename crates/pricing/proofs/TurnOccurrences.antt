@@ -16,7 +16,7 @@ use Rattle.reading.specs.Reading.{Readable, matrix-in}
 use Rattle.reading.specs.Subtrees.{forest-in, subtree-in}
 use Rattle.reading.specs.Cost.{Last}
 use Rattle.reading.proofs.TurnCost.{has-row, forest-root}
-use Rattle.pricing.specs.Occurrences.{variable-of, first-from, Linked, Marked}
+use Rattle.pricing.specs.Occurrences.{variable-of, first-from, Firsts, Nexts, Lasts}
 use Rattle.pricing.proofs.Tables.{is-variable, other-variable, first-here, first-later, first-none}
 
 -- fill
@@ -54,66 +54,69 @@ fill-all {before} {value} {table} {x} h f =
 -- link
 
 module _ {w v n : ℕ} (b : Bytes) (ok : Readable w v n b) where
-  pub link-none : (before : List ℕ) {first next : List ℕ} → first ≡ replicate (length before) n → length before ≡ 1025 → n ≤ length next
-      → Linked w v n b n first next
-  link-none before {first} {next} e size room =
+  pub first-none-left : (before : List ℕ) {first : List ℕ} → first ≡ replicate (length before) n → length before ≡ 1025 → Firsts w v n b n first
+  first-none-left before {first} e size =
       record {
-        first-holds = ap length e ∙ length-replicate (length before) n ∙ size;
-        next-holds = room;
-        first-is =
-            λ x h. ap (λ l. getD l x 0) e ∙ getD-replicate (length before) x n 0 (omega arith) ∙ sym (first-none (of x) b ok);
-        next-is = λ x h j low high l. absurd (omega arith);
+        holds = ap length e ∙ length-replicate (length before) n ∙ size;
+        is = λ x h. ap (λ l. getD l x 0) e ∙ getD-replicate (length before) x n 0 (omega arith) ∙ sym (first-none (of x) b ok);
       }
 
-  pub link-turn : {i j x e : ℕ} {first next : List ℕ} → i ≡ suc j → j < n → x ≡ variable-of (subtree-in w v n b j) → e ≡ getD first x 0
-      → Linked w v n b i first next → Linked w v n b j (set first x j) (set next j e)
-  link-turn {i} {j} {x} {e} {first} {next} is inside var old l =
-      record {
-        first-holds = length-set first x j ∙ l .first-holds;
-        next-holds = omega (arith, length-set next j e, l .next-holds);
-        first-is = λ y h. head y h (is-lit (of y) (subtree-in w v n b j)) refl;
-        next-is = λ y h k low high lit. link y h k low high lit (eqb k j) refl;
-      }
-    where
-      head : (y : ℕ) → y ≤ 1024 → (c : Bool) → is-lit (of y) (subtree-in w v n b j) ≡ c → getD (set first x j) y 0 ≡ first-from (of y) w v n b j
-      head y h true k =
-          let same : x ≡ y = var ∙ is-variable y (subtree-in w v n b j) h k in
-          ap (λ z. getD (set first z j) y 0) same ∙ getD-set-same first y j 0 (omega (arith, l .first-holds)) ∙
-          sym (first-here (of y) b ok j inside k)
-      head y h false k =
-          getD-set-other first x y j 0 (λ same. other-variable y (subtree-in w v n b j) h k (sym var ∙ sym same)) ∙ l .first-is y h ∙
-          ap (first-from (of y) w v n b) is ∙ sym (first-later (of y) b ok j inside k)
+  pub next-none-left : {next : List ℕ} → n ≤ length next → Nexts w v n b n next
+  next-none-left room = record { holds = room; is = λ x h j low high lit. absurd (omega arith) }
 
-      link : (y : ℕ) → y ≤ 1024 → (k : ℕ) → j ≤ k → k < n → is-lit (of y) (subtree-in w v n b k) ≡ true → (c : Bool) → eqb k j ≡ c
-          → getD (set next j e) k 0 ≡ first-from (of y) w v n b (suc k)
-      link y h k low high lit true c =
-          let here : k ≡ j = eqb-true k j c in
-          let same : x ≡ y = var ∙ is-variable y (subtree-in w v n b j) h (ap (λ m. is-lit (of y) (subtree-in w v n b m)) (sym here) ∙ lit) in
-          ap (λ m. getD (set next j e) m 0) here ∙ getD-set-same next j e 0 (omega (arith, l .next-holds)) ∙ old ∙
-          ap (λ z. getD first z 0) same ∙ l .first-is y h ∙ ap (first-from (of y) w v n b) (is ∙ ap suc (sym here))
-      link y h k low high lit false c =
-          let other = eqb-false k j c in
-          getD-set-other next j k e 0 other ∙ l .next-is y h k (omega arith) high lit
+  module _ {i j x : ℕ} {first : List ℕ} (one : i ≡ suc j) (inside : j < n) (var : x ≡ variable-of (subtree-in w v n b j))
+      (f : Firsts w v n b i first) where
+    pub first-turn : Firsts w v n b j (set first x j)
+    first-turn = record { holds = length-set first x j ∙ f .holds; is = λ y h. go y h (is-lit (of y) (subtree-in w v n b j)) refl }
+      where
+        go : (y : ℕ) → y ≤ 1024 → (c : Bool) → is-lit (of y) (subtree-in w v n b j) ≡ c
+            → getD (set first x j) y 0 ≡ first-from (of y) w v n b j
+        go y h true k =
+            let same : x ≡ y = var ∙ is-variable y (subtree-in w v n b j) h k in
+            ap (λ z. getD (set first z j) y 0) same ∙ getD-set-same first y j 0 (omega (arith, f .holds)) ∙
+            sym (first-here (of y) b ok j inside k)
+        go y h false k =
+            getD-set-other first x y j 0 (λ same. other-variable y (subtree-in w v n b j) h k (sym var ∙ sym same)) ∙ f .is y h ∙
+            ap (first-from (of y) w v n b) one ∙ sym (first-later (of y) b ok j inside k)
+
+    pub next-turn : {e : ℕ} {next : List ℕ} → e ≡ getD first x 0 → Nexts w v n b i next → Nexts w v n b j (set next j e)
+    next-turn {e} {next} old l =
+        record {
+          holds = omega (arith, length-set next j e, l .holds);
+          is = λ y h k low high lit. go y h k low high lit (eqb k j) refl;
+        }
+      where
+        go : (y : ℕ) → y ≤ 1024 → (k : ℕ) → j ≤ k → k < n → is-lit (of y) (subtree-in w v n b k) ≡ true → (c : Bool) → eqb k j ≡ c
+            → getD (set next j e) k 0 ≡ first-from (of y) w v n b (suc k)
+        go y h k low high lit true c =
+            let here : k ≡ j = eqb-true k j c in
+            let same : x ≡ y =
+            var ∙ is-variable y (subtree-in w v n b j) h (ap (λ m. is-lit (of y) (subtree-in w v n b m)) (sym here) ∙ lit) in
+            ap (λ m. getD (set next j e) m 0) here ∙ getD-set-same next j e 0 (omega (arith, l .holds)) ∙ old ∙
+            ap (λ z. getD first z 0) same ∙ f .is y h ∙ ap (first-from (of y) w v n b) (one ∙ ap suc (sym here))
+        go y h k low high lit false c =
+            let other = eqb-false k j c in
+            getD-set-other next j k e 0 other ∙ l .is y h k (omega arith) high lit
 
   -- mark
 
-  pub mark-none : {last : List ℕ} → length last ≡ 1025 → Marked w v n b 0 last
+  pub mark-none : {last : List ℕ} → length last ≡ 1025 → Lasts w v n b 0 last
   unfolding has-any
   mark-none size =
       record {
-        last-holds = size;
-        last-is =
+        holds = size;
+        is =
             λ x h some none. absurd
             (true≢false
             (sym some ∙ sym (or-false (has (of x) (matrix-in w v n b))) ∙ sym (ap (has-any (of x)) (forest-root (of x) b ok)) ∙ none));
       }
 
-  pub mark-turn : {i j x : ℕ} {last : List ℕ} → j ≡ suc i → i < n → x ≡ variable-of (subtree-in w v n b i) → Marked w v n b i last
-      → Marked w v n b j (set last x i)
+  pub mark-turn : {i j x : ℕ} {last : List ℕ} → j ≡ suc i → i < n → x ≡ variable-of (subtree-in w v n b i) → Lasts w v n b i last
+      → Lasts w v n b j (set last x i)
   mark-turn {i} {j} {x} {last} is inside var m =
       record {
-        last-holds = length-set last x i ∙ m .last-holds;
-        last-is = λ y h some none. go y h some (ap (λ k. has-any (of y) (forest-in w v n b k)) (sym is) ∙ none) (is-lit (of y) (subtree-in w v n b i)) refl;
+        holds = length-set last x i ∙ m .holds;
+        is = λ y h some none. go y h some (ap (λ k. has-any (of y) (forest-in w v n b k)) (sym is) ∙ none) (is-lit (of y) (subtree-in w v n b i)) refl;
       }
     where
       go : (y : ℕ) → y ≤ 1024 → has (of y) (matrix-in w v n b) ≡ true → has-any (of y) (forest-in w v n b (suc i)) ≡ false
@@ -121,8 +124,8 @@ module _ {w v n : ℕ} (b : Bytes) (ok : Readable w v n b) where
       go y h some none true k =
           let same : x ≡ y = var ∙ is-variable y (subtree-in w v n b i) h k in
           let here : getD (set last x i) y 0 ≡ i =
-          ap (λ z. getD (set last z i) y 0) same ∙ getD-set-same last y i 0 (omega (arith, m .last-holds)) in
+          ap (λ z. getD (set last z i) y 0) same ∙ getD-set-same last y i 0 (omega (arith, m .holds)) in
           rw here (record { inside = inside; is-one = k; none-behind = none })
       go y h some none false k =
           rw (getD-set-other last x y i 0 (λ same. other-variable y (subtree-in w v n b i) h k (sym var ∙ sym same)))
-          (m .last-is y h some (has-row (of y) b ok i inside ∙ ap₂ _||_ k none))
+          (m .is y h some (has-row (of y) b ok i inside ∙ ap₂ _||_ k none))

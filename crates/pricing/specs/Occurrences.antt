@@ -22,21 +22,30 @@ variable-of (node o ts) = 1025
 unfoldable pub first-from : Literals → ℕ → ℕ → ℕ → Bytes → ℕ → ℕ
 first-from L w v n b i = i + first-true (hits-all L (forest-in w v n b i))
 
--- of the rows from i on, the first literal of each variable, and from each literal the next one of its variable
-pub record Linked (w v n : ℕ) (b : Bytes) (i : ℕ) (first next : List ℕ) : Type 0 where
-  pub first-holds : length first ≡ 1025
-  pub next-holds : n ≤ length next
-  pub first-is : (x : ℕ) → x ≤ 1024 → getD first x 0 ≡ first-from (of x) w v n b i
-  pub next-is : (x : ℕ) → x ≤ 1024 → (j : ℕ) → i ≤ j → j < n → is-lit (of x) (subtree-in w v n b j) ≡ true
+-- by variable number: the first literal from row i on, or n
+pub record Firsts (w v n : ℕ) (b : Bytes) (i : ℕ) (first : List ℕ) : Type 0 where
+  pub holds : length first ≡ 1025
+  pub is : (x : ℕ) → x ≤ 1024 → getD first x 0 ≡ first-from (of x) w v n b i
+
+-- by row, from row i on: after a literal the next one of its variable, or n
+pub record Nexts (w v n : ℕ) (b : Bytes) (i : ℕ) (next : List ℕ) : Type 0 where
+  pub holds : n ≤ length next
+  pub is : (x : ℕ) → x ≤ 1024 → (j : ℕ) → i ≤ j → j < n → is-lit (of x) (subtree-in w v n b j) ≡ true
       → getD next j 0 ≡ first-from (of x) w v n b (suc j)
 
--- of the rows before i, the last literal of each variable that has none from row i on
-pub record Marked (w v n : ℕ) (b : Bytes) (i : ℕ) (last : List ℕ) : Type 0 where
-  pub last-holds : length last ≡ 1025
-  pub last-is : (x : ℕ) → x ≤ 1024 → has (of x) (matrix-in w v n b) ≡ true → has-any (of x) (forest-in w v n b i) ≡ false
+-- by variable number: the last literal, if there is one and it is before row i
+pub record Lasts (w v n : ℕ) (b : Bytes) (i : ℕ) (last : List ℕ) : Type 0 where
+  pub holds : length last ≡ 1025
+  pub is : (x : ℕ) → x ≤ 1024 → has (of x) (matrix-in w v n b) ≡ true → has-any (of x) (forest-in w v n b i) ≡ false
       → Last (of x) w v n b (getD last x 0)
 
 -- of all rows
 pub record Occurrences (w v n : ℕ) (b : Bytes) (first last next : List ℕ) : Type 0 where
-  pub linked : Linked w v n b 0 first next
-  pub marked : Marked w v n b n last
+  pub firsts : Firsts w v n b 0 first
+  pub lasts : Lasts w v n b n last
+  pub nexts : Nexts w v n b 0 next
+
+-- The row at hand on the way along the literals of a set to row `end`: one before it, or the first from it on.
+pub record Pending (L : Literals) (w v n : ℕ) (b : Bytes) (row end : ℕ) : Type 0 where
+  pub before : row < end → is-lit L (subtree-in w v n b row) ≡ true
+  pub behind : end ≤ row → row ≡ first-from L w v n b end

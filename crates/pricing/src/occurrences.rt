@@ -4,7 +4,7 @@ ghost use Prim.Native.Nat.{_≤_, _<_};
 ghost use lib.ListN.{length, getD, set, replicate};
 ghost use Rattle.reading.specs.Reading.{Readable};
 ghost use Rattle.reading.specs.Subtrees.{subtree-in};
-ghost use Rattle.pricing.specs.Occurrences.{variable-of, Linked, Marked, Occurrences};
+ghost use Rattle.pricing.specs.Occurrences.{variable-of, Firsts, Nexts, Lasts, Occurrences};
 
 // The variable of the literal at node row `i`; 1025 if an operator stands there.
 fn variable_at(b: &[u8], width: usize, v: usize, n: usize, i: usize) -> usize
@@ -51,7 +51,7 @@ fn fill(table: &mut [u16], value: u16)
 // The first literal of each variable, and from each literal the next one: from the last row to the first.
 fn link(b: &[u8], width: usize, v: usize, n: usize, first: &mut [u16], next: &mut [u16])
     requires { ⌜ Readable width v n (now b) × (length (now first) ≡ 1025) × (n ≤ length (now next)) ⌝ }
-    ensures { λ _. ⌜ Linked width v n (now (b .entry)) 0 (now (first .exit)) (now (next .exit)) ⌝ }
+    ensures { λ _. ⌜ Firsts width v n (now (b .entry)) 0 (now (first .exit)) × Nexts width v n (now (b .entry)) 0 (now (next .exit)) ⌝ }
 {
     fill(first, n as u16);
     let mut i = n;
@@ -66,7 +66,7 @@ fn link(b: &[u8], width: usize, v: usize, n: usize, first: &mut [u16], next: &mu
 // The last literal of each variable: from the first row to the last, each over those before.
 fn mark(b: &[u8], width: usize, v: usize, n: usize, last: &mut [u16])
     requires { ⌜ Readable width v n (now b) × (length (now last) ≡ 1025) ⌝ }
-    ensures { λ _. ⌜ Marked width v n (now (b .entry)) n (now (last .exit)) ⌝ }
+    ensures { λ _. ⌜ Lasts width v n (now (b .entry)) n (now (last .exit)) ⌝ }
 {
     let mut i: usize = 0;
     while i < n {

@@ -27,13 +27,13 @@ use Rattle.reading.proofs.TurnCost.{forest-root, has-row, no-rows, hits
 
 -- first-true
 
-first-true-here : (xs ys : List Bool) → any xs ≡ true → first-true (xs ++ ys) < length xs
+pub first-true-here : (xs ys : List Bool) → any xs ≡ true → first-true (xs ++ ys) < length xs
 unfolding any first-true
 first-true-here [] ys h = absurd (false≢true h)
 first-true-here (true ∷ xs) ys h = omega arith
 first-true-here (false ∷ xs) ys h = omega (arith, first-true-here xs ys h)
 
-first-true-there : (xs ys : List Bool) → any xs ≡ false → first-true (xs ++ ys) ≡ length xs + first-true ys
+pub first-true-there : (xs ys : List Bool) → any xs ≡ false → first-true (xs ++ ys) ≡ length xs + first-true ys
 unfolding any first-true
 first-true-there [] ys h = omega arith
 first-true-there (true ∷ xs) ys h = absurd (true≢false h)

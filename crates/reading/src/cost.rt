@@ -169,7 +169,7 @@ pub fn ancestor(
     last: usize,
 ) -> usize
     requires { ⌜ Readable width v n (now b) × Ends width v n (now b) (now ends) × (first ≡ first-true (hits (literals set) (matrix-in width v n (now b)))) × Last (literals set) width v n (now b) last ⌝ }
-    ensures { λ r. ⌜ (r < n) × (relevant-part (literals set) 0 (matrix-in width v n (now (b .entry))) ≡ part-at (literals set) first r (subtree-in width v n (now (b .entry)) r)) ⌝ }
+    ensures { λ r. ⌜ (r < n) × (r ≤ first) × (relevant-part (literals set) 0 (matrix-in width v n (now (b .entry))) ≡ part-at (literals set) first r (subtree-in width v n (now (b .entry)) r)) ⌝ }
 {
     let mut at = 0;
     let mut next = narrower(b, width, v, n, ends, at, first, last);

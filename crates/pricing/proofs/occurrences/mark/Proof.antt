@@ -2,13 +2,13 @@
 use mathlib.Core.Path.{_≡_, sym, _∙_}
 use Prim.Native.Nat.{_-_, _≤_}
 use native.Mathlib.Omega.{arith}
-use Rattle.pricing.specs.Occurrences.{Marked}
+use Rattle.pricing.specs.Occurrences.{Lasts}
 use Rattle.pricing.proofs.TurnOccurrences.{mark-none, mark-turn}
 use Rattle.pricing.proofs.occurrences.mark.Statement.{statement}
 use Rattle.pricing.proofs.occurrences.mark.Tie as tie
 
 abbrev Inv-loop : tie.InvT-loop
-Inv-loop b width v n last₀ i₀ last i = Marked width v n b i last × (i ≤ n)
+Inv-loop b width v n last₀ i₀ last i = Lasts width v n b i last × (i ≤ n)
 
 abbrev μ-loop : tie.MeasureT-loop
 μ-loop b width v n last₀ i₀ last i = n - i
@@ -43,7 +43,7 @@ loop-again c =
     )
 
 same-length : tie.Need-same-length Inv-loop μ-loop
-same-length c = c .before .loop .inv .0 .last-holds ∙ sym (c .before .before .before .before .pre .1)
+same-length c = c .before .loop .inv .0 .holds ∙ sym (c .before .before .before .before .pre .1)
 
 returns : tie.Need-returns Inv-loop μ-loop
 returns c =

@@ -60,6 +60,7 @@ returns c =
     let a = c .before .before .before .before .before in
     let reached = c .before .loop .inv .0 (literals (a .args .set)) (a .pre .2) (a .pre .3) in (
       reached .inside,
+      omega (arith, reached .first-is),
       narrow-done (literals (a .args .set)) (a .args .b .now) (a .pre .0) reached (a .pre .3) (c .before .loop .inv .1) (c .loop-test .left),
     )
 

@@ -18,7 +18,7 @@ ancestor-requires c κs = search needs
 returns : tie.Need-returns
 returns c =
     let a = c .before .before .before .before .before .before in
-    sym (c .before .ancestor .ensures .1 ∙ part-literal (literals (a .args .set)) _ _ _ (c .if1 .taken))
+    sym (c .before .ancestor .ensures .2 ∙ part-literal (literals (a .args .set)) _ _ _ (c .if1 .taken))
 
 operator-part-requires : tie.Need-operator-part-requires
 operator-part-requires c κs = search needs
@@ -27,7 +27,7 @@ returns-2 : tie.Need-returns-2
 returns-2 c =
     let a = c .before .before .before .before .before .before .before in
     c .operator-part .ensures ∙
-    sym (c .before .before .ancestor .ensures .1 ∙ part-operator (literals (a .args .set)) _ _ _ (c .before .if1 .left))
+    sym (c .before .before .ancestor .ensures .2 ∙ part-operator (literals (a .args .set)) _ _ _ (c .before .if1 .left))
 
 pub relevant-part-spec : {M : Type 1} → statement M
 relevant-part-spec =
