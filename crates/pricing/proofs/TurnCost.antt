@@ -25,15 +25,14 @@ module _ (L : Literals) {w v n : ℕ} (b : Bytes) (ok : Readable w v n b) where
   unfolding first-from
   first-after i = omega arith
 
-  -- the first literal from row i on is on the way to every later row
-  pub pending : (d i : ℕ) {end : ℕ} → end ≡ i + d → end ≤ n → Pending L w v n b (first-from L w v n b i) end
-  pending zero i {end} e h =
+  pending-by : (d i : ℕ) {end : ℕ} → end ≡ i + d → end ≤ n → Pending L w v n b (first-from L w v n b i) end
+  pending-by zero i {end} e h =
       let same : i ≡ end = omega arith in
       record {
         before = λ k. absurd (omega (arith, first-after i));
         behind = λ k. ap (first-from L w v n b) same;
       }
-  pending (suc d) i {end} e h = go (is-lit L (subtree-in w v n b i)) refl (pending d (suc i) (omega arith) h)
+  pending-by (suc d) i {end} e h = go (is-lit L (subtree-in w v n b i)) refl (pending-by d (suc i) (omega arith) h)
     where
       go : (c : Bool) → is-lit L (subtree-in w v n b i) ≡ c → Pending L w v n b (first-from L w v n b (suc i)) end
           → Pending L w v n b (first-from L w v n b i) end
@@ -44,6 +43,10 @@ module _ (L : Literals) {w v n : ℕ} (b : Bytes) (ok : Readable w v n b) where
             behind = λ k. absurd (omega arith);
           }
       go false c p = rw (first-later L b ok i (omega arith) c) p
+
+  -- the first literal from row i on is on the way to every later row
+  pub pending : (i : ℕ) {row end : ℕ} → row ≡ first-from L w v n b i → i ≤ end → end ≤ n → Pending L w v n b row end
+  pending i {row} {end} e h k = rw e (pending-by (end - i) i (omega arith) k)
 
   -- a subtree holds a literal exactly if the first one from its row on is before its end
   pub held : (i : ℕ) → i < n → ltb (first-from L w v n b i) (i + rows (subtree-in w v n b i)) ≡ has L (subtree-in w v n b i)
@@ -88,7 +91,7 @@ module _ {w v n : ℕ} (b : Bytes) (ok : Readable w v n b) {next : List ℕ} (l 
   next-is = l .is x few row (omega arith) (omega arith) (p .before h)
 
   pub pass-on : Pending (of x) w v n b (getD next row 0) end
-  pass-on = rw next-is (pending (of x) b ok (end - suc row) (suc row) (omega arith) inside)
+  pass-on = pending (of x) b ok (suc row) next-is h inside
 
   pub pass-less : row < getD next row 0
   pass-less = omega (arith, next-is, first-after (of x) b ok (suc row))
