@@ -5,17 +5,19 @@ use mathlib.Core.Bool.{Bool, true, false, cond}
 use mathlib.Core.List.{List, _++_}
 use Prim.Native.Nat.{ℕ, zero, suc, _+_, _-_, _≤_, _<_}
 use native.Mathlib.Omega.{arith}
-use lib.Dec.{ltb}
+use lib.Dec.{eqb, ltb}
 use lib.ListN.{getD}
 use borrow.Author.Tests.{lt-ltb, le-ltb}
-use Rattle.formula.specs.Tree.{Literals, of, rows, has}
+use Rattle.formula.specs.Tree.{Tree, Literals, of, rows, rows-all, has}
 use Rattle.formula.specs.Tidy.{first-true}
 use Rattle.formula.specs.Settle.{is-lit}
+use Rattle.formula.specs.Expand.{relevant, all-relevant}
 use Rattle.sheet.specs.Format.{Bytes}
 use Rattle.reading.specs.Reading.{Readable}
-use Rattle.reading.specs.Subtrees.{forest-in, subtree-in}
+use Rattle.reading.specs.Subtrees.{kids, forest-in, subtree-in}
 use Rattle.reading.specs.Cost.{hits, hits-all}
 use Rattle.reading.proofs.Hits.{has-hits, length-hits, hits-subtree}
+use Rattle.reading.proofs.Growth.{all-read}
 use Rattle.reading.proofs.Descent.{first-true-here, first-true-there}
 use Rattle.pricing.specs.Occurrences.{first-from, Nexts, Pending}
 use Rattle.pricing.proofs.Tables.{first-here, first-later, first-none}
@@ -83,6 +85,11 @@ module _ (L : Literals) {w v n : ℕ} (b : Bytes) (ok : Readable w v n b) where
       → more ≡ cond (ltb row end) (end - i) 0 → more ≡ cond (has L (subtree-in w v n b i)) (rows (subtree-in w v n b i)) 0
   held-rows i {end} {row} h e r m =
       m ∙ ap₂ (λ c k. cond c k 0) (ap₂ ltb r e ∙ held i h) (omega arith)
+
+-- E + 1 or E + 2, by whether the relevant children have all rows
+pub priced : (L : Literals) (n at : ℕ) (t : Tree) {kept end : ℕ} {c : Bool} → kept ≡ rows-all (relevant L (kids t)) → end ≡ at + rows t
+    → eqb (at + (1 + kept)) end ≡ c → n + (1 + kept + cond c 1 2) ≡ n + (1 + rows-all (relevant L (kids t)) + cond (all-relevant L (kids t)) 1 2)
+priced L n at t k e a = ap₂ (λ m c. n + (1 + m + cond c 1 2)) k (sym a ∙ all-read L at t k e)
 
 -- along `next`
 module _ {w v n : ℕ} (b : Bytes) (ok : Readable w v n b) {next : List ℕ} (l : Nexts w v n b 0 next) (x : ℕ) (few : x ≤ 1024) {row end : ℕ}
