@@ -2,3 +2,4 @@
 mod Tables
 mod TurnOccurrences
 mod TurnCost
+mod Prices
