@@ -1,7 +1,7 @@
 -- From the tables of occurrences to the price: no literal, one, or an operator above all.
 -- Assumes nothing.
 use mathlib.Core.Path.{_≡_, refl, sym, ap, _∙_}
-use mathlib.Core.Bool.{true, false, cond}
+use mathlib.Core.Bool.{true, cond}
 use mathlib.Core.List.{List}
 use Prim.Native.Nat.{ℕ, suc, _+_, _≤_, _<_}
 use native.Mathlib.Nat.{zero-add}
@@ -32,7 +32,8 @@ module _ (L : Literals) {w v n : ℕ} (b : Bytes) (ok : Readable w v n b) where
   -- there is a literal exactly if the first one is within the rows
   within : {first : ℕ} → first ≡ first-from L w v n b 0 → ltb first n ≡ has L (matrix-in w v n b)
   within {first} e =
-      ap (λ m. ltb m n) e ∙ ap (ltb (first-from L w v n b 0)) (root-end b ok) ∙ held L b ok 0 (ok .some-nodes) ∙ ap (has L) (subtree-root b ok)
+      ap (λ m. ltb m n) e ∙ ap (ltb (first-from L w v n b 0)) (root-end b ok) ∙ held L b ok 0 (ok .some-nodes) ∙
+      ap (has L) (subtree-root b ok)
 
   pub present : {first : ℕ} → first ≡ first-from L w v n b 0 → first < n → has L (matrix-in w v n b) ≡ true
   present {first} e h = sym (within e) ∙ lt-ltb first n h
@@ -42,7 +43,8 @@ module _ (L : Literals) {w v n : ℕ} (b : Bytes) (ok : Readable w v n b) where
       sym (raw-absent L (matrix-in w v n b) (sym (within e) ∙ le-ltb first n h) ∙ rows-nodes b ok)
 
   -- below the operator at row `at`, which is before the first literal, that is the first one too
-  pub first-below : {first at : ℕ} → first ≡ first-from L w v n b 0 → at ≤ first → at < n → (at ≡ first → ⊥) → first ≡ first-from L w v n b (suc at)
+  pub first-below : {first at : ℕ} → first ≡ first-from L w v n b 0 → at ≤ first → at < n → (at ≡ first → ⊥)
+      → first ≡ first-from L w v n b (suc at)
   first-below e before inside other = pending L b ok 0 e (omega arith) inside .behind (omega arith)
 
   module _ {first at : ℕ} (some : has L (matrix-in w v n b) ≡ true)

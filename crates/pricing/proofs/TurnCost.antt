@@ -20,10 +20,10 @@ use Rattle.reading.proofs.Hits.{has-hits, length-hits, hits-subtree}
 use Rattle.reading.proofs.Growth.{all-read}
 use Rattle.reading.proofs.Descent.{first-true-here, first-true-there}
 use Rattle.pricing.specs.Occurrences.{first-from, Nexts, Pending}
-use Rattle.pricing.proofs.Tables.{first-here, first-later, first-none}
+use Rattle.pricing.proofs.Tables.{first-here, first-later}
 
 module _ (L : Literals) {w v n : ℕ} (b : Bytes) (ok : Readable w v n b) where
-  pub first-after : (i : ℕ) → i ≤ first-from L w v n b i
+  first-after : (i : ℕ) → i ≤ first-from L w v n b i
   unfolding first-from
   first-after i = omega arith
 
@@ -88,7 +88,8 @@ module _ (L : Literals) {w v n : ℕ} (b : Bytes) (ok : Readable w v n b) where
 
 -- E + 1 or E + 2, by whether the relevant children have all rows
 pub priced : (L : Literals) (n at : ℕ) (t : Tree) {kept end : ℕ} {c : Bool} → kept ≡ rows-all (relevant L (kids t)) → end ≡ at + rows t
-    → eqb (at + (1 + kept)) end ≡ c → n + (1 + kept + cond c 1 2) ≡ n + (1 + rows-all (relevant L (kids t)) + cond (all-relevant L (kids t)) 1 2)
+    → eqb (at + (1 + kept)) end ≡ c
+    → n + (1 + kept + cond c 1 2) ≡ n + (1 + rows-all (relevant L (kids t)) + cond (all-relevant L (kids t)) 1 2)
 priced L n at t k e a = ap₂ (λ m c. n + (1 + m + cond c 1 2)) k (sym a ∙ all-read L at t k e)
 
 -- along `next`

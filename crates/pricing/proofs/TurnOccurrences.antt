@@ -54,7 +54,8 @@ fill-all {before} {value} {table} {x} h f =
 -- link
 
 module _ {w v n : ℕ} (b : Bytes) (ok : Readable w v n b) where
-  pub first-none-left : (before : List ℕ) {first : List ℕ} → first ≡ replicate (length before) n → length before ≡ 1025 → Firsts w v n b n first
+  pub first-none-left : (before : List ℕ) {first : List ℕ} → first ≡ replicate (length before) n → length before ≡ 1025
+      → Firsts w v n b n first
   first-none-left before {first} e size =
       record {
         holds = ap length e ∙ length-replicate (length before) n ∙ size;
@@ -116,7 +117,9 @@ module _ {w v n : ℕ} (b : Bytes) (ok : Readable w v n b) where
   mark-turn {i} {j} {x} {last} is inside var m =
       record {
         holds = length-set last x i ∙ m .holds;
-        is = λ y h some none. go y h some (ap (λ k. has-any (of y) (forest-in w v n b k)) (sym is) ∙ none) (is-lit (of y) (subtree-in w v n b i)) refl;
+        is =
+            λ y h some none. go y h some (ap (λ k. has-any (of y) (forest-in w v n b k)) (sym is) ∙ none)
+            (is-lit (of y) (subtree-in w v n b i)) refl;
       }
     where
       go : (y : ℕ) → y ≤ 1024 → has (of y) (matrix-in w v n b) ≡ true → has-any (of y) (forest-in w v n b (suc i)) ≡ false

@@ -17,7 +17,8 @@ use Rattle.sheet.specs.Format.{Bytes}
 use Rattle.sheet.specs.Sheet.{root}
 use Rattle.reading.specs.Reading.{node-rows-in, matrix-in, Readable}
 use Rattle.reading.specs.Subtrees.{forest-in, subtree-in}
-use Rattle.reading.specs.Cost.{hits, hits-all, first-row, relevant-part, part-below, operator-part, part-at, child-span, narrower, Last}
+use Rattle.reading.specs.Cost.{hits, hits-all, first-row, relevant-part, part-below, operator-part, part-at}
+use Rattle.reading.specs.Cost.{child-span, narrower, Last}
 use Rattle.reading.specs.declared.cost.Span.{Span}
 use Rattle.reading.proofs.Forest.{top, kids, rest, some-row, siblings, has-⧺}
 use Rattle.reading.proofs.Matrix.{length-nodes, sound-nodes}

@@ -1,7 +1,6 @@
 -- `pricing::cost::first_behind` meets its contract: the row at hand is a literal on the way, or the one sought. Assumes nothing.
-use Prim.Native.Nat.{_-_, _<_}
+use Prim.Native.Nat.{_-_}
 use native.Mathlib.Omega.{arith}
-use lib.ListN.{getD}
 use Rattle.formula.specs.Tree.{of}
 use Rattle.pricing.specs.Occurrences.{Pending}
 use Rattle.pricing.proofs.TurnCost.{pass-on, pass-less}
@@ -32,7 +31,8 @@ loop-less c =
     let a = head .before in
     omega (
       arith,
-      pass-less (a .args .b .now) (a .pre .0) (a .pre .1) (a .args .x) (a .pre .2) (a .pre .3) (head .loop .inv) (c .before .loop-test .taken),
+      pass-less (a .args .b .now) (a .pre .0) (a .pre .1) (a .args .x) (a .pre .2) (a .pre .3) (head .loop .inv)
+          (c .before .loop-test .taken),
     )
 
 loop-again : tie.Need-loop-again Inv-loop μ-loop

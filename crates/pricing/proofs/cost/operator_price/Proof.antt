@@ -1,5 +1,5 @@
 -- `pricing::cost::operator_price` meets its contract. Assumes nothing.
-use mathlib.Core.Path.{_≡_, sym, ap, _∙_}
+use mathlib.Core.Path.{_≡_, ap, _∙_}
 use mathlib.Core.Bool.{Bool, cond}
 use Prim.Native.Nat.{suc, _+_, _≤_}
 use native.Mathlib.Omega.{arith}
@@ -49,10 +49,12 @@ found : (c : tie.After-relevant-rows) {all : Bool} →
     let a = c .before .before .before .before .before .args in
     let ts = kids (subtree-in (a .width) (a .v) (a .n) (a .b .now) (a .at)) in
     eqb (a .at + (1 + c .relevant-rows .result)) (getD (a .ends .now) (a .at) 0) ≡ all
-    → a .n + (1 + c .relevant-rows .result + cond all 1 2) ≡ a .n + (1 + rows-all (relevant (of (a .x)) ts) + cond (all-relevant (of (a .x)) ts) 1 2)
+    → a .n + (1 + c .relevant-rows .result + cond all 1 2) ≡
+    a .n + (1 + rows-all (relevant (of (a .x)) ts) + cond (all-relevant (of (a .x)) ts) 1 2)
 found c =
     let a = c .before .before .before .before .before in
-    priced (of (a .args .x)) (a .args .n) (a .args .at) (subtree-in (a .args .width) (a .args .v) (a .args .n) (a .args .b .now) (a .args .at)) (kept c)
+    let t = subtree-in (a .args .width) (a .args .v) (a .args .n) (a .args .b .now) (a .args .at) in
+    priced (of (a .args .x)) (a .args .n) (a .args .at) t (kept c)
     (end-subtree (a .args .b .now) (a .pre .0) (a .args .ends .now) (a .pre .1) (a .args .at) (a .pre .4))
 
 add-relevant-rows : tie.Need-add-relevant-rows

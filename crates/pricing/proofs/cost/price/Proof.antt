@@ -49,7 +49,8 @@ ancestor-requires c κs =
 
 -- there is a literal, and the part of all is that of the row found
 some : (c : tie.After-ancestor) →
-    let a = c .before .before .before .before .before .before .before .before .before .args in has (of (a .x)) (matrix-in (a .width) (a .v) (a .n) (a .b .now)) ≡ true
+    let a = c .before .before .before .before .before .before .before .before .before .args in
+    has (of (a .x)) (matrix-in (a .width) (a .v) (a .n) (a .b .now)) ≡ true
 some c =
     let a = c .before .before .before .before .before .before .before .before .before in
     present (of (a .args .x)) (a .args .b .now) (a .pre .0) (a .pre .2 .firsts .is (a .args .x) (a .pre .3)) (c .before .before .if1 .left)
@@ -57,8 +58,11 @@ some c =
 part : (c : tie.After-ancestor) →
     let a = c .before .before .before .before .before .before .before .before .before .args in
     relevant-part (of (a .x)) 0 (matrix-in (a .width) (a .v) (a .n) (a .b .now)) ≡
-    part-at (of (a .x)) (getD (a .first .now) (a .x) 0) (c .ancestor .result) (subtree-in (a .width) (a .v) (a .n) (a .b .now) (c .ancestor .result))
-part c = let a = c .before .before .before .before .before .before .before .before .before in rw (literals-of (a .args .x)) at (c .ancestor .ensures .2)
+    part-at (of (a .x)) (getD (a .first .now) (a .x) 0) (c .ancestor .result)
+    (subtree-in (a .width) (a .v) (a .n) (a .b .now) (c .ancestor .result))
+part c =
+    let a = c .before .before .before .before .before .before .before .before .before in
+    rw (literals-of (a .args .x)) at (c .ancestor .ensures .2)
 
 add-result : tie.Need-add-result
 add-result c = omega arith
@@ -77,14 +81,16 @@ operator-price-requires c κs =
       a .pre .2 .nexts,
       a .pre .3,
       found .0,
-      first-below (of (a .args .x)) (a .args .b .now) (a .pre .0) (a .pre .2 .firsts .is (a .args .x) (a .pre .3)) (found .1) (found .0) (c .if2 .left),
+      first-below (of (a .args .x)) (a .args .b .now) (a .pre .0) (a .pre .2 .firsts .is (a .args .x) (a .pre .3)) (found .1)
+          (found .0) (c .if2 .left),
     )
 
 returns-3 : tie.Need-returns-3
 returns-3 c =
     let a = c .before .before .before .before .before .before .before .before .before .before .before in
     c .operator-price .ensures ∙
-    price-operator (of (a .args .x)) (a .args .b .now) (a .pre .0) (some (c .before .before)) (part (c .before .before)) (c .before .if2 .left)
+    price-operator (of (a .args .x)) (a .args .b .now) (a .pre .0) (some (c .before .before)) (part (c .before .before))
+    (c .before .if2 .left)
 
 pub price-spec : {M : Type 1} → statement M
 price-spec =

@@ -43,7 +43,8 @@ added c =
     let head = c .before .before .before in
     let a = head .before .before .before .before in
     let w = walked (c .before .before) in
-    held-rows (of (a .args .x)) (a .args .b .now) (a .pre .0) (head .loop .at) (w .inside) (w .next) (head .loop .inv .1) (c .rows-if-before .ensures)
+    held-rows (of (a .args .x)) (a .args .b .now) (a .pre .0) (head .loop .at) (w .inside) (w .next) (head .loop .inv .1)
+    (c .rows-if-before .ensures)
 
 mul-end : tie.Need-mul-end Inv-loop μ-loop
 mul-end c = omega (arith, c .before .loop .inv .0 .within, c .before .before .before .before .before .pre .0 .few-nodes)

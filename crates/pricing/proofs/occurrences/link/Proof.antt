@@ -9,7 +9,8 @@ use Rattle.pricing.proofs.occurrences.link.Statement.{statement}
 use Rattle.pricing.proofs.occurrences.link.Tie as tie
 
 abbrev Inv-loop : tie.InvT-loop
-Inv-loop b width v n first₀ next₀ i₀ first next i = Firsts width v n b i first × Nexts width v n b i next × (i ≤ n) × (length next ≡ length next₀)
+Inv-loop b width v n first₀ next₀ i₀ first next i =
+    Firsts width v n b i first × Nexts width v n b i next × (i ≤ n) × (length next ≡ length next₀)
 
 abbrev μ-loop : tie.MeasureT-loop
 μ-loop b width v n first₀ next₀ i₀ first next i = i
@@ -33,7 +34,9 @@ sub-i : tie.Need-sub-i Inv-loop μ-loop
 sub-i c = omega arith
 
 variable-at-requires : tie.Need-variable-at-requires Inv-loop μ-loop
-variable-at-requires c κs = let a = c .before .before .before .before .before .before .before .before .before in (a .pre .0, omega (arith, c .before .loop .inv .2))
+variable-at-requires c κs =
+    let a = c .before .before .before .before .before .before .before .before .before in
+    (a .pre .0, omega (arith, c .before .loop .inv .2))
 
 look-requires : tie.Need-look-requires Inv-loop μ-loop
 look-requires c κs = tt
@@ -63,7 +66,8 @@ loop-again c =
     let variable = looked .before .before .variable-at .ensures in (
       rw (stored .store .ensures)
           (first-turn (a .args .b .now) (a .pre .0) (omega arith) inside variable (head .loop .inv .0)),
-      next-turn (a .args .b .now) (a .pre .0) (omega arith) inside variable (head .loop .inv .0) (looked .look .ensures) (head .loop .inv .1),
+      next-turn (a .args .b .now) (a .pre .0) (omega arith) inside variable (head .loop .inv .0) (looked .look .ensures)
+          (head .loop .inv .1),
       omega (arith, head .loop .inv .2),
       length-set (head .loop .next) _ _ ∙ head .loop .inv .3,
     )

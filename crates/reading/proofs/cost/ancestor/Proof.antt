@@ -33,7 +33,8 @@ loop-holds c =
 -- a step down keeps the part
 next-holds : (c : tie.In-loop Inv-loop μ-loop) →
     let a = c .before .before .before .before .before .args in
-    (L : Literals) → a .first ≡ first-true (hits L (matrix-in (a .width) (a .v) (a .n) (a .b .now))) → Last L (a .width) (a .v) (a .n) (a .b .now) (a .last)
+    (L : Literals) → a .first ≡ first-true (hits L (matrix-in (a .width) (a .v) (a .n) (a .b .now)))
+    → Last L (a .width) (a .v) (a .n) (a .b .now) (a .last)
     → Narrowing L (a .width) (a .v) (a .n) (a .b .now) (a .first) (c .before .loop .next)
 next-holds c L first last =
     let a = c .before .before .before .before .before in
@@ -61,7 +62,8 @@ returns c =
     let reached = c .before .loop .inv .0 (literals (a .args .set)) (a .pre .2) (a .pre .3) in (
       reached .inside,
       omega (arith, reached .first-is),
-      narrow-done (literals (a .args .set)) (a .args .b .now) (a .pre .0) reached (a .pre .3) (c .before .loop .inv .1) (c .loop-test .left),
+      narrow-done (literals (a .args .set)) (a .args .b .now) (a .pre .0) reached (a .pre .3) (c .before .loop .inv .1)
+          (c .loop-test .left),
     )
 
 pub ancestor-spec : {M : Type 1} → statement M
