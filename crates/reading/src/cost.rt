@@ -156,8 +156,8 @@ fn narrower(
     at
 }
 
-// The deepest operator above all literals of the set, or its one literal: the node row reached by steps down to a child that has all
-// rows from `first` to `last`, the first and the last literal of the set.
+// The node row of the deepest operator above all literals of the set, or of its one literal: each step down is to a child that has all
+// rows from `first` to `last`, the first and the last literal. The two rows are enough; the set is there for the contract.
 pub fn ancestor(
     b: &[u8],
     width: usize,

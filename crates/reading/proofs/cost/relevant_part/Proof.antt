@@ -1,19 +1,20 @@
 -- `reading::cost::relevant_part` meets its contract: the part of the deepest operator above all literals. Assumes nothing.
 use mathlib.Core.Path.{sym, _∙_}
-use borrow.Author.Needs.{needs}
 use Rattle.reading.specs.Subtrees.{literals}
 use Rattle.reading.proofs.Descent.{part-literal, part-operator}
 use Rattle.reading.proofs.cost.relevant_part.Statement.{statement}
 use Rattle.reading.proofs.cost.relevant_part.Tie as tie
 
 first-literal-requires : tie.Need-first-literal-requires
-first-literal-requires c κs = search needs
+first-literal-requires c κs = let a = c .before .before in (a .pre .0, a .pre .2)
 
 last-literal-requires : tie.Need-last-literal-requires
-last-literal-requires c κs = search needs
+last-literal-requires c κs = let a = c .before .before .before in (a .pre .0, a .pre .2, a .pre .3)
 
 ancestor-requires : tie.Need-ancestor-requires
-ancestor-requires c κs = search needs
+ancestor-requires c κs =
+    let a = c .before .before .before .before in
+    (a .pre .0, a .pre .1, c .before .first-literal .ensures, c .last-literal .ensures)
 
 returns : tie.Need-returns
 returns c =
@@ -21,7 +22,9 @@ returns c =
     sym (c .before .ancestor .ensures .2 ∙ part-literal (literals (a .args .set)) _ _ _ (c .if1 .taken))
 
 operator-part-requires : tie.Need-operator-part-requires
-operator-part-requires c κs = search needs
+operator-part-requires c κs =
+    let a = c .before .before .before .before .before .before in
+    (a .pre .0, a .pre .1, c .before .ancestor .ensures .0, a .pre .2)
 
 returns-2 : tie.Need-returns-2
 returns-2 c =
