@@ -7,7 +7,7 @@ use Prim.Native.Nat.{ℕ, zero, suc, _+_, _-_, _≤_, _<_}
 use native.Mathlib.Omega.{arith}
 use lib.Dec.{eqb, ltb}
 use lib.ListN.{length}
-use borrow.Author.Tests.{lt-ltb, le-ltb, ltb-true, ltb-false, eq-eqb, ne-eqb, eqb-false}
+use borrow.Author.Tests.{lt-ltb, le-ltb, ltb-true, ltb-false, eq-eqb, ne-eqb, eqb-true, eqb-false}
 use Rattle.formula.proofs.Booleans.{or-parts}
 use Rattle.formula.specs.Tree.{and, or, Tree, lit, node, Forest, ∅, _▸_, _⧺_, Literals, rows, has, has-any, count, keep}
 use Rattle.formula.specs.Tidy.{any, first-true}
@@ -17,23 +17,24 @@ use Rattle.sheet.specs.Format.{Bytes}
 use Rattle.sheet.specs.Sheet.{root}
 use Rattle.reading.specs.Reading.{node-rows-in, matrix-in, Readable}
 use Rattle.reading.specs.Subtrees.{forest-in, subtree-in}
-use Rattle.reading.specs.Cost.{hits, hits-all, first-row, relevant-part, part-below, operator-part, child-span, narrower, Last}
+use Rattle.reading.specs.Cost.{hits, hits-all, first-row, relevant-part, part-below, operator-part, part-at}
+use Rattle.reading.specs.Cost.{child-span, narrower, Last}
 use Rattle.reading.specs.declared.cost.Span.{Span}
 use Rattle.reading.proofs.Forest.{top, kids, rest, some-row, siblings, has-⧺}
 use Rattle.reading.proofs.Matrix.{length-nodes, sound-nodes}
 use Rattle.reading.proofs.Siblings.{below-row, subtree-root, root-end, subtree-within}
 use Rattle.reading.proofs.Hits.{has-hits, length-hits, hits-row, hits-subtree}
-use Rattle.reading.proofs.TurnCost.{has-row, no-rows, hits-root}
+use Rattle.reading.proofs.TurnCost.{forest-root, has-row, no-rows, hits-root}
 
 -- first-true
 
-first-true-here : (xs ys : List Bool) → any xs ≡ true → first-true (xs ++ ys) < length xs
+pub first-true-here : (xs ys : List Bool) → any xs ≡ true → first-true (xs ++ ys) < length xs
 unfolding any first-true
 first-true-here [] ys h = absurd (false≢true h)
 first-true-here (true ∷ xs) ys h = omega arith
 first-true-here (false ∷ xs) ys h = omega (arith, first-true-here xs ys h)
 
-first-true-there : (xs ys : List Bool) → any xs ≡ false → first-true (xs ++ ys) ≡ length xs + first-true ys
+pub first-true-there : (xs ys : List Bool) → any xs ≡ false → first-true (xs ++ ys) ≡ length xs + first-true ys
 unfolding any first-true
 first-true-there [] ys h = omega arith
 first-true-there (true ∷ xs) ys h = absurd (true≢false h)
@@ -179,6 +180,11 @@ module _ (L : Literals) {w v n : ℕ} (b : Bytes) (ok : Readable w v n b) (last 
       go : (c : Bool) → ltb last i ≡ c → has-any L (forest-in w v n b i) ≡ not c
       go true e = let k = ltb-true last i e in behind-it (i - suc last) i (omega arith) h
       go false e = let k = ltb-false last i e in at-or-before (last - i) i (omega arith)
+
+  pub last-holds : has L (matrix-in w v n b) ≡ true
+  unfolding has-any
+  last-holds =
+      sym (or-false (has L (matrix-in w v n b))) ∙ ap (has-any L) (sym (forest-root L b ok)) ∙ at-or-before last 0 (omega arith)
 
 -- the descent
 
@@ -353,8 +359,31 @@ module _ (L : Literals) {w v n : ℕ} (b : Bytes) (ok : Readable w v n b) {first
       let down = stepped-down first last at (subtree-in w v n b at) is h in
       rw (down .2) (narrow-on L b ok s l (down .0) (down .1))
 
-  pub narrow-end : next ≤ at → (at ≡ first → ⊥)
+  narrow-end : next ≤ at → (at ≡ first → ⊥)
       → relevant-part L 0 (matrix-in w v n b) ≡
       operator-part L at ((child-span first (suc at) (kids (subtree-in w v n b at))) .from) (kids (subtree-in w v n b at))
   narrow-end h other =
       narrow-stop L b ok s l other (stayed first last at (subtree-in w v n b at) is h other (child-holds L b ok s other .after))
+
+  -- where no step is left the part is found
+  pub narrow-done : next ≤ at → relevant-part L 0 (matrix-in w v n b) ≡ part-at L first at (subtree-in w v n b at)
+  unfolding part-at
+  narrow-done h = go (eqb at first) refl
+    where
+      go : (c : Bool) → eqb at first ≡ c
+          → relevant-part L 0 (matrix-in w v n b) ≡
+          cond c (record { operator = at; first = at; all = true; rows = 1 })
+          (operator-part L at ((child-span first (suc at) (kids (subtree-in w v n b at))) .from) (kids (subtree-in w v n b at)))
+      go true e = at-literal L b ok s (eqb-true at first e)
+      go false e = narrow-end h (eqb-false at first e)
+
+-- part-at
+
+module _ (L : Literals) (first at : ℕ) (t : Tree) where
+  pub part-literal : at ≡ first → part-at L first at t ≡ record { operator = at; first = at; all = true; rows = 1 }
+  unfolding part-at
+  part-literal e = rw (eq-eqb at first e)
+
+  pub part-operator : (at ≡ first → ⊥) → part-at L first at t ≡ operator-part L at ((child-span first (suc at) (kids t)) .from) (kids t)
+  unfolding part-at
+  part-operator e = rw (ne-eqb at first e)

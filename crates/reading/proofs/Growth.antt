@@ -47,20 +47,24 @@ all-rows L (t ▸ ts) = go (has L t) (relevant-most L ts) (all-rows L ts)
     go true h same = eqb-shift (rows t) (rows-all (keep (has L) ts)) (rows-all ts) ∙ same
     go false h same = ne-eqb (rows-all (keep (has L) ts)) (rows t + rows-all ts) (λ e. omega (arith, rows-positive t))
 
+-- so for the children of the tree at row `at`, which ends at row `end`
+pub all-read : (L : Literals) (at : ℕ) (t : Tree) {kept end : ℕ} → kept ≡ rows-all (relevant L (kids t)) → end ≡ at + rows t
+    → eqb (at + (1 + kept)) end ≡ all-relevant L (kids t)
+all-read L at t {kept} {end} k e =
+    ap₂ eqb (ap (λ m. at + (1 + m)) k ∙ shape (rows-all (relevant L (kids t)))) (e ∙ omega (arith, rows-kids t)) ∙
+    eqb-shift (suc at) (rows-all (relevant L (kids t))) (rows-all (kids t)) ∙ all-rows L (kids t)
+  where
+    shape : (m : ℕ) → at + (1 + m) ≡ suc at + m
+    shape m = omega arith
+
 pub operator-part-read : (L : Literals) (at : ℕ) (t : Tree) (span : Span) {child : Span} {kept end : ℕ} → child ≡ span
     → kept ≡ rows-all (relevant L (kids t)) → end ≡ at + rows t
     → record { operator = at; first = child .from; all = eqb (at + (1 + kept)) end; rows = 1 + kept } ≡
     operator-part L at (span .from) (kids t)
 unfolding operator-part
 operator-part-read L at t span {child} {kept} {end} c k e =
-    ap₂ (λ (s : Span) (m : ℕ). record { operator = at; first = s .from; all = eqb (at + (1 + m)) end; rows = 1 + m }) c k ∙
-    ap
-    (λ (a : Bool). record { operator = at; first = span .from; all = a; rows = 1 + rows-all (relevant L (kids t)) })
-    (ap₂ eqb (shape (rows-all (relevant L (kids t)))) (e ∙ omega (arith, rows-kids t)) ∙
-    eqb-shift (suc at) (rows-all (relevant L (kids t))) (rows-all (kids t)) ∙ all-rows L (kids t))
-  where
-    shape : (m : ℕ) → at + (1 + m) ≡ suc at + m
-    shape m = omega arith
+    ap₂ (λ (s : Span) (a : Bool). record { operator = at; first = s .from; all = a; rows = 1 + kept }) c (all-read L at t k e) ∙
+    ap (λ (m : ℕ). record { operator = at; first = span .from; all = all-relevant L (kids t); rows = 1 + m }) k
 
 -- growth
 

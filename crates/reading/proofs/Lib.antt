@@ -14,5 +14,5 @@ mod TurnLiterals
 mod TurnFaults
 mod TurnPlaces
 pub mod TurnSigns
-mod TurnCost
-mod Descent
+pub mod TurnCost
+pub mod Descent

@@ -55,6 +55,12 @@ narrower first last i t =
     cond (eqb i first) i
     (cond (ltb last ((child-span first (suc i) (kids t)) .to)) ((child-span first (suc i) (kids t)) .from) i)
 
+-- of the tree at row i, the deepest above all literals, of which `first` is the first: the one literal, or an operator
+unfoldable pub part-at : Literals → ℕ → ℕ → Tree → Relevant
+part-at L first i t =
+    cond (eqb i first) (record { operator = i; first = i; all = true; rows = 1 })
+    (operator-part L i ((child-span first (suc i) (kids t)) .from) (kids t))
+
 -- row i is the last literal of the set
 pub record Last (L : Literals) (w v n : ℕ) (b : Bytes) (i : ℕ) : Type 0 where
   pub inside : i < n

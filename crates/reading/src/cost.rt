@@ -9,7 +9,7 @@ ghost use Rattle.formula.specs.Expand.{relevant, raw-rows};
 ghost use Rattle.reading.specs.Reading.{Readable, matrix-in};
 ghost use Rattle.reading.specs.Ends.{Ends};
 ghost use Rattle.reading.specs.Subtrees.{kids, subtree-in, siblings-in, Beside, literals};
-ghost use Rattle.reading.specs.Cost.{hits, relevant-part, operator-part, child-span, narrower, Last};
+ghost use Rattle.reading.specs.Cost.{hits, relevant-part, operator-part, part-at, child-span, narrower, Last};
 use crate::literals::LiteralSet;
 use crate::literals::is_literal;
 use crate::signs::occurs;
@@ -156,6 +156,30 @@ fn narrower(
     at
 }
 
+// The node row of the deepest operator above all literals of the set, or of its one literal: each step down is to a child that has all
+// rows from `first` to `last`, the first and the last literal. The two rows are enough; the set is there for the contract.
+pub fn ancestor(
+    b: &[u8],
+    width: usize,
+    v: usize,
+    n: usize,
+    ends: &[u16],
+    set: LiteralSet,
+    first: usize,
+    last: usize,
+) -> usize
+    requires { ⌜ Readable width v n (now b) × Ends width v n (now b) (now ends) × (first ≡ first-true (hits (literals set) (matrix-in width v n (now b)))) × Last (literals set) width v n (now b) last ⌝ }
+    ensures { λ r. ⌜ (r < n) × (r ≤ first) × (relevant-part (literals set) 0 (matrix-in width v n (now (b .entry))) ≡ part-at (literals set) first r (subtree-in width v n (now (b .entry)) r)) ⌝ }
+{
+    let mut at = 0;
+    let mut next = narrower(b, width, v, n, ends, at, first, last);
+    while at < next {
+        at = next;
+        next = narrower(b, width, v, n, ends, at, first, last);
+    }
+    at
+}
+
 // What is relevant of the operator at row `at`. Its first relevant child is the one that node row `first`, the first literal, lies in;
 // every child is relevant exactly if the relevant ones have all of its rows.
 fn operator_part(
@@ -197,12 +221,7 @@ pub fn relevant_part(
 {
     let first = first_literal(b, width, v, n, set);
     let last = last_literal(b, width, v, n, set);
-    let mut at = 0;
-    let mut next = narrower(b, width, v, n, ends, at, first, last);
-    while at < next {
-        at = next;
-        next = narrower(b, width, v, n, ends, at, first, last);
-    }
+    let at = ancestor(b, width, v, n, ends, set, first, last);
     if at == first {
         return Relevant {
             operator: at,

@@ -1,0 +1,2 @@
+-- Where the literals of each variable stand.
+pub mod Occurrences
