@@ -17,7 +17,7 @@ ghost use Rattle.choosing.specs.Choosing.{Bound, SettleOf, ToSettle, low
 ghost use Rattle.choosing.specs.Marks.{SignMarks, settling-by};
 
 // Entries of a table by variable number, which is at most 1,024.
-const NUMBERS: usize = 1025;
+pub const NUMBERS: usize = 1025;
 
 // The variable to settle: its prefix row, its number and the value that goes in; or none may be settled.
 pub enum SettleChoice {
