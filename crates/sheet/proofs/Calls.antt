@@ -1,13 +1,13 @@
 -- Demand 3: one theorem about a whole list of Settle and Expand calls.
 -- Assumes nothing.
-use mathlib.Core.Path.{_≡_, refl, sym, _∙_, ap, ap₂, subst}
-use mathlib.Core.Bool.{Bool, true, false, not, _&&_, _||_, cond, false≢true}
+use mathlib.Core.Path.{_≡_, refl, sym, _∙_, ap, subst}
+use mathlib.Core.Bool.{Bool, true, false, false≢true}
 use mathlib.Core.List.{List, [], _∷_, _++_}
 use mathlib.Core.Option.{Option, none, some, Option·getD}
 use Prim.Native.Nat.{ℕ, suc, _+_, _-_, _≤_}
 use native.Mathlib.Omega.{arith}
 use native.Mathlib.Nat.{le-trans, zero-add}
-use lib.Dec.{eqb, ltb, leb}
+use lib.Dec.{leb}
 use lib.ListN.{length, take, replicate}
 use lib.Seq.{take-append-seam}
 use borrow.Author.Tests.{not-false, leb-true}
@@ -26,7 +26,7 @@ use Rattle.sheet.specs.Check.{Answer, refused, accepted, Test, answer, p
 use Rattle.sheet.specs.Operations.{padded, output-after, write, tidy-and-bound-tests, settle-tests, settle-call, expand-tests, expand-call}
 use Rattle.sheet.specs.Calls.{Call, settle, expand, perform, Held, held-after, perform-all}
 use Rattle.sheet.proofs.Tests.{passed-∷, passed-++, answer-passes, accepted-passes}
-use Rattle.sheet.proofs.Limits.{Sound, Within, numbered}
+use Rattle.sheet.proofs.Limits.{Sound, within-step}
 use Rattle.sheet.proofs.RoundTrip.{formula-sheet, passes-sheet}
 use Rattle.sheet.proofs.Accepted.{accepted-within, accepted-variables}
 
@@ -57,20 +57,6 @@ unfolding is-some
 some-value none h = absurd (false≢true h)
 some-value (some b) h = refl
 
--- the limits that a step keeps
-numbered-without : (F : Format) (x : ℕ) (p : Prefix) → numbered F p ≡ true → numbered F (without x p) ≡ true
-unfolding numbered without
-numbered-without F x [] h = refl
-numbered-without F x (z ∷ p) h =
-    let ok = not (eqb (z .variable) 0 || ltb (F .most-variables) (z .variable)) in
-    let parts = and-parts ok (numbered F p) h in
-    by (eqb (z .variable) x) (parts .0) (parts .1) (numbered-without F x p (parts .1))
-  where
-    by : (m : Bool) → not (eqb (z .variable) 0 || ltb (F .most-variables) (z .variable)) ≡ true → numbered F p ≡ true
-        → numbered F (without x p) ≡ true → numbered F (cond m p (z ∷ without x p)) ≡ true
-    by true k r rest = r
-    by false k r rest = ap₂ _&&_ k rest
-
 module _ (F : Format) (sound : Sound F) where
   proper : (b : Bytes) → Good F b → Proper (formula F b)
   proper b g =
@@ -84,14 +70,7 @@ module _ (F : Format) (sound : Sound F) where
   stepped b x f g h e p l t =
       let w = accepted-within F b (g .is-accepted) in
       let shorter = length-without x ((formula F b) .prefix) h in
-      let within : Within F f
-      = record {
-        few-variables = omega (arith, shorter, ap length e, w .few-variables);
-        few-nodes = l;
-        is-numbered = ap (numbered F) e ∙ numbered-without F x ((formula F b) .prefix) (w .is-numbered);
-        is-distinct = p .is-distinct;
-        is-closed = p .is-closed;
-      } in
+      let within = within-step F (formula F b) f x w h e p l in
       let back : formula F (sheet F f) ≡ f = formula-sheet F sound f within in
       let good : Good F (sheet F f)
       = record {

@@ -1,16 +1,18 @@
 -- The limits of a format, and the formulas that its sheets hold.
 -- Assumes nothing.
-use mathlib.Core.Path.{_≡_, refl}
-use mathlib.Core.Bool.{Bool, true, false, not, _&&_, _||_}
+use mathlib.Core.Path.{_≡_, refl, ap, ap₂, _∙_}
+use mathlib.Core.Bool.{Bool, true, false, not, _&&_, _||_, cond}
 use mathlib.Core.List.{[], _∷_}
-use Prim.Native.Nat.{ℕ, _≤_, _<_, _^_}
+use Prim.Native.Nat.{ℕ, zero, suc, _≤_, _<_, _^_}
 use native.Mathlib.Omega.{arith}
 use lib.Dec.{eqb, ltb}
-use lib.ListN.{length}
+use lib.ListN.{length, getD}
 use borrow.Author.Tests.{not-true, ltb-false, eqb-true}
-use Rattle.formula.specs.Tree.{Binding, Prefix, Formula, binds, distinct, rows, closed}
+use Rattle.formula.specs.Tree.{Binding, Prefix, Formula, binds, without, distinct, rows, closed}
 use Rattle.sheet.specs.Format.{Format, narrow}
 use Rattle.formula.proofs.Booleans.{and-parts, or-parts}
+use Rattle.formula.proofs.Closed.{length-without}
+use Rattle.formula.proofs.Steps.{Proper}
 
 -- the format's numbers hold its sizes
 pub record Sound (F : Format) : Type 0 where
@@ -33,6 +35,13 @@ numbered-∷ F z p h =
     let n = or-parts (eqb (z .variable) 0) (ltb (F .most-variables) (z .variable)) (not-true _ (b .0)) in
     (ltb-false (F .most-variables) (z .variable) (n .1), b .1)
 
+-- every bound number is within the limit
+pub numbered-at : (F : Format) (p : Prefix) (r : ℕ) (z : Binding) → numbered F p ≡ true → r < length p
+    → (getD p r z) .variable ≤ F .most-variables
+numbered-at F [] r z h l = absurd (omega arith)
+numbered-at F (y ∷ p) zero z h l = numbered-∷ F y p h .0
+numbered-at F (y ∷ p) (suc r) z h l = numbered-at F p r z (numbered-∷ F y p h .1) (omega arith)
+
 pub binds-numbered : (F : Format) (p : Prefix) (x : ℕ) → numbered F p ≡ true → binds p x ≡ true → x ≤ F .most-variables
 unfolding binds
 binds-numbered F [] x h e = let z : _≡_ {A = ℕ} 0 1 = cc in absurd (omega arith)
@@ -51,3 +60,28 @@ pub record Within (F : Format) (f : Formula) : Type 0 where
   pub is-numbered : numbered F (f .prefix) ≡ true
   pub is-distinct : distinct (f .prefix) ≡ true
   pub is-closed : closed f ≡ true
+
+-- the limits that a step keeps
+numbered-without : (F : Format) (x : ℕ) (p : Prefix) → numbered F p ≡ true → numbered F (without x p) ≡ true
+unfolding numbered without
+numbered-without F x [] h = refl
+numbered-without F x (z ∷ p) h =
+    let ok = not (eqb (z .variable) 0 || ltb (F .most-variables) (z .variable)) in
+    let parts = and-parts ok (numbered F p) h in
+    by (eqb (z .variable) x) (parts .0) (parts .1) (numbered-without F x p (parts .1))
+  where
+    by : (m : Bool) → not (eqb (z .variable) 0 || ltb (F .most-variables) (z .variable)) ≡ true → numbered F p ≡ true
+        → numbered F (without x p) ≡ true → numbered F (cond m p (z ∷ without x p)) ≡ true
+    by true k r rest = r
+    by false k r rest = ap₂ _&&_ k rest
+
+pub within-step : (F : Format) (f g : Formula) (x : ℕ) → Within F f → binds (f .prefix) x ≡ true → g .prefix ≡ without x (f .prefix) → Proper g
+    → rows (g .matrix) ≤ F .most-nodes → Within F g
+within-step F f g x w h e p l =
+    record {
+      few-variables = omega (arith, length-without x (f .prefix) h, ap length e, w .few-variables);
+      few-nodes = l;
+      is-numbered = ap (numbered F) e ∙ numbered-without F x (f .prefix) (w .is-numbered);
+      is-distinct = p .is-distinct;
+      is-closed = p .is-closed;
+    }

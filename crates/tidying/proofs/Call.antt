@@ -1,6 +1,6 @@
 -- Tidy's answer and output from Check's answer, the output's length and the rows copied to it.
 -- Assumes nothing.
-use mathlib.Core.Path.{_≡_, refl, sym, ap, ap₂, _∙_, subst}
+use mathlib.Core.Path.{_≡_, refl, sym, ap, ap₂, _∙_}
 use mathlib.Core.Bool.{Bool, true, false, cond}
 use mathlib.Core.List.{List, [], _∷_, _++_, map, append-nil}
 use Prim.Native.Nat.{ℕ, zero, suc, _+_, _*_, _^_, _≤_, _<_}
@@ -13,7 +13,7 @@ use lib.Seq.{length-take-le, take-append-le, drop-append-le, take-all, paste, pa
 use borrow.Author.Tests.{lt-ltb, le-ltb}
 use Rattle.formula.specs.Tree.{Formula}
 use Rattle.formula.specs.Tidy.{tidied}
-use Rattle.sheet.specs.Format.{Bytes, Format, narrow, Row, row, number, header, sheet-length, variables, nodes, zip-rows, all-rows, prefix-rows, node-rows}
+use Rattle.sheet.specs.Format.{Bytes, Format, Row, row, number, header, sheet-length, variables, nodes, zip-rows, all-rows, prefix-rows, node-rows}
 use Rattle.sheet.specs.Sheet.{binding, root, trees, formula, formula-rows, sheet}
 use Rattle.sheet.specs.Check.{Answer, refused, accepted, Test, test, answer, passes, check-tests, check}
 use Rattle.sheet.specs.Operations.{padded, Written, output-after, write, tidy-tests, tidy-call}
@@ -23,6 +23,7 @@ use Rattle.sheet.proofs.Accepted.{formula-rows-formula}
 use Rattle.rows.specs.Rows.{rows-in, Room}
 use Rattle.rows.proofs.Rows.{all-rows-in}
 use Rattle.tidying.specs.InPlace.{rows-formula}
+use Rattle.tidying.specs.Limits.{Countable, Sheet}
 
 -- the answer
 
@@ -121,39 +122,37 @@ module _ (F : Format) (few : F .width ≤ 4) (b : Bytes) (h : passes (check-test
   pub call-small : v + n ≤ F .most-variables + F .most-nodes
   call-small = omega (arith, v-is, n-is, fit .few-variables, fit .few-nodes)
 
--- The sheet copied to the front of an output, with sizes as Check has them.
-module _ (b out : Bytes) (h : passes (check-tests narrow b) ≡ true) {v n : ℕ} (v-is : v ≡ variables narrow b) (n-is : n ≡ nodes narrow b)
-    (l : length b ≤ length out) {copied : Bytes} (c-is : copied ≡ b ++ drop (length b) out) where
-  few : narrow .width ≤ 4
-  few = omega arith
+-- the sheet copied to the front of an output
+module _ {F : Format} {b : Bytes} {v n : ℕ} (k : Countable F) (s : Sheet F b v n) (out : Bytes) (l : length b ≤ length out)
+    {copied : Bytes} (c-is : copied ≡ b ++ drop (length b) out) where
+  few : F .width ≤ 4
+  few = k .manageable .few-bytes
 
-  rows-copied : rows-in 2 (v + n) copied ≡ rows-in 2 (v + n) b
-  rows-copied = ap (rows-in 2 (v + n)) c-is ∙ rows-in-++ b (drop (length b) out) (call-room narrow few b h v-is n-is)
+  room : Room (F .width) (v + n) (length b)
+  room = call-room F few b (s .tests-pass) (s .variables-are) (s .nodes-are)
+
+  rows-copied : rows-in (F .width) (v + n) copied ≡ rows-in (F .width) (v + n) b
+  rows-copied = ap (rows-in (F .width) (v + n)) c-is ∙ rows-in-++ b (drop (length b) out) room
 
   pub length-copied : length copied ≡ length out
   length-copied = ap length c-is ∙ length-append b (drop (length b) out) ∙ omega (arith, length-drop (length b) out)
 
   -- what tidy_in_place asks
-  abbrev Ready : Format → Type 0
-  Ready F =
+  pub call-ready :
       Room (F .width) (v + n) (length copied) × (v + n < 256 ^ F .width) ×
       (formula-rows (rows-formula v (rows-in (F .width) (v + n) copied)) ≡ rows-in (F .width) (v + n) copied)
-
-  pub call-ready : {F : Format} → F ≡ narrow → Ready F
-  call-ready e =
-      let room = call-room narrow few b h v-is n-is in
-      subst Ready (sym e) (
-        record { few-bytes = few; holds = omega (arith, room .holds, length-copied) },
-        omega (arith, call-small narrow few b h v-is n-is),
-        ap (λ rs. formula-rows (rows-formula v rs)) rows-copied ∙ call-rows narrow few b h v-is n-is ∙ sym rows-copied,
-      )
+  call-ready = (
+    record { few-bytes = few; holds = omega (arith, room .holds, length-copied) },
+    omega (arith, k .few-rows, call-small F few b (s .tests-pass) (s .variables-are) (s .nodes-are)),
+    ap (λ rs. formula-rows (rows-formula v rs)) rows-copied ∙ call-rows F few b (s .tests-pass) (s .variables-are) (s .nodes-are) ∙
+        sym rows-copied,
+  )
 
   -- and what it leaves
-  pub call-sheet : {F : Format} → F ≡ narrow
-      → sheet F (tidied (rows-formula v (rows-in (F .width) (v + n) copied))) ≡ sheet narrow (tidied (formula narrow b))
-  call-sheet e =
-      subst (λ F. sheet F (tidied (rows-formula v (rows-in (F .width) (v + n) copied))) ≡ sheet narrow (tidied (formula narrow b))) (sym e)
-      (ap (λ G. sheet narrow (tidied G)) (ap (rows-formula v) rows-copied ∙ call-formula narrow few b h v-is n-is))
+  pub call-sheet : sheet F (tidied (rows-formula v (rows-in (F .width) (v + n) copied))) ≡ sheet F (tidied (formula F b))
+  call-sheet =
+      ap (λ G. sheet F (tidied G))
+      (ap (rows-formula v) rows-copied ∙ call-formula F few b (s .tests-pass) (s .variables-are) (s .nodes-are))
 
 -- copy_front
 

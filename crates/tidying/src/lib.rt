@@ -5,18 +5,17 @@ use checking::Checked;
 use rows::Format;
 use rows::seal::seal;
 ghost use mathlib.Core.Path.{_≡_};
-ghost use mathlib.Core.Bool.{true};
 ghost use mathlib.Core.List.{_++_};
 ghost use Prim.Native.Nat.{_+_, _^_, _≤_, _<_};
 ghost use lib.ListN.{length, drop};
 ghost use Rattle.formula.specs.Tidy.{tidied};
-ghost use Rattle.sheet.specs.Sheet.{formula-rows, sheet};
-ghost use Rattle.sheet.specs.Format.{narrow, variables, nodes};
-ghost use Rattle.sheet.specs.Check.{passes, check-tests};
+ghost use Rattle.sheet.specs.Sheet.{formula, formula-rows, sheet};
+ghost use Rattle.sheet.specs.Format.{narrow};
 ghost use Rattle.sheet.specs.Operations.{padded, tidy-call};
 ghost use Rattle.rows.specs.Rows.{rows-in, Room};
 ghost use Rattle.rows.specs.Formats.{format-of};
 ghost use Rattle.tidying.specs.InPlace.{rows-formula};
+ghost use Rattle.tidying.specs.Limits.{Countable, Sheet};
 ghost use Rattle.tidying.specs.Answers.{written-answer};
 
 pub mod blocks;
@@ -44,7 +43,7 @@ pub fn tidy_in_place(b: &mut [u8], f: Format, v: usize, n: usize) -> usize
 }
 
 // Copies a sheet to the front of an output.
-fn copy_front(sheet: &[u8], out: &mut [u8])
+pub fn copy_front(sheet: &[u8], out: &mut [u8])
     requires { ⌜ length (now sheet) ≤ length (now out) ⌝ }
     ensures { λ _. ⌜ now (out .exit) ≡ now (sheet .entry) ++ drop (length (now (sheet .entry))) (now (out .entry)) ⌝ }
 {
@@ -55,18 +54,40 @@ fn copy_front(sheet: &[u8], out: &mut [u8])
     }
 }
 
+// Tidies a sheet that Check accepts with these sizes into an output that is as long at least, and returns the new sheet's length.
+pub fn tidy_into(source: &[u8], f: Format, v: usize, n: usize, out: &mut [u8]) -> usize
+    requires { ⌜ Countable (format-of f) × Sheet (format-of f) (now source) v n × (length (now source) ≤ length (now out)) ⌝ }
+    ensures { λ _. ⌜ now (out .exit) ≡ padded (length (now (out .entry))) (sheet (format-of f) (tidied (formula (format-of f) (now (source .entry))))) ⌝ }
+    ensures { λ r. ⌜ r ≡ length (sheet (format-of f) (tidied (formula (format-of f) (now (source .entry))))) ⌝ }
+{
+    copy_front(source, out);
+    tidy_in_place(out, f, v, n)
+}
+
 // Tidies a sheet that Check accepts with these sizes: 13 output shorter than the sheet.
-fn tidy_checked(sheet: &[u8], out: &mut [u8], v: usize, n: usize) -> Written
-    requires { ⌜ (passes (check-tests narrow (now sheet)) ≡ true) × (v ≡ variables narrow (now sheet)) × (n ≡ nodes narrow (now sheet)) ⌝ }
-    ensures { λ r. ⌜ written-answer r ≡ (tidy-call narrow (now (sheet .entry)) (now (out .entry))) .answer ⌝ }
-    ensures { λ _. ⌜ now (out .exit) ≡ (tidy-call narrow (now (sheet .entry)) (now (out .entry))) .output ⌝ }
+fn tidy_checked(sheet: &[u8], f: Format, v: usize, n: usize, out: &mut [u8]) -> Written
+    requires { ⌜ Countable (format-of f) × Sheet (format-of f) (now sheet) v n ⌝ }
+    ensures { λ r. ⌜ written-answer r ≡ (tidy-call (format-of f) (now (sheet .entry)) (now (out .entry))) .answer ⌝ }
+    ensures { λ _. ⌜ now (out .exit) ≡ (tidy-call (format-of f) (now (sheet .entry)) (now (out .entry))) .output ⌝ }
 {
     if out.len() < sheet.len() {
         return Written::Refused(13, 0);
     }
-    copy_front(sheet, out);
-    let length = tidy_in_place(out, rows::narrow(), v, n);
+    let length = tidy_into(sheet, f, v, n, out);
     Written::Accepted(length)
+}
+
+// Tidies a sheet of any format whose rows this code can count.
+pub fn tidy_in(sheet: &[u8], f: Format, out: &mut [u8]) -> Written
+    requires { ⌜ Countable (format-of f) ⌝ }
+    ensures { λ r. ⌜ written-answer r ≡ (tidy-call (format-of f) (now (sheet .entry)) (now (out .entry))) .answer ⌝ }
+    ensures { λ _. ⌜ now (out .exit) ≡ (tidy-call (format-of f) (now (sheet .entry)) (now (out .entry))) .output ⌝ }
+{
+    let c = checking::check_in(sheet, f);
+    match c {
+        Checked::Accepted(v, n) => tidy_checked(sheet, f, v, n, out),
+        Checked::Refused(number, place) => Written::Refused(number, place),
+    }
 }
 
 // Writes the tidied sheet to the front of `out`, with zeros behind it, and returns its length; or refuses the sheet or the output,
@@ -75,9 +96,5 @@ pub fn tidy(sheet: &[u8], out: &mut [u8]) -> Written
     ensures { λ r. ⌜ written-answer r ≡ (tidy-call narrow (now (sheet .entry)) (now (out .entry))) .answer ⌝ }
     ensures { λ _. ⌜ now (out .exit) ≡ (tidy-call narrow (now (sheet .entry)) (now (out .entry))) .output ⌝ }
 {
-    let c = checking::check(sheet);
-    match c {
-        Checked::Accepted(v, n) => tidy_checked(sheet, out, v, n),
-        Checked::Refused(number, place) => Written::Refused(number, place),
-    }
+    tidy_in(sheet, rows::narrow(), out)
 }

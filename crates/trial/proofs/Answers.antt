@@ -16,7 +16,7 @@ use Rattle.sheet.specs.Sheet.{binding, formula}
 use Rattle.sheet.specs.Check.{refused, accepted, Test, test, answer, check-tests, check}
 use Rattle.sheet.specs.Operations.{trial-call}
 use Rattle.sheet.proofs.Tests.{answer-++, refused-first}
-use Rattle.sheet.proofs.Limits.{numbered, numbered-∷}
+use Rattle.sheet.proofs.Limits.{numbered-at}
 use Rattle.sheet.proofs.Accepted.{rows-matrix, accepted-within, accepted-variables}
 use Rattle.rows.specs.Rows.{rows-in}
 use Rattle.checking.specs.Stages.{Manageable}
@@ -28,13 +28,6 @@ use Rattle.trial.specs.Turns.{unread, semantic-tree, Numbered, Playable}
 pub check-refuses : {n i : ℕ} (F : Format) (b : Bytes) → refused n i ≡ check F b → refused n i ≡ trial-call F b
 unfolding check trial-call
 check-refuses F b h = refused-first (check-tests F b) _ _ (trial (formula F b)) h
-
--- every bound number is within the limit
-numbered-at : (F : Format) (p : Prefix) (r : ℕ) (z : Binding) → numbered F p ≡ true → r < length p
-    → (getD p r z) .variable ≤ F .most-variables
-numbered-at F [] r z h l = absurd (omega arith)
-numbered-at F (y ∷ p) zero z h l = numbered-∷ F y p h .0
-numbered-at F (y ∷ p) (suc r) z h l = numbered-at F p r z (numbered-∷ F y p h .1) (omega arith)
 
 -- a sheet that Check accepts, of the shape that its sizes give
 module _ {F : Format} {b : Bytes} {v n : ℕ} (m : Manageable F) (sheet : AcceptedSheet F b v n) where

@@ -1,46 +1,28 @@
 -- `tidying::tidy` meets its contract. Assumes nothing.
-use mathlib.Core.Path.{sym, ap, _∙_}
-use Rattle.sheet.specs.Format.{narrow}
-use Rattle.checking.specs.Answers.{checked-answer}
-use Rattle.checking.proofs.Accepted.{accepted-sheet}
-use Rattle.tidying.proofs.Call.{unchecked-call}
+use mathlib.Core.Path.{ap, _∙_}
+use Rattle.sheet.specs.Operations.{tidy-call}
+use Rattle.tidying.proofs.Raw.{narrow-countable}
 use borrow.Author.Needs.{needs}
 use Rattle.tidying.proofs.tidy.Statement.{statement}
 use Rattle.tidying.proofs.tidy.Tie as tie
 
-check-requires : tie.Need-check-requires
-check-requires c κs = search needs
+narrow-requires : tie.Need-narrow-requires
+narrow-requires c κs = search needs
 
-enum-known-c : tie.Need-enum-known-c
-enum-known-c c = search needs
-
-tidy-checked-requires : tie.Need-tidy-checked-requires
-tidy-checked-requires c κs =
-    let s = accepted-sheet (c .before .before .c .given .1) (c .before .before .before .before .check .ensures) in
-    (s .tests-pass, s .right .variables-are, s .right .nodes-are)
-
-enum-known-c-2 : tie.Need-enum-known-c-2
-enum-known-c-2 c = search needs
+tidy-in-requires : tie.Need-tidy-in-requires
+tidy-in-requires c κs = rw (c .before .narrow .ensures) narrow-countable
 
 same-length : tie.Need-same-length
 same-length c = search needs
 
 returns : tie.Need-returns
-returns c = search needs
-
-returns-2 : tie.Need-returns-2
-returns-2 c =
-    let a = c .before .before .before .before .before .before in
-    unchecked-call narrow (a .args .sheet .now) (a .args .out .now) (sym (ap checked-answer (c .before .c2 .given .1)) ∙ c .before .before .before .check .ensures)
+returns c =
+    let call = c .before .before in
+    let format = call .before .before in
+    let a = format .before .before .before .args in (
+      call .tidy-in .ensures .0 ∙ ap (λ F. (tidy-call F (a .sheet .now) (a .out .now)) .answer) (format .narrow .ensures),
+      call .tidy-in .ensures .1 ∙ ap (λ F. (tidy-call F (a .sheet .now) (a .out .now)) .output) (format .narrow .ensures),
+    )
 
 pub tidy-spec : {M : Type 1} → statement M
-tidy-spec =
-    tie.close
-    (tie.spec
-    check-requires
-    enum-known-c
-    tidy-checked-requires
-    enum-known-c-2
-    same-length
-    returns
-    returns-2)
+tidy-spec = tie.close (tie.spec narrow-requires tidy-in-requires same-length returns)
