@@ -1,0 +1,7 @@
+pub mod Deciding
+pub mod Holding
+pub mod Carrying
+pub mod Stepping
+pub mod Arriving
+pub mod Turning
+pub mod Answering

@@ -1,0 +1,58 @@
+-- `solve::solve_in` meets its contract. Assumes nothing.
+use mathlib.Core.Path.{sym, ap, _∙_}
+use borrow.Author.Needs.{needs}
+use Rattle.rows.specs.Formats.{format-of}
+use Rattle.checking.specs.Answers.{checked-answer}
+use Rattle.checking.proofs.Accepted.{accepted-sheet}
+use Rattle.solve.proofs.Answering.{unchecked-call}
+use Rattle.solve.proofs.solve_in.Statement.{statement}
+use Rattle.solve.proofs.solve_in.Tie as tie
+
+check-in-requires : tie.Need-check-in-requires
+check-in-requires c κs = c .before .before .before .pre .manageable
+
+enum-known-c : tie.Need-enum-known-c
+enum-known-c c = search needs
+
+enum-known-c-2 : tie.Need-enum-known-c-2
+enum-known-c-2 c = search needs
+
+solve-checked-requires : tie.Need-solve-checked-requires
+solve-checked-requires c κs =
+    let told = c .before .before .before in
+    let checked = told .before .before in
+    let s = accepted-sheet (told .c2 .given .1) (checked .check-in .ensures) in (
+      checked .before .before .before .before .pre,
+      record { tests-pass = s .tests-pass; variables-are = s .right .variables-are; nodes-are = s .right .nodes-are },
+    )
+
+returns : tie.Need-returns
+returns c =
+    let told = c .before in
+    let checked = told .before .before in
+    let a = checked .before .before .before .before .args in
+    let l = unchecked-call (format-of (a .f)) (a .sheet .now) (a .first .now) (a .second .now)
+    (sym (ap checked-answer (told .c .given .1)) ∙ checked .check-in .ensures) in
+    (l .answers, (l .in-first, l .in-second))
+
+same-length : tie.Need-same-length
+same-length c = search needs
+
+same-length-2 : tie.Need-same-length-2
+same-length-2 c = search needs
+
+returns-2 : tie.Need-returns-2
+returns-2 c = search needs
+
+pub solve-in-spec : {M : Type 1} → statement M
+solve-in-spec =
+    tie.close
+    (tie.spec
+    check-in-requires
+    enum-known-c
+    enum-known-c-2
+    solve-checked-requires
+    returns
+    same-length
+    same-length-2
+    returns-2)

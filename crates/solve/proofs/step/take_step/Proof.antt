@@ -1,0 +1,61 @@
+-- `solve::step::take_step` meets its contract. Assumes nothing.
+use mathlib.Core.Path.{refl, sym, ap, _∙_}
+use borrow.Author.Needs.{needs}
+use Rattle.sheet.specs.Format.{fits}
+use Rattle.rows.specs.Formats.{format-of}
+use Rattle.solve.specs.Answers.{decision-of}
+use Rattle.solve.proofs.Holding.{readable}
+use Rattle.solve.proofs.Arriving.{decided-end}
+use Rattle.solve.proofs.step.take_step.Statement.{statement}
+use Rattle.solve.proofs.step.take_step.Tie as tie
+
+decide-requires : tie.Need-decide-requires
+decide-requires c κs =
+    let p = c .before .before .before .pre in
+    readable (p .0) (p .1)
+
+enum-known-d : tie.Need-enum-known-d
+enum-known-d c = search needs
+
+enum-told : tie.Need-enum-told
+enum-told c = search needs
+
+undecided-step-requires : tie.Need-undecided-step-requires
+undecided-step-requires c κs =
+    let told = c .before .before in
+    let decided = told .before .before in
+    let p = decided .before .before .before .before .pre in
+    (p .0, p .1, p .2, p .3, p .4, sym (decided .decide .ensures) ∙ ap decision-of (told .enum-told .given .1))
+
+same-length : tie.Need-same-length
+same-length c = search needs
+
+returns : tie.Need-returns
+returns c =
+    let told = c .before in
+    let decided = told .before .before in
+    let a = decided .before .before .before .before in
+    (decided-end (a .pre .0) (a .args .s) (a .args .first .now) (a .pre .1) (sym (decided .decide .ensures) ∙ ap decision-of (told .d .given .1)), refl)
+
+same-length-2 : tie.Need-same-length-2
+same-length-2 c = search needs
+
+same-length-3 : tie.Need-same-length-3
+same-length-3 c = search needs
+
+returns-2 : tie.Need-returns-2
+returns-2 c = search needs
+
+pub take-step-spec : {M : Type 1} → statement M
+take-step-spec =
+    tie.close
+    (tie.spec
+    decide-requires
+    enum-known-d
+    enum-told
+    undecided-step-requires
+    same-length
+    returns
+    same-length-2
+    same-length-3
+    returns-2)

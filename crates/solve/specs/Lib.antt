@@ -1,0 +1,3 @@
+-- What Solve answers, and a run between two steps.
+pub mod Answers
+pub mod Running
