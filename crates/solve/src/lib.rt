@@ -19,6 +19,7 @@ ghost use Rattle.tidying.specs.Limits.{Countable, Sheet};
 ghost use Rattle.solve.specs.Answers.{solved-answer};
 ghost use Rattle.solve.specs.Running.{HeldBy, reached, begun};
 
+pub mod line;
 pub mod step;
 pub mod verdicts;
 
