@@ -1,12 +1,13 @@
 //! A second reading of document 01, kept apart from the one under test.
 //!
 //! `reference` holds every operation on plain trees, `truth` the two splitting
-//! rules by brute force, `formulas` document 01's own formulas, `generate`
-//! seeded random sheets and damage to them, `stored` the cases of the test
-//! program, `qdimacs` a clause translation for solvers from outside. Nothing
-//! here is optimised, and trees recurse: sheets of full size want
-//! `with_deep_stack`.
+//! rules by brute force, `formulas` document 01's own formulas, `examples` the
+//! sheets of `examples/` with their lines, `generate` seeded random sheets and
+//! damage to them, `stored` the cases of the test program, `qdimacs` a clause
+//! translation for solvers from outside. Nothing here is optimised, and trees
+//! recurse: sheets of full size want `with_deep_stack`.
 
+pub mod examples;
 pub mod formulas;
 pub mod generate;
 pub mod qdimacs;
