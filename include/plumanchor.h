@@ -32,4 +32,7 @@ uint64_t plumanchor_tidy(const uint8_t *sheet, size_t length, uint8_t *output, s
 /* Settle x, any number, in the same way. */
 uint64_t plumanchor_settle(const uint8_t *sheet, size_t length, size_t x, uint8_t *output, size_t room);
 
+/* Expand x, any number, in the same way; the output must have room for the raw sheet. */
+uint64_t plumanchor_expand(const uint8_t *sheet, size_t length, size_t x, uint8_t *output, size_t room);
+
 #endif
