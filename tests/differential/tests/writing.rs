@@ -92,7 +92,7 @@ fn agree_on_small_sheets(operation: Operation, refusals: &[usize]) {
 
 fn agree_on_large_sheets(operation: Operation) {
     with_deep_stack(|| {
-        cases(200, |rng| {
+        cases(400, |rng| {
             for limits in [Limits::MEDIUM, Limits::FULL] {
                 let formula = generate::tidy_formula(rng, limits);
                 agree_around(rng, operation, &formula, &encode(&formula));
@@ -121,8 +121,7 @@ fn expand_on_large_sheets() {
     agree_on_large_sheets(Expand);
 }
 
-/// One call with each length around what it needs; the last is accepted or
-/// refused for another reason than the length.
+/// One call with each length around the least that suffices.
 fn agree_at_limits(rng: &mut Rng, operation: Operation, formula: &Formula, variable: Variable) {
     let sheet = encode(formula);
     let exact = needed(formula, operation, variable);
