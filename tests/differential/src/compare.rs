@@ -9,6 +9,7 @@ pub fn hexadecimal(bytes: &[u8]) -> String {
 }
 
 /// What an operation that writes a sheet answered, and its output afterwards.
+#[derive(PartialEq)]
 pub struct Outcome {
     pub answer: Answer<usize>,
     pub output: Vec<u8>,
@@ -22,6 +23,10 @@ impl Outcome {
             Answer::Refused(..) => None,
         }
     }
+
+    fn told(&self) -> String {
+        format!("{:?}, output {}", self.answer, hexadecimal(&self.output))
+    }
 }
 
 /// One operation on both, with equal outputs before it; what is left in them
@@ -33,21 +38,23 @@ pub fn agree(
     proved: impl Fn(&[u8], &mut [u8]) -> Answer<usize>,
     reference: impl Fn(&[u8], &mut [u8]) -> Answer<usize>,
 ) -> Outcome {
-    let run = |operation: &dyn Fn(&[u8], &mut [u8]) -> Answer<usize>| {
-        let mut output = before.to_vec();
-        let answer = operation(sheet, &mut output);
-        (answer, output)
-    };
-    let (mine, theirs) = (run(&proved), run(&reference));
+    let (mine, theirs) = (run(sheet, before, proved), run(sheet, before, reference));
     if mine != theirs {
-        let told = |(answer, output): &(Answer<usize>, Vec<u8>)| {
-            format!("{answer:?}, output {}", hexadecimal(output))
-        };
-        let (proved, reference) = (told(&mine), told(&theirs));
+        let (proved, reference) = (mine.told(), theirs.told());
         let sheet = hexadecimal(sheet);
         panic!("{what} of {sheet}\nproved: {proved}\nreference: {reference}");
     }
-    Outcome { answer: mine.0, output: mine.1 }
+    mine
+}
+
+fn run(
+    sheet: &[u8],
+    before: &[u8],
+    operation: impl Fn(&[u8], &mut [u8]) -> Answer<usize>,
+) -> Outcome {
+    let mut output = before.to_vec();
+    let answer = operation(sheet, &mut output);
+    Outcome { answer, output }
 }
 
 pub fn agree_on_tidy(sheet: &[u8], before: &[u8]) -> Outcome {

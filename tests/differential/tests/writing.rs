@@ -154,7 +154,7 @@ fn filling(kind: Kind, rows: usize) -> Vec<Node> {
 
 /// Groups of three rows with both signs of variable 1.
 fn relevant_groups(kind: Kind, count: usize) -> Vec<Node> {
-    let sign = |at: usize| if at % 2 == 0 { 1 } else { -1 };
+    let sign = |at: usize| if at.is_multiple_of(2) { 1 } else { -1 };
     let group = |at| Node::Op { kind, children: vec![lit(sign(at)), lit(2)] };
     (0..count).map(group).collect()
 }

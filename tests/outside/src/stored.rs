@@ -243,7 +243,8 @@ fn largest() -> Vec<Case> {
 
 /// AND of clauses of three rows, each with a literal of 1, in both signs.
 fn clauses(count: usize) -> Formula {
-    let of = |at: usize| clause(&[if at % 2 == 0 { 1 } else { -1 }, 2 + (at % 255) as i32]);
+    let of =
+        |at: usize| clause(&[if at.is_multiple_of(2) { 1 } else { -1 }, 2 + (at % 255) as i32]);
     formula(&all(Exists, 256), and((0..count).map(of).collect()))
 }
 
