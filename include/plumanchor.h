@@ -1,7 +1,7 @@
 /* Plumanchor for C. Link libcapi.a, which `rt staticlib capi` writes to target/staticlib.
  *
  * No function keeps a pointer, allocates or fails: any bytes of any length are taken, and a length of 0 may come with any pointer.
- * Check, Trial and Part are tested on a stack of 1 MiB.
+ * Every operation is tested on a stack of 1 MiB.
  *
  * An answer is one number. Bits 0 to 7: the refusal number of document 01, 0 if accepted. Bits 8 to 15: a word. Bits 16 to 31 and
  * 32 to 63: two values; a refusal has its place in the first. */
@@ -31,5 +31,8 @@ uint64_t plumanchor_tidy(const uint8_t *sheet, size_t length, uint8_t *output, s
 
 /* Settle x, any number, in the same way. */
 uint64_t plumanchor_settle(const uint8_t *sheet, size_t length, size_t x, uint8_t *output, size_t room);
+
+/* Expand x, any number, in the same way; the output must have room for the raw sheet. */
+uint64_t plumanchor_expand(const uint8_t *sheet, size_t length, size_t x, uint8_t *output, size_t room);
 
 #endif

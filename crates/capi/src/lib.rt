@@ -3,7 +3,7 @@ ghost use mathlib.Core.Path.{_≡_};
 ghost use lib.ListN.{length};
 ghost use Rattle.sheet.specs.Format.{narrow};
 ghost use Rattle.sheet.specs.Check.{check};
-ghost use Rattle.sheet.specs.Operations.{trial-call, part-call, tidy-call, settle-call};
+ghost use Rattle.sheet.specs.Operations.{trial-call, part-call, tidy-call, settle-call, expand-call};
 ghost use Rattle.tidying.specs.Answers.{written-answer};
 ghost use Rattle.capi.specs.Packed.{packed, packed-check, packed-trial, packed-written};
 
@@ -73,4 +73,13 @@ pub extern "C" fn plumanchor_settle(sheet: &[u8], x: usize, out: &mut [u8]) -> u
     ensures { λ _. ⌜ now (out .exit) ≡ (settle-call narrow (now (sheet .entry)) x (now (out .entry))) .output ⌝ }
 {
     pack_written(settle::settle(sheet, x, out))
+}
+
+// Expand: refusal number and place, or the new sheet's length.
+#[no_mangle]
+pub extern "C" fn plumanchor_expand(sheet: &[u8], x: usize, out: &mut [u8]) -> u64
+    ensures { λ r. ⌜ r ≡ packed-written ((expand-call narrow (now (sheet .entry)) x (now (out .entry))) .answer) ⌝ }
+    ensures { λ _. ⌜ now (out .exit) ≡ (expand-call narrow (now (sheet .entry)) x (now (out .entry))) .output ⌝ }
+{
+    pack_written(expand::expand(sheet, x, out))
 }

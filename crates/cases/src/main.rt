@@ -1,7 +1,22 @@
-// The test program. Standard input holds cases: an operation (c for Check, t for Trial, p for Part), a number (Part's node) and the
-// sheet's length, two bytes each and low byte first, then the sheet. A line is written for each.
+// The test program. Standard input holds sheets, each with the calls to be made on it: the sheet's length, the number of calls, the
+// sheet, the calls. A call is an operation's letter, a number (Part's node, the variable of Settle and Expand) and the output's length.
+// Numbers have two bytes, low byte first. A line is written for each call.
+//
+// Letters: c Check, t Trial, p Part, d Tidy, s Settle, e Expand. Of the last three a line tells the answer, a sum over the whole output
+// and, if it is short, the new sheet in hexadecimal. The output is filled with one byte before, so that the sum tells zeros and bytes
+// left alone too.
 use checking::Checked;
+use tidying::Written;
 use trial::Tried;
+
+// What the output is filled with before a call.
+const FILLING: u8 = 165;
+
+// The longest sheet that is written in hexadecimal.
+const SHORT: usize = 64;
+
+// The longest output of a call, which holds any sheet.
+const ROOM: usize = 13060;
 
 // Writes a blank and a number.
 fn print_number(n: u64) {
@@ -54,44 +69,164 @@ fn run_part(sheet: &[u8], node: usize) {
     }
 }
 
-fn run(operation: u8, number: usize, sheet: &[u8]) {
+// Fills the output, so that it is not clean before a call.
+fn fill(out: &mut [u8]) {
+    let mut i = 0;
+    while i < out.len() {
+        out[i] = FILLING;
+        i += 1;
+    }
+}
+
+// A sum that depends on each byte and on its place.
+fn sum(bytes: &[u8]) -> usize {
+    let mut so_far = 0;
+    let mut i = 0;
+    while i < bytes.len() {
+        so_far = (257 * so_far + rows::wide(bytes[i])) % 65521;
+        i += 1;
+    }
+    so_far
+}
+
+fn print_hexadecimal(bytes: &[u8]) {
+    io::write_all(1, b" sheet");
+    let mut i = 0;
+    while i < bytes.len() {
+        io::write_all(1, b" ");
+        io::print_hex(1, rows::wide(bytes[i]) as u64, 2);
+        i += 1;
+    }
+}
+
+// Writes a short sheet of this length from the front of the output.
+fn print_short(out: &[u8], length: usize) {
+    if length <= SHORT {
+        if length <= out.len() {
+            print_hexadecimal(&out[..length]);
+        }
+    }
+}
+
+fn print_sum(out: &[u8]) {
+    io::write_all(1, b" sum");
+    print_number(sum(out) as u64);
+}
+
+fn print_written(answer: Written, out: &[u8]) {
+    match answer {
+        Written::Accepted(length) => {
+            io::write_all(1, b" accepted");
+            print_number(length as u64);
+            print_sum(out);
+            print_short(out, length);
+        }
+        Written::Refused(number, place) => {
+            print_refused(number, place);
+            print_sum(out);
+        }
+    }
+}
+
+fn run_tidy(sheet: &[u8], out: &mut [u8]) {
+    io::write_all(1, b"tidy");
+    let answer = tidying::tidy(sheet, out);
+    print_written(answer, out);
+}
+
+fn run_settle(sheet: &[u8], x: usize, out: &mut [u8]) {
+    io::write_all(1, b"settle");
+    print_number(x as u64);
+    let answer = settle::settle(sheet, x, out);
+    print_written(answer, out);
+}
+
+fn run_expand(sheet: &[u8], x: usize, out: &mut [u8]) {
+    io::write_all(1, b"expand");
+    print_number(x as u64);
+    let answer = expand::expand(sheet, x, out);
+    print_written(answer, out);
+}
+
+fn run_writing(operation: u8, number: usize, sheet: &[u8], out: &mut [u8]) {
+    fill(out);
+    if operation == b'd' {
+        run_tidy(sheet, out);
+        return;
+    }
+    if operation == b's' {
+        run_settle(sheet, number, out);
+        return;
+    }
+    run_expand(sheet, number, out);
+}
+
+fn run(operation: u8, number: usize, sheet: &[u8], out: &mut [u8]) {
     if operation == b'c' {
         run_check(sheet);
-    } else if operation == b't' {
-        run_trial(sheet);
-    } else {
-        run_part(sheet, number);
+        return;
     }
+    if operation == b't' {
+        run_trial(sheet);
+        return;
+    }
+    if operation == b'p' {
+        run_part(sheet, number);
+        return;
+    }
+    run_writing(operation, number, sheet, out);
+}
+
+// Reads the next call on `sheet` and makes it, with a part of `space` as its output.
+fn next_call(sheet: &[u8], space: &mut [u8]) {
+    let mut call = [0u8; 5];
+    io::read_full(0, &mut call);
+    let operation = call[0];
+    let number = rows::number_at(&call, 1, 2);
+    let room = rows::number_at(&call, 3, 2);
+    if space.len() < room {
+        return;
+    }
+    let out = &mut space[..room];
+    run(operation, number, sheet, out);
     io::write_all(1, b"\n");
 }
 
-// Reads the next case and runs it, or answers that there is none.
-fn next_case(space: &mut [u8]) -> bool {
-    let mut head = [0u8; 5];
+fn run_calls(sheet: &[u8], calls: usize) {
+    let mut space = [0u8; ROOM];
+    let mut left = calls;
+    while 0 < left {
+        next_call(sheet, &mut space);
+        left -= 1;
+    }
+}
+
+// Reads the next sheet and makes its calls, or answers that there is none.
+fn next_sheet(space: &mut [u8]) -> bool {
+    let mut head = [0u8; 4];
     let got = io::read_full(0, &mut head);
-    if got < 5 {
+    if got < 4 {
         return false;
     }
-    let operation = head[0];
-    let number = rows::number_at(&head, 1, 2);
-    let length = rows::number_at(&head, 3, 2);
+    let length = rows::number_at(&head, 0, 2);
+    let calls = rows::number_at(&head, 2, 2);
     if space.len() < length {
         return false;
     }
     let sheet = &mut space[..length];
     io::read_full(0, sheet);
-    run(operation, number, sheet);
+    run_calls(sheet, calls);
     true
 }
 
-// Runs the cases until there is none, 4,096 at most.
+// Goes through the sheets until there is none, 4,096 at most.
 fn run_all(space: &mut [u8]) {
-    let mut cases: usize = 0;
-    while cases < 4096 {
-        if !next_case(space) {
+    let mut sheets: usize = 0;
+    while sheets < 4096 {
+        if !next_sheet(space) {
             return;
         }
-        cases += 1;
+        sheets += 1;
     }
 }
 

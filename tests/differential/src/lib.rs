@@ -3,6 +3,8 @@
 use outside::reference::{Answer, Refusal, Variable};
 use std::ops::Range;
 
+pub mod compare;
+
 mod foreign {
     // As include/plumanchor.h declares them.
     extern "C" {
@@ -16,6 +18,13 @@ mod foreign {
             room: usize,
         ) -> u64;
         pub fn plumanchor_settle(
+            sheet: *const u8,
+            length: usize,
+            x: usize,
+            output: *mut u8,
+            room: usize,
+        ) -> u64;
+        pub fn plumanchor_expand(
             sheet: *const u8,
             length: usize,
             x: usize,
@@ -86,9 +95,19 @@ pub fn tidy(sheet: &[u8], output: &mut [u8]) -> Answer<usize> {
     })
 }
 
+/// Settle and Expand: a sheet, a variable and the output.
+pub type Step = fn(&[u8], Variable, &mut [u8]) -> Answer<usize>;
+
 pub fn settle(sheet: &[u8], x: Variable, output: &mut [u8]) -> Answer<usize> {
     let (length, room) = (sheet.len(), output.len());
     written(unsafe {
         foreign::plumanchor_settle(sheet.as_ptr(), length, x, output.as_mut_ptr(), room)
+    })
+}
+
+pub fn expand(sheet: &[u8], x: Variable, output: &mut [u8]) -> Answer<usize> {
+    let (length, room) = (sheet.len(), output.len());
+    written(unsafe {
+        foreign::plumanchor_expand(sheet.as_ptr(), length, x, output.as_mut_ptr(), room)
     })
 }

@@ -1,6 +1,7 @@
 //! Check, Trial and Part against the independent reading: answer for answer,
 //! place for place. A disagreement prints the sheet in hexadecimal.
 
+use differential::compare::hexadecimal;
 use outside::generate::{self, cases, limit_sheets, Limits, Rng};
 use outside::reference::{self, Variable};
 use outside::with_deep_stack;
@@ -8,7 +9,7 @@ use std::fmt::Debug;
 
 fn agree<T: PartialEq + Debug>(sheet: &[u8], what: &str, proved: T, reference: T) {
     if proved != reference {
-        let bytes: String = sheet.iter().map(|byte| format!("{byte:02x} ")).collect();
+        let bytes = hexadecimal(sheet);
         panic!("{what} of {bytes}: proved {proved:?}, reference {reference:?}");
     }
 }

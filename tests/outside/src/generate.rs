@@ -686,6 +686,22 @@ pub fn deep_formula(v: usize, n: usize) -> Formula {
     Formula { matrix, ..with_variables(v) }
 }
 
+/// Alternating operators with a literal each, as deep as a tidy tree of `n`
+/// rows (an odd number) can be. Variable 1 stands in the innermost operator
+/// and, if it is to have two literals, in the outermost one too.
+pub fn ladder_formula(n: usize, literals_of_1: usize) -> Formula {
+    let rungs = (n - 3) / 2;
+    let mut kind = Kind::Or;
+    let mut matrix = Node::or(vec![Node::literal(1), Node::literal(2)]);
+    for rung in 1..=rungs {
+        let var = if literals_of_1 == 2 && rung == rungs { 1 } else { 2 + (rung % 255) as i32 };
+        let signed = if rung % 4 < 2 { var } else { -var };
+        kind = kind.other();
+        matrix = Node::Op { kind, children: vec![Node::literal(signed), matrix] };
+    }
+    Formula { matrix, ..with_variables(MAX_VARIABLES) }
+}
+
 fn binding(number: usize) -> Vec<u8> {
     let mut sheet = encode(&with_variables(1));
     set_number(&mut sheet, 4 + 2, number);

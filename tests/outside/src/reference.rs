@@ -282,7 +282,8 @@ pub fn encode(formula: &Formula) -> Vec<u8> {
     sheet
 }
 
-fn push_number(number: usize, sheet: &mut Vec<u8>) {
+/// Two bytes, low byte first.
+pub fn push_number(number: usize, sheet: &mut Vec<u8>) {
     let narrow = u16::try_from(number).expect("a number of 16 bits");
     sheet.extend(narrow.to_le_bytes());
 }

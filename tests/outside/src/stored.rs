@@ -3,82 +3,249 @@
 //! them anew, and a test holds them to this list.
 
 use crate::formulas::*;
-use crate::generate::{deep_formula, limit_sheets, wide_formula};
+use crate::generate::{deep_formula, ladder_formula, limit_sheets, wide_formula};
 use crate::reference::*;
 use Quantifier::{Exists, ForAll};
 
-/// One call: its operation, a number (the node of Part) and the sheet.
+/// A sheet and the calls to be made on it.
 pub struct Case {
-    pub operation: u8,
-    pub number: u16,
     pub sheet: Vec<u8>,
+    pub calls: Vec<Call>,
 }
 
-/// Operation, number and length, low byte first, then the sheet.
+/// An operation's letter, a number (the node of Part, the variable of Settle
+/// and Expand) and the output's length.
+#[derive(Clone, Copy)]
+pub struct Call {
+    pub operation: u8,
+    pub number: usize,
+    pub room: usize,
+}
+
+/// Every output is filled with this byte before a call.
+const FILLING: u8 = 165;
+
+/// The longest sheet that a line tells whole.
+const SHORT: usize = 64;
+
+/// Each sheet's length and number of calls, the sheet, the calls; numbers of
+/// two bytes, low byte first.
 pub fn input(cases: &[Case]) -> Vec<u8> {
     let mut bytes = Vec::new();
-    for case in cases {
-        bytes.push(case.operation);
-        bytes.extend(case.number.to_le_bytes());
-        bytes.extend((case.sheet.len() as u16).to_le_bytes());
-        bytes.extend(&case.sheet);
+    for Case { sheet, calls } in cases {
+        push_number(sheet.len(), &mut bytes);
+        push_number(calls.len(), &mut bytes);
+        bytes.extend(sheet);
+        for call in calls {
+            bytes.push(call.operation);
+            push_number(call.number, &mut bytes);
+            push_number(call.room, &mut bytes);
+        }
     }
     bytes
 }
 
 pub fn lines(cases: &[Case]) -> String {
-    cases.iter().map(|case| line(case) + "\n").collect()
+    let of = |case: &Case| -> String {
+        case.calls.iter().map(|call| line(&case.sheet, call) + "\n").collect()
+    };
+    cases.iter().map(of).collect()
 }
 
-fn line(case: &Case) -> String {
+fn line(sheet: &[u8], call: &Call) -> String {
     let refused = |(number, place): Refusal| format!("refused {number} {place}");
-    match case.operation {
-        b'c' => match check(&case.sheet) {
+    match call.operation {
+        b'c' => match check(sheet) {
             Ok((variables, nodes)) => format!("check accepted {variables} {nodes}"),
             Err(refusal) => format!("check {}", refused(refusal)),
         },
-        b't' => match trial(&case.sheet) {
+        b't' => match trial(sheet) {
             Answer::Accepted((verdict, leaves)) => format!("trial {verdict} {leaves}"),
             Answer::Refused(number, place) => format!("trial {}", refused((number, place))),
         },
-        _ => {
-            let kinds = part(&case.sheet, case.number.into());
+        b'p' => {
+            let kinds = part(sheet, call.number);
             let kinds: String = kinds.iter().map(|kind| format!(" {kind}")).collect();
             format!("part{kinds}")
         }
+        _ => written_line(sheet, call),
+    }
+}
+
+/// The answer, a sum over the whole output, and the new sheet if it is short.
+fn written_line(sheet: &[u8], call: &Call) -> String {
+    let mut output = vec![FILLING; call.room];
+    let x = call.number;
+    let (name, answer) = match call.operation {
+        b'd' => ("tidy".to_string(), tidy(sheet, &mut output)),
+        b's' => (format!("settle {x}"), settle(sheet, x, &mut output)),
+        _ => (format!("expand {x}"), expand(sheet, x, &mut output)),
+    };
+    let sum = output.iter().fold(0, |sum, &byte| (257 * sum + u32::from(byte)) % 65_521);
+    match answer {
+        Answer::Refused(number, place) => format!("{name} refused {number} {place} sum {sum}"),
+        Answer::Accepted(length) if length <= SHORT => {
+            let bytes: String =
+                output[..length].iter().map(|byte| format!(" {byte:02x}")).collect();
+            format!("{name} accepted {length} sum {sum} sheet{bytes}")
+        }
+        Answer::Accepted(length) => format!("{name} accepted {length} sum {sum}"),
+    }
+}
+
+fn check_call() -> Call {
+    Call { operation: b'c', number: 0, room: 0 }
+}
+
+fn trial_call() -> Call {
+    Call { operation: b't', number: 0, room: 0 }
+}
+
+fn part_call(node: usize) -> Call {
+    Call { operation: b'p', number: node, room: 0 }
+}
+
+/// A call with an output of the length that is asked for, and with one byte less.
+fn at_limit(operation: u8, number: usize, room: usize) -> [Call; 2] {
+    [room, room - 1].map(|room| Call { operation, number, room })
+}
+
+fn tidy_calls(formula: &Formula) -> Vec<Call> {
+    at_limit(b'd', 0, encode(formula).len()).into()
+}
+
+/// Settle and Expand of these variables.
+fn step_calls(formula: &Formula, variables: &[Variable]) -> Vec<Call> {
+    let left = formula.prefix.len().saturating_sub(1);
+    let mut calls = Vec::new();
+    for &x in variables {
+        calls.extend(at_limit(b's', x, sheet_length(left, formula.matrix.rows())));
+        calls.extend(at_limit(
+            b'e',
+            x,
+            sheet_length(left, raw_rows(formula, x)).min(PROGRAM_BUFFER),
+        ));
+    }
+    calls
+}
+
+/// Tidy, and Settle and Expand of every variable and of two other numbers.
+fn writing_calls(formula: &Formula) -> Vec<Call> {
+    let mut variables: Vec<Variable> = formula.prefix.iter().map(|row| row.1).collect();
+    variables.extend([0, 300]);
+    [tidy_calls(formula), step_calls(formula, &variables)].concat()
+}
+
+/// The single calls that Solve is made of, each on the sheet that the last one left.
+fn solving_calls(formula: &Formula) -> Vec<Case> {
+    let mut held = tidy_formula(formula);
+    let mut cases = Vec::new();
+    loop {
+        let sheet = encode(&held);
+        let (operation, number) = match next_move(&held) {
+            Move::End(_) => return cases,
+            Move::Settle(x, _) => (b's', x),
+            Move::Expand(x) => (b'e', x),
+        };
+        cases.push(Case { sheet, calls: vec![Call { operation, number, room: PROGRAM_BUFFER }] });
+        held = match next_move(&held) {
+            Move::Settle(x, value) => settle_formula(&held, x, value),
+            _ => expand_formula(&held, number),
+        };
     }
 }
 
 pub fn cases() -> Vec<Case> {
     let mut cases = Vec::new();
-    let mut add = |operation, number, sheet| cases.push(Case { operation, number, sheet });
     for sheet in refused_sheets() {
-        add(b'c', 0, sheet.clone());
-        add(b't', 0, sheet.clone());
-        add(b'p', 0, sheet);
+        let mut calls = vec![check_call(), trial_call(), part_call(0)];
+        calls.extend([b'd', b's', b'e'].map(|operation| Call {
+            operation,
+            number: 1,
+            room: SHORT,
+        }));
+        cases.push(Case { sheet, calls });
     }
     for limit in limit_sheets() {
-        add(b'c', 0, limit.sheet);
+        let room = limit.sheet.len().min(PROGRAM_BUFFER);
+        let tidy = Call { operation: b'd', number: 0, room };
+        cases.push(Case { sheet: limit.sheet, calls: vec![check_call(), tidy] });
     }
     for formula in tried_by_hand() {
-        let sheet = encode(&formula);
-        add(b'c', 0, sheet.clone());
-        add(b't', 0, sheet.clone());
-        for node in 0..=formula.matrix.rows() {
-            add(b'p', node as u16, sheet.clone());
-        }
+        let mut calls = vec![check_call(), trial_call()];
+        calls.extend((0..=formula.matrix.rows()).map(part_call));
+        calls.extend(writing_calls(&formula));
+        cases.push(Case { sheet: encode(&formula), calls });
+        cases.extend(solving_calls(&formula));
+    }
+    for formula in traps() {
+        let calls = writing_calls(&formula);
+        cases.push(Case { sheet: encode(&formula), calls });
+        cases.extend(solving_calls(&formula));
     }
     for (quantifier, count) in [(Exists, 20), (ForAll, 20), (Exists, 21)] {
-        add(b't', 0, sheet(&all(quantifier, count), and(vec![])));
+        let sheet = sheet(&all(quantifier, count), and(vec![]));
+        cases.push(Case { sheet, calls: vec![trial_call()] });
     }
-    for formula in [deep_formula(1, 4096), wide_formula(4096), deep_formula(256, 4096)] {
-        let sheet = encode(&formula);
-        add(b't', 0, sheet.clone());
-        for node in [4090, 4095, 4096, 65535] {
-            add(b'p', node, sheet.clone());
+    cases.extend(largest());
+    cases
+}
+
+/// What document 01's traps would get wrong, beside the formulas of its list.
+fn traps() -> Vec<Formula> {
+    let mut formulas = Vec::new();
+    // Settling by sign without regard to the quantifier.
+    for quantifier in [Exists, ForAll] {
+        for signed in [1, -1] {
+            formulas.push(formula(&[(quantifier, 1), (Exists, 2)], clause(&[signed, 2])));
         }
     }
+    // Copying children that hold no literal of x, 1 here; 6 and 7 have one literal.
+    let children = vec![lit(3), clause(&[1, 4]), lit(6), clause(&[-1, 5]), lit(7)];
+    for quantifier in [Exists, ForAll] {
+        formulas.push(formula(&all(quantifier, 7), or(vec![lit(2), and(children.clone())])));
+    }
+    // Joining an existential's copies with AND; expanding outside the innermost block.
+    formulas.push(formula(&[(Exists, 3), (ForAll, 2), (Exists, 1)], equal_pair()));
+    // Reading "no variables left" as true.
+    formulas.push(formula(&all(ForAll, 1), lit(1)));
+    formulas.push(formula(
+        &all(Exists, 2),
+        and(vec![clause(&[1, 2]), clause(&[-1, 2]), clause(&[1, -2]), clause(&[-1, -2])]),
+    ));
+    // A decided sheet with variables left, which may still be settled and expanded.
+    formulas.push(formula(&all(Exists, 2), or(vec![])));
+    formulas
+}
+
+/// The deepest and the widest sheets, untidy and tidy.
+fn largest() -> Vec<Case> {
+    let mut cases = Vec::new();
+    for formula in [deep_formula(1, 4096), wide_formula(4096), deep_formula(256, 4096)] {
+        let mut calls = vec![trial_call()];
+        calls.extend([4090, 4095, 4096, 65535].map(part_call));
+        calls.extend([tidy_calls(&formula), step_calls(&formula, &[1])].concat());
+        cases.push(Case { sheet: encode(&formula), calls });
+    }
+    // Of the second ladder the raw rows are 4,095 with one literal of 1; of the third, with all rows copied.
+    for formula in [
+        ladder_formula(4095, 1),
+        ladder_formula(4093, 1),
+        ladder_formula(2047, 2),
+        clauses(1365),
+        clauses(682),
+    ] {
+        let calls = [tidy_calls(&formula), step_calls(&formula, &[1, 2, 256])].concat();
+        cases.push(Case { sheet: encode(&formula), calls });
+    }
     cases
+}
+
+/// AND of clauses of three rows, each with a literal of 1, in both signs.
+fn clauses(count: usize) -> Formula {
+    let of =
+        |at: usize| clause(&[if at.is_multiple_of(2) { 1 } else { -1 }, 2 + (at % 255) as i32]);
+    formula(&all(Exists, 256), and((0..count).map(of).collect()))
 }
 
 /// Each refusal of Check, with rows before and behind the bad one.

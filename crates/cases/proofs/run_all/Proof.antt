@@ -1,4 +1,4 @@
--- `cases::run_all` is safe and ends: at most 4,096 cases are left.
+-- `cases::run_all` is safe and ends: at most 4,096 sheets are left.
 -- Assumes nothing.
 use mathlib.Core.Path.{_≡_}
 use Prim.Native.Nat.{_≤_, _-_}
@@ -8,16 +8,16 @@ use Rattle.cases.proofs.run_all.Statement.{statement}
 use Rattle.cases.proofs.run_all.Tie as tie
 
 abbrev Inv-loop : tie.InvT-loop
-Inv-loop space₀ cases₀ space cases = (cases ≤ 4096) × (length space ≡ length space₀)
+Inv-loop space₀ sheets₀ space sheets = (sheets ≤ 4096) × (length space ≡ length space₀)
 
 abbrev μ-loop : tie.MeasureT-loop
-μ-loop space₀ cases₀ space cases = 4096 - cases
+μ-loop space₀ sheets₀ space sheets = 4096 - sheets
 
 loop-holds : tie.Need-loop-holds Inv-loop μ-loop
 loop-holds c = search needs
 
-next-case-requires : tie.Need-next-case-requires Inv-loop μ-loop
-next-case-requires c κs = search needs
+next-sheet-requires : tie.Need-next-sheet-requires Inv-loop μ-loop
+next-sheet-requires c κs = search needs
 
 same-length : tie.Need-same-length Inv-loop μ-loop
 same-length c = search needs
@@ -25,8 +25,8 @@ same-length c = search needs
 returns : tie.Need-returns Inv-loop μ-loop
 returns c = search needs
 
-add-cases : tie.Need-add-cases Inv-loop μ-loop
-add-cases c = search needs
+add-sheets : tie.Need-add-sheets Inv-loop μ-loop
+add-sheets c = search needs
 
 loop-less : tie.Need-loop-less Inv-loop μ-loop
 loop-less c = search needs
@@ -47,10 +47,10 @@ run-all-spec =
     Inv-loop
     μ-loop
     loop-holds
-    next-case-requires
+    next-sheet-requires
     same-length
     returns
-    add-cases
+    add-sheets
     loop-less
     loop-again
     same-length-2

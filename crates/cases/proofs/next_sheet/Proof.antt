@@ -1,11 +1,11 @@
--- `cases::next_case` is safe: the sheet is the front of the space.
+-- `cases::next_sheet` is safe: the sheet is the front of the space.
 -- Assumes nothing.
 use mathlib.Core.Path.{sym}
 use native.Mathlib.Omega.{arith}
 use lib.Seq.{length-take-le}
 use borrow.Author.Needs.{needs}
-use Rattle.cases.proofs.next_case.Statement.{statement}
-use Rattle.cases.proofs.next_case.Tie as tie
+use Rattle.cases.proofs.next_sheet.Statement.{statement}
+use Rattle.cases.proofs.next_sheet.Tie as tie
 
 slice-aggregate-read-full : tie.Need-slice-aggregate-read-full
 slice-aggregate-read-full c = search needs
@@ -15,9 +15,6 @@ read-full-requires c κs = search needs
 
 returns : tie.Need-returns
 returns c = search needs
-
-array-read-operation : tie.Need-array-read-operation
-array-read-operation c = search needs
 
 slice-aggregate-number-at : tie.Need-slice-aggregate-number-at
 slice-aggregate-number-at c = search needs
@@ -43,8 +40,8 @@ slice-aggregate-sheet c = sym (length-take-le _ _ (omega arith))
 read-full-requires-2 : tie.Need-read-full-requires-2
 read-full-requires-2 c κs = search needs
 
-run-requires : tie.Need-run-requires
-run-requires c κs = search needs
+run-calls-requires : tie.Need-run-calls-requires
+run-calls-requires c κs = search needs
 
 same-length : tie.Need-same-length
 same-length c = search needs
@@ -52,14 +49,13 @@ same-length c = search needs
 returns-3 : tie.Need-returns-3
 returns-3 c = search needs
 
-pub next-case-spec : {M : Type 1} → statement M
-next-case-spec =
+pub next-sheet-spec : {M : Type 1} → statement M
+next-sheet-spec =
     tie.close
     (tie.spec
     slice-aggregate-read-full
     read-full-requires
     returns
-    array-read-operation
     slice-aggregate-number-at
     number-at-requires
     slice-aggregate-number-at-2
@@ -68,6 +64,6 @@ next-case-spec =
     slice-relend-prefix-sheet
     slice-aggregate-sheet
     read-full-requires-2
-    run-requires
+    run-calls-requires
     same-length
     returns-3)

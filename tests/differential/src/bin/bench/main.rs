@@ -1,0 +1,32 @@
+//! Times of the proved operations, with the ratio to the independent reading
+//! in the same run. It reports and never fails.
+
+mod reading;
+mod steps;
+
+use std::time::{Duration, Instant};
+
+/// How long one call takes: the best of five rounds, each long enough to be seen.
+fn time_of(mut call: impl FnMut()) -> Duration {
+    let round = || {
+        let start = Instant::now();
+        let mut calls = 0;
+        while calls < 1000 && start.elapsed() < Duration::from_millis(20) {
+            call();
+            calls += 1;
+        }
+        start.elapsed() / calls
+    };
+    std::iter::repeat_with(round).take(5).min().expect("five rounds")
+}
+
+fn ratio(a: Duration, b: Duration) -> f64 {
+    a.as_secs_f64() / b.as_secs_f64()
+}
+
+fn main() {
+    outside::with_deep_stack(|| {
+        reading::report();
+        steps::report();
+    });
+}

@@ -1,0 +1,52 @@
+//! Check, Part and Trial.
+
+use crate::{ratio, time_of};
+use outside::formulas::{all, and, clause, formula};
+use outside::generate::{deep_formula, wide_formula};
+use outside::reference::{self, encode, Formula, Quantifier, MAX_NODES};
+
+/// For all of `v` variables, a true AND of full clauses: no leaf stops early.
+fn longest_trial(v: usize) -> Formula {
+    let clauses = (0..MAX_NODES / 3).map(|i| {
+        let x = (i % v + 1) as i32;
+        clause(&[x, -x])
+    });
+    formula(&all(Quantifier::ForAll, v), and(clauses.collect()))
+}
+
+fn row(name: &str, proved: impl FnMut(), reference: impl FnMut()) {
+    let (proved, reference) = (time_of(proved), time_of(reference));
+    let times = ratio(proved, reference);
+    println!("{name:<34}{proved:>12.1?}{reference:>12.1?}{times:>8.2}");
+}
+
+pub fn report() {
+    println!("{:<34}{:>12}{:>12}{:>8}", "operation and sheet", "time", "reference", "ratio");
+    for (name, formula) in
+        [("wide", wide_formula(MAX_NODES)), ("deep", deep_formula(256, MAX_NODES))]
+    {
+        let sheet = encode(&formula);
+        row(
+            &format!("check, 4,096 rows {name}"),
+            || assert!(differential::check(&sheet).is_ok()),
+            || assert!(reference::check(&sheet).is_ok()),
+        );
+        row(
+            &format!("part, 4,096 rows {name}"),
+            || assert!(!differential::part(&sheet, 0).is_empty()),
+            || assert!(!reference::part(&sheet, 0).is_empty()),
+        );
+    }
+    for v in [8, 12, 16] {
+        let sheet = encode(&longest_trial(v));
+        row(
+            &format!("trial, {v} variables, 4,096 rows"),
+            || {
+                differential::trial(&sheet);
+            },
+            || {
+                reference::trial(&sheet);
+            },
+        );
+    }
+}

@@ -1,0 +1,138 @@
+//! Tidy, Settle and Expand over rows: flat, random and chain-shaped sheets of
+//! 128 to 4,096 rows, and how the time grows with each doubling.
+
+use crate::{ratio, time_of};
+use outside::formulas::{all, and, clause, formula, lit};
+use outside::generate::{self, ladder_formula, Family, Limits, Rng};
+use outside::reference::*;
+use std::time::Duration;
+use Quantifier::Exists;
+
+const ROWS: [usize; 6] = [128, 256, 512, 1024, 2048, 4096];
+
+/// One sheet of about `rows` rows, with the variable to settle or to expand.
+struct Sheet {
+    sheet: Vec<u8>,
+    rows: usize,
+    x: Variable,
+}
+
+impl Sheet {
+    fn new(formula: Formula, x: Variable) -> Sheet {
+        Sheet { sheet: encode(&formula), rows: formula.matrix.rows(), x }
+    }
+
+    /// For Expand the rows that are written count.
+    fn raw(formula: Formula, x: Variable) -> Sheet {
+        Sheet { sheet: encode(&formula), rows: raw_rows(&formula, x), x }
+    }
+}
+
+type Operation = fn(&[u8], Variable, &mut [u8]) -> Answer<usize>;
+
+fn tidy_proved(sheet: &[u8], _: Variable, output: &mut [u8]) -> Answer<usize> {
+    differential::tidy(sheet, output)
+}
+
+fn tidy_reference(sheet: &[u8], _: Variable, output: &mut [u8]) -> Answer<usize> {
+    tidy(sheet, output)
+}
+
+/// One operation on one shape, over all sizes.
+fn series(name: &str, proved: Operation, reference: Operation, sheet_of: impl Fn(usize) -> Sheet) {
+    let mut last: Option<Duration> = None;
+    for target in ROWS {
+        let Sheet { sheet, rows, x } = sheet_of(target);
+        let mut output = vec![0; PROGRAM_BUFFER];
+        let accepted = matches!(proved(&sheet, x, &mut output), Answer::Accepted(_));
+        let mine = time_of(|| {
+            proved(&sheet, x, &mut output);
+        });
+        let theirs = time_of(|| {
+            reference(&sheet, x, &mut output);
+        });
+        let growth = last.map_or("-".to_string(), |last| format!("{:.2}", ratio(mine, last)));
+        let (mine_ns, theirs_ns, ratio) = (mine.as_nanos(), theirs.as_nanos(), ratio(mine, theirs));
+        let note = if accepted { "" } else { "  refused" };
+        println!("{name:<28}{rows:>6}{mine_ns:>11}{growth:>8}{theirs_ns:>11}{ratio:>8.2}{note}");
+        last = Some(mine);
+    }
+}
+
+/// Literals of 256 variables side by side, each several times.
+fn flat_literals(rows: usize) -> Formula {
+    let literals = (1..rows).map(|at| lit(1 + (at % 256) as i32));
+    formula(&all(Exists, 256), and(literals.collect()))
+}
+
+/// Clauses of three rows side by side; variable 1 is in every `step`-th.
+fn flat_clauses(rows: usize, step: usize, both_signs: bool) -> Formula {
+    let of = |at: usize| {
+        let sign = if both_signs && at.is_multiple_of(2 * step) { -1 } else { 1 };
+        let first = if at.is_multiple_of(step) { sign } else { 2 };
+        clause(&[first, 3 + (at % 250) as i32])
+    };
+    formula(&all(Exists, 256), and((0..(rows - 1) / 3).map(of).collect()))
+}
+
+/// A chain of one-child operators.
+fn one_child_chain(rows: usize) -> Formula {
+    generate::deep_formula(256, rows)
+}
+
+/// A ladder of an odd number of rows.
+fn ladder(rows: usize, literals_of_1: usize) -> Formula {
+    ladder_formula(rows - 1 + rows % 2, literals_of_1)
+}
+
+/// Of a hundred random formulas of a family the one with the most rows.
+fn random(family: Family, rows: usize) -> Formula {
+    let limits = Limits { variables: MAX_VARIABLES, nodes: rows };
+    let mut rng = Rng::new(generate::run_seed());
+    let formulas = (0..100).map(|_| generate::formula_of(&mut rng, family, limits));
+    formulas.max_by_key(|formula| formula.matrix.rows()).expect("a hundred formulas")
+}
+
+/// A variable that may be settled, the first of the prefix.
+fn settleable(formula: &Formula) -> Option<Variable> {
+    let mut variables = formula.prefix.iter().map(|row| row.1);
+    variables.find(|&x| settle_value(formula, x).is_some())
+}
+
+fn random_to_settle(rows: usize) -> Sheet {
+    let formula = random(Family::Tidy, rows);
+    let x = settleable(&formula).unwrap_or(1);
+    Sheet::new(formula, x)
+}
+
+/// The variable of the innermost block with the most raw rows that fit.
+fn random_to_expand(rows: usize) -> Sheet {
+    let formula = random(Family::Tidy, rows / 2);
+    let block = formula.innermost_block().iter().map(|row| row.1);
+    let fitting = block.filter(|&x| raw_rows(&formula, x) <= MAX_NODES);
+    let x = fitting.max_by_key(|&x| raw_rows(&formula, x)).unwrap_or(1);
+    Sheet::raw(formula, x)
+}
+
+pub fn report() {
+    println!();
+    println!(
+        "{:<28}{:>6}{:>11}{:>8}{:>11}{:>8}",
+        "operation and shape", "rows", "ns", "growth", "reference", "ratio"
+    );
+    let tidy: (Operation, Operation) = (tidy_proved, tidy_reference);
+    series("tidy, flat", tidy.0, tidy.1, |n| Sheet::new(flat_literals(n), 1));
+    series("tidy, flat clauses", tidy.0, tidy.1, |n| Sheet::new(flat_clauses(n, 4, true), 1));
+    series("tidy, random", tidy.0, tidy.1, |n| Sheet::new(random(Family::Untidy, n), 1));
+    series("tidy, chain", tidy.0, tidy.1, |n| Sheet::new(one_child_chain(n), 1));
+    series("tidy, ladder", tidy.0, tidy.1, |n| Sheet::new(ladder(n, 1), 1));
+    let step: (Operation, Operation) = (differential::settle, settle);
+    series("settle, flat", step.0, step.1, |n| Sheet::new(flat_clauses(n, 4, false), 1));
+    series("settle, random", step.0, step.1, random_to_settle);
+    series("settle, ladder", step.0, step.1, |n| Sheet::new(ladder(n, 1), 1));
+    let step: (Operation, Operation) = (differential::expand, expand);
+    series("expand, flat", step.0, step.1, |n| Sheet::raw(flat_clauses(n / 2, 1, true), 1));
+    series("expand, random", step.0, step.1, random_to_expand);
+    series("expand, ladder copied", step.0, step.1, |n| Sheet::raw(ladder(n / 2, 2), 1));
+    series("expand, ladder, one literal", step.0, step.1, |n| Sheet::raw(ladder(n - 3, 1), 1));
+}
