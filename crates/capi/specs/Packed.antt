@@ -4,6 +4,7 @@ use mathlib.Core.Bool.{Bool, true, false}
 use Prim.Native.Nat.{ℕ, _+_, _*_, _^_, _%_}
 use Rattle.formula.specs.Trial.{Tried}
 use Rattle.sheet.specs.Check.{Answer, refused, accepted, Sizes}
+use Rattle.sheet.specs.Operations.{Solved, is-refused, is-stopped, is-ended}
 
 -- bits 0 to 7, 8 to 15, 16 to 31 and 32 to 63
 abbrev pub packed : ℕ → ℕ → ℕ → ℕ → ℕ
@@ -27,3 +28,10 @@ packed-trial (accepted t) = packed 0 (verdict-word (t .verdict)) 0 (t .leaves)
 unfoldable pub packed-written : Answer ℕ → ℕ
 packed-written (refused number place) = packed number 0 place 0
 packed-written (accepted length) = packed 0 0 0 length
+
+-- Solve: number and place; or the word (1 true, 0 false, 2 stopped), the number settled, the number expanded and above it the variable
+-- stopped at
+unfoldable pub packed-solved : Solved → ℕ
+packed-solved (is-refused number place) = packed number 0 place 0
+packed-solved (is-stopped x settled expanded) = packed 0 2 settled (expanded % 65536 + 65536 * (x % 65536))
+packed-solved (is-ended v settled expanded) = packed 0 (verdict-word v) settled (expanded % 65536)

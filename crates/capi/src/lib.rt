@@ -3,9 +3,10 @@ ghost use mathlib.Core.Path.{_≡_};
 ghost use lib.ListN.{length};
 ghost use Rattle.sheet.specs.Format.{narrow};
 ghost use Rattle.sheet.specs.Check.{check};
-ghost use Rattle.sheet.specs.Operations.{trial-call, part-call, tidy-call, settle-call, expand-call};
+ghost use Rattle.sheet.specs.Operations.{trial-call, part-call, tidy-call, settle-call, expand-call, solve-call};
 ghost use Rattle.tidying.specs.Answers.{written-answer};
-ghost use Rattle.capi.specs.Packed.{packed, packed-check, packed-trial, packed-written};
+ghost use Rattle.solve.specs.Answers.{verdict-of, solved-answer};
+ghost use Rattle.capi.specs.Packed.{packed, packed-check, packed-trial, verdict-word, packed-written, packed-solved};
 
 // An answer in one number: refusal number, word and two values.
 fn pack(number: usize, word: usize, low: usize, high: u64) -> u64
@@ -82,4 +83,45 @@ pub extern "C" fn plumanchor_expand(sheet: &[u8], x: usize, out: &mut [u8]) -> u
     ensures { λ _. ⌜ now (out .exit) ≡ (expand-call narrow (now (sheet .entry)) x (now (out .entry))) .output ⌝ }
 {
     pack_written(expand::expand(sheet, x, out))
+}
+
+// A verdict's word: 1 true, 0 false.
+fn word_for(verdict: solve::Verdict) -> usize
+    ensures { λ r. ⌜ r ≡ verdict-word (verdict-of verdict) ⌝ }
+{
+    match verdict {
+        solve::Verdict::True => 1,
+        solve::Verdict::False => 0,
+    }
+}
+
+// What Solve answers: refusal number and place; or a word, the number settled, the number expanded and the variable stopped at.
+fn pack_solved(answer: solve::Solved) -> u64
+    ensures { λ r. ⌜ r ≡ packed-solved (solved-answer answer) ⌝ }
+{
+    match answer {
+        solve::Solved::Refused(number, place) => pack(number, 0, place, 0),
+        solve::Solved::Stopped(x, settled, expanded) => pack(
+            0,
+            2,
+            settled,
+            (expanded % 65536) as u64 + 65536 * ((x % 65536) as u64),
+        ),
+        solve::Solved::Ended(verdict, settled, expanded) => pack(
+            0,
+            word_for(verdict),
+            settled,
+            (expanded % 65536) as u64,
+        ),
+    }
+}
+
+// Solve in two work buffers: refusal number and place; or a word, the counts and the variable stopped at.
+#[no_mangle]
+pub extern "C" fn plumanchor_solve(sheet: &[u8], first: &mut [u8], second: &mut [u8]) -> u64
+    ensures { λ r. ⌜ r ≡ packed-solved ((solve-call narrow (now (sheet .entry)) (now (first .entry)) (now (second .entry))) .answer) ⌝ }
+    ensures { λ _. ⌜ now (first .exit) ≡ (solve-call narrow (now (sheet .entry)) (now (first .entry)) (now (second .entry))) .first ⌝ }
+    ensures { λ _. ⌜ now (second .exit) ≡ (solve-call narrow (now (sheet .entry)) (now (first .entry)) (now (second .entry))) .second ⌝ }
+{
+    pack_solved(solve::solve(sheet, first, second))
 }
