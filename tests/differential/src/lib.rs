@@ -1,5 +1,7 @@
 //! Safe calls of the proved operations, with the answers of `outside::reference`.
 
+#[cfg(feature = "solve")]
+use outside::reference::SolveAnswer;
 use outside::reference::{Answer, Refusal, Variable};
 use std::ops::Range;
 
@@ -30,6 +32,15 @@ mod foreign {
             x: usize,
             output: *mut u8,
             room: usize,
+        ) -> u64;
+        #[cfg(feature = "solve")]
+        pub fn plumanchor_solve(
+            sheet: *const u8,
+            length: usize,
+            first: *mut u8,
+            first_room: usize,
+            second: *mut u8,
+            second_room: usize,
         ) -> u64;
     }
 }
@@ -110,4 +121,27 @@ pub fn expand(sheet: &[u8], x: Variable, output: &mut [u8]) -> Answer<usize> {
     written(unsafe {
         foreign::plumanchor_expand(sheet.as_ptr(), length, x, output.as_mut_ptr(), room)
     })
+}
+
+/// Solve. Bits 8 to 15 of its answer are a word: 0 refused, 1 true, 2 false, 3
+/// stopped; then 16 bits each for settled, expanded, and the variable stopped
+/// at or a refusal's place.
+#[cfg(feature = "solve")]
+pub fn solve(sheet: &[u8], first: &mut [u8], second: &mut [u8]) -> SolveAnswer {
+    let (length, rooms) = (sheet.len(), (first.len(), second.len()));
+    let (first, second) = (first.as_mut_ptr(), second.as_mut_ptr());
+    let answer = unsafe {
+        foreign::plumanchor_solve(sheet.as_ptr(), length, first, rooms.0, second, rooms.1)
+    };
+    let part = |shift: u32| usize::from((answer >> shift) as u16);
+    let (settled, expanded, last) = (part(16), part(32), part(48));
+    match (answer as u8, (answer >> 8) as u8) {
+        (0, 1) if last == 0 => SolveAnswer::Ended { verdict: true, settled, expanded },
+        (0, 2) if last == 0 => SolveAnswer::Ended { verdict: false, settled, expanded },
+        (0, 3) => SolveAnswer::Stopped { variable: last, settled, expanded },
+        (number, 0) if number > 0 && settled == 0 && expanded == 0 => {
+            SolveAnswer::Refused(number, last)
+        }
+        _ => panic!("no answer of Solve: {answer:016x}"),
+    }
 }

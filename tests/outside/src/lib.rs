@@ -3,10 +3,11 @@
 //! `reference` holds every operation on plain trees, `truth` the two splitting
 //! rules by brute force, `formulas` document 01's own formulas, `generate`
 //! seeded random sheets and damage to them, `stored` the cases of the test
-//! program, `qdimacs` a clause translation for solvers from outside. Nothing
-//! here is optimised, and trees recurse: sheets of full size want
-//! `with_deep_stack`.
+//! program, `qdimacs` a clause translation for solvers from outside, `depqbf`
+//! a run of one of them. Nothing here is optimised, and trees recurse: sheets
+//! of full size want `with_deep_stack`.
 
+pub mod depqbf;
 pub mod formulas;
 pub mod generate;
 pub mod qdimacs;
