@@ -1,5 +1,6 @@
 //! Safe calls of the proved operations, with the answers of `outside::reference`.
 
+use outside::reference::SolveAnswer;
 use outside::reference::{Answer, Refusal, Variable};
 use std::ops::Range;
 
@@ -30,6 +31,14 @@ mod foreign {
             x: usize,
             output: *mut u8,
             room: usize,
+        ) -> u64;
+        pub fn plumanchor_solve(
+            sheet: *const u8,
+            length: usize,
+            first: *mut u8,
+            first_room: usize,
+            second: *mut u8,
+            second_room: usize,
         ) -> u64;
     }
 }
@@ -110,4 +119,21 @@ pub fn expand(sheet: &[u8], x: Variable, output: &mut [u8]) -> Answer<usize> {
     written(unsafe {
         foreign::plumanchor_expand(sheet.as_ptr(), length, x, output.as_mut_ptr(), room)
     })
+}
+
+/// Solve, with the counts in the answer's two values and the variable stopped at above the second.
+pub fn solve(sheet: &[u8], first: &mut [u8], second: &mut [u8]) -> SolveAnswer {
+    let (length, rooms) = (sheet.len(), (first.len(), second.len()));
+    let (first, second) = (first.as_mut_ptr(), second.as_mut_ptr());
+    let answer = Packed::from(unsafe {
+        foreign::plumanchor_solve(sheet.as_ptr(), length, first, rooms.0, second, rooms.1)
+    });
+    let (settled, expanded) = (answer.low, usize::from(answer.high as u16));
+    match (answer.number, answer.word, usize::from((answer.high >> 16) as u16)) {
+        (0, 0, 0) => SolveAnswer::Ended { verdict: false, settled, expanded },
+        (0, 1, 0) => SolveAnswer::Ended { verdict: true, settled, expanded },
+        (0, 2, variable) => SolveAnswer::Stopped { variable, settled, expanded },
+        (number, 0, 0) if expanded == 0 => SolveAnswer::Refused(number, answer.low),
+        _ => panic!("no answer of Solve: {settled} {expanded}"),
+    }
 }

@@ -4,8 +4,10 @@
 
 use differential::compare::{agree_on_call, agree_on_tidy, hexadecimal};
 use outside::generate::{self, cases, Limits, Rng};
-use outside::reference::{encode, parse, verdict, Answer, Formula};
-use outside::{truth, with_deep_stack};
+use outside::reference::{
+    encode, next_move, parse, tidy_formula, verdict, Answer, Formula, Move, PROGRAM_BUFFER,
+};
+use outside::{depqbf, truth, with_deep_stack};
 
 /// A list of calls under way.
 struct Run {
@@ -129,7 +131,7 @@ fn expanding_until_decided_is_the_truth() {
                 return;
             }
             let x = rng.pick(formula.innermost_block()).1;
-            let mut output = generate::dirty(rng, 13_060);
+            let mut output = generate::dirty(rng, PROGRAM_BUFFER);
             match differential::expand(&held, x, &mut output) {
                 Answer::Accepted(length) => held = output[..length].to_vec(),
                 refused => {
@@ -140,4 +142,42 @@ fn expanding_until_decided_is_the_truth() {
         }
     });
     assert!(verdicts.iter().all(|&count| count > 2_000), "{verdicts:?}");
+}
+
+/// Solve's moves made by single calls, the choice of each being the independent
+/// reading's. The verdict, or nothing if an expansion doesn't fit.
+fn solve_by_calls(rng: &mut Rng, formula: &Formula) -> Option<bool> {
+    let mut held = encode(&tidy_formula(formula));
+    loop {
+        let mut output = generate::dirty(rng, PROGRAM_BUFFER);
+        let answer = match next_move(&parse(&held).expect("a good sheet")) {
+            Move::End(verdict) => return Some(verdict),
+            Move::Settle(x, _) => differential::settle(&held, x, &mut output),
+            Move::Expand(x) => differential::expand(&held, x, &mut output),
+        };
+        match answer {
+            Answer::Accepted(length) => held = output[..length].to_vec(),
+            refused => {
+                assert_eq!(refused, Answer::Refused(13, 0), "{}", hexadecimal(&held));
+                return None;
+            }
+        }
+    }
+}
+
+#[test]
+fn verdicts_are_those_of_a_solver_from_outside() {
+    with_deep_stack(|| {
+        let mut compared = 0;
+        cases(1_500, |rng| {
+            let formula = generate::solver_formula(rng);
+            let mine = solve_by_calls(rng, &formula);
+            if let (Some(mine), Some(theirs)) = (mine, depqbf::verdict(&formula)) {
+                assert_eq!(mine, theirs, "{}", hexadecimal(&encode(&formula)));
+                compared += 1;
+            }
+        });
+        println!("{compared} verdicts compared");
+        assert!(compared > 1_200, "{compared}");
+    });
 }

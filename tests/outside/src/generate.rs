@@ -112,6 +112,10 @@ pub fn prefix(rng: &mut Rng, count: usize) -> Vec<(Quantifier, Variable)> {
         Quantifiers::Blocks,
         Quantifiers::Mixed,
     ]);
+    prefix_of(rng, style, count)
+}
+
+fn prefix_of(rng: &mut Rng, style: Quantifiers, count: usize) -> Vec<(Quantifier, Variable)> {
     let mut quantifier = any_quantifier(rng);
     let mut rows = Vec::new();
     for var in variable_numbers(rng, count) {
@@ -218,6 +222,38 @@ pub fn formula_of(rng: &mut Rng, family: Family, limits: Limits) -> Formula {
     let budget = if rng.one_in(4) { limits.nodes } else { rng.between(1, limits.nodes) };
     let matrix = matrix(rng, family, &pool, budget);
     Formula { prefix, matrix }
+}
+
+/// A formula for solvers: the quantifiers alternate one by one or in blocks,
+/// and literals are drawn from every one of exactly `variables` variables.
+pub fn alternating_formula(
+    rng: &mut Rng,
+    family: Family,
+    variables: usize,
+    nodes: usize,
+) -> Formula {
+    let style = rng.pick(&[Quantifiers::Alternating, Quantifiers::Blocks]);
+    let prefix = prefix_of(rng, style, variables);
+    let pool: Vec<Variable> = prefix.iter().map(|row| row.1).collect();
+    let matrix = matrix(rng, family, &pool, nodes);
+    Formula { prefix, matrix }
+}
+
+/// Clause sets, nested trees and parities over 5 to 80 variables, of which a
+/// solver decides most.
+pub fn solver_formula(rng: &mut Rng) -> Formula {
+    let family = rng.pick(&[
+        Family::Clauses,
+        Family::LooseClauses,
+        Family::Tidy,
+        Family::Ladder,
+        Family::Parity,
+        Family::Parity,
+        Family::Untidy,
+    ]);
+    let variables = rng.between(5, 80);
+    let nodes = variables * rng.between(3, 10);
+    alternating_formula(rng, family, variables, nodes)
 }
 
 /// The variables that literals are drawn from; the others stay unused. With

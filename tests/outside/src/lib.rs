@@ -4,9 +4,11 @@
 //! rules by brute force, `formulas` document 01's own formulas, `examples` the
 //! sheets of `examples/` with their lines, `generate` seeded random sheets and
 //! damage to them, `stored` the cases of the test program, `qdimacs` a clause
-//! translation for solvers from outside. Nothing here is optimised, and trees
-//! recurse: sheets of full size want `with_deep_stack`.
+//! translation for solvers from outside, `depqbf` a run of one of them. Nothing
+//! here is optimised, and trees recurse: sheets of full size want
+//! `with_deep_stack`.
 
+pub mod depqbf;
 pub mod examples;
 pub mod formulas;
 pub mod generate;

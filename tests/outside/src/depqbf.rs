@@ -1,0 +1,45 @@
+//! Debian's solver `depqbf`, run as a process on the clause translation.
+
+use crate::qdimacs::translate;
+use crate::reference::Formula;
+use std::io::{Result, Write};
+use std::process::{Command, Stdio};
+
+/// What one run may cost, so that it is bounded and the same everywhere.
+const DECISIONS: u32 = 2_000;
+
+/// What the solver says of QDIMACS text, if it comes to an end.
+pub fn verdict_of(text: &str) -> Result<Option<bool>> {
+    let mut process = Command::new("depqbf")
+        .arg(format!("--max-dec={DECISIONS}"))
+        .stdin(Stdio::piped())
+        .stdout(Stdio::null())
+        .stderr(Stdio::null())
+        .spawn()?;
+    process.stdin.take().expect("a piped input").write_all(text.as_bytes())?;
+    // The exit status of SAT and UNSAT, as of other solvers.
+    Ok(match process.wait()?.code() {
+        Some(10) => Some(true),
+        Some(20) => Some(false),
+        _ => None,
+    })
+}
+
+pub fn verdict(formula: &Formula) -> Option<bool> {
+    verdict_of(&translate(formula).text()).expect("depqbf is installed")
+}
+
+#[cfg(test)]
+mod tests {
+    use super::*;
+    use crate::generate::{self, Limits};
+    use crate::truth;
+
+    #[test]
+    fn verdicts_are_the_truth() {
+        generate::cases(300, |rng| {
+            let formula = generate::formula(rng, Limits::SMALL);
+            assert_eq!(verdict(&formula), Some(truth::is_true(&formula)));
+        });
+    }
+}
