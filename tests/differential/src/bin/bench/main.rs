@@ -2,6 +2,8 @@
 //! in the same run. It reports and never fails.
 
 mod reading;
+#[cfg(feature = "solve")]
+mod solving;
 mod steps;
 
 use std::time::{Duration, Instant};
@@ -28,5 +30,7 @@ fn main() {
     outside::with_deep_stack(|| {
         reading::report();
         steps::report();
+        #[cfg(feature = "solve")]
+        solving::report();
     });
 }

@@ -1,0 +1,87 @@
+//! Solve over growing sheets: through the static library beside the independent
+//! reading, and the program's process beside that of a solver from outside.
+
+use crate::{ratio, time_of};
+use outside::depqbf;
+use outside::generate::{self, Family, Rng};
+use outside::qdimacs::translate;
+use outside::reference::{self, encode, line_of, Formula, PROGRAM_BUFFER};
+use std::io::{Result, Write};
+use std::process::{Command, Stdio};
+use std::time::{Duration, Instant};
+
+const PROGRAM: &str = concat!(env!("CARGO_MANIFEST_DIR"), "/../../target/bin/plumanchor");
+
+/// Variables and rows.
+const SIZES: [(usize, usize); 7] =
+    [(20, 100), (40, 250), (60, 500), (80, 800), (120, 1500), (160, 2500), (200, 4000)];
+
+const FAMILIES: [Family; 5] =
+    [Family::Clauses, Family::Tidy, Family::Parity, Family::Ladder, Family::Untidy];
+
+/// The shortest of three runs of a process, if it can be run at all.
+fn time_of_process<T>(mut run: impl FnMut() -> Result<T>) -> Option<(Duration, T)> {
+    let timed = || {
+        let start = Instant::now();
+        let result = run().ok()?;
+        Some((start.elapsed(), result))
+    };
+    let runs: Option<Vec<_>> = std::iter::repeat_with(timed).take(3).collect();
+    runs?.into_iter().min_by_key(|run| run.0)
+}
+
+fn run_program(sheet: &[u8]) -> Result<String> {
+    let mut process = Command::new(PROGRAM).stdin(Stdio::piped()).stdout(Stdio::piped()).spawn()?;
+    process.stdin.take().expect("a piped input").write_all(sheet)?;
+    let output = process.wait_with_output()?;
+    Ok(String::from_utf8_lossy(&output.stdout).trim_end().to_string())
+}
+
+fn told(time: Option<Duration>) -> String {
+    time.map_or("-".into(), |time| format!("{:.2}ms", 1e3 * time.as_secs_f64()))
+}
+
+fn row(family: Family, formula: &Formula) {
+    let sheet = encode(formula);
+    let (mut first, mut second) = (vec![0; PROGRAM_BUFFER], vec![0; PROGRAM_BUFFER]);
+    let line = line_of(&differential::solve(&sheet, &mut first, &mut second));
+    let library = time_of(|| {
+        differential::solve(&sheet, &mut first, &mut second);
+    });
+    let reading = time_of(|| {
+        reference::solve(&sheet, &mut first, &mut second);
+    });
+    let program = time_of_process(|| run_program(&sheet));
+    let text = translate(formula).text();
+    let outside = time_of_process(|| depqbf::verdict_of(&text));
+    let theirs = match outside {
+        Some((_, Some(verdict))) => verdict.to_string(),
+        Some((_, None)) => "given up".into(),
+        None => "not run".into(),
+    };
+    let unequal = program.as_ref().is_some_and(|run| run.1 != line);
+    let note = if unequal { "  the program says another line" } else { "" };
+    println!(
+        "{:<8}{:>5}{:>6}  {line:<16}{library:>10.1?}{reading:>10.1?}{:>7.2}{:>10}{:>10}  {theirs}{note}",
+        format!("{family:?}"),
+        formula.prefix.len(),
+        formula.matrix.rows(),
+        ratio(library, reading),
+        told(program.map(|run| run.0)),
+        told(outside.map(|run| run.0)),
+    );
+}
+
+pub fn report() {
+    println!();
+    println!(
+        "{:<8}{:>5}{:>6}  {:<16}{:>10}{:>10}{:>7}{:>10}{:>10}  says",
+        "solve", "vars", "rows", "line", "library", "reference", "ratio", "program", "depqbf"
+    );
+    for family in FAMILIES {
+        let mut rng = Rng::new(generate::run_seed());
+        for (variables, nodes) in SIZES {
+            row(family, &generate::alternating_formula(&mut rng, family, variables, nodes));
+        }
+    }
+}
