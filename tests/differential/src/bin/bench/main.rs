@@ -2,7 +2,6 @@
 //! in the same run. It reports and never fails.
 
 mod reading;
-#[cfg(feature = "solve")]
 mod solving;
 mod steps;
 
@@ -30,7 +29,6 @@ fn main() {
     outside::with_deep_stack(|| {
         reading::report();
         steps::report();
-        #[cfg(feature = "solve")]
         solving::report();
     });
 }
