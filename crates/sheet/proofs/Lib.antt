@@ -10,3 +10,4 @@ pub mod Accepted
 pub mod Starred
 pub mod Calls
 pub mod Verdicts
+pub mod Refusals

@@ -5,3 +5,4 @@ pub mod Stepping
 pub mod Arriving
 pub mod Turning
 pub mod Answering
+pub mod Reliance
