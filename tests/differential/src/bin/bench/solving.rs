@@ -5,7 +5,7 @@ use crate::{ratio, time_of};
 use outside::depqbf;
 use outside::generate::{self, Family, Rng};
 use outside::qdimacs::translate;
-use outside::reference::{self, encode, line_of, Formula, PROGRAM_BUFFER};
+use outside::reference::{self, encode, line_of, Formula, SolveAnswer, PROGRAM_BUFFER};
 use std::io::{Result, Write};
 use std::process::{Command, Stdio};
 use std::time::{Duration, Instant};
@@ -41,10 +41,25 @@ fn told(time: Option<Duration>) -> String {
     time.map_or("-".into(), |time| format!("{:.2}ms", 1e3 * time.as_secs_f64()))
 }
 
-fn row(family: Family, formula: &Formula) {
+/// Rows, and the time that a step took: tidying at first is one too.
+struct Point {
+    rows: usize,
+    step: Duration,
+}
+
+impl Point {
+    /// How the time grows when the rows double, from an earlier point to this one.
+    fn growth_from(&self, earlier: &Point) -> f64 {
+        let doublings = (self.rows as f64 / earlier.rows as f64).log2();
+        ratio(self.step, earlier.step).powf(1.0 / doublings)
+    }
+}
+
+fn row(family: Family, formula: &Formula, before: Option<Point>) -> Point {
     let sheet = encode(formula);
     let (mut first, mut second) = (vec![0; PROGRAM_BUFFER], vec![0; PROGRAM_BUFFER]);
-    let line = line_of(&differential::solve(&sheet, &mut first, &mut second));
+    let answer = differential::solve(&sheet, &mut first, &mut second);
+    let line = line_of(&answer);
     let library = time_of(|| {
         differential::solve(&sheet, &mut first, &mut second);
     });
@@ -59,29 +74,54 @@ fn row(family: Family, formula: &Formula) {
         Some((_, None)) => "given up".into(),
         None => "not run".into(),
     };
+    let steps = match answer {
+        SolveAnswer::Refused(..) => 0,
+        SolveAnswer::Stopped { settled, expanded, .. } => settled + expanded,
+        SolveAnswer::Ended { settled, expanded, .. } => settled + expanded,
+    };
+    let point = Point { rows: formula.matrix.rows(), step: library / (1 + steps as u32) };
+    let growth = before.map_or("-".into(), |before| format!("{:.2}", point.growth_from(&before)));
+    let (mine, others) = (program.as_ref().map(|run| run.0), outside.map(|run| run.0));
+    let processes =
+        mine.zip(others).map_or("-".into(), |(mine, others)| format!("{:.2}", ratio(mine, others)));
     let unequal = program.as_ref().is_some_and(|run| run.1 != line);
     let note = if unequal { "  the program says another line" } else { "" };
     println!(
-        "{:<8}{:>5}{:>6}  {line:<16}{library:>10.1?}{reading:>10.1?}{:>7.2}{:>10}{:>10}  {theirs}{note}",
+        "{:<8}{:>5}{:>6}  {line:<16}{library:>10.1?}{reading:>10.1?}{:>7.2}{:>10.1?}{growth:>8}{:>10}{:>10}{processes:>7}  {theirs}{note}",
         format!("{family:?}"),
         formula.prefix.len(),
-        formula.matrix.rows(),
+        point.rows,
         ratio(library, reading),
-        told(program.map(|run| run.0)),
-        told(outside.map(|run| run.0)),
+        point.step,
+        told(mine),
+        told(others),
     );
+    point
 }
 
 pub fn report() {
     println!();
     println!(
-        "{:<8}{:>5}{:>6}  {:<16}{:>10}{:>10}{:>7}{:>10}{:>10}  says",
-        "solve", "vars", "rows", "line", "library", "reference", "ratio", "program", "depqbf"
+        "{:<8}{:>5}{:>6}  {:<16}{:>10}{:>10}{:>7}{:>10}{:>8}{:>10}{:>10}{:>7}  says",
+        "solve",
+        "vars",
+        "rows",
+        "line",
+        "library",
+        "reference",
+        "ratio",
+        "a step",
+        "growth",
+        "program",
+        "depqbf",
+        "ratio"
     );
     for family in FAMILIES {
         let mut rng = Rng::new(generate::run_seed());
+        let mut before = None;
         for (variables, nodes) in SIZES {
-            row(family, &generate::alternating_formula(&mut rng, family, variables, nodes));
+            let formula = generate::alternating_formula(&mut rng, family, variables, nodes);
+            before = Some(row(family, &formula, before));
         }
     }
 }
