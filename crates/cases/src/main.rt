@@ -1,11 +1,14 @@
 // The test program. Standard input holds sheets, each with the calls to be made on it: the sheet's length, the number of calls, the
-// sheet, the calls. A call is an operation's letter, a number (Part's node, the variable of Settle and Expand) and the output's length.
-// Numbers have two bytes, low byte first. A line is written for each call.
+// sheet, the calls. A call is an operation's letter, a number (Part's node, the variable of Settle and Expand, the length of Solve's
+// second buffer) and the length of the output (of Solve: its first buffer). Numbers have two bytes, low byte first. A line is written for
+// each call.
 //
-// Letters: c Check, t Trial, p Part, d Tidy, s Settle, e Expand. Of the last three a line tells the answer, a sum over the whole output
-// and, if it is short, the new sheet in hexadecimal. The output is filled with one byte before, so that the sum tells zeros and bytes
-// left alone too.
+// Letters: c Check, t Trial, p Part, d Tidy, s Settle, e Expand, o Solve. Of the last four a line tells the answer (of Solve: the
+// program's line), a sum over each whole output and, if it is short, the new sheet in hexadecimal. Outputs are filled with one byte
+// before, so that the sums tell zeros and bytes left alone too.
 use checking::Checked;
+use solve::line::Line;
+use solve::line::Word;
 use tidying::Written;
 use trial::Tried;
 
@@ -161,6 +164,62 @@ fn run_writing(operation: u8, number: usize, sheet: &[u8], out: &mut [u8]) {
     run_expand(sheet, number, out);
 }
 
+fn print_word(word: Word) {
+    match word {
+        Word::True => {
+            io::write_all(1, b" true");
+        }
+        Word::False => {
+            io::write_all(1, b" false");
+        }
+        Word::Stopped => {
+            io::write_all(1, b" stopped");
+        }
+        Word::Refused => {
+            io::write_all(1, b" refused");
+        }
+    }
+}
+
+fn print_line(line: Line) {
+    let word = line.word;
+    print_word(word);
+    print_number(line.settled as u64);
+    print_number(line.expanded as u64);
+    print_number(line.last as u64);
+}
+
+// Writes the sheet at the front of the first buffer if it is short; the filling that a refused call leaves has no small sizes.
+fn print_reached(first: &[u8]) {
+    if first.len() < 4 {
+        return;
+    }
+    let variables = rows::number_at(first, 0, 2);
+    let nodes = rows::number_at(first, 2, 2);
+    print_short(first, 4 + 3 * (variables + nodes));
+}
+
+fn solve_in_buffers(sheet: &[u8], first: &mut [u8], second: &mut [u8]) {
+    fill(first);
+    fill(second);
+    io::write_all(1, b"solve");
+    let answer = solve::solve(sheet, first, second);
+    print_line(solve::line::line_for(answer));
+    print_sum(first);
+    print_sum(second);
+    print_reached(first);
+}
+
+// Solves with a second buffer of `length` bytes.
+fn run_solve(sheet: &[u8], first: &mut [u8], length: usize) {
+    let mut space = [0u8; ROOM];
+    if ROOM < length {
+        return;
+    }
+    let second = &mut space[..length];
+    solve_in_buffers(sheet, first, second);
+}
+
 fn run(operation: u8, number: usize, sheet: &[u8], out: &mut [u8]) {
     if operation == b'c' {
         run_check(sheet);
@@ -172,6 +231,10 @@ fn run(operation: u8, number: usize, sheet: &[u8], out: &mut [u8]) {
     }
     if operation == b'p' {
         run_part(sheet, number);
+        return;
+    }
+    if operation == b'o' {
+        run_solve(sheet, out, number);
         return;
     }
     run_writing(operation, number, sheet, out);

@@ -14,8 +14,9 @@ pub struct Case {
 }
 
 /// An operation's letter, a number (the node of Part, the variable of Settle
-/// and Expand) and the output's length.
-#[derive(Clone, Copy)]
+/// and Expand, the length of Solve's second buffer) and the length of the
+/// output (of Solve: its first buffer).
+#[derive(Clone, Copy, PartialEq, Eq)]
 pub struct Call {
     pub operation: u8,
     pub number: usize,
@@ -68,6 +69,7 @@ fn line(sheet: &[u8], call: &Call) -> String {
             let kinds: String = kinds.iter().map(|kind| format!(" {kind}")).collect();
             format!("part{kinds}")
         }
+        b'o' => solve_line(sheet, call),
         _ => written_line(sheet, call),
     }
 }
@@ -81,16 +83,44 @@ fn written_line(sheet: &[u8], call: &Call) -> String {
         b's' => (format!("settle {x}"), settle(sheet, x, &mut output)),
         _ => (format!("expand {x}"), expand(sheet, x, &mut output)),
     };
-    let sum = output.iter().fold(0, |sum, &byte| (257 * sum + u32::from(byte)) % 65_521);
+    let sum = sum(&output);
     match answer {
         Answer::Refused(number, place) => format!("{name} refused {number} {place} sum {sum}"),
-        Answer::Accepted(length) if length <= SHORT => {
-            let bytes: String =
-                output[..length].iter().map(|byte| format!(" {byte:02x}")).collect();
-            format!("{name} accepted {length} sum {sum} sheet{bytes}")
+        Answer::Accepted(length) => {
+            format!("{name} accepted {length} sum {sum}{}", short_sheet(&output[..length]))
         }
-        Answer::Accepted(length) => format!("{name} accepted {length} sum {sum}"),
     }
+}
+
+/// The program's line, a sum over each buffer, and the sheet reached if it is short.
+fn solve_line(sheet: &[u8], call: &Call) -> String {
+    let (mut first, mut second) = (vec![FILLING; call.room], vec![FILLING; call.number]);
+    let answer = solve(sheet, &mut first, &mut second);
+    let reached = match answer {
+        SolveAnswer::Refused(..) => String::new(),
+        _ => short_sheet(&first[..length_at_front(&first)]),
+    };
+    format!("solve {} sum {} sum {}{reached}", line_of(&answer), sum(&first), sum(&second))
+}
+
+/// The length of the sheet at the front of a buffer, by its sizes.
+fn length_at_front(buffer: &[u8]) -> usize {
+    let size = |at: usize| usize::from(u16::from_le_bytes([buffer[at], buffer[at + 1]]));
+    sheet_length(size(0), size(2))
+}
+
+/// A sum that depends on each byte and on its place.
+fn sum(bytes: &[u8]) -> u32 {
+    bytes.iter().fold(0, |sum, &byte| (257 * sum + u32::from(byte)) % 65_521)
+}
+
+/// A short sheet in hexadecimal; nothing of a longer one.
+fn short_sheet(sheet: &[u8]) -> String {
+    if sheet.len() > SHORT {
+        return String::new();
+    }
+    let bytes: String = sheet.iter().map(|byte| format!(" {byte:02x}")).collect();
+    format!(" sheet{bytes}")
 }
 
 fn check_call() -> Call {
@@ -103,6 +133,23 @@ fn trial_call() -> Call {
 
 fn part_call(node: usize) -> Call {
     Call { operation: b'p', number: node, room: 0 }
+}
+
+/// Solve with buffers of these lengths.
+pub fn solve_call(first: usize, second: usize) -> Call {
+    Call { operation: b'o', number: second, room: first }
+}
+
+/// Solve with the program's buffers, with buffers of the sheet's length, and
+/// with the first or the second a byte shorter than the sheet.
+fn solve_calls(formula: &Formula) -> Vec<Call> {
+    let length = encode(formula).len();
+    vec![
+        solve_call(PROGRAM_BUFFER, PROGRAM_BUFFER),
+        solve_call(length, length),
+        solve_call(length - 1, length),
+        solve_call(length, length - 1),
+    ]
 }
 
 /// A call with an output of the length that is asked for, and with one byte less.
@@ -164,22 +211,26 @@ pub fn cases() -> Vec<Case> {
             number: 1,
             room: SHORT,
         }));
+        calls.extend([solve_call(SHORT, SHORT), solve_call(0, 0)]);
         cases.push(Case { sheet, calls });
     }
     for limit in limit_sheets() {
         let room = limit.sheet.len().min(PROGRAM_BUFFER);
         let tidy = Call { operation: b'd', number: 0, room };
-        cases.push(Case { sheet: limit.sheet, calls: vec![check_call(), tidy] });
+        let calls = vec![check_call(), tidy, solve_call(room, PROGRAM_BUFFER)];
+        cases.push(Case { sheet: limit.sheet, calls });
     }
     for formula in tried_by_hand() {
         let mut calls = vec![check_call(), trial_call()];
         calls.extend((0..=formula.matrix.rows()).map(part_call));
         calls.extend(writing_calls(&formula));
+        calls.extend(solve_calls(&formula));
         cases.push(Case { sheet: encode(&formula), calls });
         cases.extend(solving_calls(&formula));
     }
+    cases.push(four_cubes_at_limit());
     for formula in traps() {
-        let calls = writing_calls(&formula);
+        let calls = [writing_calls(&formula), solve_calls(&formula)].concat();
         cases.push(Case { sheet: encode(&formula), calls });
         cases.extend(solving_calls(&formula));
     }
@@ -189,6 +240,13 @@ pub fn cases() -> Vec<Case> {
     }
     cases.extend(largest());
     cases
+}
+
+/// The raw sheet of the four cubes has 88 bytes; the tidied one would fit 87 too.
+fn four_cubes_at_limit() -> Case {
+    let lengths = [(88, 88), (88, 87), (87, 88), (87, 87)];
+    let calls = lengths.map(|(first, second)| solve_call(first, second)).into();
+    Case { sheet: sheet(&all(ForAll, 2), four_cubes()), calls }
 }
 
 /// What document 01's traps would get wrong, beside the formulas of its list.
@@ -225,6 +283,7 @@ fn largest() -> Vec<Case> {
         let mut calls = vec![trial_call()];
         calls.extend([4090, 4095, 4096, 65535].map(part_call));
         calls.extend([tidy_calls(&formula), step_calls(&formula, &[1])].concat());
+        calls.extend(solve_calls(&formula));
         cases.push(Case { sheet: encode(&formula), calls });
     }
     // Of the second ladder the raw rows are 4,095 with one literal of 1; of the third, with all rows copied.
@@ -235,10 +294,52 @@ fn largest() -> Vec<Case> {
         clauses(1365),
         clauses(682),
     ] {
-        let calls = [tidy_calls(&formula), step_calls(&formula, &[1, 2, 256])].concat();
+        let steps = step_calls(&formula, &[1, 2, 256]);
+        let calls = [tidy_calls(&formula), steps, solve_calls(&formula)].concat();
         cases.push(Case { sheet: encode(&formula), calls });
     }
+    cases.extend(largest_expansions());
     cases
+}
+
+/// Solve begins with an expansion. Its 4,087 raw rows just fit the buffers or
+/// lack a byte; of the last two sheets 4,095 fit, and 4,101 are too many rows
+/// for any buffer.
+fn largest_expansions() -> Vec<Case> {
+    let room = sheet_length(MAX_VARIABLES - 1, 4087);
+    let lengths = [(room, room), (room - 1, room), (room, room - 1)];
+    let calls = lengths.map(|(first, second)| solve_call(first, second)).into();
+    let mut cases = vec![Case { sheet: encode(&two_ladders(1019)), calls }];
+    for count in [682, 683] {
+        let sheet = encode(&two_variable_clauses(count));
+        cases.push(Case { sheet, calls: vec![solve_call(PROGRAM_BUFFER, PROGRAM_BUFFER)] });
+    }
+    cases
+}
+
+/// AND of clauses over 1 and 2, in both signs, so that nothing can be settled.
+fn two_variable_clauses(count: usize) -> Formula {
+    let signed = [[1, 2], [1, -2], [-1, 2]];
+    let clauses = (0..count).map(|at| clause(&signed[at % 3])).collect();
+    formula(&all(Exists, 2), and(clauses))
+}
+
+/// 1 and a ladder of so many rows, or else not 1 and that ladder with all signs
+/// turned: each variable has both signs, and no literal stands under the root.
+fn two_ladders(rows: usize) -> Formula {
+    let ladder = ladder_formula(rows, 1).matrix;
+    let turned = with_signs_turned(&ladder);
+    let matrix = or(vec![and(vec![lit(1), ladder]), and(vec![lit(-1), turned])]);
+    formula(&all(ForAll, MAX_VARIABLES), matrix)
+}
+
+fn with_signs_turned(node: &Node) -> Node {
+    match node {
+        Node::Lit { positive, var } => Node::Lit { positive: !positive, var: *var },
+        Node::Op { kind, children } => {
+            Node::Op { kind: *kind, children: children.iter().map(with_signs_turned).collect() }
+        }
+    }
 }
 
 /// AND of clauses of three rows, each with a literal of 1, in both signs.
