@@ -1,6 +1,6 @@
 -- What an answer of Check tells its caller.
 -- Assumes nothing.
-use mathlib.Core.Path.{_≡_, refl, sym, ap, _∙_}
+use mathlib.Core.Path.{_≡_, refl, sym, ap, ap₂, _∙_}
 use mathlib.Core.Bool.{Bool, true, false}
 use Prim.Native.Nat.{ℕ, _+_, _≤_}
 use native.Mathlib.Omega.{arith}
@@ -87,3 +87,9 @@ refused-sheet F b {k} {p} told h = go (passes (check-tests F b)) refl
     go true e =
         never-both (sym (ap checked-answer told) ∙ h ∙ answer-passes (check-tests F b) (sizes-of F b) e)
     go false e = refl
+
+-- tests that pass make it accepted
+pub accepted-again : {F : Format} {b : Bytes} {v n : ℕ} → passes (check-tests F b) ≡ true → v ≡ variables F b → n ≡ nodes F b
+    → AcceptedSheet F b v n
+accepted-again {F} {b} {v} {n} h vs ns =
+    record { tests-pass = h; right = right-sizes (passed F b h .sizes) (sym (ap₂ sizes vs ns)) }

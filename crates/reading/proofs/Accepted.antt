@@ -14,6 +14,8 @@ use Rattle.sheet.proofs.CheckTests.{passed, passed-sizes, passed-quantifiers}
 use Rattle.sheet.proofs.Accepted.{accepted-length, rows-matrix}
 use Rattle.rows.specs.Rows.{rows-in}
 use Rattle.rows.proofs.Rows.{all-rows-in}
+use Rattle.checking.specs.Stages.{Manageable}
+use Rattle.checking.proofs.Accepted.{AcceptedSheet}
 use Rattle.reading.specs.Reading.{node-rows-in, prefix-in, matrix-in, formula-in, Readable, Quantified}
 use Rattle.reading.specs.Places.{place, binding-at}
 use Rattle.reading.proofs.Places.{quantifier-of-place, variable-place}
@@ -54,6 +56,19 @@ module _ (F : Format) (b : Bytes) {v n : ℕ} (vs : v ≡ variables F b) (ns : n
           few-nodes = omega (arith, ns, sizes .few-nodes);
           one-tree = rw node-rows-read (rows-matrix F b h);
         }
+
+-- as a caller of Check has it
+module _ {F : Format} {b : Bytes} {v n : ℕ} (sheet : AcceptedSheet F b v n) where
+  pub accepted-formula : formula-in (F .width) v n b ≡ formula F b
+  accepted-formula = formula-read F b (sheet .right .variables-are) (sheet .right .nodes-are)
+
+  pub accepted-quantified : Quantified (F .width) v n b
+  accepted-quantified = quantified F b (sheet .right .variables-are) (sheet .right .nodes-are) (sheet .tests-pass)
+
+  pub accepted-readable : Manageable F → Readable (F .width) v n b
+  accepted-readable m =
+      readable F b (sheet .right .variables-are) (sheet .right .nodes-are) (sheet .tests-pass) (m .few-bytes) (m .few-variables)
+      (m .few-nodes)
 
 -- the value for x is the one for its row
 pub may-settle-place : (x : ℕ) (f : Formula) → place x (f .prefix) < length (f .prefix)

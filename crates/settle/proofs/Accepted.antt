@@ -1,4 +1,4 @@
--- A sheet that Check accepts is readable, and what is read of it is its formula.
+-- From Check's answer to the plan.
 -- Assumes nothing.
 use mathlib.Core.Path.{_≡_, sym}
 use mathlib.Core.List.{append-assoc}
@@ -8,10 +8,8 @@ use Rattle.sheet.specs.Sheet.{formula}
 use Rattle.sheet.specs.Check.{refused, answer, check-tests, check}
 use Rattle.sheet.specs.Operations.{tidy-and-bound-tests, settle-tests}
 use Rattle.sheet.proofs.Tests.{answer-++, refused-first}
-use Rattle.checking.specs.Stages.{Manageable}
 use Rattle.checking.proofs.Accepted.{AcceptedSheet}
-use Rattle.reading.specs.Reading.{formula-in, Readable, Quantified}
-use Rattle.reading.proofs.Accepted as reading
+use Rattle.reading.proofs.Accepted.{accepted-formula}
 use Rattle.settle.specs.Plan.{choice, choice-in, later-tests, settle-plan}
 
 -- 1 to 8
@@ -19,21 +17,10 @@ pub check-refuses : {k i : ℕ} (F : Format) (b : Bytes) (x room : ℕ) → refu
 unfolding check settle-plan settle-tests
 check-refuses F b x room h = rw append-assoc (refused-first (check-tests F b) _ _ _ h)
 
-module _ {F : Format} {b : Bytes} {v n : ℕ} (m : Manageable F) (sheet : AcceptedSheet F b v n) where
-  pub formula-of : formula-in (F .width) v n b ≡ formula F b
-  formula-of = reading.formula-read F b (sheet .right .variables-are) (sheet .right .nodes-are)
-
-  pub quantified : Quantified (F .width) v n b
-  quantified = reading.quantified F b (sheet .right .variables-are) (sheet .right .nodes-are) (sheet .tests-pass)
-
-  pub readable : Readable (F .width) v n b
-  readable =
-      reading.readable F b (sheet .right .variables-are) (sheet .right .nodes-are) (sheet .tests-pass)
-      (m .few-bytes) (m .few-variables) (m .few-nodes)
-
-  -- 9 to 13, once 1 to 8 have passed
-  pub plan-later : (x room : ℕ) → answer (later-tests (F .width) v n b x room) (choice-in (F .width) v n b x) ≡ settle-plan F b x room
-  unfolding settle-plan settle-tests tidy-and-bound-tests later-tests choice-in sheet-length
-  plan-later x room =
-      rw (formula-of, sheet .right .variables-are, sheet .right .nodes-are, append-assoc)
-      (sym (answer-++ (check-tests F b) _ (choice _ _ x (formula F b)) (sheet .tests-pass)))
+-- 9 to 13, once 1 to 8 have passed
+pub plan-later : {F : Format} {b : Bytes} {v n : ℕ} → AcceptedSheet F b v n → (x room : ℕ)
+    → answer (later-tests (F .width) v n b x room) (choice-in (F .width) v n b x) ≡ settle-plan F b x room
+unfolding settle-plan settle-tests tidy-and-bound-tests later-tests choice-in sheet-length
+plan-later {F} {b} sheet x room =
+    rw (accepted-formula sheet, sheet .right .variables-are, sheet .right .nodes-are, append-assoc)
+    (sym (answer-++ (check-tests F b) _ (choice _ _ x (formula F b)) (sheet .tests-pass)))

@@ -18,7 +18,7 @@ use Rattle.sheet.proofs.Tests.{passed-∷, passed-++, answer-passes, accepted-p
 use Rattle.sheet.proofs.Accepted.{accepted-variables}
 use Rattle.checking.specs.declared.Checked.the-variants.{Accepted}
 use Rattle.checking.specs.Stages.{sizes, sizes-of}
-use Rattle.checking.proofs.Accepted.{AcceptedSheet, accepted-sheet}
+use Rattle.checking.proofs.Accepted.{AcceptedSheet, accepted-again}
 use Rattle.reading.specs.Places.{place}
 use Rattle.reading.proofs.Places.{binds-place}
 use Rattle.settle.specs.declared.plan.Plan.{Plan}
@@ -52,13 +52,6 @@ passed-settle F b x room h =
       is-bound = not-false _ (bound .0);
       has-room = ltb-false _ _ (last .0);
     }
-
-accepted-again : {F : Format} {b : Bytes} {v n : ℕ} → passes (check-tests F b) ≡ true → v ≡ variables F b → n ≡ nodes F b
-    → AcceptedSheet F b v n
-unfolding check
-accepted-again {F} {b} {v} {n} h vs ns =
-    accepted-sheet {r = Accepted v n} refl
-    (ap₂ (λ p q. accepted (sizes p q)) vs ns ∙ sym (answer-passes (check-tests F b) (sizes-of F b) h))
 
 pub chosen : (F : Format) (b : Bytes) (x room : ℕ) {v n i : ℕ} {c : Bool} {p : Plan} → p ≡ Put v n i c
     → plan-answer p ≡ settle-plan F b x room → Chosen F b x room v n i c

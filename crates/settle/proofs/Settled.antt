@@ -21,11 +21,11 @@ use Rattle.sheet.proofs.Accepted.{accepted-variables}
 use Rattle.rows.specs.Rows.{Room}
 use Rattle.reading.specs.Reading.{Readable, Quantified, prefix-in, matrix-in, formula-in}
 use Rattle.reading.specs.Places.{place}
+use Rattle.reading.proofs.Accepted.{accepted-formula, accepted-quantified, accepted-readable}
 use Rattle.tidying.specs.InPlace.{rows-formula}
 use Rattle.tidying.specs.Limits.{Countable}
 use Rattle.tidying.proofs.Raw as raw
 use Rattle.settle.specs.Plan.{settle-plan}
-use Rattle.settle.proofs.Accepted.{formula-of, readable, quantified}
 use Rattle.settle.proofs.Chosen.{Chosen}
 
 -- refused: the answer is the plan's, and no byte of the output changes
@@ -40,13 +40,13 @@ refused-call {k} {p} F b x out h =
 
 module _ {F : Format} {b : Bytes} {x v n i : ℕ} {c : Bool} (k : Countable F) (out : Bytes) (ch : Chosen F b x (length out) v n i c) where
   pub source : Readable (F .width) v n b
-  source = readable (k .manageable) (ch .checked)
+  source = accepted-readable (ch .checked) (k .manageable)
 
   pub rows-source : Quantified (F .width) v n b
-  rows-source = quantified (k .manageable) (ch .checked)
+  rows-source = accepted-quantified (ch .checked)
 
   same-formula : formula-in (F .width) v n b ≡ formula F b
-  same-formula = formula-of (k .manageable) (ch .checked)
+  same-formula = accepted-formula (ch .checked)
 
   pub row-source : i ≡ place x (prefix-in (F .width) v n b)
   unfolding formula-in

@@ -5,7 +5,8 @@ use borrow.Author.Needs.{needs}
 use Rattle.rows.specs.Formats.{format-of}
 use Rattle.checking.specs.Answers.{checked-answer}
 use Rattle.checking.proofs.Accepted.{AcceptedSheet, accepted-sheet}
-use Rattle.expand.proofs.Accepted.{check-refuses, readable, plan-later}
+use Rattle.reading.proofs.Accepted.{accepted-readable}
+use Rattle.expand.proofs.Accepted.{check-refuses, plan-later}
 use Rattle.expand.proofs.plan.plan_expand.Statement.{statement}
 use Rattle.expand.proofs.plan.plan_expand.Tie as tie
 
@@ -27,7 +28,7 @@ enum-known-c-2 : tie.Need-enum-known-c-2
 enum-known-c-2 c = search needs
 
 plan-checked-requires : tie.Need-plan-checked-requires
-plan-checked-requires c κs = let m = start (c .before) .pre in (m, readable m (accepted (c .before)))
+plan-checked-requires c κs = let m = start (c .before) .pre in (m, accepted-readable (accepted (c .before)) m)
 
 returns : tie.Need-returns
 returns c =
@@ -41,7 +42,7 @@ returns-2 : tie.Need-returns-2
 returns-2 c =
     let told = c .before .before in
     let a = start told .args in
-    c .plan-checked .ensures ∙ plan-later (start told .pre) (accepted told) (a .x) (a .room)
+    c .plan-checked .ensures ∙ plan-later (accepted told) (a .x) (a .room)
 
 pub plan-expand-spec : {M : Type 1} → statement M
 plan-expand-spec =
