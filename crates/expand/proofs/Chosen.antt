@@ -1,6 +1,6 @@
 -- What a plan to copy tells: every test of Expand passes, and the choice is the sheet's own.
 -- Assumes nothing.
-use mathlib.Core.Path.{_≡_, refl, sym, ap, ap₂, _∙_}
+use mathlib.Core.Path.{_≡_, sym, ap, _∙_}
 use mathlib.Core.Bool.{true}
 use mathlib.Core.List.{_++_}
 use Prim.Native.Nat.{ℕ, _+_, _*_, _-_, _≤_, _<_}
@@ -14,12 +14,10 @@ use Rattle.formula.specs.Solve.{fits-raw}
 use Rattle.formula.proofs.Booleans.{and-parts}
 use Rattle.sheet.specs.Format.{Bytes, Format, sheet-length, fits, variables, nodes}
 use Rattle.sheet.specs.Sheet.{formula}
-use Rattle.sheet.specs.Check.{accepted, passes, check-tests, check}
+use Rattle.sheet.specs.Check.{passes, check-tests}
 use Rattle.sheet.specs.Operations.{tidy-and-bound-tests, expand-tests}
-use Rattle.sheet.proofs.Tests.{passed-∷, passed-++, answer-passes, accepted-passes}
+use Rattle.sheet.proofs.Tests.{passed-∷, passed-++, accepted-passes}
 use Rattle.sheet.proofs.Accepted.{accepted-variables}
-use Rattle.checking.specs.declared.Checked.the-variants.{Accepted}
-use Rattle.checking.specs.Stages.{sizes, sizes-of}
 use Rattle.checking.proofs.Accepted.{AcceptedSheet, accepted-again}
 use Rattle.reading.specs.Places.{place}
 use Rattle.reading.proofs.Places.{binds-place}

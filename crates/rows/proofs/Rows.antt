@@ -1,6 +1,6 @@
 -- The rows of a sheet: how many there are, and what stands in each.
 -- Assumes nothing.
-use mathlib.Core.Path.{_≡_, refl, sym, ap, _∙_}
+use mathlib.Core.Path.{_≡_, refl, _∙_}
 use mathlib.Core.List.{[], _∷_}
 use Prim.Native.Nat.{ℕ, zero, suc, _+_, _*_, _≤_, _<_}
 use native.Mathlib.Nat.{mul-zero, mul-suc, add-mul, one-mul, add-comm, mul-le-mul-left}
@@ -8,7 +8,7 @@ use native.Mathlib.Omega.{arith}
 use lib.ListN.{length, getD, take, drop, length-drop}
 use lib.Seq.{length-take-le, getD-take, getD-drop, drop-drop}
 use borrow.Author.Tests.{le-leb, lt-leb}
-use Rattle.sheet.specs.Format.{Bytes, Format, Row, row, number, zip-rows, variables, nodes, kind-bytes, argument-bytes, all-rows, header, children}
+use Rattle.sheet.specs.Format.{Bytes, Format, Row, row, number, zip-rows, variables, nodes, kind-bytes, argument-bytes, all-rows, children}
 use Rattle.sheet.proofs.Parts.{length-zip-rows}
 use Rattle.rows.specs.Rows.{rows-in, Room}
 

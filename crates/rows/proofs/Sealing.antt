@@ -3,14 +3,14 @@
 use mathlib.Core.Path.{_≡_, refl, sym, ap, ap₂, _∙_}
 use mathlib.Core.List.{List, [], _∷_, _++_, append-assoc, append-nil}
 use Prim.Native.Nat.{ℕ, zero, suc, _+_, _*_, _-_, _≤_, _<_}
-use native.Mathlib.Nat.{mul-zero, mul-suc, add-mul, one-mul, add-comm, mul-le-mul-left}
+use native.Mathlib.Nat.{mul-zero, mul-suc, add-mul, one-mul, mul-le-mul-left}
 use native.Mathlib.Numerals.{add-one}
 use native.Mathlib.Omega.{arith}
 use lib.ListN.{length, getD, take, drop, set, replicate, length-append, length-drop, length-set, length-replicate, getD-replicate}
-use lib.Seq.{length-take-le, getD-drop, take-at, drop-at, take-add, take-take, take-all, take-nil, drop-drop, take-append-le, drop-append-le, paste, paste-zero, paste-suc, drop-paste, drop-length}
-use Rattle.sheet.specs.Format.{Bytes, Row, row, number, digits, zip-rows}
+use lib.Seq.{length-take-le, getD-drop, take-at, drop-at, take-add, take-take, take-all, drop-drop, paste, paste-zero, paste-suc, drop-paste, drop-length}
+use Rattle.sheet.specs.Format.{Bytes, Row, digits, zip-rows}
 use Rattle.sheet.specs.Sheet.{row-kinds, row-arguments}
-use Rattle.sheet.proofs.Every.{Every, every-take, every-drop}
+use Rattle.sheet.proofs.Every.{every-take, every-drop}
 use Rattle.sheet.proofs.Numbers.{IsByte, AllBytes, length-digits, digits-number-at}
 use Rattle.sheet.proofs.Parts.{row-kinds-zip}
 use Rattle.rows.specs.Rows.{rows-in, Room}

@@ -1,14 +1,14 @@
 -- A number's bytes stored one by one, and a row's kind and argument stored in the bytes of its sheet.
 -- Assumes nothing.
 use mathlib.Core.Path.{_≡_, refl, sym, ap, ap₂, _∙_}
-use mathlib.Core.List.{List, [], _∷_, _++_, append-assoc}
+use mathlib.Core.List.{[], _∷_, _++_, append-assoc}
 use Prim.Native.Nat.{ℕ, zero, suc, _+_, _*_, _-_, _/_, _%_, _^_, _≤_, _<_}
-use native.Mathlib.Nat.{mul-zero, mul-suc, add-mul, one-mul, add-comm, add-assoc}
+use native.Mathlib.Nat.{mul-zero, mul-suc, add-mul, one-mul, add-assoc}
 use native.Mathlib.Numerals.{add-one}
 use native.Mathlib.Omega.{arith}
 use lib.ListN.{length, getD, take, drop, set, length-append, length-drop, length-set}
-use lib.Seq.{length-take-le, drop-cons, getD-drop, take-at, drop-at, take-add, drop-drop, drop-append-add, take-all, paste, paste-zero, paste-suc, take-set-le, drop-set-lt, take-set-lt, drop-set-add}
-use Rattle.sheet.specs.Format.{Bytes, Row, row, number, digits, zip-rows}
+use lib.Seq.{length-take-le, drop-cons, take-at, drop-at, take-add, drop-drop, drop-append-add, take-all, paste, paste-zero, paste-suc, take-set-le, drop-set-lt, take-set-lt, drop-set-add}
+use Rattle.sheet.specs.Format.{Bytes, row, number, digits, zip-rows}
 use Rattle.sheet.proofs.Numbers.{length-digits, number-digits}
 use Rattle.rows.specs.Rows.{rows-in, Room}
 use Rattle.rows.proofs.Rows.{next-row}

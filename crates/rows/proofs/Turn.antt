@@ -1,12 +1,11 @@
 -- A number read from its last byte to its first.
 -- Assumes nothing.
-use mathlib.Core.Path.{_≡_, refl, sym, ap, _∙_}
-use mathlib.Core.List.{[], _∷_}
+use mathlib.Core.Path.{_≡_, sym, ap, _∙_}
 use Prim.Native.Nat.{ℕ, suc, _+_, _*_, _-_, _^_, _≤_, _<_}
 use native.Mathlib.Nat.{pow-suc, pow-le-pow-right, lt-of-lt-of-le}
 use native.Mathlib.Omega.{arith}
 use lib.ListN.{length, getD, take, drop, length-drop}
-use lib.Seq.{length-take-le, drop-cons, getD-take, getD-drop, take-length, drop-length}
+use lib.Seq.{length-take-le, drop-cons, getD-take, getD-drop, drop-length}
 use Rattle.sheet.specs.Format.{Bytes, number}
 
 -- the value of the bytes from i on

@@ -1,7 +1,7 @@
 -- What a plan to put a value in tells: every test of Settle passes, and the choice is the sheet's own.
 -- Assumes nothing.
-use mathlib.Core.Path.{_≡_, refl, sym, ap, ap₂, _∙_}
-use mathlib.Core.Bool.{Bool, true, false, not}
+use mathlib.Core.Path.{_≡_, sym, ap, _∙_}
+use mathlib.Core.Bool.{Bool, true, false}
 use mathlib.Core.List.{_++_}
 use mathlib.Core.Option.{Option·getD}
 use Prim.Native.Nat.{ℕ, _+_, _*_, _-_, _≤_, _<_}
@@ -12,12 +12,10 @@ use Rattle.formula.specs.Tree.{binds}
 use Rattle.formula.specs.Settle.{may-settle}
 use Rattle.sheet.specs.Format.{Bytes, Format, sheet-length, variables, nodes}
 use Rattle.sheet.specs.Sheet.{formula}
-use Rattle.sheet.specs.Check.{accepted, passes, check-tests, check}
+use Rattle.sheet.specs.Check.{passes, check-tests}
 use Rattle.sheet.specs.Operations.{tidy-and-bound-tests, settle-tests}
-use Rattle.sheet.proofs.Tests.{passed-∷, passed-++, answer-passes, accepted-passes}
+use Rattle.sheet.proofs.Tests.{passed-∷, passed-++, accepted-passes}
 use Rattle.sheet.proofs.Accepted.{accepted-variables}
-use Rattle.checking.specs.declared.Checked.the-variants.{Accepted}
-use Rattle.checking.specs.Stages.{sizes, sizes-of}
 use Rattle.checking.proofs.Accepted.{AcceptedSheet, accepted-again}
 use Rattle.reading.specs.Places.{place}
 use Rattle.reading.proofs.Places.{binds-place}

@@ -1,6 +1,6 @@
 -- Refusing alters no byte of an output ("What each operation turns away").
 -- Assumes nothing.
-use mathlib.Core.Path.{_≡_, refl, ap, _∙_}
+use mathlib.Core.Path.{_≡_, refl, ap}
 use mathlib.Core.List.{List}
 use Prim.Native.Nat.{ℕ, min}
 use native.Mathlib.Omega.{arith}
@@ -9,7 +9,7 @@ use Rattle.formula.specs.Solve.{End, ended, stopped, Run, solve}
 use Rattle.sheet.specs.Format.{Bytes, Format, fits}
 use Rattle.sheet.specs.Sheet.{formula}
 use Rattle.sheet.specs.Check.{Answer, refused, accepted, Test, answer}
-use Rattle.sheet.specs.Operations.{output-after, write, tidy-tests, tidy-call, settle-call, expand-call, Solved, is-refused, solved, solving, solve-call}
+use Rattle.sheet.specs.Operations.{output-after, write, tidy-tests, tidy-call, settle-call, expand-call, is-refused, solved, solving, solve-call}
 
 written-refused : (tests : List Test) (new out : Bytes) (n i : ℕ) → (write tests new out) .answer ≡ refused n i → (write tests new out) .output ≡ out
 unfolding write output-after

@@ -1,9 +1,9 @@
 -- What Solve answers and leaves, from Check's answer, the buffers' lengths and the run.
 -- Assumes nothing.
 use mathlib.Core.Path.{_≡_, sym, ap, ap₂, _∙_}
-use mathlib.Core.Bool.{Bool, true, false, cond}
-use mathlib.Core.List.{List, [], _∷_, _++_}
-use Prim.Native.Nat.{ℕ, suc, _+_, _*_, _-_, _≤_, _<_, _^_, min}
+use mathlib.Core.Bool.{cond}
+use mathlib.Core.List.{[], _∷_, _++_}
+use Prim.Native.Nat.{ℕ, suc, _+_, _-_, _≤_, _<_, min}
 use native.Mathlib.Nat.{mul-le-mul-left}
 use native.Mathlib.Omega.{arith}
 use lib.Dec.{ltb}
@@ -13,7 +13,7 @@ use Rattle.formula.specs.Tree.{Formula, rows}
 use Rattle.formula.specs.Tidy.{tidied}
 use Rattle.formula.specs.Solve.{Run, run, solve}
 use Rattle.formula.proofs.Tidy.Growth.{rows-tidy}
-use Rattle.formula.proofs.Steps.{Proper, proper-tidied}
+use Rattle.formula.proofs.Steps.{proper-tidied}
 use Rattle.sheet.specs.Format.{Bytes, Format, sheet-length, fits}
 use Rattle.sheet.specs.Sheet.{formula, sheet}
 use Rattle.sheet.specs.Check.{Answer, refused, accepted, test, answer, check-tests, check}
@@ -25,7 +25,7 @@ use Rattle.sheet.proofs.RoundTrip.{length-sheet}
 use Rattle.reading.specs.Reading.{formula-in}
 use Rattle.tidying.specs.Limits.{Countable, Sheet}
 use Rattle.solve.specs.declared.State.{State}
-use Rattle.solve.specs.Running.{HeldBy, reached}
+use Rattle.solve.specs.Running.{HeldBy}
 use Rattle.solve.proofs.Holding.{padded-formula, hold}
 use Rattle.solve.proofs.Turning.{run-from}
 

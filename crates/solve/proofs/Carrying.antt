@@ -1,19 +1,19 @@
 -- A tidied sheet, brought from the second buffer to the first.
 -- Assumes nothing.
 use mathlib.Core.Path.{_≡_, sym, ap, ap₂, _∙_}
-use mathlib.Core.List.{List, _++_}
-use Prim.Native.Nat.{ℕ, _+_, _*_, _-_, _≤_, _<_, _^_}
+use mathlib.Core.List.{_++_}
+use Prim.Native.Nat.{ℕ, _+_, _*_, _-_, _≤_}
 use native.Mathlib.Nat.{mul-le-mul-left}
 use native.Mathlib.Omega.{arith}
 use lib.ListN.{length, take, drop, replicate, length-append, length-drop}
-use lib.Seq.{take-at, take-append-seam, take-append-le, drop-append-le}
+use lib.Seq.{take-append-seam, take-append-le, drop-append-le}
 use Rattle.formula.specs.Tree.{Formula, rows}
 use Rattle.formula.specs.Tidy.{tidied}
 use Rattle.formula.proofs.Tidy.Growth.{rows-tidy}
-use Rattle.sheet.specs.Format.{Bytes, Format, Row, sheet-length, number, nodes}
+use Rattle.sheet.specs.Format.{Bytes, Format, sheet-length, number, nodes}
 use Rattle.sheet.specs.Sheet.{formula-rows, sheet}
 use Rattle.sheet.specs.Operations.{padded}
-use Rattle.sheet.proofs.Limits.{Sound, Within}
+use Rattle.sheet.proofs.Limits.{Within}
 use Rattle.sheet.proofs.RoundTrip.{length-formula-rows, length-sheet, nodes-sheet}
 use Rattle.rows.specs.Rows.{rows-in, Room}
 use Rattle.rows.proofs.Rows.{length-rows-in}

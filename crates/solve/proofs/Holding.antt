@@ -2,19 +2,19 @@
 -- Assumes nothing.
 use mathlib.Core.Path.{_≡_, sym, ap, _∙_, subst}
 use mathlib.Core.Bool.{true}
-use mathlib.Core.List.{List, _++_, map}
-use Prim.Native.Nat.{ℕ, _+_, _*_, _-_, _≤_, _<_, _^_}
+use mathlib.Core.List.{_++_, map}
+use Prim.Native.Nat.{ℕ, _+_, _-_, _≤_}
 use native.Mathlib.Omega.{arith}
 use lib.ListN.{length, take, drop, replicate, length-append, length-replicate}
-use Rattle.formula.specs.Tree.{Formula, rows, closed}
+use Rattle.formula.specs.Tree.{Formula, rows}
 use Rattle.formula.specs.Tidy.{is-tidy}
 use Rattle.formula.proofs.Steps.{Proper}
 use Rattle.sheet.specs.Format.{Bytes, Format, row}
-use Rattle.sheet.specs.Sheet.{binding, binding-row, trees, root, tree-rows, formula, formula-rows, sheet}
+use Rattle.sheet.specs.Sheet.{binding, binding-row, trees, root, tree-rows, formula, sheet}
 use Rattle.sheet.specs.Operations.{padded}
 use Rattle.sheet.proofs.Limits.{Sound, Within, numbered-at}
-use Rattle.sheet.proofs.RoundTrip.{length-sheet, variables-sheet, nodes-sheet, formula-sheet, passes-sheet}
-use Rattle.rows.specs.Rows.{rows-in, Room}
+use Rattle.sheet.proofs.RoundTrip.{variables-sheet, nodes-sheet, formula-sheet, passes-sheet}
+use Rattle.rows.specs.Rows.{rows-in}
 use Rattle.reading.specs.Reading.{node-rows-in, prefix-in, matrix-in, formula-in, Readable, Quantified}
 use Rattle.reading.specs.Places.{binding-at}
 use Rattle.reading.proofs.Accepted as reading

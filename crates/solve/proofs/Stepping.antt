@@ -1,18 +1,18 @@
 -- One step of the definition, by what the code finds out; and the formula that it leads to.
 -- Assumes nothing.
-use mathlib.Core.Path.{_≡_, refl, sym, ap, _∙_}
-use mathlib.Core.Bool.{Bool, true, false, _&&_}
+use mathlib.Core.Path.{_≡_, refl}
+use mathlib.Core.Bool.{Bool, true, false}
 use mathlib.Core.List.{[], _∷_}
 use mathlib.Core.Option.{none, some}
 use Prim.Native.Nat.{ℕ, suc, _+_, _*_, _-_, _≤_, _<_}
 use native.Mathlib.Omega.{arith}
 use lib.ListN.{length}
 use borrow.Author.Tests.{lt-leb, le-leb}
-use Rattle.formula.specs.Tree.{Prefix, Formula, of, rows}
+use Rattle.formula.specs.Tree.{Prefix, Formula, of}
 use Rattle.formula.specs.Tidy.{verdict}
 use Rattle.formula.specs.Settle.{may-settle, settled}
 use Rattle.formula.specs.Expand.{raw-rows, expanded, raw}
-use Rattle.formula.specs.Solve.{is-some, lowest, cheapest, State, halt, next, stopped, ended, Fits, fits-raw, settle-step, expand-step, undecided-step, step-by, step}
+use Rattle.formula.specs.Solve.{lowest, cheapest, State, halt, next, stopped, ended, Fits, fits-raw, settle-step, expand-step, undecided-step, step-by, step}
 use Rattle.formula.proofs.Choice.{lowest-chosen, cheapest-chosen}
 use Rattle.formula.proofs.Steps.{Proper, proper-settled, rows-settled, proper-expanded, rows-expanded, decided-without-variables}
 use Rattle.sheet.specs.Format.{Format, sheet-length, fits}

@@ -4,15 +4,13 @@ use mathlib.Core.Path.{_≡_, refl, sym, ap, _∙_}
 use Prim.Native.Nat.{ℕ, suc, _^_, _<_}
 use native.Mathlib.Omega.{arith}
 use lib.ListN.{length}
-use Rattle.formula.specs.Solve.{State as Reached, End, ended, stopped, Step, halt, next, Run, Fits, step, go-on, run}
+use Rattle.formula.specs.Solve.{State as Reached, End, ended, stopped, halt, next, Run, Fits, step, go-on, run}
 use Rattle.sheet.specs.Format.{Bytes, Format, fits}
 use Rattle.sheet.specs.Sheet.{sheet}
 use Rattle.sheet.specs.Operations.{padded, solved}
 use Rattle.solve.specs.declared.State.{State}
 use Rattle.solve.specs.declared.Verdict.{Verdict}
-use Rattle.solve.specs.declared.Solved.{Solved}
 use Rattle.solve.specs.declared.Solved.the-variants.{Stopped, Ended}
-use Rattle.solve.specs.declared.step.Step.{Step as Taken}
 use Rattle.solve.specs.declared.step.Step.the-variants as taken
 use Rattle.solve.specs.Answers.{verdict-of, solved-answer}
 use Rattle.solve.specs.Running.{HeldBy, reached, begun, Stepped}

@@ -4,7 +4,7 @@ use mathlib.Core.Path.{_≡_}
 use mathlib.Core.Bool.{true}
 use Prim.Native.Nat.{ℕ, suc, _+_, _≤_}
 use lib.ListN.{length}
-use Rattle.formula.specs.Tree.{Formula, rows}
+use Rattle.formula.specs.Tree.{rows}
 use Rattle.formula.specs.Tidy.{is-tidy}
 use Rattle.formula.specs.Solve.{State as Reached, halt, next, ended, stopped, step}
 use Rattle.sheet.specs.Format.{Bytes, Format, fits}

@@ -15,7 +15,6 @@ use rows::seal::clear;
 use tidying::copy_front;
 use tidying::tidy_in_place;
 ghost use mathlib.Core.Path.{_≡_};
-ghost use mathlib.Core.Bool.{true};
 ghost use mathlib.Core.Option.{none};
 ghost use Prim.Native.Nat.{_+_, _^_, _≤_, _<_};
 ghost use lib.ListN.{length};

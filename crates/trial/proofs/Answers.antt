@@ -1,19 +1,18 @@
 -- What Trial answers, from what Check answers and from the semantic tree.
 -- Assumes nothing.
 use mathlib.Core.Path.{_≡_, sym, ap, _∙_}
-use mathlib.Core.Bool.{Bool, true, false, cond}
-use mathlib.Core.List.{List, [], _∷_, _++_}
-use Prim.Native.Nat.{ℕ, zero, suc, _+_, _≤_, _<_}
+use mathlib.Core.List.{[], _∷_, _++_}
+use Prim.Native.Nat.{ℕ, _+_, _≤_, _<_}
 use native.Mathlib.Omega.{arith}
 use lib.Dec.{ltb}
 use lib.ListN.{length, getD, take, List·getD-map}
 use lib.Seq.{getD-take}
 use borrow.Author.Tests.{lt-ltb, le-ltb}
-use Rattle.formula.specs.Tree.{Binding, Prefix}
+use Rattle.formula.specs.Tree.{Binding}
 use Rattle.formula.specs.Trial.{Tried, trial}
 use Rattle.sheet.specs.Format.{Bytes, Format, Row, row, variables, nodes, prefix-rows, node-rows}
 use Rattle.sheet.specs.Sheet.{binding, formula}
-use Rattle.sheet.specs.Check.{refused, accepted, Test, test, answer, check-tests, check}
+use Rattle.sheet.specs.Check.{refused, accepted, test, answer, check-tests, check}
 use Rattle.sheet.specs.Operations.{trial-call}
 use Rattle.sheet.proofs.Tests.{answer-++, refused-first}
 use Rattle.sheet.proofs.Limits.{numbered-at}

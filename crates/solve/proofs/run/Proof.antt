@@ -6,7 +6,7 @@ use lib.ListN.{length}
 use Rattle.rows.specs.Formats.{format-of}
 use Rattle.solve.specs.Running.{Stepped}
 use Rattle.solve.specs.declared.step.Step.{Step}
-use Rattle.solve.proofs.Turning.{run-from, Turn, turn-first, turn-next, turn-ended, turn-stopped}
+use Rattle.solve.proofs.Turning.{Turn, turn-first, turn-next, turn-ended, turn-stopped}
 use Rattle.solve.proofs.run.Statement.{statement}
 use Rattle.solve.proofs.run.Tie as tie
 

@@ -1,7 +1,6 @@
 -- `rows::edit::put_number` meets its contract: low byte first, a byte a turn. Assumes nothing.
 use Prim.Native.Nat.{_-_}
 use native.Mathlib.Omega.{arith}
-use lib.ListN.{length-set}
 use Rattle.rows.proofs.Stores.{Stored, stored-none, stored-byte, stored-all}
 use Rattle.rows.proofs.edit.put_number.Statement.{statement}
 use Rattle.rows.proofs.edit.put_number.Tie as tie

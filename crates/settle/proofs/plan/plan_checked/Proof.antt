@@ -1,7 +1,5 @@
 -- `settle::plan::plan_checked` meets its contract: 9, 10, 12 and 13 in this order, and else the row and the value.
 -- Assumes nothing.
-use mathlib.Core.Path.{_≡_}
-use mathlib.Core.Bool.{cond}
 use Prim.Native.Nat.{_+_, _*_, _-_, _≤_}
 use native.Mathlib.Omega.{arith}
 use borrow.Author.Needs.{needs}

@@ -1,10 +1,7 @@
 -- `solve::step::settle_step` meets its contract. Assumes nothing.
-use mathlib.Core.Path.{_≡_, refl, _∙_}
-use mathlib.Core.List.{List}
 use Prim.Native.Nat.{_+_, _-_}
 use native.Mathlib.Omega.{arith}
 use borrow.Author.Needs.{needs}
-use lib.ListN.{length}
 use Rattle.formula.specs.Settle.{settled}
 use Rattle.rows.specs.Rows.{rows-in}
 use Rattle.rows.specs.Formats.{format-of}

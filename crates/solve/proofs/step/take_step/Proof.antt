@@ -1,8 +1,6 @@
 -- `solve::step::take_step` meets its contract. Assumes nothing.
 use mathlib.Core.Path.{refl, sym, ap, _∙_}
 use borrow.Author.Needs.{needs}
-use Rattle.sheet.specs.Format.{fits}
-use Rattle.rows.specs.Formats.{format-of}
 use Rattle.solve.specs.Answers.{decision-of}
 use Rattle.solve.proofs.Holding.{readable}
 use Rattle.solve.proofs.Arriving.{decided-end}

@@ -1,6 +1,5 @@
 -- `solve::step::undecided_step` meets its contract. Assumes nothing.
 use mathlib.Core.Path.{_≡_, subst}
-use native.Mathlib.Omega.{arith}
 use borrow.Author.Needs.{needs}
 use Rattle.choosing.specs.Choosing.{ToSettle}
 use Rattle.choosing.specs.declared.settle.SettleChoice.{SettleChoice}
