@@ -7,14 +7,16 @@ use Prim.Native.Nat.{ℕ, suc, _+_, _≤_, _<_}
 use native.Mathlib.Omega.{arith}
 use lib.Dec.{eqb}
 use lib.ListN.{length, getD, set}
-use Rattle.formula.specs.Tree.{Op, Tree, Forest, ∅, _▸_, _⧺_, some-child, some-two, count}
-use Rattle.formula.specs.Tidy.{splice, decides, firsts}
+use Rattle.formula.specs.Tree.{Op, dual, Tree, Forest, ∅, _▸_, _⧺_, some-child, some-two, count}
+use Rattle.formula.specs.Tidy.{is-empty, opposite, splice, decides, firsts}
+use Rattle.formula.proofs.Booleans.{or-parts}
+use Rattle.formula.proofs.Tidy.Children.{some-two-firsts}
 use Rattle.sheet.specs.Format.{Bytes, Row, row}
 use Rattle.sheet.specs.Sheet.{operator-kind}
 use Rattle.rows.specs.Rows.{rows-in, Room}
 use Rattle.rows.proofs.Rows.{length-rows-in}
-use Rattle.tidying.specs.Blocks.{Block, gone, literal, operator, Blocks, none, _◂_, _⊕_, block-rows, size, extent, grown, live, Laid, Here, Region, Regions, OperatorKind}
-use Rattle.tidying.specs.Steps.{decisive, new, Grouped, Reduced, all-tidy, TidyRegion}
+use Rattle.tidying.specs.Blocks.{Block, gone, literal, operator, Blocks, none, _◂_, _⊕_, block-rows, size, extent, grown, live, Laid, Here, Region, OperatorKind}
+use Rattle.tidying.specs.Steps.{decisive, new, Unopposed, UnopposedRegions, Grouped, Reduced, all-tidy, TidyRegion}
 use Rattle.tidying.proofs.Walk.{⧺-none, ⧺-assoc, live-⊕, live-◂, length-◂, extent-head, start, all-laid, within, Next, next, part-here, part-done}
 use Rattle.tidying.proofs.Scan.{Turn, safe, rest-none}
 use Rattle.tidying.proofs.Forests.{decides-⧺, decides-before, firsts-⧺, decisive-firsts, new-firsts, splice-⧺, Calm, calm-splice, firsts-calm, all-tidy-⧺}
@@ -73,15 +75,27 @@ group-here {R} {from} {at} {to} {s} {before} {after} {done} {others} b e =
     subst (λ m. Here R from at (at + m) before done (b .group) (after-children others after)) (b .same-size ∙ sym e)
     (part-here (b .group) others (b .here))
 
+-- the children that stay are no two opposite literals
+done-unopposed : {R : List Row} {from at to : ℕ} {before after : List Row} {bs : Blocks} {o : Op} → (st : Reducing R from at to before bs after o)
+    → Unopposed (live (st .done))
+unfolding decides
+done-unopposed {o = o} st =
+    ap (some-two opposite) (st .stays) ∙
+    some-two-firsts opposite (st .trees) (or-parts (some-child (is-empty (dual o)) (st .trees)) _ (st .undecided) .1)
+
 pub reduce-regions : {R₀ R R₁ : List Row} {from at to kind s : ℕ} → Reduce R₀ R from at to kind → TidyRegion R₀ from to → OperatorKind kind → at < to
-    → s ≡ extent (getD R at (row 0 0)) → R₁ ≡ behead-rows R at kind → Regions R₁ from at (at + s)
+    → s ≡ extent (getD R at (row 0 0)) → R₁ ≡ behead-rows R at kind → UnopposedRegions R₁ from at (at + s)
 reduce-regions {R₀} {R} {R₁} {from} {at} {to} {kind} {s} w g k l e b =
     let r = g .region in
     let st = w (r .before) (r .blocks) (r .after) (r .laid) (k .op) (k .is) (g .tidy) in
     let m = next (st .here) l in
     let h = beheaded kind (k .op) (m .block) (k .is) (block-here (st .here) m) in
-    subst (λ rs. Regions rs from at (at + s)) (sym b)
-    (record { before = _; done = _; rest = _; after = _; here = group-here h (e ∙ ap extent (m .row-is) ∙ extent-head (m .block)) })
+    let e′ = e ∙ ap extent (m .row-is) ∙ extent-head (m .block) in
+    subst (λ rs. UnopposedRegions rs from at (at + s)) (sym b)
+    (record {
+      regions = record { before = _; done = _; rest = _; after = _; here = group-here h e′ };
+      unopposed = done-unopposed st;
+    })
 
 pub reduce-turn : {w n from at to kind : ℕ} {R₀ : List Row} (b : Bytes) → Room w n (length b) → Reduce R₀ (rows-in w n b) from at to kind
     → TidyRegion R₀ from to → OperatorKind kind → at < to → Turn w n b at to
@@ -108,7 +122,7 @@ grouped {R₀} {R} {R₁} {R₂} {from} {at} {to} {kind} {s} {decided} w l e b f
     let e′ = e ∙ ap extent (m .row-is) ∙ extent-head (m .block) in
     let h = beheaded kind o (m .block) k (block-here (st .here) m) in
     let inside = subst (λ rs. Here rs from at (at + s) before (st .done) (h .group) (after-children (m .others) after)) (sym b) (group-here h e′) in
-    let g = f before (st .done) (h .group) (after-children (m .others) after) inside o k in
+    let g = f before (st .done) (h .group) (after-children (m .others) after) inside (done-unopposed st) o k in
     let opened : live (st .rest) ≡ live (m .block ◂ none) ⧺ live (m .others) = ap live (m .is) ∙ live-◂ (m .block) (m .others) in
     let tidied = all-tidy-⧺ (live (m .block ◂ none)) (live (m .others)) (subst all-tidy opened (st .tidy)) in
     let calm = subst Calm (sym (h .holds)) (calm-splice o (live (m .block ◂ none)) (few (m .block)) (tidied .0)) in

@@ -18,54 +18,47 @@ abbrev μ-loop : tie.MeasureT-loop
 loop-holds : tie.Need-loop-holds Inv-loop μ-loop
 loop-holds c = (sift-none, refl)
 
-decides-at-requires : tie.Need-decides-at-requires Inv-loop μ-loop
-decides-at-requires c κs =
+extent-at-requires : tie.Need-extent-at-requires Inv-loop μ-loop
+extent-at-requires c κs =
     let a = c .before .before .before .before in
     let i = c .before .before .loop .inv in
     let t = sift-turn (c .before .before .loop .b) (room-as (i .1) (a .pre .0)) (i .0) (a .pre .2) (a .pre .3) (c .before .loop-test .taken) in
-    (room-as (i .1) (a .pre .0), t .region, t .standing)
+    (room-as (i .1) (a .pre .0), t .turn .row-within)
+
+sift-at-requires : tie.Need-sift-at-requires Inv-loop μ-loop
+sift-at-requires c κs =
+    let a = c .before .before .before .before .before .before in
+    let i = c .before .before .before .before .loop .inv in
+    let t = sift-turn (c .before .before .before .before .loop .b) (room-as (i .1) (a .pre .0)) (i .0) (a .pre .2) (a .pre .3) (c .before .before .before .loop-test .taken) in
+    (room-as (i .1) (a .pre .0), a .pre .1, t .region, t .standing)
 
 same-length : tie.Need-same-length Inv-loop μ-loop
-same-length c = c .before .before .before .before .loop .inv .1
+same-length c = c .before .before .before .sift-at .kept .0 ∙ c .before .before .before .before .before .before .before .before .loop .inv .1
 
 returns : tie.Need-returns Inv-loop μ-loop
 returns c =
-    sift-found (c .before .before .before .before .loop .inv .0) (c .before .before .before .loop-test .taken)
-    (rw (c .if1 .taken) at (c .before .decides-at .ensures))
-
-extent-at-requires : tie.Need-extent-at-requires Inv-loop μ-loop
-extent-at-requires c κs =
-    let a = c .before .before .before .before .before .before .before in
-    let i = c .before .before .before .before .before .loop .inv in
-    let t = sift-turn (c .before .before .before .before .before .loop .b) (room-as (i .1) (a .pre .0)) (i .0) (a .pre .2) (a .pre .3) (c .before .before .before .before .loop-test .taken) in
-    (room-as (i .1) (a .pre .0), t .turn .row-within)
-
-drop-repeated-requires : tie.Need-drop-repeated-requires Inv-loop μ-loop
-drop-repeated-requires c κs =
-    let a = c .before .before .before .before .before .before .before .before .before in
-    let i = c .before .before .before .before .before .before .before .loop .inv in
-    let t = sift-turn (c .before .before .before .before .before .before .before .loop .b) (room-as (i .1) (a .pre .0)) (i .0) (a .pre .2) (a .pre .3) (c .before .before .before .before .before .before .loop-test .taken) in
-    (room-as (i .1) (a .pre .0), a .pre .1, t .region, t .standing)
+    sift-found (c .before .before .before .before .before .before .before .before .loop .inv .0) (c .before .before .before .before .before .before .before .loop-test .taken)
+    (rw (c .if1 .taken) at (c .before .before .before .sift-at .ensures))
 
 add-p : tie.Need-add-p Inv-loop μ-loop
 add-p c =
-    let a = c .before .before .before .before .before .before .before .before .before .before .before .before in
-    let i = c .before .before .before .before .before .before .before .before .before .before .loop .inv in
-    let t = sift-turn (c .before .before .before .before .before .before .before .before .before .before .loop .b) (room-as (i .1) (a .pre .0)) (i .0) (a .pre .2) (a .pre .3) (c .before .before .before .before .before .before .before .before .before .loop-test .taken) in
-    omega (arith, c .before .before .before .before .extent-at .ensures .1, t .turn .row-within)
+    let a = c .before .before .before .before .before .before .before .before .before .before in
+    let i = c .before .before .before .before .before .before .before .before .loop .inv in
+    let t = sift-turn (c .before .before .before .before .before .before .before .before .loop .b) (room-as (i .1) (a .pre .0)) (i .0) (a .pre .2) (a .pre .3) (c .before .before .before .before .before .before .before .loop-test .taken) in
+    omega (arith, c .before .before .before .before .before .extent-at .ensures .1, t .turn .row-within)
 
 loop-less : tie.Need-loop-less Inv-loop μ-loop
 loop-less c =
-    let a = c .before .before .before .before .before .before .before .before .before .before .before .before in
-    let i = c .before .before .before .before .before .before .before .before .before .before .loop .inv in
-    let t = sift-turn (c .before .before .before .before .before .before .before .before .before .before .loop .b) (room-as (i .1) (a .pre .0)) (i .0) (a .pre .2) (a .pre .3) (c .before .before .before .before .before .before .before .before .before .loop-test .taken) in
-    omega (arith, t .turn .some-rows, t .turn .inside, c .before .before .before .before .extent-at .ensures .0)
+    let a = c .before .before .before .before .before .before .before .before .before .before in
+    let i = c .before .before .before .before .before .before .before .before .loop .inv in
+    let t = sift-turn (c .before .before .before .before .before .before .before .before .loop .b) (room-as (i .1) (a .pre .0)) (i .0) (a .pre .2) (a .pre .3) (c .before .before .before .before .before .before .before .loop-test .taken) in
+    omega (arith, t .turn .some-rows, t .turn .inside, c .before .before .before .before .before .extent-at .ensures .0)
 
 loop-again : tie.Need-loop-again Inv-loop μ-loop
 loop-again c = (
-  sift-more (c .before .before .before .before .before .before .before .before .before .before .loop .inv .0) (c .before .before .before .before .before .before .before .before .before .loop-test .taken) (rw (c .before .before .before .before .before .before .if1 .left) at (c .before .before .before .before .before .before .before .decides-at .ensures))
-      (c .before .before .before .before .extent-at .ensures .0) (c .before .before .drop-repeated .ensures),
-  c .before .before .drop-repeated .kept .0 ∙ c .before .before .before .before .before .before .before .before .before .before .loop .inv .1,
+  sift-more (c .before .before .before .before .before .before .before .before .loop .inv .0) (c .before .before .before .before .before .before .before .loop-test .taken)
+      (c .before .before .before .before .before .extent-at .ensures .0) (rw (c .if1 .left) at (c .before .before .before .sift-at .ensures)),
+  c .before .before .before .sift-at .kept .0 ∙ c .before .before .before .before .before .before .before .before .loop .inv .1,
 )
 
 same-length-2 : tie.Need-same-length-2 Inv-loop μ-loop
@@ -81,11 +74,10 @@ sift-spec =
     Inv-loop
     μ-loop
     loop-holds
-    decides-at-requires
+    extent-at-requires
+    sift-at-requires
     same-length
     returns
-    extent-at-requires
-    drop-repeated-requires
     add-p
     loop-less
     loop-again
