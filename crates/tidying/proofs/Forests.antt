@@ -1,18 +1,18 @@
 -- The rules at children that come in groups: what a group adds to those before it.
 -- Assumes nothing.
 use mathlib.Core.Path.{_≡_, refl, sym, ap, ap₂, _∙_}
-use mathlib.Core.Bool.{Bool, true, false, not, _&&_, _||_, cond, or-assoc, or-comm, or-false, or-true, and-false, false≢true}
+use mathlib.Core.Bool.{Bool, true, false, not, _&&_, _||_, cond, and-false, false≢true}
 use mathlib.Core.Logic.{⊎-elim}
-use Prim.Native.Nat.{ℕ, zero, suc, _≤_}
+use Prim.Native.Nat.{ℕ, _≤_}
 use native.Mathlib.Omega.{arith}
 use lib.Dec.{eqb}
 use borrow.Author.Tests.{not-true, not-false, eq-eqb, ne-eqb, eqb-true, eqb-false}
-use Rattle.formula.specs.Tree.{Op, and, or, dual, same-op, Tree, lit, node, Forest, ∅, _▸_, _⧺_, some-child, some-two, keep, count}
-use Rattle.formula.specs.Tidy.{is-empty, opposite, equal, same-variable, spliced, splice, decides, firsts, is-tidy, any, faults, root-faults}
+use Rattle.formula.specs.Tree.{Op, and, or, dual, Tree, lit, node, Forest, ∅, _▸_, _⧺_, some-child, some-two, keep, count}
+use Rattle.formula.specs.Tidy.{is-empty, opposite, equal, same-variable, spliced, splice, decides, firsts, is-tidy}
 use Rattle.formula.proofs.Booleans.{cond-cases, and-parts, or-parts, or-none, or-cases}
-use Rattle.formula.proofs.Tidy.Children.{some-child-less, some-two-less, some-child-⧺, firsts-all}
+use Rattle.formula.proofs.Tidy.Children.{some-two-less, some-child-⧺, firsts-all}
 use Rattle.formula.proofs.Tidy.Truth.{equal-same}
-use Rattle.formula.proofs.Tidy.Limits.{Limits, limits, root-faulty, faulty, tidy-is-tidy}
+use Rattle.formula.proofs.Tidy.Limits.{limits}
 use Rattle.tidying.specs.Steps.{decisive, repeated, new, Unopposed, all-tidy}
 use Rattle.tidying.proofs.Walk.{⧺-none, ⧺-assoc}
 

@@ -1,23 +1,22 @@
 -- Rules 1 to 4 at blocks: what the steps at one block make of it.
 -- Assumes nothing.
-use mathlib.Core.Path.{_≡_, refl, sym, ap, ap₂, _∙_, subst}
-use mathlib.Core.Bool.{Bool, true, false, not, _&&_, _||_, cond, or-false, false≢true}
-use mathlib.Core.List.{List, [], _∷_, _++_, append-assoc, append-nil}
-use Prim.Native.Nat.{ℕ, zero, suc, _+_, _-_, _≤_, _<_}
+use mathlib.Core.Path.{_≡_, refl, sym, ap, _∙_, subst}
+use mathlib.Core.Bool.{Bool, true, false, not, _||_, cond, or-false, false≢true}
+use mathlib.Core.List.{List, [], _∷_, _++_}
+use Prim.Native.Nat.{ℕ, _+_, _-_, _≤_, _<_}
 use native.Mathlib.Omega.{arith}
 use lib.Dec.{eqb}
 use lib.ListN.{length, getD, set, length-append}
 use lib.Seq.{set-getD, append-snoc}
 use borrow.Author.Tests.{eq-eqb, ne-eqb}
-use Rattle.formula.specs.Tree.{Op, and, or, dual, same-op, Tree, lit, node, Forest, ∅, _▸_, _⧺_, some-child, keep, count}
+use Rattle.formula.specs.Tree.{Op, and, or, dual, same-op, Tree, lit, node, Forest, ∅, _▸_, _⧺_, some-child, keep}
 use Rattle.formula.specs.Tidy.{is-empty, opposite, equal, spliced, splice, childless}
-use Rattle.formula.proofs.Booleans.{cond-cases}
 use Rattle.formula.proofs.Tidy.Children.{keep-all}
 use Rattle.sheet.specs.Format.{Row, row}
 use Rattle.sheet.specs.Sheet.{literal-kind, operator-kind}
 use Rattle.tidying.specs.Blocks.{Block, gone, literal, operator, Blocks, none, _◂_, _⊕_, head, inner, block-rows, size, grown, live, Laid, Here, Stands, Region}
 use Rattle.tidying.specs.Steps.{decisive, repeated, new, Unopposed, Kept, FirstLive}
-use Rattle.tidying.proofs.Walk.{⧺-none, live-◂, rows-⊕, length-◂, length-⊕, length-one, stands, stands-row, store}
+use Rattle.tidying.proofs.Walk.{⧺-none, live-◂, length-one, stands, stands-row, store}
 use Rattle.tidying.proofs.Scan.{like, dead-holds}
 use Rattle.tidying.proofs.Hop.{live-one}
 use Rattle.tidying.proofs.Forests.{some-child-same, repeated-indecisive}

@@ -1,13 +1,13 @@
 -- Walks over an operator's children that change them: rules 2 to 4 at a group, rules 1 to 4 at all.
 -- Assumes nothing.
-use mathlib.Core.Path.{_≡_, refl, sym, ap, ap₂, _∙_, subst}
+use mathlib.Core.Path.{_≡_, refl, sym, ap, _∙_, subst}
 use mathlib.Core.Bool.{Bool, true, false, _||_, true≢false}
-use mathlib.Core.List.{List, [], _∷_, _++_, append-assoc, append-nil}
+use mathlib.Core.List.{List, _∷_, _++_, append-assoc, append-nil}
 use Prim.Native.Nat.{ℕ, suc, _+_, _≤_, _<_}
 use native.Mathlib.Nat.{add-zero}
 use native.Mathlib.Omega.{arith}
 use lib.ListN.{length, getD, set, length-append}
-use Rattle.formula.specs.Tree.{Op, Tree, Forest, ∅, _▸_, _⧺_, some-child, keep}
+use Rattle.formula.specs.Tree.{Op, Forest, _⧺_, some-child, keep}
 use Rattle.formula.proofs.Tidy.Children.{some-child-⧺}
 use Rattle.sheet.specs.Format.{Bytes, Row, row}
 use Rattle.sheet.specs.Sheet.{operator-kind}
@@ -15,7 +15,7 @@ use Rattle.rows.specs.Rows.{rows-in, Room}
 use Rattle.rows.proofs.Rows.{length-rows-in}
 use Rattle.tidying.specs.Blocks.{Block, Blocks, none, _◂_, _⊕_, head, inner, block-rows, size, extent, live, Laid, Here, Region, OperatorKind, Stands, Standing}
 use Rattle.tidying.specs.Steps.{decisive, new, Unopposed, UnopposedRegions, Kept, Grouped}
-use Rattle.tidying.proofs.Walk.{⧺-none, ⧺-assoc, live-⊕, live-snoc, live-◂, rows-⊕, length-⊕, extent-head, within, stands, Next, next, onward, store}
+use Rattle.tidying.proofs.Walk.{⧺-assoc, live-⊕, live-snoc, live-◂, extent-head, within, stands, Next, next, onward, store, behind-here}
 use Rattle.tidying.proofs.Scan.{Turn, safe, rest-none}
 use Rattle.tidying.proofs.Forests.{keep-⧺}
 
@@ -65,21 +65,6 @@ module _ {R : List Row} {from at p to : ℕ} {before : List Row} {earlier bs : B
         starts = s .starts;
         ends = s .place;
       }
-
--- the group, done and not
-pub group-here : {R : List Row} {from at p to : ℕ} {before after : List Row} {earlier done rest : Blocks}
-    → Here R at p to (before ++ block-rows earlier) done rest after → length before ≡ from → from + length (block-rows earlier) ≡ at
-    → Here R from at to before earlier (done ⊕ rest) after
-group-here {before = before} {after = after} {earlier = earlier} {done = done} {rest = rest} h starts place =
-    record {
-      whole =
-          h .whole ∙ append-assoc before (block-rows earlier) _ ∙
-          ap (λ rs. before ++ (block-rows earlier ++ rs))
-          (sym (append-assoc (block-rows done) (block-rows rest) after) ∙ ap (λ rs. rs ++ after) (sym (rows-⊕ done rest)));
-      starts = starts;
-      place = place;
-      ends = omega (arith, h .place, h .ends, length-⊕ done rest);
-    }
 
 -- what holds at the next block
 pub record SiftTurn (w n : ℕ) (b : Bytes) (from at p to : ℕ) : Type 0 where
@@ -174,7 +159,7 @@ sift-found w l f before earlier bs after h two o k =
     let j = f _ earlier _ (earlier-laid st) two _ (m .block) _ (stands here) o k in
     record {
       blocks = (st .done ⊕ (j .1 .block ◂ none)) ⊕ m .others;
-      here = group-here (changed-here here (j .1)) (st .starts) (st .place);
+      here = behind-here (changed-here here (j .1)) (st .starts) (st .place);
       decided-is =
           sym
           (st .undecided ∙ ap (some-child (decisive o us)) (ap live (m .is) ∙ live-◂ (m .block) (m .others)) ∙
@@ -191,7 +176,7 @@ sift-end w l before earlier bs after h two o k =
     let gone = rest-none (st .here) l in
     record {
       blocks = st .done ⊕ st .rest;
-      here = group-here (st .here) (st .starts) (st .place);
+      here = behind-here (st .here) (st .starts) (st .place);
       decided-is = sym (st .undecided ∙ ap (some-child (decisive o us)) gone);
       reads =
           λ _.

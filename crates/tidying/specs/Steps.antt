@@ -21,6 +21,14 @@ pub record FirstLive (R : List Row) (from at to : ℕ) (before : List Row) (bs :
   pub others : live bs ≡ live rest
   pub found : at < to → (getD R at (row 0 0)) .kind ≡ 0 → ⊥
 
+-- the rows from one number up to another have become blocks that hold these trees, and those from a row on are dead
+pub record Joined (R : List Row) (from run to : ℕ) (before after : List Row) (ts : Forest) : Type 0 where
+  pub early : Blocks
+  pub dead : Blocks
+  pub here : Here R from run to before early dead after
+  pub hidden : live dead ≡ ∅
+  pub reads : live early ≡ ts
+
 -- the first trees of a region, and those behind them
 pub record Hopped (R : List Row) (from at to : ℕ) (before after : List Row) (owed : ℕ) (ts : Forest) : Type 0 where
   pub first : Blocks

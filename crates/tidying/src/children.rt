@@ -2,22 +2,22 @@
 use crate::blocks::extent_at;
 use crate::blocks::first_live;
 use crate::blocks::holds;
+use crate::blocks::join_dead;
 use crate::blocks::live_at;
 use rows::argument_at;
 use rows::edit::set_row;
 use rows::kind_at;
 ghost use mathlib.Core.Path.{_≡_};
-ghost use mathlib.Core.Bool.{Bool, cond};
+ghost use mathlib.Core.Bool.{cond};
 ghost use mathlib.Core.List.{List};
-ghost use Prim.Native.Nat.{ℕ, _+_, _^_, _≤_, _<_};
+ghost use Prim.Native.Nat.{_+_, _^_, _≤_, _<_};
 ghost use lib.Dec.{eqb};
 ghost use lib.ListN.{length, getD, set};
-ghost use Rattle.formula.specs.Tree.{Op, Forest, some-child, count};
-ghost use Rattle.formula.specs.Tidy.{splice, decides, firsts};
+ghost use Rattle.formula.specs.Tree.{Op, some-child, count};
 ghost use Rattle.sheet.specs.Format.{Row, row};
 ghost use Rattle.sheet.specs.Sheet.{operator-kind};
 ghost use Rattle.rows.specs.Rows.{rows-in, Room};
-ghost use Rattle.tidying.specs.Blocks.{Block, Blocks, none, _◂_, head, live, Laid, Here, Region, Owed, Stands, Standing, OperatorKind};
+ghost use Rattle.tidying.specs.Blocks.{Block, Blocks, none, _◂_, live, Laid, Here, Region, Owed, Stands, Standing, OperatorKind};
 ghost use Rattle.tidying.specs.Steps.{Hopped, decisive, repeated, new, Unopposed, UnopposedRegions, Kept, Grouped, Reduced, all-tidy, TidyRegion};
 
 // The row behind the first `owed` trees of the blocks from `from` on.
@@ -133,18 +133,20 @@ pub fn sift(
 }
 
 // Rules 1 to 4 at the tidied children from `from` to `to`: whether they decide an operator of this kind. If not, they are now what
-// the rules leave of them.
+// the rules leave of them. Those that have gone are joined, so that a later one is compared with what is left alone.
 pub fn reduce(b: &mut [u8], width: usize, n: usize, from: usize, to: usize, kind: u8) -> bool
     requires { ⌜ Room width n (length (now b)) × (n < 256 ^ width) × TidyRegion (rows-in width n (now b)) from to × OperatorKind kind ⌝ }
     ensures { λ r. ⌜ ((before : List Row) (bs : Blocks) (after : List Row) → Laid (rows-in width n (now (b .entry))) from to before bs after → (o : Op) → kind ≡ operator-kind o → all-tidy (live bs) → Reduced (rows-in width n (now (b .exit))) from to before after o (live bs) r) ⌝ }
 {
     let mut at = from;
+    let mut run = from;
     while at < to {
         let end = at + extent_at(b, width, n, at);
         behead(b, width, n, at, kind);
         if sift(b, width, n, from, at, end, kind) {
             return true;
         }
+        run = join_dead(b, width, n, run, end);
         at = end;
     }
     false
