@@ -173,7 +173,8 @@ unfolding repeated some-child
 repeated-fails P ∅ u r e = absurd (false≢true r)
 repeated-fails P (t ▸ ts) u r e =
     let fails = or-parts (P t) (some-child P ts) e in
-    ⊎-elim (λ q. ap P (sym (equal-same t u q)) ∙ fails .0) (λ q. repeated-fails P ts u q (fails .1)) (or-cases (equal t u) (repeated ts u) r)
+    ⊎-elim (λ q. ap P (sym (equal-same t u q)) ∙ fails .0) (λ q. repeated-fails P ts u q (fails .1))
+    (or-cases (equal t u) (repeated ts u) r)
 
 eqb-comm : (a b : ℕ) → eqb a b ≡ eqb b a
 eqb-comm a b = go (eqb a b) refl
@@ -208,7 +209,9 @@ repeated-unopposed ∅ u two r = refl
 repeated-unopposed (t ▸ ts) u two r =
     let apart = or-parts (some-child (opposite t) ts) (some-two opposite ts) two in
     ⊎-elim
-    (λ q. or-none (equal-unopposed t u q) (some-child-same (λ w. opposite-comm w u ∙ ap (λ z. opposite z w) (sym (equal-same t u q))) ts ∙ apart .0))
+    (λ q.
+    or-none (equal-unopposed t u q)
+    (some-child-same (λ w. opposite-comm w u ∙ ap (λ z. opposite z w) (sym (equal-same t u q))) ts ∙ apart .0))
     (λ q. or-none (repeated-fails (opposite t) ts u q (apart .0)) (repeated-unopposed ts u (apart .1) q))
     (or-cases (equal t u) (repeated ts u) r)
 

@@ -91,7 +91,8 @@ rows-of (y ◂ ys) x =
 -- a dead block joins those before it
 joined-here : {R : List Row} {from run at : ℕ} {before : List Row} {early dead : Blocks} {x : Block} (others : Blocks) (after : List Row)
     → Here R from run at before early dead (block-rows (x ◂ others) ++ after) → (r : Rows dead x)
-    → Here (set R run (row 0 (at + size x - run))) from run (at + size x) before early (gone (r .others) ◂ none) (block-rows others ++ after)
+    → Here (set R run (row 0 (at + size x - run))) from run (at + size x) before early (gone (r .others) ◂ none)
+    (block-rows others ++ after)
 unfolding block-rows head inner
 joined-here {R} {from} {run} {at} {before} {early} {dead} {x} others after h r =
     record {
@@ -100,7 +101,8 @@ joined-here {R} {from} {run} {at} {before} {early} {dead} {x} others after h r =
           set-at (before ++ block-rows early) (r .first) (r .others ++ back) (row 0 (at + size x - run)) run starts ∙
           append-assoc before (block-rows early) (row 0 (at + size x - run) ∷ (r .others ++ back)) ∙
           ap (λ m. before ++ (block-rows early ++ (row 0 m ∷ (r .others ++ back)))) (omega (arith, count)) ∙
-          ap (λ (l : List Row). before ++ (block-rows early ++ (row 0 (suc (length (r .others))) ∷ (l ++ back)))) (sym (append-nil (r .others)));
+          ap (λ (l : List Row). before ++ (block-rows early ++ (row 0 (suc (length (r .others))) ∷ (l ++ back))))
+          (sym (append-nil (r .others)));
       starts = h .starts;
       place = h .place;
       ends = omega (arith, count, ap length (append-nil (r .others)));
@@ -119,7 +121,8 @@ joined-here {R} {from} {run} {at} {before} {early} {dead} {x} others after h r =
     split : R ≡ (before ++ block-rows early) ++ (r .first ∷ (r .others ++ back))
     split =
         h .whole ∙
-        ap (λ (l : List Row). before ++ (block-rows early ++ (block-rows dead ++ (head x ∷ l)))) (append-assoc (inner x) (block-rows others) after) ∙
+        ap (λ (l : List Row). before ++ (block-rows early ++ (block-rows dead ++ (head x ∷ l))))
+        (append-assoc (inner x) (block-rows others) after) ∙
         ap (λ (l : List Row). before ++ (block-rows early ++ l))
         (sym (append-assoc (block-rows dead) (head x ∷ inner x) back) ∙ ap (λ (l : List Row). l ++ back) (r .are)) ∙
         sym (append-assoc before (block-rows early) (r .first ∷ (r .others ++ back)))
@@ -130,8 +133,8 @@ finished : {R : List Row} {from at : ℕ} {before after : List Row} {bs : Blocks
 unfolding block-rows
 finished l = record { whole = l .whole; starts = l .starts; place = l .ends; ends = omega arith }
 
-module _ {R : List Row} {from run at to : ℕ} {before : List Row} {bs : Blocks} {after : List Row} (st : Joining R from run at to before bs after)
-    (x : Block) (others : Blocks) (is : st .rest ≡ x ◂ others) where
+module _ {R : List Row} {from run at to : ℕ} {before : List Row} {bs : Blocks} {after : List Row}
+    (st : Joining R from run at to before bs after) (x : Block) (others : Blocks) (is : st .rest ≡ x ◂ others) where
   ends-there : at + size x + length (block-rows others) ≡ to
   ends-there = omega (arith, st .ends, ap (λ cs. length (block-rows cs)) is, length-◂ x others)
 

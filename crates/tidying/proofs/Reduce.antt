@@ -63,7 +63,8 @@ few (literal s v) = omega arith
 few (operator o ks) = omega arith
 
 -- one child's group
-record Group (R₀ R : List Row) (from run at end to : ℕ) (before : List Row) (bs : Blocks) (after : List Row) (o : Op) (decided : Bool) : Type 0 where
+record Group (R₀ R : List Row) (from run at end to : ℕ) (before : List Row) (bs : Blocks) (after : List Row) (o : Op) (decided : Bool)
+    : Type 0 where
   pub trees : Forest
   pub group : Forest
   pub early : Blocks
@@ -98,8 +99,8 @@ done-unopposed {o = o} st =
     ap (some-two opposite) (st .stays) ∙
     some-two-firsts opposite (st .trees) (or-parts (some-child (is-empty (dual o)) (st .trees)) _ (st .undecided) .1)
 
-pub reduce-regions : {R₀ R R₁ : List Row} {from run at to kind s : ℕ} → Reduce R₀ R from run at to kind → TidyRegion R₀ from to → OperatorKind kind → at < to
-    → s ≡ extent (getD R at (row 0 0)) → R₁ ≡ behead-rows R at kind → UnopposedRegions R₁ from at (at + s)
+pub reduce-regions : {R₀ R R₁ : List Row} {from run at to kind s : ℕ} → Reduce R₀ R from run at to kind → TidyRegion R₀ from to
+    → OperatorKind kind → at < to → s ≡ extent (getD R at (row 0 0)) → R₁ ≡ behead-rows R at kind → UnopposedRegions R₁ from at (at + s)
 reduce-regions {R₀} {R} {R₁} {from} {run} {at} {to} {kind} {s} w g k l e b =
     let r = g .region in
     let st = w (r .before) (r .blocks) (r .after) (r .laid) (k .op) (k .is) (g .tidy) in
@@ -112,8 +113,8 @@ reduce-regions {R₀} {R} {R₁} {from} {run} {at} {to} {kind} {s} w g k l e b =
       unopposed = done-unopposed st;
     })
 
-pub reduce-turn : {w n from run at to kind : ℕ} {R₀ : List Row} (b : Bytes) → Room w n (length b) → Reduce R₀ (rows-in w n b) from run at to kind
-    → TidyRegion R₀ from to → OperatorKind kind → at < to → Turn w n b at to
+pub reduce-turn : {w n from run at to kind : ℕ} {R₀ : List Row} (b : Bytes) → Room w n (length b)
+    → Reduce R₀ (rows-in w n b) from run at to kind → TidyRegion R₀ from to → OperatorKind kind → at < to → Turn w n b at to
 reduce-turn b room w g k l =
     let r = g .region in
     let st = w (r .before) (r .blocks) (r .after) (r .laid) (k .op) (k .is) (g .tidy) in
@@ -136,7 +137,9 @@ grouped {R₀} {R} {R₁} {R₂} {from} {run} {at} {to} {kind} {s} {decided} w l
     let m = next (st .here) l in
     let e′ = e ∙ ap extent (m .row-is) ∙ extent-head (m .block) in
     let h = beheaded kind o (m .block) k (block-here (st .here) m) in
-    let inside = subst (λ rs. Here rs from at (at + s) before (st .early ⊕ st .dead) (h .group) (after-children (m .others) after)) (sym b) (group-here h e′) in
+    let inside =
+    subst (λ rs. Here rs from at (at + s) before (st .early ⊕ st .dead) (h .group) (after-children (m .others) after)) (sym b)
+    (group-here h e′) in
     let g = f before (st .early ⊕ st .dead) (h .group) (after-children (m .others) after) inside (done-unopposed st) o k in
     let opened : live (st .rest) ≡ live (m .block ◂ none) ⧺ live (m .others) = ap live (m .is) ∙ live-◂ (m .block) (m .others) in
     let tidied = all-tidy-⧺ (live (m .block ◂ none)) (live (m .others)) (subst all-tidy opened (st .tidy)) in
@@ -181,9 +184,9 @@ group-laid {R₀} {R} {from} {end = end} {to = to} {before = before} {after = af
     behind-laid (g .early) (g .dead ⊕ g .blocks)
     (subst (λ cs. Here R from end to before cs (g .rest) after) (⊕-assoc (g .early) (g .dead) (g .blocks)) (g .here)) (g .place)
 
-pub reduce-region : {R₀ R R₁ R₂ : List Row} {from run at to kind s : ℕ} {decided : Bool} → Reduce R₀ R from run at to kind → TidyRegion R₀ from to
-    → OperatorKind kind → at < to → s ≡ extent (getD R at (row 0 0)) → R₁ ≡ behead-rows R at kind → Sifted R₁ R₂ from at (at + s) kind decided
-    → Region R₂ run (at + s)
+pub reduce-region : {R₀ R R₁ R₂ : List Row} {from run at to kind s : ℕ} {decided : Bool} → Reduce R₀ R from run at to kind
+    → TidyRegion R₀ from to → OperatorKind kind → at < to → s ≡ extent (getD R at (row 0 0)) → R₁ ≡ behead-rows R at kind
+    → Sifted R₁ R₂ from at (at + s) kind decided → Region R₂ run (at + s)
 reduce-region w g k l e b f =
     let r = g .region in
     let h = grouped w l e b f (r .before) (r .blocks) (r .after) (r .laid) (k .op) (k .is) (g .tidy) in
@@ -249,5 +252,7 @@ reduce-end w l before bs after laid o k t =
       laid = all-laid (st .here);
       decided-is = sym (ap (decides o) all ∙ st .undecided);
       reads =
-          λ _. live-⊕ (st .early ⊕ st .dead) (st .rest) ∙ ap (λ ts. live (st .early ⊕ st .dead) ⧺ ts) gone ∙ ⧺-none (live (st .early ⊕ st .dead)) ∙ st .stays ∙ ap firsts (sym all);
+          λ _.
+          live-⊕ (st .early ⊕ st .dead) (st .rest) ∙ ap (λ ts. live (st .early ⊕ st .dead) ⧺ ts) gone ∙
+          ⧺-none (live (st .early ⊕ st .dead)) ∙ st .stays ∙ ap firsts (sym all);
     }

@@ -25,8 +25,8 @@ same-length-2 c = search needs
 
 returns-2 : tie.Need-returns-2
 returns-2 c =
-    inl
-    (sym (c .before .before .before .before .before .kind-at .ensures) ∙ c .before .before .before .before .if1 .left, c .before .before .set-row .ensures .0, refl)
+    let f = c .before .before .before .before in
+    inl (sym (f .before .kind-at .ensures) ∙ f .if1 .left, c .before .before .set-row .ensures .0, refl)
 
 pub join-at-spec : {M : Type 1} → statement M
 join-at-spec =

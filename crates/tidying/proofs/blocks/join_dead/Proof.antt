@@ -20,38 +20,48 @@ loop-holds c = (join-none, refl)
 
 extent-at-requires : tie.Need-extent-at-requires Inv-loop μ-loop
 extent-at-requires c κs =
-    let a = c .before .before .before .before in
-    let i = c .before .before .loop .inv in
-    let t = join-turn (c .before .before .loop .b) (room-as (i .1) (a .pre .0)) (i .0) (a .pre .2) (c .before .loop-test .taken) in
-    (room-as (i .1) (a .pre .0), t .turn .row-within)
+    let l = c .before in
+    let i = l .before in
+    let a = i .before .before in
+    let room = room-as (i .loop .inv .1) (a .pre .0) in
+    (room, join-turn (i .loop .b) room (i .loop .inv .0) (a .pre .2) (l .loop-test .taken) .turn .row-within)
 
 add-next : tie.Need-add-next Inv-loop μ-loop
 add-next c =
-    let a = c .before .before .before .before .before in
-    let i = c .before .before .before .loop .inv in
-    let t = join-turn (c .before .before .before .loop .b) (room-as (i .1) (a .pre .0)) (i .0) (a .pre .2) (c .before .before .loop-test .taken) in
+    let l = c .before .before in
+    let i = l .before in
+    let a = i .before .before in
+    let t = join-turn (i .loop .b) (room-as (i .loop .inv .1) (a .pre .0)) (i .loop .inv .0) (a .pre .2) (l .loop-test .taken) in
     omega (arith, c .extent-at .ensures .1, t .turn .row-within)
 
 join-at-requires : tie.Need-join-at-requires Inv-loop μ-loop
 join-at-requires c κs =
-    let a = c .before .before .before .before .before .before in
-    let i = c .before .before .before .before .loop .inv in
-    let t = join-turn (c .before .before .before .before .loop .b) (room-as (i .1) (a .pre .0)) (i .0) (a .pre .2) (c .before .before .before .loop-test .taken) in
+    let l = c .before .before .before in
+    let i = l .before in
+    let a = i .before .before in
+    let room = room-as (i .loop .inv .1) (a .pre .0) in
+    let t = join-turn (i .loop .b) room (i .loop .inv .0) (a .pre .2) (l .loop-test .taken) in
     let e = c .before .extent-at .ensures .0 in
-    (room-as (i .1) (a .pre .0), a .pre .1, t .ordered, omega (arith, e, t .turn .some-rows), omega (arith, e, t .turn .inside, t .turn .end-within))
+    (room, a .pre .1, t .ordered, omega (arith, e, t .turn .some-rows), omega (arith, e, t .turn .inside, t .turn .end-within))
 
 loop-less : tie.Need-loop-less Inv-loop μ-loop
 loop-less c =
-    let a = c .before .before .before .before .before .before .before .before .before in
-    let i = c .before .before .before .before .before .before .before .loop .inv in
-    let t = join-turn (c .before .before .before .before .before .before .before .loop .b) (room-as (i .1) (a .pre .0)) (i .0) (a .pre .2) (c .before .before .before .before .before .before .loop-test .taken) in
-    omega (arith, t .turn .some-rows, t .turn .inside, c .before .before .before .before .extent-at .ensures .0)
+    let e = c .before .before .before .before in
+    let l = e .before .before in
+    let i = l .before in
+    let a = i .before .before in
+    let t = join-turn (i .loop .b) (room-as (i .loop .inv .1) (a .pre .0)) (i .loop .inv .0) (a .pre .2) (l .loop-test .taken) in
+    omega (arith, t .turn .some-rows, t .turn .inside, e .extent-at .ensures .0)
 
 loop-again : tie.Need-loop-again Inv-loop μ-loop
-loop-again c = (
-  join-more (c .before .before .before .before .before .before .before .loop .inv .0) (c .before .before .before .before .before .before .loop-test .taken) (c .before .before .before .before .extent-at .ensures .0) (c .before .before .join-at .ensures),
-  c .before .before .join-at .kept .0 ∙ c .before .before .before .before .before .before .before .loop .inv .1,
-)
+loop-again c =
+    let j = c .before .before in
+    let e = j .before .before in
+    let l = e .before .before in
+    let i = l .before in (
+      join-more (i .loop .inv .0) (l .loop-test .taken) (e .extent-at .ensures .0) (j .join-at .ensures),
+      j .join-at .kept .0 ∙ i .loop .inv .1,
+    )
 
 same-length : tie.Need-same-length Inv-loop μ-loop
 same-length c = c .before .loop .inv .1

@@ -25,7 +25,8 @@ same-length c = search needs
 returns : tie.Need-returns
 returns c =
     λ before done after l two front x back h o k.
-    let again = sym (c .before .before .before .before .before .repeats-at .ensures before done after l front x back h) ∙ c .before .before .before .before .if1 .taken in
+    let f = c .before .before .before .before in
+    let again = sym (f .before .repeats-at .ensures before done after l front x back h) ∙ f .if1 .taken in
     let d = dropped (live done) x o (c .before .before .set-row .ensures .0) two again in
     (sym (d .indecisive), d .kept)
 
