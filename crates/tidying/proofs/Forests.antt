@@ -1,18 +1,19 @@
 -- The rules at children that come in groups: what a group adds to those before it.
 -- Assumes nothing.
 use mathlib.Core.Path.{_≡_, refl, sym, ap, ap₂, _∙_}
-use mathlib.Core.Bool.{Bool, true, false, not, _&&_, _||_, cond, or-assoc, or-comm, or-false, or-true, false≢true}
-use Prim.Native.Nat.{ℕ, zero, suc, _≤_}
+use mathlib.Core.Bool.{Bool, true, false, not, _&&_, _||_, cond, and-false, false≢true}
+use mathlib.Core.Logic.{⊎-elim}
+use Prim.Native.Nat.{ℕ, _≤_}
 use native.Mathlib.Omega.{arith}
 use lib.Dec.{eqb}
-use borrow.Author.Tests.{not-true, not-false}
-use Rattle.formula.specs.Tree.{Op, and, or, dual, same-op, Tree, lit, node, Forest, ∅, _▸_, _⧺_, some-child, some-two, keep, count}
-use Rattle.formula.specs.Tidy.{is-empty, opposite, equal, same-variable, spliced, splice, decides, firsts, is-tidy, any, faults, root-faults}
-use Rattle.formula.proofs.Booleans.{cond-cases, or-parts, or-none}
-use Rattle.formula.proofs.Tidy.Children.{some-child-less, some-two-less, some-child-⧺, firsts-all}
+use borrow.Author.Tests.{not-true, not-false, eq-eqb, ne-eqb, eqb-true, eqb-false}
+use Rattle.formula.specs.Tree.{Op, and, or, dual, Tree, lit, node, Forest, ∅, _▸_, _⧺_, some-child, some-two, keep, count}
+use Rattle.formula.specs.Tidy.{is-empty, opposite, equal, same-variable, spliced, splice, decides, firsts, is-tidy}
+use Rattle.formula.proofs.Booleans.{cond-cases, and-parts, or-parts, or-none, or-cases}
+use Rattle.formula.proofs.Tidy.Children.{some-two-less, some-child-⧺, firsts-all}
 use Rattle.formula.proofs.Tidy.Truth.{equal-same}
-use Rattle.formula.proofs.Tidy.Limits.{Limits, limits, root-faulty, faulty, tidy-is-tidy}
-use Rattle.tidying.specs.Steps.{decisive, repeated, new, all-tidy}
+use Rattle.formula.proofs.Tidy.Limits.{limits}
+use Rattle.tidying.specs.Steps.{decisive, repeated, new, Unopposed, all-tidy}
 use Rattle.tidying.proofs.Walk.{⧺-none, ⧺-assoc}
 
 -- tests and keeping, pointwise and joined
@@ -165,6 +166,59 @@ decisive-firsts o ts us = some-child-same (λ u. ap (λ b. is-empty (dual o) u |
 pub new-firsts : (ts us : Forest) → new (firsts ts) us ≡ new ts us
 unfolding repeated
 new-firsts ts us = keep-same (λ u. ap not (some-child-firsts-is (λ t. equal t u) ts)) us
+
+-- a child that is equal to one of others passes no test that all of them fail
+repeated-fails : (P : Tree → Bool) (us : Forest) (u : Tree) → repeated us u ≡ true → some-child P us ≡ false → P u ≡ false
+unfolding repeated some-child
+repeated-fails P ∅ u r e = absurd (false≢true r)
+repeated-fails P (t ▸ ts) u r e =
+    let fails = or-parts (P t) (some-child P ts) e in
+    ⊎-elim (λ q. ap P (sym (equal-same t u q)) ∙ fails .0) (λ q. repeated-fails P ts u q (fails .1))
+    (or-cases (equal t u) (repeated ts u) r)
+
+eqb-comm : (a b : ℕ) → eqb a b ≡ eqb b a
+eqb-comm a b = go (eqb a b) refl
+  where
+    go : (t : Bool) → eqb a b ≡ t → eqb a b ≡ eqb b a
+    go true e = e ∙ sym (eq-eqb b a (sym (eqb-true a b e)))
+    go false e = e ∙ sym (ne-eqb b a (λ h. eqb-false a b e (sym h)))
+
+opposite-comm : (t u : Tree) → opposite t u ≡ opposite u t
+unfolding opposite
+opposite-comm (node o ts) (node k us) = refl
+opposite-comm (node o ts) (lit s v) = refl
+opposite-comm (lit s v) (node o ts) = refl
+opposite-comm (lit true v) (lit true w) = ap (λ b. b && false) (eqb-comm v w)
+opposite-comm (lit true v) (lit false w) = ap (λ b. b && true) (eqb-comm v w)
+opposite-comm (lit false v) (lit true w) = ap (λ b. b && true) (eqb-comm v w)
+opposite-comm (lit false v) (lit false w) = ap (λ b. b && false) (eqb-comm v w)
+
+equal-unopposed : (t u : Tree) → equal t u ≡ true → opposite t u ≡ false
+unfolding equal opposite
+equal-unopposed (node o ts) u e = refl
+equal-unopposed (lit s v) (node o ts) e = refl
+equal-unopposed (lit true v) (lit true w) e = and-false (eqb v w)
+equal-unopposed (lit true v) (lit false w) e = absurd (false≢true (and-parts (eqb v w) _ e .1))
+equal-unopposed (lit false v) (lit true w) e = absurd (false≢true (and-parts (eqb v w) _ e .1))
+equal-unopposed (lit false v) (lit false w) e = and-false (eqb v w)
+
+-- where no two are opposite, nothing is opposite to a child that is equal to one of them
+repeated-unopposed : (us : Forest) (u : Tree) → Unopposed us → repeated us u ≡ true → some-child (λ t. opposite t u) us ≡ false
+unfolding repeated some-child some-two
+repeated-unopposed ∅ u two r = refl
+repeated-unopposed (t ▸ ts) u two r =
+    let apart = or-parts (some-child (opposite t) ts) (some-two opposite ts) two in
+    ⊎-elim
+    (λ q.
+    or-none (equal-unopposed t u q)
+    (some-child-same (λ w. opposite-comm w u ∙ ap (λ z. opposite z w) (sym (equal-same t u q))) ts ∙ apart .0))
+    (λ q. or-none (repeated-fails (opposite t) ts u q (apart .0)) (repeated-unopposed ts u (apart .1) q))
+    (or-cases (equal t u) (repeated ts u) r)
+
+pub repeated-indecisive : (o : Op) (us : Forest) (s : Bool) (v : ℕ) → Unopposed us → repeated us (lit s v) ≡ true
+    → decisive o us (lit s v) ≡ false
+unfolding decisive is-empty
+repeated-indecisive o us s v two r = repeated-unopposed us (lit s v) two r
 
 -- rule 1
 

@@ -2,6 +2,7 @@ pub mod Walk
 pub mod Scan
 pub mod Forests
 pub mod Hop
+pub mod Join
 pub mod Rules
 pub mod Sift
 pub mod Reduce

@@ -1,25 +1,25 @@
 -- Rules 1 to 4 at blocks: what the steps at one block make of it.
 -- Assumes nothing.
-use mathlib.Core.Path.{_≡_, refl, sym, ap, ap₂, _∙_, subst}
-use mathlib.Core.Bool.{Bool, true, false, not, _&&_, _||_, cond, or-false, false≢true}
-use mathlib.Core.List.{List, [], _∷_, _++_, append-assoc, append-nil}
-use Prim.Native.Nat.{ℕ, zero, suc, _+_, _-_, _≤_, _<_}
+use mathlib.Core.Path.{_≡_, refl, sym, ap, _∙_, subst}
+use mathlib.Core.Bool.{Bool, true, false, not, _||_, cond, or-false, false≢true}
+use mathlib.Core.List.{List, [], _∷_, _++_}
+use Prim.Native.Nat.{ℕ, _+_, _-_, _≤_, _<_}
 use native.Mathlib.Omega.{arith}
 use lib.Dec.{eqb}
 use lib.ListN.{length, getD, set, length-append}
 use lib.Seq.{set-getD, append-snoc}
 use borrow.Author.Tests.{eq-eqb, ne-eqb}
-use Rattle.formula.specs.Tree.{Op, and, or, dual, same-op, Tree, lit, node, Forest, ∅, _▸_, _⧺_, some-child, keep, count}
+use Rattle.formula.specs.Tree.{Op, and, or, dual, same-op, Tree, lit, node, Forest, ∅, _▸_, _⧺_, some-child, keep}
 use Rattle.formula.specs.Tidy.{is-empty, opposite, equal, spliced, splice, childless}
-use Rattle.formula.proofs.Booleans.{cond-cases}
+use Rattle.formula.proofs.Tidy.Children.{keep-all}
 use Rattle.sheet.specs.Format.{Row, row}
 use Rattle.sheet.specs.Sheet.{literal-kind, operator-kind}
 use Rattle.tidying.specs.Blocks.{Block, gone, literal, operator, Blocks, none, _◂_, _⊕_, head, inner, block-rows, size, grown, live, Laid, Here, Stands, Region}
-use Rattle.tidying.specs.Steps.{decisive, repeated, new, Kept, FirstLive}
-use Rattle.tidying.proofs.Walk.{⧺-none, live-◂, rows-⊕, length-◂, length-⊕, length-one, stands, stands-row, store}
+use Rattle.tidying.specs.Steps.{decisive, repeated, new, Unopposed, Kept, FirstLive}
+use Rattle.tidying.proofs.Walk.{⧺-none, live-◂, length-one, stands, stands-row, store}
 use Rattle.tidying.proofs.Scan.{like, dead-holds}
 use Rattle.tidying.proofs.Hop.{live-one}
-use Rattle.tidying.proofs.Forests.{some-child-same}
+use Rattle.tidying.proofs.Forests.{some-child-same, repeated-indecisive}
 
 pub cond-taken : {A : Type 0} {b : Bool} (x y : A) → b ≡ true → x ≡ cond b x y
 cond-taken x y e = rw e
@@ -90,9 +90,9 @@ no-operator o ks ∅ = (refl, refl)
 no-operator o ks (lit s v ▸ us) = no-operator o ks us
 no-operator o ks (node k ts ▸ us) = no-operator o ks us
 
-pub decisive-dead : (o : Op) (us : Forest) (x : Block) → (head x) .kind ≡ 0 → some-child (decisive o us) (live (x ◂ none)) ≡ false
+pub none-dead : (P : Tree → Bool) (x : Block) → (head x) .kind ≡ 0 → some-child P (live (x ◂ none)) ≡ false
 unfolding some-child
-decisive-dead o us x e = ap (some-child (decisive o us)) (dead-holds x e)
+none-dead P x e = ap (some-child P) (dead-holds x e)
 
 decisive-literal : (o : Op) (us : Forest) (s : Bool) (v : ℕ)
     → some-child (decisive o us) (live (literal s v ◂ none)) ≡ some-child (like (not s) v) us
@@ -207,60 +207,56 @@ decisive-other {R} {at} o us x p l d e h =
 
 -- rule 4 at one block
 
-unrepeated : (us : Forest) (x : Block) → ((head x) .kind ≡ 3 → ⊥) → ((head x) .kind ≡ 4 → ⊥) → live (x ◂ none) ≡ new us (live (x ◂ none))
-unfolding head live grown keep repeated
-unrepeated us (gone rs) e f = refl
-unrepeated us (literal true v) e f = absurd (e refl)
-unrepeated us (literal false v) e f = absurd (f refl)
-unrepeated us (operator o ks) e f = rw (no-operator o (live ks) us .1)
+repeats-literal : (us : Forest) (s : Bool) (v : ℕ) → some-child (repeated us) (live (literal s v ◂ none)) ≡ some-child (like s v) us
+unfolding some-child live grown repeated
+repeats-literal us s v = or-false _
 
-module _ {R : List Row} {at : ℕ} {before after : List Row} (us : Forest) (x : Block) (h : Stands R at before x after) where
-  unchanged : live (x ◂ none) ≡ new us (live (x ◂ none)) → Kept R R at x (new us (live (x ◂ none)))
-  unchanged e =
-      record {
-        block = x;
-        stored = sym (set-getD R at (row 0 0)) ∙ ap (set R at) (stands-row h);
-        same-rows = refl;
-        holds = e;
-      }
-
-  pub kept-other : ((head x) .kind ≡ 3 → ⊥) → ((head x) .kind ≡ 4 → ⊥) → Kept R R at x (new us (live (x ◂ none)))
-  kept-other e f = unchanged (unrepeated us x e f)
+-- an operator's block repeats none
+pub repeats-operator : (us : Forest) (x : Block) → 4 < (head x) .kind → some-child (repeated us) (live (x ◂ none)) ≡ false
+unfolding head some-child live grown repeated
+repeats-operator us (gone rs) l = refl
+repeats-operator us (literal true v) l = absurd (omega arith)
+repeats-operator us (literal false v) l = absurd (omega arith)
+repeats-operator us (operator o ks) l = or-false _ ∙ no-operator o (live ks) us .1
 
 -- a literal's block, by its row
-literal-new : (us : Forest) (s : Bool) (v : ℕ) (b : Bool) → b ≡ some-child (like s v) us
-    → new us (live (literal s v ◂ none)) ≡ cond b ∅ (lit s v ▸ ∅)
-unfolding live grown keep repeated
-literal-new us s v true e = rw (← e)
-literal-new us s v false e = rw (← e)
+pub repeats-row : (us : Forest) (x : Block) (k : ℕ) → k ≡ (head x) .kind → (k ≡ 0 → ⊥) → k ≤ 4 → (found : Bool)
+    → ((s : Bool) → k ≡ literal-kind s → found ≡ some-child (like s ((head x) .argument)) us)
+    → found ≡ some-child (repeated us) (live (x ◂ none))
+unfolding head
+repeats-row us (gone rs) k e nz l found f = absurd (nz e)
+repeats-row us (literal s v) k e nz l found f = f s e ∙ sym (repeats-literal us s v)
+repeats-row us (operator and ks) k e nz l found f = absurd (omega (arith, e))
+repeats-row us (operator or ks) k e nz l found f = absurd (omega (arith, e))
 
-dropped : {R : List Row} {at : ℕ} (us : Forest) (s : Bool) (v : ℕ) → true ≡ some-child (like s v) us
-    → Kept R (set R at (row 0 1)) at (literal s v) (new us (live (literal s v ◂ none)))
-unfolding live grown head inner
-dropped us s v e = record { block = gone []; stored = refl; same-rows = refl; holds = sym (literal-new us s v true e) }
+pub kept-new : {R : List Row} {at : ℕ} {before after : List Row} (us : Forest) (x : Block) → Stands R at before x after
+    → some-child (repeated us) (live (x ◂ none)) ≡ false → Kept R R at x (new us (live (x ◂ none)))
+kept-new {R} {at} us x h e =
+    record {
+      block = x;
+      stored = sym (set-getD R at (row 0 0)) ∙ ap (set R at) (stands-row h);
+      same-rows = refl;
+      holds = sym (keep-all (repeated us) (live (x ◂ none)) e);
+    }
 
-abbrev pub sifted : List Row → ℕ → Bool → List Row
-sifted R at found = cond found (set R at (row 0 1)) R
+-- a literal that goes, and decides nothing
+pub record Dropped (R R′ : List Row) (at : ℕ) (us : Forest) (x : Block) (o : Op) : Type 0 where
+  pub kept : Kept R R′ at x (new us (live (x ◂ none)))
+  pub indecisive : some-child (decisive o us) (live (x ◂ none)) ≡ false
 
-module _ {R : List Row} {at : ℕ} {before after : List Row} (us : Forest) where
-  kept-first : (s : Bool) (v : ℕ) → Stands R at before (literal s v) after → false ≡ some-child (like s v) us
-      → Kept R R at (literal s v) (new us (live (literal s v ◂ none)))
-  unfolding live grown
-  kept-first s v h e = unchanged us (literal s v) h (sym (literal-new us s v false e))
-
-  kept-literal : (s : Bool) (v : ℕ) (found : Bool) → Stands R at before (literal s v) after → found ≡ some-child (like s v) us
-      → Kept R (sifted R at found) at (literal s v) (new us (live (literal s v ◂ none)))
-  kept-literal s v true h e = dropped us s v e
-  kept-literal s v false h e = kept-first s v h e
-
-  pub kept-row : (x : Block) (k : ℕ) (found : Bool) → k ≡ (head x) .kind → (k ≡ 0 → ⊥) → k ≤ 4 → Stands R at before x after
-      → ((s : Bool) → k ≡ literal-kind s → found ≡ some-child (like s ((head x) .argument)) us)
-      → Kept R (sifted R at found) at x (new us (live (x ◂ none)))
-  unfolding head
-  kept-row (gone rs) k found e nz l h f = absurd (nz e)
-  kept-row (literal s v) k found e nz l h f = kept-literal s v found h (f s e)
-  kept-row (operator and ks) k found e nz l h f = absurd (omega (arith, e))
-  kept-row (operator or ks) k found e nz l h f = absurd (omega (arith, e))
-
-pub kept-as : {R R′ R″ : List Row} {at : ℕ} {x : Block} {ts : Forest} → R″ ≡ R′ → Kept R R′ at x ts → Kept R R″ at x ts
-kept-as {R} {R′} {R″} {at} {x} {ts} e k = subst (λ rs. Kept R rs at x ts) (sym e) k
+pub dropped : {R R′ : List Row} {at : ℕ} (us : Forest) (x : Block) (o : Op) → R′ ≡ set R at (row 0 1) → Unopposed us
+    → some-child (repeated us) (live (x ◂ none)) ≡ true → Dropped R R′ at us x o
+unfolding head inner some-child live grown keep
+dropped us (gone rs) o e two r = absurd (false≢true r)
+dropped us (literal s v) o e two r =
+    let again : repeated us (lit s v) ≡ true = sym (or-false _) ∙ r in
+    record {
+      kept = record { block = gone []; stored = e; same-rows = refl; holds = rw again };
+      indecisive = or-false _ ∙ repeated-indecisive o us s v two again;
+    }
+dropped us (operator k ks) o e two r =
+    absurd (false≢true (sym (repeats-operator us (operator k ks) (above k)) ∙ r))
+  where
+    above : (k : Op) → 4 < operator-kind k
+    above and = omega arith
+    above or = omega arith

@@ -1,22 +1,21 @@
 -- Walks over an operator's children that change them: rules 2 to 4 at a group, rules 1 to 4 at all.
 -- Assumes nothing.
-use mathlib.Core.Path.{_≡_, refl, sym, ap, ap₂, _∙_, subst}
+use mathlib.Core.Path.{_≡_, refl, sym, ap, _∙_, subst}
 use mathlib.Core.Bool.{Bool, true, false, _||_, true≢false}
-use mathlib.Core.List.{List, [], _∷_, _++_, append-assoc, append-nil}
+use mathlib.Core.List.{List, _∷_, _++_, append-assoc, append-nil}
 use Prim.Native.Nat.{ℕ, suc, _+_, _≤_, _<_}
 use native.Mathlib.Nat.{add-zero}
 use native.Mathlib.Omega.{arith}
 use lib.ListN.{length, getD, set, length-append}
-use Rattle.formula.specs.Tree.{Op, Tree, Forest, ∅, _▸_, _⧺_, some-child, keep}
-use Rattle.formula.specs.Tidy.{splice, decides, firsts}
+use Rattle.formula.specs.Tree.{Op, Forest, _⧺_, some-child, keep}
 use Rattle.formula.proofs.Tidy.Children.{some-child-⧺}
 use Rattle.sheet.specs.Format.{Bytes, Row, row}
 use Rattle.sheet.specs.Sheet.{operator-kind}
 use Rattle.rows.specs.Rows.{rows-in, Room}
 use Rattle.rows.proofs.Rows.{length-rows-in}
-use Rattle.tidying.specs.Blocks.{Block, Blocks, none, _◂_, _⊕_, head, inner, block-rows, size, extent, live, Laid, Here, Region, Regions, OperatorKind, Stands, Standing}
-use Rattle.tidying.specs.Steps.{decisive, repeated, new, Kept, Grouped, Reduced, all-tidy}
-use Rattle.tidying.proofs.Walk.{⧺-none, ⧺-assoc, live-⊕, live-snoc, live-◂, rows-⊕, length-⊕, extent-head, within, stands, Next, next, onward, store}
+use Rattle.tidying.specs.Blocks.{Block, Blocks, none, _◂_, _⊕_, head, inner, block-rows, size, extent, live, Laid, Here, Region, OperatorKind, Stands, Standing}
+use Rattle.tidying.specs.Steps.{decisive, new, Unopposed, UnopposedRegions, Kept, Grouped}
+use Rattle.tidying.proofs.Walk.{⧺-assoc, live-⊕, live-snoc, live-◂, extent-head, within, stands, Next, next, onward, store, behind-here}
 use Rattle.tidying.proofs.Scan.{Turn, safe, rest-none}
 use Rattle.tidying.proofs.Forests.{keep-⧺}
 
@@ -34,12 +33,12 @@ pub record Sifting (R : List Row) (from at p to : ℕ) (before : List Row) (earl
 -- from the rows at first to those now
 abbrev pub Sift : List Row → List Row → ℕ → ℕ → ℕ → ℕ → ℕ → Type 0
 Sift R₀ R from at p to kind =
-    (before : List Row) (earlier bs : Blocks) (after : List Row) → Here R₀ from at to before earlier bs after → (o : Op) → kind ≡ operator-kind o
-    → Sifting R from at p to before earlier bs after o
+    (before : List Row) (earlier bs : Blocks) (after : List Row) → Here R₀ from at to before earlier bs after → Unopposed (live earlier)
+    → (o : Op) → kind ≡ operator-kind o → Sifting R from at p to before earlier bs after o
 
 pub sift-none : {R : List Row} {from at to kind : ℕ} → Sift R R from at at to kind
 unfolding block-rows live _⧺_
-sift-none before earlier bs after h o k =
+sift-none before earlier bs after h two o k =
     record {
       done = none;
       rest = bs;
@@ -67,19 +66,6 @@ module _ {R : List Row} {from at p to : ℕ} {before : List Row} {earlier bs : B
         ends = s .place;
       }
 
-  -- the group, done and not
-  pub group-here : Here R from at to before earlier (s .done ⊕ s .rest) after
-  group-here =
-      record {
-        whole =
-            s .here .whole ∙ append-assoc before (block-rows earlier) _ ∙
-            ap (λ rs. before ++ (block-rows earlier ++ rs))
-            (sym (append-assoc (block-rows (s .done)) (block-rows (s .rest)) after) ∙ ap (λ rs. rs ++ after) (sym (rows-⊕ (s .done) (s .rest))));
-        starts = s .starts;
-        place = s .place;
-        ends = omega (arith, s .here .place, s .here .ends, length-⊕ (s .done) (s .rest));
-      }
-
 -- what holds at the next block
 pub record SiftTurn (w n : ℕ) (b : Bytes) (from at p to : ℕ) : Type 0 where
   pub turn : Turn w n b p to
@@ -91,9 +77,10 @@ pub block-here : {R : List Row} {from at to : ℕ} {before after : List Row} {do
 block-here {R} {from} {at} {to} {before} {after} {done} h m = subst (λ cs. Here R from at to before done cs after) (m .is) h
 
 pub sift-turn : {w n from at p to kind : ℕ} {R₀ : List Row} (b : Bytes) → Room w n (length b) → Sift R₀ (rows-in w n b) from at p to kind
-    → Regions R₀ from at to → OperatorKind kind → p < to → SiftTurn w n b from at p to
+    → UnopposedRegions R₀ from at to → OperatorKind kind → p < to → SiftTurn w n b from at p to
 sift-turn b room w g k l =
-    let s = w (g .before) (g .done) (g .rest) (g .after) (g .here) (k .op) (k .is) in
+    let r = g .regions in
+    let s = w (r .before) (r .done) (r .rest) (r .after) (r .here) (g .unopposed) (k .op) (k .is) in
     let t = safe (s .here) l in
     let i = within (s .here) in
     let counted = length-rows-in b room in
@@ -109,17 +96,12 @@ sift-turn b room w g k l =
       standing = record { before = _; block = _; after = _; stands = stands (block-here (s .here) (next (s .here) l)) };
     }
 
--- what decides_at and drop_repeated say of the block at a row
-abbrev Decides : List Row → ℕ → ℕ → ℕ → ℕ → Bool → Type 0
-Decides R from at p kind r =
-    (before : List Row) (done : Blocks) (after : List Row) → Laid R from at before done after
-    → (front : List Row) (x : Block) (back : List Row) → Stands R p front x back
-    → (o : Op) → kind ≡ operator-kind o → r ≡ some-child (decisive o (live done)) (live (x ◂ none))
-
-abbrev Drops : List Row → List Row → ℕ → ℕ → ℕ → Type 0
-Drops R R′ from at p =
-    (before : List Row) (done : Blocks) (after : List Row) → Laid R from at before done after
-    → (front : List Row) (x : Block) (back : List Row) → Stands R p front x back → Kept R R′ p x (new (live done) (live (x ◂ none)))
+-- what sift_at says of the block at a row
+abbrev Judges : List Row → List Row → ℕ → ℕ → ℕ → ℕ → Bool → Type 0
+Judges R R′ from at p kind r =
+    (before : List Row) (done : Blocks) (after : List Row) → Laid R from at before done after → Unopposed (live done)
+    → (front : List Row) (x : Block) (back : List Row) → Stands R p front x back → (o : Op) → kind ≡ operator-kind o
+    → (r ≡ some-child (decisive o (live done)) (live (x ◂ none))) × Kept R R′ p x (new (live done) (live (x ◂ none)))
 
 changed-here : {R R′ : List Row} {from at to : ℕ} {before after : List Row} {done others : Blocks} {x : Block} {ts : Forest}
     → Here R from at to before done (x ◂ others) after → (k : Kept R R′ at x ts)
@@ -132,14 +114,15 @@ changed-here {R} {R′} {from} {at} {to} {before} {after} {done} {others} {x} h 
     stored : Here (set R at (head (k .block))) from at to before done (k .block ◂ others) after
     stored = store (k .block ◂ none) (head (k .block)) h (ap (λ rs. head (k .block) ∷ rs) (append-nil (inner (k .block)) ∙ k .same-rows))
 
-pub sift-more : {R₀ R R′ : List Row} {from at p to kind s : ℕ} → Sift R₀ R from at p to kind → p < to → Decides R from at p kind false
-    → s ≡ extent (getD R p (row 0 0)) → Drops R R′ from at p → Sift R₀ R′ from at (p + s) to kind
-sift-more {R₀} {R} {R′} {from} {at} {p} {to} {kind} {s} w l d e f before earlier bs after h o k =
-    let st = w before earlier bs after h o k in
+pub sift-more : {R₀ R R′ : List Row} {from at p to kind s : ℕ} → Sift R₀ R from at p to kind → p < to → s ≡ extent (getD R p (row 0 0))
+    → Judges R R′ from at p kind false → Sift R₀ R′ from at (p + s) to kind
+sift-more {R₀} {R} {R′} {from} {at} {p} {to} {kind} {s} w l e f before earlier bs after h two o k =
+    let st = w before earlier bs after h two o k in
     let us = live earlier in
     let m = next (st .here) l in
     let here = block-here (st .here) m in
-    let c = f _ earlier _ (earlier-laid st) _ (m .block) _ (stands here) in
+    let j = f _ earlier _ (earlier-laid st) two _ (m .block) _ (stands here) o k in
+    let c = j .1 in
     let opened : live (st .rest) ≡ live (m .block ◂ none) ⧺ live (m .others) = ap live (m .is) ∙ live-◂ (m .block) (m .others) in
     record {
       done = st .done ⊕ (c .block ◂ none);
@@ -152,7 +135,7 @@ sift-more {R₀} {R} {R′} {from} {at} {p} {to} {kind} {s} w l d e f before ear
       undecided =
           st .undecided ∙ ap (some-child (decisive o us)) opened ∙
           some-child-⧺ (decisive o us) (live (m .block ◂ none)) (live (m .others)) ∙
-          ap (λ q. q || some-child (decisive o us) (live (m .others))) (sym (d _ earlier _ (earlier-laid st) _ (m .block) _ (stands here) o k));
+          ap (λ q. q || some-child (decisive o us) (live (m .others))) (sym (j .0));
       stays =
           st .stays ∙
           ap (λ ts. live (st .done) ⧺ ts)
@@ -164,35 +147,36 @@ sift-more {R₀} {R} {R′} {from} {at} {p} {to} {kind} {s} w l d e f before ear
 abbrev pub Sifted : List Row → List Row → ℕ → ℕ → ℕ → ℕ → Bool → Type 0
 Sifted R₀ R from at to kind r =
     (before : List Row) (done : Blocks) (bs : Blocks) (after : List Row) → Here R₀ from at to before done bs after
-    → (o : Op) → kind ≡ operator-kind o → Grouped R from at to before done after o (live bs) r
+    → Unopposed (live done) → (o : Op) → kind ≡ operator-kind o → Grouped R from at to before done after o (live bs) r
 
-pub sift-found : {R₀ R : List Row} {from at p to kind : ℕ} → Sift R₀ R from at p to kind → p < to → Decides R from at p kind true
-    → Sifted R₀ R from at to kind true
-sift-found w l d before earlier bs after h o k =
-    let st = w before earlier bs after h o k in
+pub sift-found : {R₀ R R′ : List Row} {from at p to kind : ℕ} → Sift R₀ R from at p to kind → p < to → Judges R R′ from at p kind true
+    → Sifted R₀ R′ from at to kind true
+sift-found w l f before earlier bs after h two o k =
+    let st = w before earlier bs after h two o k in
     let us = live earlier in
     let m = next (st .here) l in
     let here = block-here (st .here) m in
+    let j = f _ earlier _ (earlier-laid st) two _ (m .block) _ (stands here) o k in
     record {
-      blocks = st .done ⊕ st .rest;
-      here = group-here st;
+      blocks = (st .done ⊕ (j .1 .block ◂ none)) ⊕ m .others;
+      here = behind-here (changed-here here (j .1)) (st .starts) (st .place);
       decided-is =
           sym
           (st .undecided ∙ ap (some-child (decisive o us)) (ap live (m .is) ∙ live-◂ (m .block) (m .others)) ∙
           some-child-⧺ (decisive o us) (live (m .block ◂ none)) (live (m .others)) ∙
-          ap (λ q. q || some-child (decisive o us) (live (m .others))) (sym (d _ earlier _ (earlier-laid st) _ (m .block) _ (stands here) o k)));
+          ap (λ q. q || some-child (decisive o us) (live (m .others))) (sym (j .0)));
       reads = λ e. absurd (true≢false e);
     }
 
 pub sift-end : {R₀ R : List Row} {from at p to kind : ℕ} → Sift R₀ R from at p to kind → to ≤ p → Sifted R₀ R from at to kind false
 unfolding some-child keep
-sift-end w l before earlier bs after h o k =
-    let st = w before earlier bs after h o k in
+sift-end w l before earlier bs after h two o k =
+    let st = w before earlier bs after h two o k in
     let us = live earlier in
     let gone = rest-none (st .here) l in
     record {
       blocks = st .done ⊕ st .rest;
-      here = group-here st;
+      here = behind-here (st .here) (st .starts) (st .place);
       decided-is = sym (st .undecided ∙ ap (some-child (decisive o us)) gone);
       reads =
           λ _.

@@ -1,18 +1,16 @@
 -- Blocks and the rows that they cover: joining, walking on by one block, storing a row.
 -- Assumes nothing.
 use mathlib.Core.Path.{_≡_, refl, sym, ap, _∙_, subst}
-use mathlib.Core.Bool.{Bool, true, false}
-use mathlib.Core.List.{List, [], _∷_, _++_, append-assoc, append-nil}
-use Prim.Native.Nat.{ℕ, zero, suc, _+_, _≤_, _<_}
-use native.Mathlib.Nat.{zero-add, suc-add, add-suc, add-assoc}
-use native.Mathlib.Numerals.{add-one}
+use mathlib.Core.Bool.{true, false}
+use mathlib.Core.List.{List, _∷_, _++_, append-assoc, append-nil}
+use Prim.Native.Nat.{ℕ, suc, _+_, _≤_, _<_}
+use native.Mathlib.Nat.{suc-add}
 use native.Mathlib.Omega.{arith}
 use lib.ListN.{length, getD, set, length-append}
 use lib.Seq.{getD-at, set-at}
-use Rattle.formula.specs.Tree.{Op, and, or, Tree, lit, node, Forest, ∅, _▸_, _⧺_}
+use Rattle.formula.specs.Tree.{and, or, Forest, ∅, _▸_, _⧺_}
 use Rattle.sheet.specs.Format.{Row, row}
 use Rattle.rows.specs.Rows.{Room}
-use Rattle.sheet.specs.Sheet.{literal-kind, operator-kind}
 use Rattle.tidying.specs.Blocks.{Block, gone, literal, operator, Blocks, none, _◂_, _⊕_, head, inner, block-rows, size, extent, grown, live, Laid, Here, Stands}
 
 -- joining
@@ -21,6 +19,11 @@ pub rows-⊕ : (bs cs : Blocks) → block-rows (bs ⊕ cs) ≡ block-rows bs ++ 
 unfolding _⊕_ block-rows
 rows-⊕ none cs = refl
 rows-⊕ (x ◂ bs) cs = ap (λ l. head x ∷ l) (ap (λ l. inner x ++ l) (rows-⊕ bs cs) ∙ sym (append-assoc (inner x) (block-rows bs) (block-rows cs)))
+
+pub ⊕-assoc : (bs cs ds : Blocks) → (bs ⊕ cs) ⊕ ds ≡ bs ⊕ (cs ⊕ ds)
+unfolding _⊕_
+⊕-assoc none cs ds = refl
+⊕-assoc (x ◂ bs) cs ds = ap (λ l. x ◂ l) (⊕-assoc bs cs ds)
 
 pub ⧺-assoc : (ts us ws : Forest) → (ts ⧺ us) ⧺ ws ≡ ts ⧺ (us ⧺ ws)
 unfolding _⧺_
@@ -223,6 +226,36 @@ part-done {before = before} {after = after} {done = done} {bs = bs} others h =
       starts = h .starts;
       place = omega (arith, length-⊕ done bs, h .place, h .ends);
       ends = refl;
+    }
+
+-- the blocks behind some of those done, and a walk over them seen from the first
+pub behind-laid : {R : List Row} {from run at to : ℕ} {before after : List Row} (early bs : Blocks) {rest : Blocks}
+    → Here R from at to before (early ⊕ bs) rest after → from + length (block-rows early) ≡ run
+    → Laid R run at (before ++ block-rows early) bs (block-rows rest ++ after)
+behind-laid {before = before} {after = after} early bs {rest} h place =
+    record {
+      whole =
+          h .whole ∙
+          ap (λ (l : List Row). before ++ l)
+          (ap (λ (l : List Row). l ++ (block-rows rest ++ after)) (rows-⊕ early bs) ∙
+          append-assoc (block-rows early) (block-rows bs) (block-rows rest ++ after)) ∙
+          sym (append-assoc before (block-rows early) (block-rows bs ++ (block-rows rest ++ after)));
+      starts = length-append before (block-rows early) ∙ omega (arith, h .starts, place);
+      ends = omega (arith, length-⊕ early bs, h .place, place);
+    }
+
+pub behind-here : {R : List Row} {from at p to : ℕ} {before after : List Row} {earlier done rest : Blocks}
+    → Here R at p to (before ++ block-rows earlier) done rest after → length before ≡ from → from + length (block-rows earlier) ≡ at
+    → Here R from at to before earlier (done ⊕ rest) after
+behind-here {before = before} {after = after} {earlier = earlier} {done = done} {rest = rest} h starts place =
+    record {
+      whole =
+          h .whole ∙ append-assoc before (block-rows earlier) _ ∙
+          ap (λ rs. before ++ (block-rows earlier ++ rs))
+          (sym (append-assoc (block-rows done) (block-rows rest) after) ∙ ap (λ rs. rs ++ after) (sym (rows-⊕ done rest)));
+      starts = starts;
+      place = place;
+      ends = omega (arith, h .place, h .ends, length-⊕ done rest);
     }
 
 -- room is a matter of the length

@@ -6,11 +6,11 @@ use mathlib.Core.List.{List, [], _∷_, _++_}
 use Prim.Native.Nat.{ℕ, _+_, _≤_, _<_}
 use lib.Dec.{eqb}
 use lib.ListN.{length, getD, take, drop, set}
-use Rattle.formula.specs.Tree.{Op, dual, Tree, Forest, ∅, some-child, keep, count}
+use Rattle.formula.specs.Tree.{Op, dual, Tree, Forest, ∅, some-child, some-two, keep, count}
 use Rattle.formula.specs.Tidy.{is-empty, opposite, equal, splice, decides, firsts, tidy-all, is-tidy}
 use Rattle.sheet.specs.Format.{Row, row, children}
 use Rattle.sheet.specs.Sheet.{literal-kind, operator-kind, front, behind, trees}
-use Rattle.tidying.specs.Blocks.{Block, gone, literal, operator, Blocks, none, _◂_, _⊕_, head, inner, live, Laid, Here, Region, Headed}
+use Rattle.tidying.specs.Blocks.{Block, gone, literal, operator, Blocks, none, _◂_, _⊕_, head, inner, live, Laid, Here, Region, Regions, Headed}
 
 -- every block before a row is dead, and the block at that row is not
 pub record FirstLive (R : List Row) (from at to : ℕ) (before : List Row) (bs : Blocks) (after : List Row) : Type 0 where
@@ -20,6 +20,14 @@ pub record FirstLive (R : List Row) (from at to : ℕ) (before : List Row) (bs :
   pub hidden : live done ≡ ∅
   pub others : live bs ≡ live rest
   pub found : at < to → (getD R at (row 0 0)) .kind ≡ 0 → ⊥
+
+-- the rows from one number up to another have become blocks that hold these trees, and those from a row on are dead
+pub record Joined (R : List Row) (from run to : ℕ) (before after : List Row) (ts : Forest) : Type 0 where
+  pub early : Blocks
+  pub dead : Blocks
+  pub here : Here R from run to before early dead after
+  pub hidden : live dead ≡ ∅
+  pub reads : live early ≡ ts
 
 -- the first trees of a region, and those behind them
 pub record Hopped (R : List Row) (from at to : ℕ) (before after : List Row) (owed : ℕ) (ts : Forest) : Type 0 where
@@ -39,6 +47,14 @@ repeated ts u = some-child (λ t. equal t u) ts
 
 abbrev pub new : Forest → Forest → Forest
 new ts us = keep (λ u. not (repeated ts u)) us
+
+-- rule 3: no two trees are opposite literals
+abbrev pub Unopposed : Forest → Type 0
+Unopposed ts = some-two opposite ts ≡ false
+
+pub record UnopposedRegions (R : List Row) (from at to : ℕ) : Type 0 where
+  pub regions : Regions R from at to
+  pub unopposed : Unopposed (live (regions .done))
 
 -- the block at a row has become another that covers the same rows
 pub record Kept (R R′ : List Row) (at : ℕ) (x : Block) (ts : Forest) : Type 0 where

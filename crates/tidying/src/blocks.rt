@@ -1,20 +1,21 @@
-// Walks over the blocks that rows are while they are tidied.
+// Walks over the blocks that rows are while they are tidied, which read them or join dead ones.
 use rows::argument_at;
+use rows::edit::set_row;
 use rows::kind_at;
 ghost use mathlib.Core.Path.{_≡_};
 ghost use mathlib.Core.Bool.{Bool, _&&_};
 ghost use mathlib.Core.List.{List};
 ghost use mathlib.Core.Logic.{_⊎_};
-ghost use Prim.Native.Nat.{ℕ, _^_, _≤_, _<_};
+ghost use Prim.Native.Nat.{_-_, _^_, _≤_, _<_};
 ghost use lib.Dec.{eqb};
-ghost use lib.ListN.{length, getD};
+ghost use lib.ListN.{length, getD, set};
 ghost use Rattle.formula.specs.Tree.{lit, some-child, count};
 ghost use Rattle.formula.specs.Tidy.{equal};
 ghost use Rattle.sheet.specs.Format.{Row, row};
 ghost use Rattle.sheet.specs.Sheet.{literal-kind};
 ghost use Rattle.rows.specs.Rows.{rows-in, Room};
 ghost use Rattle.tidying.specs.Blocks.{Blocks, live, extent, Laid, Region};
-ghost use Rattle.tidying.specs.Steps.{FirstLive};
+ghost use Rattle.tidying.specs.Steps.{FirstLive, Joined};
 
 // How many rows the block at row `r` covers.
 pub fn extent_at(b: &[u8], width: usize, n: usize, r: usize) -> usize
@@ -103,4 +104,33 @@ pub fn holds(
         at += extent_at(b, width, n, at);
     }
     false
+}
+
+// Joins the block from `at` to `next`, if it is dead, with the dead rows from `run` to there, and returns the row from which on
+// all are dead up to `next`.
+pub fn join_at(b: &mut [u8], width: usize, n: usize, run: usize, at: usize, next: usize) -> usize
+    requires { ⌜ Room width n (length (now b)) × (n < 256 ^ width) × (run ≤ at) × (at < next) × (next ≤ n) ⌝ }
+    ensures { λ r. ⌜ (((getD (rows-in width n (now (b .entry))) at (row 0 0)) .kind ≡ 0) × (rows-in width n (now (b .exit)) ≡ set (rows-in width n (now (b .entry))) run (row 0 (next - run))) × (r ≡ run)) ⊎ (((getD (rows-in width n (now (b .entry))) at (row 0 0)) .kind ≡ 0 → ⊥) × (rows-in width n (now (b .exit)) ≡ rows-in width n (now (b .entry))) × (r ≡ next)) ⌝ }
+{
+    if kind_at(b, width, n, at) != 0 {
+        return next;
+    }
+    set_row(b, width, n, run, 0, next - run);
+    run
+}
+
+// Joins dead blocks that stand side by side, so that a walk passes them in one step, and returns the row from which on all are dead
+// up to `to`.
+pub fn join_dead(b: &mut [u8], width: usize, n: usize, from: usize, to: usize) -> usize
+    requires { ⌜ Room width n (length (now b)) × (n < 256 ^ width) × Region (rows-in width n (now b)) from to ⌝ }
+    ensures { λ run. ⌜ ((before : List Row) (bs : Blocks) (after : List Row) → Laid (rows-in width n (now (b .entry))) from to before bs after → Joined (rows-in width n (now (b .exit))) from run to before after (live bs)) ⌝ }
+{
+    let mut run = from;
+    let mut at = from;
+    while at < to {
+        let next = at + extent_at(b, width, n, at);
+        run = join_at(b, width, n, run, at, next);
+        at = next;
+    }
+    run
 }

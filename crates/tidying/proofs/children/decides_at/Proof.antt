@@ -1,5 +1,5 @@
 -- `tidying::children::decides_at` meets its contract. Assumes nothing.
-use mathlib.Core.Path.{sym, ap, ap₂, _∙_, subst}
+use mathlib.Core.Path.{sym, ap, _∙_}
 use mathlib.Core.List.{List}
 use native.Mathlib.Omega.{arith}
 use Prim.Native.Nat.{_+_}
@@ -8,8 +8,9 @@ use Rattle.sheet.specs.Format.{Row}
 use Rattle.rows.specs.Rows.{rows-in}
 use Rattle.rows.proofs.Rows.{length-rows-in}
 use Rattle.tidying.specs.Blocks.{Region, live}
+use Rattle.tidying.specs.Steps.{decisive}
 use Rattle.tidying.proofs.Walk.{stands-row, stands-within, laid-within}
-use Rattle.tidying.proofs.Rules.{decisive-dead, decisive-row, decisive-own, decisive-other, inner-region}
+use Rattle.tidying.proofs.Rules.{none-dead, decisive-row, decisive-own, decisive-other, inner-region}
 use Rattle.tidying.proofs.Scan.{like}
 use borrow.Author.Needs.{needs}
 use Rattle.tidying.proofs.children.decides_at.Statement.{statement}
@@ -23,7 +24,7 @@ kind-at-requires c κs =
 returns : tie.Need-returns
 returns c =
     λ before done after l front x back h o k.
-    sym (decisive-dead o _ x (sym (c .before .kind-at .ensures ∙ ap (λ (r : Row). r .kind) (stands-row h)) ∙ c .if1 .taken))
+    sym (none-dead (decisive o (live done)) x (sym (c .before .kind-at .ensures ∙ ap (λ (r : Row). r .kind) (stands-row h)) ∙ c .if1 .taken))
 
 sub-holds : tie.Need-sub-holds
 sub-holds c = search needs

@@ -1,5 +1,5 @@
 -- `tidying::children::sift` meets its contract: what the children left decide and leave is what they all do. Assumes nothing.
-use mathlib.Core.Path.{_≡_, refl, sym, _∙_}
+use mathlib.Core.Path.{_≡_, refl, _∙_}
 use Prim.Native.Nat.{_-_}
 use native.Mathlib.Omega.{arith}
 use lib.ListN.{length}
@@ -18,55 +18,63 @@ abbrev μ-loop : tie.MeasureT-loop
 loop-holds : tie.Need-loop-holds Inv-loop μ-loop
 loop-holds c = (sift-none, refl)
 
-decides-at-requires : tie.Need-decides-at-requires Inv-loop μ-loop
-decides-at-requires c κs =
-    let a = c .before .before .before .before in
-    let i = c .before .before .loop .inv in
-    let t = sift-turn (c .before .before .loop .b) (room-as (i .1) (a .pre .0)) (i .0) (a .pre .2) (a .pre .3) (c .before .loop-test .taken) in
-    (room-as (i .1) (a .pre .0), t .region, t .standing)
+extent-at-requires : tie.Need-extent-at-requires Inv-loop μ-loop
+extent-at-requires c κs =
+    let l = c .before in
+    let i = l .before in
+    let a = i .before .before in
+    let room = room-as (i .loop .inv .1) (a .pre .0) in
+    (room, sift-turn (i .loop .b) room (i .loop .inv .0) (a .pre .2) (a .pre .3) (l .loop-test .taken) .turn .row-within)
+
+sift-at-requires : tie.Need-sift-at-requires Inv-loop μ-loop
+sift-at-requires c κs =
+    let l = c .before .before .before in
+    let i = l .before in
+    let a = i .before .before in
+    let room = room-as (i .loop .inv .1) (a .pre .0) in
+    let t = sift-turn (i .loop .b) room (i .loop .inv .0) (a .pre .2) (a .pre .3) (l .loop-test .taken) in
+    (room, a .pre .1, t .region, t .standing)
 
 same-length : tie.Need-same-length Inv-loop μ-loop
-same-length c = c .before .before .before .before .loop .inv .1
+same-length c =
+    let s = c .before .before .before in
+    s .sift-at .kept .0 ∙ s .before .before .before .before .before .loop .inv .1
 
 returns : tie.Need-returns Inv-loop μ-loop
 returns c =
-    sift-found (c .before .before .before .before .loop .inv .0) (c .before .before .before .loop-test .taken)
-    (rw (c .if1 .taken) at (c .before .decides-at .ensures))
-
-extent-at-requires : tie.Need-extent-at-requires Inv-loop μ-loop
-extent-at-requires c κs =
-    let a = c .before .before .before .before .before .before .before in
-    let i = c .before .before .before .before .before .loop .inv in
-    let t = sift-turn (c .before .before .before .before .before .loop .b) (room-as (i .1) (a .pre .0)) (i .0) (a .pre .2) (a .pre .3) (c .before .before .before .before .loop-test .taken) in
-    (room-as (i .1) (a .pre .0), t .turn .row-within)
-
-drop-repeated-requires : tie.Need-drop-repeated-requires Inv-loop μ-loop
-drop-repeated-requires c κs =
-    let a = c .before .before .before .before .before .before .before .before .before in
-    let i = c .before .before .before .before .before .before .before .loop .inv in
-    let t = sift-turn (c .before .before .before .before .before .before .before .loop .b) (room-as (i .1) (a .pre .0)) (i .0) (a .pre .2) (a .pre .3) (c .before .before .before .before .before .before .loop-test .taken) in
-    (room-as (i .1) (a .pre .0), a .pre .1, t .region, t .standing)
+    let s = c .before .before .before in
+    let l = s .before .before .before .before in
+    sift-found (l .before .loop .inv .0) (l .loop-test .taken) (rw (c .if1 .taken) at (s .sift-at .ensures))
 
 add-p : tie.Need-add-p Inv-loop μ-loop
 add-p c =
-    let a = c .before .before .before .before .before .before .before .before .before .before .before .before in
-    let i = c .before .before .before .before .before .before .before .before .before .before .loop .inv in
-    let t = sift-turn (c .before .before .before .before .before .before .before .before .before .before .loop .b) (room-as (i .1) (a .pre .0)) (i .0) (a .pre .2) (a .pre .3) (c .before .before .before .before .before .before .before .before .before .loop-test .taken) in
-    omega (arith, c .before .before .before .before .extent-at .ensures .1, t .turn .row-within)
+    let e = c .before .before .before .before .before in
+    let l = e .before .before in
+    let i = l .before in
+    let a = i .before .before in
+    let room = room-as (i .loop .inv .1) (a .pre .0) in
+    let t = sift-turn (i .loop .b) room (i .loop .inv .0) (a .pre .2) (a .pre .3) (l .loop-test .taken) in
+    omega (arith, e .extent-at .ensures .1, t .turn .row-within)
 
 loop-less : tie.Need-loop-less Inv-loop μ-loop
 loop-less c =
-    let a = c .before .before .before .before .before .before .before .before .before .before .before .before in
-    let i = c .before .before .before .before .before .before .before .before .before .before .loop .inv in
-    let t = sift-turn (c .before .before .before .before .before .before .before .before .before .before .loop .b) (room-as (i .1) (a .pre .0)) (i .0) (a .pre .2) (a .pre .3) (c .before .before .before .before .before .before .before .before .before .loop-test .taken) in
-    omega (arith, t .turn .some-rows, t .turn .inside, c .before .before .before .before .extent-at .ensures .0)
+    let e = c .before .before .before .before .before in
+    let l = e .before .before in
+    let i = l .before in
+    let a = i .before .before in
+    let room = room-as (i .loop .inv .1) (a .pre .0) in
+    let t = sift-turn (i .loop .b) room (i .loop .inv .0) (a .pre .2) (a .pre .3) (l .loop-test .taken) in
+    omega (arith, t .turn .some-rows, t .turn .inside, e .extent-at .ensures .0)
 
 loop-again : tie.Need-loop-again Inv-loop μ-loop
-loop-again c = (
-  sift-more (c .before .before .before .before .before .before .before .before .before .before .loop .inv .0) (c .before .before .before .before .before .before .before .before .before .loop-test .taken) (rw (c .before .before .before .before .before .before .if1 .left) at (c .before .before .before .before .before .before .before .decides-at .ensures))
-      (c .before .before .before .before .extent-at .ensures .0) (c .before .before .drop-repeated .ensures),
-  c .before .before .drop-repeated .kept .0 ∙ c .before .before .before .before .before .before .before .before .before .before .loop .inv .1,
-)
+loop-again c =
+    let s = c .before .before .before in
+    let e = s .before .before in
+    let l = e .before .before in
+    let i = l .before in (
+      sift-more (i .loop .inv .0) (l .loop-test .taken) (e .extent-at .ensures .0) (rw (c .if1 .left) at (s .sift-at .ensures)),
+      s .sift-at .kept .0 ∙ i .loop .inv .1,
+    )
 
 same-length-2 : tie.Need-same-length-2 Inv-loop μ-loop
 same-length-2 c = c .before .loop .inv .1
@@ -81,11 +89,10 @@ sift-spec =
     Inv-loop
     μ-loop
     loop-holds
-    decides-at-requires
+    extent-at-requires
+    sift-at-requires
     same-length
     returns
-    extent-at-requires
-    drop-repeated-requires
     add-p
     loop-less
     loop-again
