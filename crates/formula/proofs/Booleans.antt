@@ -1,8 +1,11 @@
--- Laws of `join`, the one operation behind AND, OR and both quantifiers, and of the order false before true.
+-- Laws of `join`, the one operation behind AND, OR and both quantifiers, of the order false before true, and of tests.
 -- Assumes nothing.
 use mathlib.Core.Path.{_≡_, refl, sym, _∙_, ap}
 use mathlib.Core.Bool.{Bool, true, false, not, _&&_, _||_, cond, and-comm, or-comm, and-assoc, or-assoc, and-self, or-self, and-true, or-false, and-false, or-true, and-or-distrib-right, or-and-distrib-right, true≢false, false≢true}
 use mathlib.Core.Logic.{_⊎_, inl, inr}
+use Prim.Native.Nat.{ℕ}
+use lib.Dec.{eqb}
+use borrow.Author.Tests.{eqb-true, eqb-false, eq-eqb, ne-eqb}
 use Rattle.formula.specs.Tree.{Op, and, or, dual, Quantifier}
 use Rattle.formula.specs.Truth.{join, unit}
 use Rattle.formula.specs.Settle.{value}
@@ -109,3 +112,11 @@ or-cases false b h = inr h
 pub cond-cases : {A : Type 0} (C : A → Type 0) (b : Bool) {x y : A} → (b ≡ true → C x) → (b ≡ false → C y) → C (cond b x y)
 cond-cases C true f g = f refl
 cond-cases C false f g = g refl
+
+-- equality of numbers, asked the other way round
+pub eqb-comm : (a b : ℕ) → eqb a b ≡ eqb b a
+eqb-comm a b = go (eqb a b) refl
+  where
+    go : (t : Bool) → eqb a b ≡ t → t ≡ eqb b a
+    go true e = sym (eq-eqb b a (sym (eqb-true a b e)))
+    go false e = sym (ne-eqb b a (λ p. eqb-false a b e (sym p)))

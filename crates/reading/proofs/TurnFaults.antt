@@ -10,6 +10,7 @@ use lib.Dec.{eqb}
 use lib.ListN.{drop}
 use lib.Seq.{drop-length}
 use borrow.Author.Tests.{eqb-true, eqb-false, eq-eqb, ne-eqb}
+use Rattle.formula.proofs.Booleans.{eqb-comm}
 use Rattle.formula.specs.Tree.{Op, and, or, Tree, lit, node, Forest, ∅, _▸_, count, some-child, some-two, _⧺_}
 use Rattle.formula.specs.Tidy.{is-op, same-variable, alone, childless, breaks, faults, faults-all, root-faults, any, first-true, is-tidy, first-fault}
 use Rattle.formula.specs.Settle.{is-lit}
@@ -21,13 +22,6 @@ use Rattle.reading.specs.Faults.{operator-of, clash, some-clash, at-faul
 use Rattle.reading.proofs.Forest.{top, kids, rest, stepped-at, faults-⧺}
 use Rattle.reading.proofs.Matrix.{length-nodes, sound-nodes, trees-nodes}
 use Rattle.reading.proofs.Siblings.{below-row}
-
-eqb-comm : (a b : ℕ) → eqb a b ≡ eqb b a
-eqb-comm a b = go (eqb a b) refl
-  where
-    go : (t : Bool) → eqb a b ≡ t → eqb a b ≡ eqb b a
-    go true e = e ∙ sym (eq-eqb b a (sym (eqb-true a b e)))
-    go false e = e ∙ sym (ne-eqb b a (λ h. eqb-false a b e (sym h)))
 
 -- clash
 

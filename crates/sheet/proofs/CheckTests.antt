@@ -15,7 +15,7 @@ use Rattle.sheet.specs.Format.{Bytes, Format, header, sheet-length, vari
 use Rattle.sheet.specs.Sheet.{quantifier-kind, binding, binding-row, tree-rows, forest-rows}
 use Rattle.sheet.specs.Check.{passes, size-tests, member, quantifier-tests, node-tests, tree-test, arguments, check-tests}
 use Rattle.sheet.proofs.Every.{Every}
-use Rattle.formula.proofs.Booleans.{and-parts, or-parts}
+use Rattle.formula.proofs.Booleans.{and-parts, or-parts, eqb-comm}
 use Rattle.sheet.proofs.Tests.{passed-∷, passes-++, passed-++}
 use Rattle.sheet.proofs.Limits.{numbered}
 use Rattle.sheet.proofs.Preorder.{NodeRow, node-kind}
@@ -37,13 +37,6 @@ and-regroup k k′ n n′ m b d c = simp (and-assoc, and-left-comm)
 not-or : (a b : Bool) → not (a || b) ≡ (not a && not b)
 not-or true b = refl
 not-or false b = refl
-
-eqb-comm : (a b : ℕ) → eqb a b ≡ eqb b a
-eqb-comm a b = go (eqb a b) refl
-  where
-    go : (t : Bool) → eqb a b ≡ t → t ≡ eqb b a
-    go true e = sym (eq-eqb b a (sym (eqb-true a b e)))
-    go false e = sym (ne-eqb b a (λ p. eqb-false a b e (sym p)))
 
 -- the four groups of tests
 

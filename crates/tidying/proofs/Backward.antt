@@ -1,16 +1,16 @@
 -- From the last row to the first: the rows before are as they were, and the others are blocks that hold the tidied trees.
 -- Assumes nothing.
-use mathlib.Core.Path.{_≡_, refl, sym, ap, ap₂, _∙_, subst}
+use mathlib.Core.Path.{_≡_, refl, sym, ap, _∙_, subst}
 use mathlib.Core.List.{List, [], _∷_, _++_, append-nil}
 use Prim.Native.Nat.{ℕ, zero, suc, _+_, _-_, _≤_, _<_}
 use native.Mathlib.Omega.{arith}
 use lib.ListN.{length, getD, take, drop, drop-of-length-le}
-use lib.Seq.{take-all, take-suc, drop-cons, drop-drop, append-snoc, length-take-le, take-nil, drop-nil}
+use lib.Seq.{take-all, take-suc, drop-cons, drop-drop, append-snoc, length-take-le}
 use Rattle.formula.specs.Tidy.{tidy-all}
 use Rattle.sheet.specs.Format.{Row, row}
 use Rattle.sheet.specs.Sheet.{trees, grow}
 use Rattle.tidying.specs.Blocks.{none, block-rows, live, Replaced}
-use Rattle.tidying.specs.Steps.{Ready, ReadyAt, Preorder}
+use Rattle.tidying.specs.Steps.{Ready, Preorder}
 use Rattle.tidying.proofs.Conclude.{replaced-as}
 
 abbrev pub Back : List Row → List Row → ℕ → ℕ → Type 0

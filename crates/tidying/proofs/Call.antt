@@ -2,21 +2,20 @@
 -- Assumes nothing.
 use mathlib.Core.Path.{_≡_, refl, sym, ap, ap₂, _∙_}
 use mathlib.Core.Bool.{Bool, true, false, cond}
-use mathlib.Core.List.{List, [], _∷_, _++_, map, append-nil}
-use Prim.Native.Nat.{ℕ, zero, suc, _+_, _*_, _^_, _≤_, _<_}
-use native.Mathlib.Nat.{add-mul, one-mul, mul-suc, add-zero, zero-add}
+use mathlib.Core.List.{List, [], _∷_, _++_}
+use Prim.Native.Nat.{ℕ, _+_, _*_, _^_, _≤_, _<_}
+use native.Mathlib.Nat.{add-mul, one-mul, mul-suc, zero-add}
 use native.Mathlib.Numerals.{add-one}
 use native.Mathlib.Omega.{arith}
 use lib.Dec.{ltb}
 use lib.ListN.{length, getD, take, drop, set, length-append, length-drop, length-set}
 use lib.Seq.{length-take-le, take-append-le, drop-append-le, take-all, paste, paste-zero, paste-suc}
 use borrow.Author.Tests.{lt-ltb, le-ltb}
-use Rattle.formula.specs.Tree.{Formula}
 use Rattle.formula.specs.Tidy.{tidied}
-use Rattle.sheet.specs.Format.{Bytes, Format, Row, row, number, header, sheet-length, variables, nodes, zip-rows, all-rows, prefix-rows, node-rows}
-use Rattle.sheet.specs.Sheet.{binding, root, trees, formula, formula-rows, sheet}
+use Rattle.sheet.specs.Format.{Bytes, Format, row, number, sheet-length, variables, nodes, zip-rows, all-rows, prefix-rows, node-rows}
+use Rattle.sheet.specs.Sheet.{formula, formula-rows, sheet}
 use Rattle.sheet.specs.Check.{Answer, refused, accepted, Test, test, answer, passes, check-tests, check}
-use Rattle.sheet.specs.Operations.{padded, Written, output-after, write, tidy-tests, tidy-call}
+use Rattle.sheet.specs.Operations.{padded, output-after, write, tidy-tests, tidy-call}
 use Rattle.sheet.proofs.Tests.{answer-++}
 use Rattle.sheet.proofs.CheckTests.{passed, SizesFit, passed-sizes}
 use Rattle.sheet.proofs.Accepted.{formula-rows-formula}

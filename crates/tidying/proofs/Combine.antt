@@ -1,22 +1,22 @@
 -- All five rules at a row: what the steps at an operator make of its row and its children's blocks.
 -- Assumes nothing.
 use mathlib.Core.Path.{_≡_, refl, sym, ap, ap₂, _∙_, subst}
-use mathlib.Core.Bool.{Bool, true, false, not, cond}
-use mathlib.Core.List.{List, [], _∷_, _++_, append-assoc, append-nil}
+use mathlib.Core.Bool.{Bool, true, false, not}
+use mathlib.Core.List.{List, [], _∷_, _++_, append-assoc}
 use Prim.Native.Nat.{ℕ, zero, suc, _+_, _-_, _≤_, _<_}
 use native.Mathlib.Omega.{arith}
-use lib.ListN.{length, getD, length-append}
+use lib.ListN.{getD}
 use lib.Seq.{append-snoc, getD-at}
 use Rattle.formula.specs.Tree.{Op, and, or, dual, Tree, lit, node, Forest, ∅, _▸_, _⧺_, some-child, count}
-use Rattle.formula.specs.Tidy.{splice, decides, firsts, unwrap, combine, tidy, tidy-all, is-tidy}
+use Rattle.formula.specs.Tidy.{splice, decides, firsts, unwrap, combine, tidy, tidy-all}
 use Rattle.formula.proofs.Booleans.{or-none}
 use Rattle.formula.proofs.Tidy.Limits.{tidy-is-tidy}
 use Rattle.sheet.specs.Format.{Row, row, children}
 use Rattle.sheet.specs.Sheet.{literal-kind, operator-kind, front, behind, grow}
 use Rattle.sheet.proofs.Preorder.{NodeKind, literal, operator, node-kind}
-use Rattle.tidying.specs.Blocks.{Blocks, none, _◂_, _⊕_, head, inner, block-rows, grown, live, Laid, Here, Headed, Region, Owed, OperatorKind, Replaced}
+use Rattle.tidying.specs.Blocks.{Blocks, _◂_, _⊕_, head, inner, block-rows, grown, live, Laid, Headed, Region, Owed, OperatorKind, Replaced}
 use Rattle.tidying.specs.Blocks as blocks
-use Rattle.tidying.specs.Steps.{Hopped, Reduced, Ready, ReadyAt, all-tidy, TidyRegion}
+use Rattle.tidying.specs.Steps.{Hopped, Reduced, Ready, all-tidy, TidyRegion}
 use Rattle.tidying.proofs.Walk.{live-⊕, rows-⊕, length-⊕, done-laid}
 use Rattle.tidying.proofs.Conclude.{behind-row}
 

@@ -3,9 +3,8 @@
 use mathlib.Core.Path.{_≡_, refl, sym, ap, ap₂, _∙_, subst}
 use mathlib.Core.Bool.{true, false, true≢false, false≢true}
 use mathlib.Core.List.{List, [], _∷_, _++_, append-assoc, append-nil}
-use Prim.Native.Nat.{ℕ, zero, suc, _+_, _-_, _≤_, _<_}
+use Prim.Native.Nat.{ℕ, suc, _+_, _-_, _≤_, _<_}
 use native.Mathlib.Omega.{arith}
-use lib.Dec.{eqb}
 use lib.ListN.{length, getD, set, length-append}
 use lib.Seq.{set-at, append-snoc}
 use borrow.Author.Tests.{eq-eqb, ne-eqb}
@@ -13,9 +12,9 @@ use Rattle.formula.specs.Tree.{Op, Tree, node, Forest, ∅, _▸_, _⧺_}
 use Rattle.formula.specs.Tidy.{unwrap, childless}
 use Rattle.sheet.specs.Format.{Row, row}
 use Rattle.sheet.specs.Sheet.{operator-kind}
-use Rattle.tidying.specs.Blocks.{Block, gone, operator, Blocks, none, _◂_, _⊕_, head, inner, block-rows, size, extent, grown, live, Laid, Here, Headed, Replaced}
+use Rattle.tidying.specs.Blocks.{gone, operator, Blocks, none, _◂_, head, inner, block-rows, extent, grown, live, Laid, Headed, Replaced}
 use Rattle.tidying.specs.Steps.{FirstLive}
-use Rattle.tidying.proofs.Walk.{live-◂, Next, next, rest-laid}
+use Rattle.tidying.proofs.Walk.{live-◂, next, rest-laid}
 use Rattle.tidying.proofs.Scan.{here-next}
 use Rattle.tidying.proofs.Rules.{first-live-none}
 use Rattle.tidying.proofs.Hop.{live-one}

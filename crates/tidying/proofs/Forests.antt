@@ -6,10 +6,10 @@ use mathlib.Core.Logic.{⊎-elim}
 use Prim.Native.Nat.{ℕ, _≤_}
 use native.Mathlib.Omega.{arith}
 use lib.Dec.{eqb}
-use borrow.Author.Tests.{not-true, not-false, eq-eqb, ne-eqb, eqb-true, eqb-false}
+use borrow.Author.Tests.{not-true, not-false}
 use Rattle.formula.specs.Tree.{Op, and, or, dual, Tree, lit, node, Forest, ∅, _▸_, _⧺_, some-child, some-two, keep, count}
 use Rattle.formula.specs.Tidy.{is-empty, opposite, equal, same-variable, spliced, splice, decides, firsts, is-tidy}
-use Rattle.formula.proofs.Booleans.{cond-cases, and-parts, or-parts, or-none, or-cases}
+use Rattle.formula.proofs.Booleans.{cond-cases, and-parts, or-parts, or-none, or-cases, eqb-comm}
 use Rattle.formula.proofs.Tidy.Children.{some-two-less, some-child-⧺, firsts-all}
 use Rattle.formula.proofs.Tidy.Truth.{equal-same}
 use Rattle.formula.proofs.Tidy.Limits.{limits}
@@ -175,13 +175,6 @@ repeated-fails P (t ▸ ts) u r e =
     let fails = or-parts (P t) (some-child P ts) e in
     ⊎-elim (λ q. ap P (sym (equal-same t u q)) ∙ fails .0) (λ q. repeated-fails P ts u q (fails .1))
     (or-cases (equal t u) (repeated ts u) r)
-
-eqb-comm : (a b : ℕ) → eqb a b ≡ eqb b a
-eqb-comm a b = go (eqb a b) refl
-  where
-    go : (t : Bool) → eqb a b ≡ t → eqb a b ≡ eqb b a
-    go true e = e ∙ sym (eq-eqb b a (sym (eqb-true a b e)))
-    go false e = e ∙ sym (ne-eqb b a (λ h. eqb-false a b e (sym h)))
 
 opposite-comm : (t u : Tree) → opposite t u ≡ opposite u t
 unfolding opposite

@@ -10,10 +10,9 @@ use Rattle.formula.specs.Tree.{Tree, Forest, ∅, _▸_, _⧺_, count}
 use Rattle.sheet.specs.Format.{Bytes, Row, row}
 use Rattle.sheet.specs.Sheet.{front, behind}
 use Rattle.rows.specs.Rows.{rows-in, Room}
-use Rattle.rows.proofs.Rows.{length-rows-in}
 use Rattle.tidying.specs.Blocks.{Block, gone, literal, operator, Blocks, none, _◂_, _⊕_, head, block-rows, grown, live, extent, Laid, Here, Owed}
 use Rattle.tidying.specs.Steps.{Hopped}
-use Rattle.tidying.proofs.Walk.{⧺-none, ⧺-assoc, live-⊕, live-snoc, live-◂, within, start, Next, next}
+use Rattle.tidying.proofs.Walk.{⧺-none, ⧺-assoc, live-snoc, live-◂, start, next}
 use Rattle.tidying.proofs.Scan.{Turn, safe, here-next, dead-holds}
 
 pub record Hopping (R : List Row) (from at to : ℕ) (before : List Row) (bs : Blocks) (after : List Row) (owed left : ℕ) : Type 0 where

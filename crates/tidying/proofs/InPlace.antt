@@ -1,21 +1,21 @@
 -- From the rows of a formula to its tidied sheet.
 -- Assumes nothing.
-use mathlib.Core.Path.{_≡_, refl, sym, ap, ap₂, _∙_, subst}
+use mathlib.Core.Path.{_≡_, sym, ap, ap₂, _∙_, subst}
 use mathlib.Core.Bool.{Bool, true, false}
-use mathlib.Core.List.{List, [], _∷_, _++_, map, append-assoc, append-nil}
-use Prim.Native.Nat.{ℕ, suc, _+_, _*_, _-_, _≤_, _<_}
+use mathlib.Core.List.{List, [], _++_, map, append-assoc, append-nil}
+use Prim.Native.Nat.{ℕ, _+_, _*_, _-_, _≤_}
 use native.Mathlib.Omega.{arith}
-use lib.ListN.{length, take, drop, replicate, length-append, length-map}
+use lib.ListN.{length, take, drop, replicate, length-map}
 use lib.Seq.{take-at, drop-at, length-take-le}
-use Rattle.formula.specs.Tree.{Op, and, or, Tree, lit, node, Forest, ∅, _▸_, _⧺_, Formula, rows, count}
+use Rattle.formula.specs.Tree.{Op, and, or, Tree, lit, node, Forest, ∅, _▸_, _⧺_, rows, count}
 use Rattle.formula.specs.Tidy.{tidy, tidy-all, tidied}
-use Rattle.sheet.specs.Format.{Bytes, Format, Row, row, digits, header, sheet-length, children}
+use Rattle.sheet.specs.Format.{Format, Row, row, digits, header, children}
 use Rattle.sheet.specs.Sheet.{literal-kind, operator-kind, binding, binding-row, trees, root, tree-rows, forest-rows, formula-rows, row-kinds, row-arguments, sheet}
 use Rattle.sheet.specs.Operations.{padded}
 use Rattle.sheet.proofs.Preorder.{trees-tree, trees-forest}
 use Rattle.sheet.proofs.Parts.{sheet-length-rows}
 use Rattle.sheet.proofs.RoundTrip.{length-formula-rows, length-sheet}
-use Rattle.tidying.specs.Blocks.{Blocks, live, Region, Replaced, Laid}
+use Rattle.tidying.specs.Blocks.{Blocks, live, Replaced, Laid}
 use Rattle.tidying.specs.Steps.{Preorder}
 use Rattle.tidying.specs.InPlace.{rows-formula}
 use Rattle.tidying.proofs.Scan.{count-⧺}

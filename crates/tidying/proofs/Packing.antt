@@ -1,22 +1,21 @@
 -- Packing: the rows of the trees that blocks hold, one behind the other.
 -- Assumes nothing.
 use mathlib.Core.Path.{_≡_, refl, sym, ap, ap₂, _∙_, subst}
-use mathlib.Core.Bool.{Bool, true, false}
+use mathlib.Core.Bool.{true, false}
 use mathlib.Core.List.{List, [], _∷_, _++_, append-assoc, append-nil}
-use Prim.Native.Nat.{ℕ, zero, suc, _+_, _*_, _-_, _^_, _≤_, _<_}
-use native.Mathlib.Nat.{zero-add, lt-of-lt-of-le}
+use Prim.Native.Nat.{ℕ, _+_, _*_, _-_, _^_, _≤_, _<_}
 use native.Mathlib.Numerals.{add-one}
 use native.Mathlib.Omega.{arith}
-use lib.ListN.{length, getD, take, drop, set, length-append, length-drop, take-append-drop}
+use lib.ListN.{length, getD, take, drop, set, length-drop, take-append-drop}
 use lib.Seq.{take-suc-set, drop-set-lt, drop-drop, drop-append-le, drop-at, take-at, length-take-le}
 use borrow.Author.Tests.{eq-eqb, ne-eqb}
-use Rattle.formula.specs.Tree.{Op, and, or, Tree, lit, node, Forest, ∅, _▸_, _⧺_, count}
+use Rattle.formula.specs.Tree.{and, or, Forest, ∅, _▸_, _⧺_, count}
 use Rattle.sheet.specs.Format.{Bytes, Row, row, number}
-use Rattle.sheet.specs.Sheet.{literal-kind, operator-kind, tree-rows, forest-rows}
+use Rattle.sheet.specs.Sheet.{operator-kind, tree-rows, forest-rows}
 use Rattle.sheet.proofs.Every.{every-take, every-drop}
 use Rattle.sheet.proofs.Numbers.{IsByte, AllBytes, number-bound}
 use Rattle.rows.specs.Rows.{rows-in, Room}
-use Rattle.rows.proofs.Rows.{length-rows-in, row-in, argument-within}
+use Rattle.rows.proofs.Rows.{row-in, argument-within}
 use Rattle.tidying.specs.Blocks.{Block, gone, literal, operator, Blocks, none, _◂_, _⊕_, head, inner, block-rows, size, grown, live, Laid, Region, Stands, Standing}
 use Rattle.tidying.specs.Steps.{packed, entered, stride, ArgumentOf, Put}
 use Rattle.tidying.proofs.Walk.{rows-⊕, live-⊕, length-◂, stands-row, stands-within, laid-within}

@@ -2,25 +2,25 @@
 -- Assumes nothing.
 use mathlib.Core.Path.{_≡_, refl, sym, ap, _∙_, subst}
 use mathlib.Core.Bool.{Bool, true, false, _&&_, _||_, and-true, and-false, or-false, or-true}
-use mathlib.Core.List.{List, _++_}
+use mathlib.Core.List.{List}
 use mathlib.Core.Logic.{_⊎_, ⊎-elim}
-use Prim.Native.Nat.{ℕ, zero, suc, _+_, _≤_, _<_}
-use native.Mathlib.Nat.{zero-add, suc-add, add-assoc}
+use Prim.Native.Nat.{ℕ, suc, _+_, _≤_, _<_}
+use native.Mathlib.Nat.{zero-add, suc-add}
 use native.Mathlib.Omega.{arith}
 use lib.Dec.{eqb}
 use lib.ListN.{length, getD}
 use borrow.Author.Tests.{eq-eqb, ne-eqb}
-use Rattle.formula.specs.Tree.{Op, and, or, Tree, lit, node, Forest, ∅, _▸_, _⧺_, some-child, count}
+use Rattle.formula.specs.Tree.{and, or, Tree, lit, Forest, ∅, _▸_, _⧺_, some-child, count}
 use Rattle.formula.specs.Tidy.{equal}
 use Rattle.formula.proofs.Booleans.{or-none}
 use Rattle.formula.proofs.Tidy.Children.{some-child-⧺}
 use Rattle.sheet.specs.Format.{Bytes, Row, row}
-use Rattle.sheet.specs.Sheet.{literal-kind, operator-kind}
+use Rattle.sheet.specs.Sheet.{literal-kind}
 use Rattle.rows.specs.Rows.{rows-in, Room}
 use Rattle.rows.proofs.Rows.{length-rows-in}
-use Rattle.tidying.specs.Blocks.{Block, gone, literal, operator, Blocks, none, _◂_, _⊕_, head, inner, block-rows, size, extent, grown, live, Laid, Here, Region}
+use Rattle.tidying.specs.Blocks.{Block, gone, literal, operator, Blocks, none, _◂_, _⊕_, head, block-rows, extent, grown, live, Laid, Here, Region}
 use Rattle.tidying.specs.Steps.{FirstLive}
-use Rattle.tidying.proofs.Walk.{rows-⊕, ⧺-none, live-⊕, live-snoc, live-◂, ⧺-◂, length-◂, extent-head, within, start, Next, next, onward}
+use Rattle.tidying.proofs.Walk.{⧺-none, live-snoc, live-◂, ⧺-◂, length-◂, extent-head, within, start, next, onward}
 
 pub record Walked (R : List Row) (from at to : ℕ) (before : List Row) (bs : Blocks) (after : List Row) (Q : Forest → Type 0) : Type 0 where
   pub done : Blocks

@@ -7,7 +7,7 @@ use mathlib.Core.List.{List, [], _∷_, _++_}
 use Prim.Native.Nat.{ℕ, suc, _+_, _≤_}
 use lib.Dec.{eqb}
 use lib.ListN.{length}
-use Rattle.formula.specs.Tree.{Op, Tree, lit, node, Forest, ∅, _▸_, count}
+use Rattle.formula.specs.Tree.{Op, lit, node, Forest, ∅, _▸_, count}
 use Rattle.sheet.specs.Format.{Row, row}
 use Rattle.sheet.specs.Sheet.{literal-kind, operator-kind}
 

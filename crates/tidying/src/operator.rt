@@ -8,14 +8,14 @@ use rows::edit::set_row;
 use rows::kind_at;
 ghost use mathlib.Core.Path.{_≡_};
 ghost use mathlib.Core.List.{List, []};
-ghost use Prim.Native.Nat.{ℕ, _+_, _^_, _≤_, _<_};
+ghost use Prim.Native.Nat.{_+_, _^_, _≤_, _<_};
 ghost use lib.ListN.{length, take, drop};
 ghost use Rattle.formula.specs.Tree.{Op, node, Forest, ∅, _▸_};
 ghost use Rattle.formula.specs.Tidy.{unwrap, tidy-all};
 ghost use Rattle.sheet.specs.Format.{Row};
 ghost use Rattle.sheet.specs.Sheet.{operator-kind, grow, trees};
 ghost use Rattle.rows.specs.Rows.{rows-in, Room};
-ghost use Rattle.tidying.specs.Blocks.{Blocks, live, Headed, Region, OperatorKind, Replaced};
+ghost use Rattle.tidying.specs.Blocks.{Blocks, live, Headed, Region, Replaced};
 ghost use Rattle.tidying.specs.Steps.{Ready, ReadyAt, Preorder};
 
 // Makes the rows from `r` to `end` an empty operator of this kind.

@@ -5,7 +5,7 @@ use rows::edit::set_row;
 use rows::kind_at;
 ghost use mathlib.Core.Path.{_≡_};
 ghost use mathlib.Core.List.{List, _++_};
-ghost use Prim.Native.Nat.{ℕ, _^_, _≤_, _<_};
+ghost use Prim.Native.Nat.{_^_, _≤_, _<_};
 ghost use lib.ListN.{length, getD, take};
 ghost use Rattle.sheet.specs.Format.{Row, row};
 ghost use Rattle.sheet.specs.Sheet.{forest-rows};

@@ -1,9 +1,8 @@
 -- `tidying::blocks::holds` meets its contract: no tree that was passed is the literal. Assumes nothing.
-use mathlib.Core.Path.{refl, sym, ap, _∙_}
+use mathlib.Core.Path.{sym, _∙_}
 use Prim.Native.Nat.{_-_}
 use native.Mathlib.Omega.{arith}
 use Rattle.rows.specs.Rows.{rows-in}
-use Rattle.rows.proofs.Rows.{length-rows-in}
 use Rattle.tidying.proofs.Scan.{Scan, Missed, scan-none, scan-turn, scan-more, scan-end, missed-none, missed-more, missed-found}
 use Rattle.tidying.proofs.blocks.holds.Statement.{statement}
 use Rattle.tidying.proofs.blocks.holds.Tie as tie

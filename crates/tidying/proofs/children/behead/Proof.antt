@@ -1,5 +1,5 @@
 -- `tidying::children::behead` meets its contract. Assumes nothing.
-use mathlib.Core.Path.{sym, ap, _∙_}
+use mathlib.Core.Path.{sym, _∙_}
 use borrow.Author.Tests.{eq-eqb, ne-eqb}
 use Rattle.tidying.proofs.Rules.{cond-taken, cond-left}
 use borrow.Author.Needs.{needs}

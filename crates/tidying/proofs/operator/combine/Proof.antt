@@ -1,5 +1,4 @@
 -- `tidying::operator::combine` meets its contract. Assumes nothing.
-use mathlib.Core.Path.{_∙_}
 use native.Mathlib.Omega.{arith}
 use Rattle.tidying.proofs.Walk.{room-as}
 use Rattle.tidying.proofs.Combine.{ready-literal-at, ready-few, ready-kind, ready-owed, ready-region, ready-within, reduced-region, ready-decided, ready-undecided}
