@@ -2,7 +2,7 @@
 -- Assumes nothing.
 use mathlib.Core.Path.{_≡_}
 use mathlib.Core.Bool.{true}
-use Prim.Native.Nat.{ℕ, suc, _+_, _≤_}
+use Prim.Native.Nat.{ℕ, suc, _+_, _^_, _≤_, _<_}
 use lib.ListN.{length}
 use Rattle.formula.specs.Tree.{rows}
 use Rattle.formula.specs.Tidy.{is-tidy}
@@ -12,6 +12,7 @@ use Rattle.sheet.specs.Sheet.{sheet}
 use Rattle.sheet.specs.Operations.{padded}
 use Rattle.sheet.proofs.Limits.{Within}
 use Rattle.reading.specs.Reading.{formula-in}
+use Rattle.tidying.specs.Limits.{Countable}
 use Rattle.solve.specs.declared.State.{State}
 use Rattle.solve.specs.declared.step.Step.{Step}
 use Rattle.solve.specs.declared.step.Step.the-variants.{Ended, Stopped, Next}
@@ -29,13 +30,21 @@ pub record Held (F : Format) (room v n : ℕ) (b : Bytes) : Type 0 where
 abbrev pub HeldBy : Format → ℕ → State → Bytes → Type 0
 HeldBy F room s b = Held F room (s .variables) (s .nodes) b
 
--- the state of the definition: the formula held, the number settled and the number expanded
-abbrev pub reached : Format → State → Bytes → Reached
-reached F s b = record { formula = formula-in (F .width) (s .variables) (s .nodes) b; settles = s .settled; expands = s .expanded }
-
 -- how many variables a run began with
 abbrev pub begun : State → ℕ
 begun s = s .settled + s .expanded + s .variables
+
+-- a state with its sheet in the first of two buffers that both have room, in a format that the code can count
+pub record Ready (F : Format) (room : ℕ) (s : State) (first second : Bytes) : Type 0 where
+  pub countable : Countable F
+  pub held : HeldBy F room s first
+  pub first-room : room ≤ length first
+  pub second-room : room ≤ length second
+  pub few : begun s < 2 ^ 32
+
+-- the state of the definition: the formula held, the number settled and the number expanded
+abbrev pub reached : Format → State → Bytes → Reached
+reached F s b = record { formula = formula-in (F .width) (s .variables) (s .nodes) b; settles = s .settled; expands = s .expanded }
 
 -- a step from state s, its sheet in b, leaves new in the buffer
 abbrev pub Stepped : Format → ℕ → State → Bytes → Bytes → Step → Type 0

@@ -8,7 +8,7 @@ use rows::number_at;
 use rows::seal::clear;
 use tidying::tidy_into;
 ghost use mathlib.Core.Path.{_≡_};
-ghost use Prim.Native.Nat.{suc, _^_, _≤_, _<_, min};
+ghost use Prim.Native.Nat.{suc, min};
 ghost use lib.ListN.{length};
 ghost use Rattle.formula.specs.Solve.{run};
 ghost use Rattle.sheet.specs.Format.{narrow, fits};
@@ -17,7 +17,7 @@ ghost use Rattle.sheet.specs.Operations.{padded, solved, solve-call};
 ghost use Rattle.rows.specs.Formats.{format-of};
 ghost use Rattle.tidying.specs.Limits.{Countable, Sheet};
 ghost use Rattle.solve.specs.Answers.{solved-answer};
-ghost use Rattle.solve.specs.Running.{HeldBy, reached, begun};
+ghost use Rattle.solve.specs.Running.{Ready, reached};
 
 pub mod line;
 pub mod step;
@@ -54,7 +54,7 @@ fn shorter(a: usize, b: usize) -> usize
 
 // Goes on from a state whose tidy sheet stands in the first buffer, for as long as raw sheets fit `room` bytes, which both buffers have.
 pub fn run(first: &mut [u8], second: &mut [u8], f: Format, room: usize, start: State) -> Solved
-    requires { ⌜ Countable (format-of f) × HeldBy (format-of f) room start (now first) × (room ≤ length (now first)) × (room ≤ length (now second)) × (begun start < 2 ^ 32) ⌝ }
+    requires { ⌜ Ready (format-of f) room start (now first) (now second) ⌝ }
     ensures { λ r. ⌜ solved-answer r ≡ solved ((run (fits (format-of f) room) (suc (start .variables)) (reached (format-of f) start (now (first .entry)))) .end) ((run (fits (format-of f) room) (suc (start .variables)) (reached (format-of f) start (now (first .entry)))) .state) ⌝ }
     ensures { λ _. ⌜ now (first .exit) ≡ padded (length (now (first .entry))) (sheet (format-of f) (((run (fits (format-of f) room) (suc (start .variables)) (reached (format-of f) start (now (first .entry)))) .state) .formula)) ⌝ }
 {

@@ -16,7 +16,7 @@ use tidying::copy_front;
 use tidying::tidy_in_place;
 ghost use mathlib.Core.Path.{_≡_};
 ghost use mathlib.Core.Option.{none};
-ghost use Prim.Native.Nat.{_+_, _^_, _≤_, _<_};
+ghost use Prim.Native.Nat.{_+_, _^_, _<_};
 ghost use lib.ListN.{length};
 ghost use Rattle.formula.specs.Tree.{rows};
 ghost use Rattle.formula.specs.Tidy.{tidied, verdict};
@@ -32,7 +32,7 @@ ghost use Rattle.reading.specs.Ends.{Ends};
 ghost use Rattle.choosing.specs.Choosing.{SettleHere};
 ghost use Rattle.tidying.specs.InPlace.{rows-formula};
 ghost use Rattle.tidying.specs.Limits.{Countable};
-ghost use Rattle.solve.specs.Running.{HeldBy, begun, Stepped};
+ghost use Rattle.solve.specs.Running.{Ready, Stepped};
 
 // The most node rows of a sheet of the wider format.
 const ROWS: usize = 8192;
@@ -67,7 +67,7 @@ fn settle_step(
     x: usize,
     value: bool,
 ) -> Step
-    requires { ⌜ Countable (format-of f) × HeldBy (format-of f) room s (now first) × (room ≤ length (now first)) × (room ≤ length (now second)) × (begun s < 2 ^ 32) × (verdict (matrix-in (f .width) (s .variables) (s .nodes) (now first)) ≡ none) × SettleHere (f .width) (s .variables) (s .nodes) (now first) (lowest (formula-in (f .width) (s .variables) (s .nodes) (now first))) i x value ⌝ }
+    requires { ⌜ Ready (format-of f) room s (now first) (now second) × (verdict (matrix-in (f .width) (s .variables) (s .nodes) (now first)) ≡ none) × SettleHere (f .width) (s .variables) (s .nodes) (now first) (lowest (formula-in (f .width) (s .variables) (s .nodes) (now first))) i x value ⌝ }
     ensures { λ r. ⌜ Stepped (format-of f) room s (now (first .entry)) (now (first .exit)) r ⌝ }
 {
     let v = s.variables;
@@ -90,7 +90,7 @@ fn expand_step(
     s: State,
     ends: &[u16],
 ) -> Step
-    requires { ⌜ Countable (format-of f) × HeldBy (format-of f) room s (now first) × (room ≤ length (now first)) × (room ≤ length (now second)) × (begun s < 2 ^ 32) × (verdict (matrix-in (f .width) (s .variables) (s .nodes) (now first)) ≡ none) × Ends (f .width) (s .variables) (s .nodes) (now first) (now ends) × (lowest (formula-in (f .width) (s .variables) (s .nodes) (now first)) ≡ none) ⌝ }
+    requires { ⌜ Ready (format-of f) room s (now first) (now second) × (verdict (matrix-in (f .width) (s .variables) (s .nodes) (now first)) ≡ none) × Ends (f .width) (s .variables) (s .nodes) (now first) (now ends) × (lowest (formula-in (f .width) (s .variables) (s .nodes) (now first)) ≡ none) ⌝ }
     ensures { λ r. ⌜ Stepped (format-of f) room s (now (first .entry)) (now (first .exit)) r ⌝ }
 {
     let width = f.width;
@@ -124,7 +124,7 @@ fn expand_step(
 
 // A step on a sheet that isn't decided.
 fn undecided_step(first: &mut [u8], second: &mut [u8], f: Format, room: usize, s: State) -> Step
-    requires { ⌜ Countable (format-of f) × HeldBy (format-of f) room s (now first) × (room ≤ length (now first)) × (room ≤ length (now second)) × (begun s < 2 ^ 32) × (verdict (matrix-in (f .width) (s .variables) (s .nodes) (now first)) ≡ none) ⌝ }
+    requires { ⌜ Ready (format-of f) room s (now first) (now second) × (verdict (matrix-in (f .width) (s .variables) (s .nodes) (now first)) ≡ none) ⌝ }
     ensures { λ r. ⌜ Stepped (format-of f) room s (now (first .entry)) (now (first .exit)) r ⌝ }
 {
     let mut ends = [0u16; ROWS];
@@ -138,7 +138,7 @@ fn undecided_step(first: &mut [u8], second: &mut [u8], f: Format, room: usize, s
 
 // One step from the state `s`, whose sheet stands in the first buffer.
 pub fn take_step(first: &mut [u8], second: &mut [u8], f: Format, room: usize, s: State) -> Step
-    requires { ⌜ Countable (format-of f) × HeldBy (format-of f) room s (now first) × (room ≤ length (now first)) × (room ≤ length (now second)) × (begun s < 2 ^ 32) ⌝ }
+    requires { ⌜ Ready (format-of f) room s (now first) (now second) ⌝ }
     ensures { λ r. ⌜ Stepped (format-of f) room s (now (first .entry)) (now (first .exit)) r ⌝ }
 {
     let d = decide(first, f.width, s.variables, s.nodes);

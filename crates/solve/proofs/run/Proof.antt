@@ -34,14 +34,20 @@ stepped c r e =
 loop-holds : tie.Need-loop-holds Inv-loop μ-loop
 loop-holds c =
     let p = c .before .before .pre in
-    (turn-first (p .1) (p .4), refl)
+    (turn-first (p .held) (p .few), refl)
 
 take-step-requires : tie.Need-take-step-requires Inv-loop μ-loop
 take-step-requires c κs =
     let l = c .before .before in
     let p = l .before .before .before .pre in
     let u = l .loop .inv in
-    (p .0, u .0 .held, omega (arith, u .0 .same-length, p .2), omega (arith, u .1, p .3), u .0 .few)
+    record {
+      countable = p .countable;
+      held = u .0 .held;
+      first-room = omega (arith, u .0 .same-length, p .first-room);
+      second-room = omega (arith, u .1, p .second-room);
+      few = u .0 .few;
+    }
 
 enum-known-t : tie.Need-enum-known-t Inv-loop μ-loop
 enum-known-t c = search needs

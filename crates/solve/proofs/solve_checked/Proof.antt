@@ -77,13 +77,14 @@ run-requires c κs =
     let t = m .before .before .before .before in
     let e = t .before .before in
     let a = start (e .before) in
-    let room = e .before .shorter .ensures in (
-      a .pre .0,
-      start-held (a .pre .0) (a .pre .1) (omega (arith, room, fits-shorter e)) (omega (arith, room)) (t .tidy-into .ensures .0) (nodes m),
-      omega (arith, room, t .tidy-into .kept .1 .1 .1 .1 .0),
-      omega (arith, room),
-      omega (arith, a .pre .1 .variables-are, few-variables (a .pre .0) (a .pre .1)),
-    )
+    let room = e .before .shorter .ensures in
+    record {
+      countable = a .pre .0;
+      held = start-held (a .pre .0) (a .pre .1) (omega (arith, room, fits-shorter e)) (omega (arith, room)) (t .tidy-into .ensures .0) (nodes m);
+      first-room = omega (arith, room, t .tidy-into .kept .1 .1 .1 .1 .0);
+      second-room = omega (arith, room);
+      few = omega (arith, a .pre .1 .variables-are, few-variables (a .pre .0) (a .pre .1));
+    }
 
 clear-requires : tie.Need-clear-requires
 clear-requires c κs = search needs

@@ -30,7 +30,7 @@ leads c =
     let d = test .before .before .before .before .before in
     let a = start d in
     let p = a .pre in
-    expand-leads (p .0) (a .args .s) (a .args .first .now) (p .1) (p .5) (p .7) (d .choose-expand .ensures) (test .before .before .if1 .left) (test .if2 .left)
+    expand-leads (p .0 .countable) (a .args .s) (a .args .first .now) (p .0 .held) (p .1) (p .3) (d .choose-expand .ensures) (test .before .before .if1 .left) (test .if2 .left)
     (c .write-raw .ensures .all-rows)
 
 -- the raw sheet's length is a small number
@@ -42,7 +42,7 @@ small c =
     let d = c .before .before .before in
     let a = start d in
     let p = a .pre in
-    raw-small (p .0) (a .args .s) (a .args .first .now) (p .1) (p .5) (p .7) (d .choose-expand .ensures) (c .if1 .left)
+    raw-small (p .0 .countable) (a .args .s) (a .args .first .now) (p .0 .held) (p .1) (p .3) (d .choose-expand .ensures) (c .if1 .left)
 
 -- and so is the number of its rows
 few : (c : tie.Else1) →
@@ -52,16 +52,16 @@ few : (c : tie.Else1) →
 few c =
     let a = start (c .before .before .before) in
     let p = a .pre in
-    omega (arith, c .if1 .left, p .0 .manageable .few-nodes, p .0 .manageable .few-variables, p .1 .variables-are, p .1 .within .few-variables)
+    omega (arith, c .if1 .left, p .0 .countable .manageable .few-nodes, p .0 .countable .manageable .few-variables, p .0 .held .variables-are, p .0 .held .within .few-variables)
 
 choose-expand-requires : tie.Need-choose-expand-requires
 choose-expand-requires c κs =
     let a = c .before .before .before .before in
     let p = a .pre in (
-      readable (p .0) (p .1),
-      p .6,
-      bound (p .0) (p .1),
-      some-left (p .0) (a .args .s) (a .args .first .now) (p .1) (p .5),
+      readable (p .0 .countable) (p .0 .held),
+      p .2,
+      bound (p .0 .countable) (p .0 .held),
+      some-left (p .0 .countable) (a .args .s) (a .args .first .now) (p .0 .held) (p .1),
     )
 
 same-length : tie.Need-same-length
@@ -72,13 +72,13 @@ returns c =
     let d = c .before .before .before in
     let a = start d in
     let p = a .pre in
-    (many-stop (p .0) (a .args .s) (a .args .first .now) (p .1) (p .5) (p .7) (d .choose-expand .ensures) (c .if1 .taken), refl)
+    (many-stop (p .0 .countable) (a .args .s) (a .args .first .now) (p .0 .held) (p .1) (p .3) (d .choose-expand .ensures) (c .if1 .taken), refl)
 
 mul-if2 : tie.Need-mul-if2
-mul-if2 c = omega (arith, start (c .before .before .before) .pre .0 .manageable .few-bytes)
+mul-if2 c = omega (arith, start (c .before .before .before) .pre .0 .countable .manageable .few-bytes)
 
 add-if2 : tie.Need-add-if2
-add-if2 c = omega (arith, start (c .before .before .before) .pre .0 .manageable .few-bytes)
+add-if2 c = omega (arith, start (c .before .before .before) .pre .0 .countable .manageable .few-bytes)
 
 sub-if2 : tie.Need-sub-if2
 sub-if2 c = omega (arith, c .before .before .before .choose-expand .ensures .inside)
@@ -91,7 +91,7 @@ mul-if2-2 c = omega (arith, small (c .before))
 
 add-if2-3 : tie.Need-add-if2-3
 add-if2-3 c =
-    omega (arith, small (c .before), start (c .before .before .before .before) .pre .0 .manageable .few-bytes)
+    omega (arith, small (c .before), start (c .before .before .before .before) .pre .0 .countable .manageable .few-bytes)
 
 same-length-2 : tie.Need-same-length-2
 same-length-2 c = search needs
@@ -102,7 +102,7 @@ returns-2 c =
     let d = e .before .before .before in
     let a = start d in
     let p = a .pre in
-    (long-stop (p .0) (a .args .s) (a .args .first .now) (p .1) (p .5) (p .7) (d .choose-expand .ensures) (e .if1 .left) (c .if2 .taken), refl)
+    (long-stop (p .0 .countable) (a .args .s) (a .args .first .now) (p .0 .held) (p .1) (p .3) (d .choose-expand .ensures) (e .if1 .left) (c .if2 .taken), refl)
 
 sub-write-raw : tie.Need-sub-write-raw
 sub-write-raw c = search needs
@@ -118,14 +118,14 @@ write-raw-requires c κs =
     let a = start d in
     let p = a .pre in
     let here = d .choose-expand .ensures in (
-      readable (p .0) (p .1),
-      quantified (p .0) (p .1),
-      p .6,
+      readable (p .0 .countable) (p .0 .held),
+      quantified (p .0 .countable) (p .0 .held),
+      p .2,
       here .inside,
       here .at-row,
-      record { few-bytes = p .0 .manageable .few-bytes; holds = omega (arith, test .if2 .left, p .3) },
+      record { few-bytes = p .0 .countable .manageable .few-bytes; holds = omega (arith, test .if2 .left, p .0 .second-room) },
       omega (arith, here .raw-is),
-      omega (arith, p .0 .few-rows, e .if1 .left, p .1 .variables-are, p .1 .within .few-variables),
+      omega (arith, p .0 .countable .few-rows, e .if1 .left, p .0 .held .variables-are, p .0 .held .within .few-variables),
     )
 
 sub-carry-over : tie.Need-sub-carry-over
@@ -137,12 +137,12 @@ carry-over-requires c κs =
     let a = start (t .before .before .before .before .before .before .before .before .before) in
     let l = leads t in
     let same = t .write-raw .kept .1 .1 .1 .1 .1 .1 .1 .0 in (
-      a .pre .0,
-      raw-room (a .pre .0) _ l (omega (arith, same, a .pre .3)),
-      raw-room (a .pre .0) _ l (a .pre .2),
+      a .pre .0 .countable,
+      raw-room (a .pre .0 .countable) _ l (omega (arith, same, a .pre .0 .second-room)),
+      raw-room (a .pre .0 .countable) _ l (a .pre .0 .first-room),
       l .sound-rows,
       l .few-rows,
-      raw-within (a .pre .0) _ l,
+      raw-within (a .pre .0 .countable) _ l,
     )
 
 sub-t15 : tie.Need-sub-t15
@@ -151,7 +151,7 @@ sub-t15 c = search needs
 add-t19 : tie.Need-add-t19
 add-t19 c =
     let t = c .before .before .before .before .before .before .before .before .before .before in
-    omega (arith, start (t .before .before .before .before .before .before .before .before .before) .pre .4)
+    omega (arith, start (t .before .before .before .before .before .before .before .before .before) .pre .0 .few)
 
 same-length-3 : tie.Need-same-length-3
 same-length-3 c = search needs
@@ -173,10 +173,10 @@ returns-3 c =
     let same = t .write-raw .kept .1 .1 .1 .1 .1 .1 .1 .0 in
     let new-is = g .carry-over .ensures .0 in
     let m-is = g .carry-over .ensures .1 in (
-      expand-next (p .0) (a .args .s) (a .args .first .now) (p .1) (p .5) (p .7) (d .choose-expand .ensures) (e .if1 .left) (test .if2 .left)
+      expand-next (p .0 .countable) (a .args .s) (a .args .first .now) (p .0 .held) (p .1) (p .3) (d .choose-expand .ensures) (e .if1 .left) (test .if2 .left)
           (g .carry-over .result) (g .carry-over .last .0)
-          (arrived-formula (p .0) raw l (omega (arith, same, p .3)) (p .2) new-is m-is),
-      arrived (p .0) raw l (omega (arith, same, p .3)) (p .2) new-is m-is,
+          (arrived-formula (p .0 .countable) raw l (omega (arith, same, p .0 .second-room)) (p .0 .first-room) new-is m-is),
+      arrived (p .0 .countable) raw l (omega (arith, same, p .0 .second-room)) (p .0 .first-room) new-is m-is,
       omega (arith, d .choose-expand .ensures .inside),
       omega (arith, d .choose-expand .ensures .inside),
     )

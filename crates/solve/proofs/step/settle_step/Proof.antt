@@ -25,18 +25,18 @@ leads : (c : tie.After-write-settled) →
 leads c =
     let a = start c in
     let p = a .pre in
-    settle-leads (p .0) (a .args .s) (a .args .first .now) (p .1) (p .5) (p .6) (c .write-settled .ensures .all-rows)
+    settle-leads (p .0 .countable) (a .args .s) (a .args .first .now) (p .0 .held) (p .1) (p .2) (c .write-settled .ensures .all-rows)
 
 write-settled-requires : tie.Need-write-settled-requires
 write-settled-requires c κs =
     let a = c .before .before .before .before in
     let p = a .pre in
-    let here = p .6 in (
-      readable (p .0) (p .1),
-      quantified (p .0) (p .1),
+    let here = p .2 in (
+      readable (p .0 .countable) (p .0 .held),
+      quantified (p .0 .countable) (p .0 .held),
       here .inside,
       here .at-row,
-      settle-room (p .0) (a .args .s) (a .args .first .now) (p .1) (p .5) here (p .3),
+      settle-room (p .0 .countable) (a .args .s) (a .args .first .now) (p .0 .held) (p .1) here (p .0 .second-room),
     )
 
 sub-carry-over : tie.Need-sub-carry-over
@@ -48,12 +48,12 @@ carry-over-requires c κs =
     let a = start t in
     let l = leads t in
     let same = t .write-settled .kept .1 .1 .1 .1 .1 .1 .1 .0 in (
-      a .pre .0,
-      raw-room (a .pre .0) _ l (omega (arith, same, a .pre .3)),
-      raw-room (a .pre .0) _ l (a .pre .2),
+      a .pre .0 .countable,
+      raw-room (a .pre .0 .countable) _ l (omega (arith, same, a .pre .0 .second-room)),
+      raw-room (a .pre .0 .countable) _ l (a .pre .0 .first-room),
       l .sound-rows,
       l .few-rows,
-      raw-within (a .pre .0) _ l,
+      raw-within (a .pre .0 .countable) _ l,
     )
 
 sub-t20 : tie.Need-sub-t20
@@ -79,11 +79,11 @@ returns c =
     let same = t .write-settled .kept .1 .1 .1 .1 .1 .1 .1 .0 in
     let new-is = e .carry-over .ensures .0 in
     let m-is = e .carry-over .ensures .1 in (
-      settle-next (p .0) (a .args .s) (a .args .first .now) (p .1) (p .5) (p .6) (e .carry-over .result) (e .carry-over .last .0)
-          (arrived-formula (p .0) raw l (omega (arith, same, p .3)) (p .2) new-is m-is),
-      arrived (p .0) raw l (omega (arith, same, p .3)) (p .2) new-is m-is,
-      omega (arith, p .6 .inside),
-      omega (arith, p .6 .inside),
+      settle-next (p .0 .countable) (a .args .s) (a .args .first .now) (p .0 .held) (p .1) (p .2) (e .carry-over .result) (e .carry-over .last .0)
+          (arrived-formula (p .0 .countable) raw l (omega (arith, same, p .0 .second-room)) (p .0 .first-room) new-is m-is),
+      arrived (p .0 .countable) raw l (omega (arith, same, p .0 .second-room)) (p .0 .first-room) new-is m-is,
+      omega (arith, p .2 .inside),
+      omega (arith, p .2 .inside),
     )
 
 pub settle-step-spec : {M : Type 1} → statement M

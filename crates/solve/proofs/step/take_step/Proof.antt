@@ -10,7 +10,7 @@ use Rattle.solve.proofs.step.take_step.Tie as tie
 decide-requires : tie.Need-decide-requires
 decide-requires c κs =
     let p = c .before .before .before .pre in
-    readable (p .0) (p .1)
+    readable (p .countable) (p .held)
 
 enum-known-d : tie.Need-enum-known-d
 enum-known-d c = search needs
@@ -23,7 +23,7 @@ undecided-step-requires c κs =
     let told = c .before .before in
     let decided = told .before .before in
     let p = decided .before .before .before .before .pre in
-    (p .0, p .1, p .2, p .3, p .4, sym (decided .decide .ensures) ∙ ap decision-of (told .enum-told .given .1))
+    (p, sym (decided .decide .ensures) ∙ ap decision-of (told .enum-told .given .1))
 
 same-length : tie.Need-same-length
 same-length c = search needs
@@ -33,7 +33,7 @@ returns c =
     let told = c .before in
     let decided = told .before .before in
     let a = decided .before .before .before .before in
-    (decided-end (a .pre .0) (a .args .s) (a .args .first .now) (a .pre .1) (sym (decided .decide .ensures) ∙ ap decision-of (told .d .given .1)), refl)
+    (decided-end (a .pre .countable) (a .args .s) (a .args .first .now) (a .pre .held) (sym (decided .decide .ensures) ∙ ap decision-of (told .d .given .1)), refl)
 
 same-length-2 : tie.Need-same-length-2
 same-length-2 c = search needs

@@ -24,7 +24,7 @@ slice-aggregate-fill-ends c = search needs
 fill-ends-requires : tie.Need-fill-ends-requires
 fill-ends-requires c κs =
     let p = c .before .before .before .before .pre in
-    let ok = readable (p .0) (p .1) in
+    let ok = readable (p .0 .countable) (p .0 .held) in
     search needs
 
 slice-aggregate-choose-settle : tie.Need-slice-aggregate-choose-settle
@@ -34,7 +34,7 @@ choose-settle-requires : tie.Need-choose-settle-requires
 choose-settle-requires c κs =
     let filled = c .before .before .before in
     let p = filled .before .before .before .before .before .pre in
-    (readable (p .0) (p .1), filled .fill-ends .ensures .0, bound (p .0) (p .1))
+    (readable (p .0 .countable) (p .0 .held), filled .fill-ends .ensures .0, bound (p .0 .countable) (p .0 .held))
 
 enum-known-c : tie.Need-enum-known-c
 enum-known-c c = search needs
@@ -44,7 +44,7 @@ settle-step-requires c κs =
     let told = c .before .before .before in
     let choice = told .before .before in
     let p = start choice .pre in
-    (p .0, p .1, p .2, p .3, p .4, p .5, chosen choice _ (told .c .given .1))
+    (p .0, p .1, chosen choice _ (told .c .given .1))
 
 enum-told : tie.Need-enum-told
 enum-told c = search needs
@@ -57,7 +57,7 @@ expand-step-requires c κs =
     let told = c .before .before .before in
     let choice = told .before .before in
     let p = start choice .pre in
-    (p .0, p .1, p .2, p .3, p .4, p .5, choice .before .before .before .before .fill-ends .ensures .0, chosen choice _ (told .enum-told .given .1))
+    (p .0, p .1, choice .before .before .before .before .fill-ends .ensures .0, chosen choice _ (told .enum-told .given .1))
 
 same-length : tie.Need-same-length
 same-length c = search needs
