@@ -1,4 +1,3 @@
-mod TurnCount
 mod Place
 mod RawRows
 mod Accepted

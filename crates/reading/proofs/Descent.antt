@@ -17,7 +17,7 @@ use Rattle.sheet.specs.Format.{Bytes}
 use Rattle.sheet.specs.Sheet.{root}
 use Rattle.reading.specs.Reading.{node-rows-in, matrix-in, Readable}
 use Rattle.reading.specs.Subtrees.{forest-in, subtree-in}
-use Rattle.reading.specs.Cost.{hits, hits-all, first-row, relevant-part, part-below, operator-part, part-at}
+use Rattle.reading.specs.Cost.{hits, hits-all, first-row, relevant-part, part-below, literal-part, operator-part, part-at}
 use Rattle.reading.specs.Cost.{child-span, narrower, Last}
 use Rattle.reading.specs.declared.cost.Span.{Span}
 use Rattle.reading.proofs.Forest.{top, kids, rest, some-row, siblings, has-⧺}
@@ -202,7 +202,7 @@ no-literal L (lit s v) e h = absurd (true≢false (sym h ∙ e))
 no-literal L (node and ts) e h = (omega arith, h)
 no-literal L (node or ts) e h = (omega arith, h)
 
-a-literal : (L : Literals) (i : ℕ) (t : Tree) → is-lit L t ≡ true → relevant-part L i t ≡ record { operator = i; first = i; all = true; rows = 1 }
+a-literal : (L : Literals) (i : ℕ) (t : Tree) → is-lit L t ≡ true → relevant-part L i t ≡ literal-part i
 unfolding is-lit relevant-part
 a-literal L i (lit s v) e = refl
 a-literal L i (node o ts) e = absurd (false≢true e)
@@ -243,11 +243,11 @@ module _ (L : Literals) {w v n : ℕ} (b : Bytes) (ok : Readable w v n b) where
         ap (λ l. at + first-true l) (hits-row L b ok at (s .inside) ∙ ap (λ x. x ∷ hits-all L (forest-in w v n b (suc at))) e)
 
     -- at the first literal's own row it is the one literal
-    pub at-literal : at ≡ first → relevant-part L 0 (matrix-in w v n b) ≡ record { operator = at; first = at; all = true; rows = 1 }
+    pub at-literal : at ≡ first → relevant-part L 0 (matrix-in w v n b) ≡ literal-part at
     at-literal e = go (is-lit L (subtree-in w v n b at)) refl
       where
         go : (c : Bool) → is-lit L (subtree-in w v n b at) ≡ c
-            → relevant-part L 0 (matrix-in w v n b) ≡ record { operator = at; first = at; all = true; rows = 1 }
+            → relevant-part L 0 (matrix-in w v n b) ≡ literal-part at
         go true h = s .same ∙ a-literal L at (subtree-in w v n b at) h
         go false h = absurd (omega (arith, row-is false h))
 
@@ -372,7 +372,7 @@ module _ (L : Literals) {w v n : ℕ} (b : Bytes) (ok : Readable w v n b) {first
     where
       go : (c : Bool) → eqb at first ≡ c
           → relevant-part L 0 (matrix-in w v n b) ≡
-          cond c (record { operator = at; first = at; all = true; rows = 1 })
+          cond c (literal-part at)
           (operator-part L at ((child-span first (suc at) (kids (subtree-in w v n b at))) .from) (kids (subtree-in w v n b at)))
       go true e = at-literal L b ok s (eqb-true at first e)
       go false e = narrow-end h (eqb-false at first e)
@@ -380,7 +380,7 @@ module _ (L : Literals) {w v n : ℕ} (b : Bytes) (ok : Readable w v n b) {first
 -- part-at
 
 module _ (L : Literals) (first at : ℕ) (t : Tree) where
-  pub part-literal : at ≡ first → part-at L first at t ≡ record { operator = at; first = at; all = true; rows = 1 }
+  pub part-literal : at ≡ first → part-at L first at t ≡ literal-part at
   unfolding part-at
   part-literal e = rw (eq-eqb at first e)
 

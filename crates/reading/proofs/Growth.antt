@@ -6,7 +6,7 @@ use Prim.Native.Nat.{ℕ, suc, _+_, _≤_}
 use native.Mathlib.Omega.{arith}
 use lib.Dec.{eqb}
 use borrow.Author.Tests.{eq-eqb, ne-eqb, eqb-true, eqb-false}
-use Rattle.formula.specs.Tree.{Tree, lit, node, Forest, ∅, _▸_, Literals, rows, rows-all, has, has-any, some-child, keep}
+use Rattle.formula.specs.Tree.{Tree, lit, node, Forest, ∅, _▸_, Literals, rows, rows-all, has, has-any, count, some-child, keep}
 use Rattle.formula.specs.Expand.{relevant, one-relevant, all-relevant, growth, growth-below, raw-rows}
 use Rattle.sheet.proofs.Preorder.{rows-positive}
 use Rattle.reading.specs.Subtrees.{kids}
@@ -57,14 +57,15 @@ all-read L at t {kept} {end} k e =
     shape : (m : ℕ) → at + (1 + m) ≡ suc at + m
     shape m = omega arith
 
-pub operator-part-read : (L : Literals) (at : ℕ) (t : Tree) (span : Span) {child : Span} {kept end : ℕ} → child ≡ span
-    → kept ≡ rows-all (relevant L (kids t)) → end ≡ at + rows t
-    → record { operator = at; first = child .from; all = eqb (at + (1 + kept)) end; rows = 1 + kept } ≡
+pub operator-part-read : (L : Literals) (at : ℕ) (t : Tree) (span : Span) {child : Span} {kept ones end : ℕ} → child ≡ span
+    → kept ≡ rows-all (relevant L (kids t)) → ones ≡ count (relevant L (kids t)) → end ≡ at + rows t
+    → record { operator = at; first = child .from; all = eqb (at + (1 + kept)) end; rows = 1 + kept; children = ones } ≡
     operator-part L at (span .from) (kids t)
 unfolding operator-part
-operator-part-read L at t span {child} {kept} {end} c k e =
-    ap₂ (λ (s : Span) (a : Bool). record { operator = at; first = s .from; all = a; rows = 1 + kept }) c (all-read L at t k e) ∙
-    ap (λ (m : ℕ). record { operator = at; first = span .from; all = all-relevant L (kids t); rows = 1 + m }) k
+operator-part-read L at t span {child} {kept} {ones} {end} c k o e =
+    ap₂ (λ (s : Span) (a : Bool). record { operator = at; first = s .from; all = a; rows = 1 + kept; children = ones }) c
+    (all-read L at t k e) ∙
+    ap₂ (λ (m r : ℕ). record { operator = at; first = span .from; all = all-relevant L (kids t); rows = 1 + m; children = r }) k o
 
 -- growth
 
@@ -83,7 +84,13 @@ mutual
           → cond x (growth-below L ts) (cond y (1 + rows-all (relevant L ts) + 1) (1 + rows-all (relevant L ts) + 2)) ≡
           added
           (cond x (part-below L (suc i) ts)
-          (record { operator = i; first = first-row L (suc i) ts; all = y; rows = 1 + rows-all (relevant L ts) }))
+          (record {
+            operator = i;
+            first = first-row L (suc i) ts;
+            all = y;
+            rows = 1 + rows-all (relevant L ts);
+            children = count (relevant L ts);
+          }))
       go true y e = e
       go false true e = refl
       go false false e = refl
@@ -108,7 +115,7 @@ mutual
     where
       go : (x : Bool) → (part-below L (suc i) ts) .rows ≤ rows-all ts
           → (cond x (part-below L (suc i) ts)
-          (record { operator = i; first = first-row L (suc i) ts; all = all-relevant L ts; rows = 1 + rows-all (relevant L ts) })) .rows
+          (operator-part L i (first-row L (suc i) ts) ts)) .rows
           ≤ suc (rows-all ts)
       go true h = omega arith
       go false h = omega (arith, relevant-most L ts)

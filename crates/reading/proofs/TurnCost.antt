@@ -9,16 +9,18 @@ use lib.Dec.{ltb}
 use lib.ListN.{getD, drop}
 use lib.Seq.{drop-length}
 use borrow.Author.Tests.{lt-ltb, le-ltb}
-use Rattle.formula.specs.Tree.{Tree, Forest, ∅, _▸_, Literals, rows, rows-all, has, has-any, keep}
+use Rattle.formula.specs.Tree.{Tree, Forest, ∅, _▸_, Literals, rows, rows-all, has, has-any, count, keep}
 use Rattle.formula.specs.Tidy.{any, first-true}
 use Rattle.formula.specs.Settle.{is-lit}
 use Rattle.formula.specs.Expand.{relevant}
 use Rattle.sheet.specs.Format.{Bytes}
 use Rattle.sheet.specs.Sheet.{trees}
+use Rattle.sheet.proofs.Preorder.{rows-positive}
 use Rattle.reading.specs.Reading.{node-rows-in, matrix-in, Readable}
 use Rattle.reading.specs.Subtrees.{kids, forest-in, subtree-in, siblings-in, Beside}
 use Rattle.reading.specs.Cost.{hits, hits-all, child-span, Last}
 use Rattle.reading.specs.declared.cost.Span.{Span}
+use Rattle.reading.specs.declared.cost.Share.{Share}
 use Rattle.reading.proofs.Forest.{rows-kids}
 use Rattle.reading.proofs.Growth.{relevant-most}
 use Rattle.reading.proofs.Matrix.{length-nodes, trees-nodes}
@@ -136,14 +138,23 @@ span-read row c next e = e ∙ ap₂ (child-span row) next (c .are)
 
 -- relevant
 
-relevant-more : (L : Literals) (t : Tree) (ts : Forest)
-    → rows-all (relevant L (t ▸ ts)) ≡ cond (has L t) (rows t) 0 + rows-all (relevant L ts)
-unfolding relevant keep rows-all
-relevant-more L t ts = go (has L t)
+-- of a sum over the trees of a forest
+relevant-more : (L : Literals) (size : Tree → ℕ) (sum : Forest → ℕ) → ((t : Tree) (ts : Forest) → sum (t ▸ ts) ≡ size t + sum ts)
+    → (t : Tree) (ts : Forest) → sum (relevant L (t ▸ ts)) ≡ cond (has L t) (size t) 0 + sum (relevant L ts)
+unfolding relevant keep
+relevant-more L size sum more t ts = go (has L t)
   where
-    go : (c : Bool) → rows-all (cond c (t ▸ keep (has L) ts) (keep (has L) ts)) ≡ cond c (rows t) 0 + rows-all (keep (has L) ts)
-    go true = refl
+    go : (c : Bool) → sum (cond c (t ▸ keep (has L) ts) (keep (has L) ts)) ≡ cond c (size t) 0 + sum (keep (has L) ts)
+    go true = more t (keep (has L) ts)
     go false = omega arith
+
+rows-more : (t : Tree) (ts : Forest) → rows-all (t ▸ ts) ≡ rows t + rows-all ts
+unfolding rows-all
+rows-more t ts = refl
+
+count-more : (t : Tree) (ts : Forest) → count (t ▸ ts) ≡ 1 + count ts
+unfolding count
+count-more t ts = omega arith
 
 pub record Summing (L : Literals) (w v n : ℕ) (b : Bytes) (all at left sum : ℕ) : Type 0 where
   pub few : Beside w v n b at left
@@ -165,7 +176,7 @@ module _ (L : Literals) {w v n : ℕ} {b : Bytes} {ends : List ℕ} {at left : �
               arith,
               s .same,
               ap (λ ts. rows-all (relevant L ts)) (walked .split),
-              relevant-more L (subtree-in w v n b at) (siblings-in w v n b (getD ends at 0) (left - 1)),
+              relevant-more L rows rows-all rows-more (subtree-in w v n b at) (siblings-in w v n b (getD ends at 0) (left - 1)),
             );
       }
     where
@@ -180,6 +191,44 @@ pub sum-none : (L : Literals) {w v n : ℕ} {b : Bytes} {all at left sum : ℕ} 
 unfolding relevant keep rows-all
 sum-none L {w} {v} {n} {b} {all} {at} {left} {sum} h s =
     omega (arith, s .same, ap (λ ts. rows-all (keep (has L) ts)) (siblings-none w v n b at h))
+
+-- their rows and how many they are; each has a row at least
+pub record Sharing (L : Literals) (w v n : ℕ) (b : Bytes) (all ones at left : ℕ) (share : Share) : Type 0 where
+  pub summed : Summing L w v n b all at left (share .rows)
+  pub fewer : share .children ≤ share .rows
+  pub same : ones ≡ share .children + count (relevant L (siblings-in w v n b at left))
+
+pub share-on : (L : Literals) {w v n : ℕ} {b : Bytes} {ends : List ℕ} {at left : ℕ} → Walked w v n b ends at left → {all ones : ℕ}
+    {share next : Share} → Sharing L w v n b all ones at left share
+    → next .rows ≡ share .rows + cond (has L (subtree-in w v n b at)) (rows (subtree-in w v n b at)) 0
+    → next .children ≡ share .children + cond (has L (subtree-in w v n b at)) 1 0
+    → Sharing L w v n b all ones (getD ends at 0) (left - 1) next
+share-on L {w} {v} {n} {b} {ends} {at} {left} walked {all} {ones} {share} {next} s r c =
+    record {
+      summed = rw r (sum-on L walked (s .summed) refl);
+      fewer = fewer-next (has L (subtree-in w v n b at)) r c;
+      same =
+          omega (
+            arith,
+            s .same,
+            c,
+            ap (λ ts. count (relevant L ts)) (walked .split),
+            relevant-more L (λ _. 1) count count-more (subtree-in w v n b at) (siblings-in w v n b (getD ends at 0) (left - 1)),
+          );
+    }
+  where
+    fewer-next : (e : Bool) → next .rows ≡ share .rows + cond e (rows (subtree-in w v n b at)) 0
+        → next .children ≡ share .children + cond e 1 0 → next .children ≤ next .rows
+    fewer-next true r c = omega (arith, s .fewer, rows-positive (subtree-in w v n b at))
+    fewer-next false r c = omega (arith, s .fewer)
+
+pub share-none : (L : Literals) {w v n : ℕ} {b : Bytes} {all ones at left : ℕ} {share : Share} → left ≤ 0
+    → Sharing L w v n b all ones at left share → (share .rows ≡ all) × (share .children ≡ ones)
+unfolding relevant keep count
+share-none L {w} {v} {n} {b} {all} {ones} {at} {left} h s = (
+  sum-none L h (s .summed),
+  omega (arith, s .same, ap (λ ts. count (keep (has L) ts)) (siblings-none w v n b at h)),
+)
 
 -- the relevant children of the subtree at row i end within the rows
 pub kept-within : (L : Literals) {w v n : ℕ} (b : Bytes) → Readable w v n b → (i : ℕ) {kept : ℕ} → i < n

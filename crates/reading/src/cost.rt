@@ -3,7 +3,7 @@
 ghost use mathlib.Core.Path.{_≡_};
 ghost use mathlib.Core.Bool.{true, cond};
 ghost use Prim.Native.Nat.{suc, _+_, _≤_, _<_};
-ghost use Rattle.formula.specs.Tree.{of, rows, rows-all, has};
+ghost use Rattle.formula.specs.Tree.{of, rows, rows-all, has, count};
 ghost use Rattle.formula.specs.Tidy.{first-true};
 ghost use Rattle.formula.specs.Expand.{relevant, raw-rows};
 ghost use Rattle.reading.specs.Reading.{Readable, matrix-in};
@@ -15,18 +15,25 @@ use crate::literals::is_literal;
 use crate::signs::occurs;
 
 // The deepest operator above all literals of a variable, or its one literal: the node row, the row of its first relevant child, whether
-// every child is relevant, and E.
+// every child is relevant, E, and how many children are relevant, none of a literal.
 pub struct Relevant {
     pub operator: usize,
     pub first: usize,
     pub all: bool,
     pub rows: usize,
+    pub children: usize,
 }
 
 // The node rows of a subtree: its own row, and the row behind it.
 struct Span {
     from: usize,
     to: usize,
+}
+
+// The relevant ones among subtrees side by side: the rows that they have, and how many they are.
+struct Share {
+    rows: usize,
+    children: usize,
 }
 
 // The first node row that is a literal of the set, or `n`.
@@ -86,8 +93,8 @@ fn child_with(
     Span { from: at, to: at }
 }
 
-// The rows of the subtree from row `at` up to `end`, if it holds a literal of the set, else 0.
-fn rows_if_relevant(
+// The share so far with the subtree from row `at` up to `end` added, if it holds a literal of the set.
+fn with_relevant(
     b: &[u8],
     width: usize,
     v: usize,
@@ -95,40 +102,47 @@ fn rows_if_relevant(
     at: usize,
     end: usize,
     set: LiteralSet,
-) -> usize
-    requires { ⌜ Readable width v n (now b) × (at < n) × (end ≡ at + rows (subtree-in width v n (now b) at)) × (set .high ≤ 4) ⌝ }
-    ensures { λ r. ⌜ r ≡ cond (has (literals set) (subtree-in width v n (now (b .entry)) at)) (rows (subtree-in width v n (now (b .entry)) at)) 0 ⌝ }
+    share: Share,
+) -> Share
+    requires { ⌜ Readable width v n (now b) × (at < n) × (end ≡ at + rows (subtree-in width v n (now b) at)) × (set .high ≤ 4) × (share .rows ≤ at) × (share .children ≤ at) ⌝ }
+    ensures { λ r. ⌜ (r .rows ≡ share .rows + cond (has (literals set) (subtree-in width v n (now (b .entry)) at)) (rows (subtree-in width v n (now (b .entry)) at)) 0) × (r .children ≡ share .children + cond (has (literals set) (subtree-in width v n (now (b .entry)) at)) 1 0) ⌝ }
 {
     if occurs(b, width, v, n, at, end, set) {
-        return end - at;
+        return Share {
+            rows: share.rows + (end - at),
+            children: share.children + 1,
+        };
     }
-    0
+    share
 }
 
-// How many rows those of `count` subtrees side by side have that hold a literal of the set.
-fn relevant_rows(
+// Those of `children` subtrees side by side from row `from` on that hold a literal of the set.
+fn relevant_children(
     b: &[u8],
     width: usize,
     v: usize,
     n: usize,
     ends: &[u16],
     from: usize,
-    count: usize,
+    children: usize,
     set: LiteralSet,
-) -> usize
-    requires { ⌜ Readable width v n (now b) × Ends width v n (now b) (now ends) × Beside width v n (now b) from count × (from ≤ n) × (set .high ≤ 4) ⌝ }
-    ensures { λ r. ⌜ r ≡ rows-all (relevant (literals set) (siblings-in width v n (now (b .entry)) from count)) ⌝ }
+) -> Share
+    requires { ⌜ Readable width v n (now b) × Ends width v n (now b) (now ends) × Beside width v n (now b) from children × (from ≤ n) × (set .high ≤ 4) ⌝ }
+    ensures { λ r. ⌜ (r .rows ≡ rows-all (relevant (literals set) (siblings-in width v n (now (b .entry)) from children))) × (r .children ≡ count (relevant (literals set) (siblings-in width v n (now (b .entry)) from children))) ⌝ }
 {
     let mut at = from;
-    let mut left = count;
-    let mut sum = 0;
+    let mut left = children;
+    let mut share = Share {
+        rows: 0,
+        children: 0,
+    };
     while 0 < left {
         let end = ends[at] as usize;
-        sum += rows_if_relevant(b, width, v, n, at, end, set);
+        share = with_relevant(b, width, v, n, at, end, set, share);
         at = end;
         left -= 1;
     }
-    sum
+    share
 }
 
 // The child of the subtree at row `at` that has all rows from `first` to `last`, or `at` if none has.
@@ -197,13 +211,15 @@ fn operator_part(
 {
     let count = rows::children_at(b, width, v + n, v + at);
     let child = child_with(b, width, v, n, ends, at + 1, count, first);
-    let rows = 1 + relevant_rows(b, width, v, n, ends, at + 1, count, set);
+    let share = relevant_children(b, width, v, n, ends, at + 1, count, set);
+    let rows = 1 + share.rows;
     let end = ends[at] as usize;
     Relevant {
         operator: at,
         first: child.from,
         all: at + rows == end,
         rows: rows,
+        children: share.children,
     }
 }
 
@@ -228,6 +244,7 @@ pub fn relevant_part(
             first: at,
             all: true,
             rows: 1,
+            children: 0,
         };
     }
     operator_part(b, width, v, n, ends, at, first, set)

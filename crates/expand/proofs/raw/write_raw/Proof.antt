@@ -6,14 +6,12 @@ use mathlib.Core.Bool.{true, false}
 use native.Mathlib.Omega.{arith}
 use borrow.Author.Needs.{needs}
 use borrow.Author.Tests.{not-true, not-false}
-use Rattle.formula.specs.Tree.{Tree, of, has, count}
-use Rattle.formula.specs.Expand.{relevant}
+use Rattle.formula.specs.Tree.{Tree, of, has}
 use Rattle.reading.specs.Reading.{matrix-in}
-use Rattle.reading.specs.Subtrees.{kids, subtree-in}
 use Rattle.reading.specs.Cost.{relevant-part}
 use Rattle.reading.proofs.Siblings.{subtree-root, root-end}
 use Rattle.reading.proofs.Sets.{literals-of}
-use Rattle.expand.proofs.Place.{part-within, place-found}
+use Rattle.expand.proofs.Place.{place-found}
 use Rattle.expand.proofs.RawRows.{raw-expanded, rows-absent, raw-settled}
 use Rattle.expand.proofs.raw.write_raw.Statement.{statement}
 use Rattle.expand.proofs.raw.write_raw.Tie as tie
@@ -75,26 +73,15 @@ relevant-part-requires c κs =
     let a = start found in
     (a .pre .0, a .pre .2, omega arith, ap (λ L. has L (t a)) (literals-of (a .args .x)) ∙ occurring c)
 
-relevant-children-requires : tie.Need-relevant-children-requires
-relevant-children-requires c κs =
-    let a = start (c .before .before) in
-    let inside = part-within (of (a .args .x)) (a .args .b .now) (a .pre .0) (occurring (c .before)) (part c) in
-    (a .pre .0, a .pre .2, inside, omega arith)
-
 write-expanded-requires : tie.Need-write-expanded-requires
 write-expanded-requires c κs =
-    let counted = c .before in
-    let told = counted .before in
-    let a = start (told .before .before) in
-    let top = told .relevant-part .result .operator in (
+    let told = c .before in
+    let a = start (told .before .before) in (
       a .pre .0,
       a .pre .1,
       a .pre .2,
       (a .pre .3, a .pre .4),
-      place-found (a .args .b .now) (a .pre .0) (a .args .x) (occurring (told .before)) (part told)
-          (counted .relevant-children .ensures ∙
-          ap (λ L. count (relevant L (kids (subtree-in (a .args .width) (a .args .v) (a .args .n) (a .args .b .now) top))))
-          (literals-of (a .args .x))),
+      place-found (a .args .width) (a .args .v) (a .args .n) (a .args .b .now) (a .args .x) (occurring (told .before)) (part told),
       a .pre .5,
       a .pre .6,
       a .pre .7,
@@ -106,7 +93,7 @@ same-length-2 c = search needs
 returns-2 : tie.Need-returns-2
 returns-2 c =
     let written = c .before .before in
-    let a = start (written .before .before .before .before .before) in
+    let a = start (written .before .before .before .before) in
     rw (raw-expanded (a .args .width) (a .args .v) (a .args .n) (a .args .b .now) (a .args .x)) (written .write-expanded .ensures)
 
 pub write-raw-spec : {M : Type 1} → statement M
@@ -118,7 +105,6 @@ write-raw-spec =
     same-length
     returns
     relevant-part-requires
-    relevant-children-requires
     write-expanded-requires
     same-length-2
     returns-2)

@@ -1,10 +1,10 @@
 -- `reading::cost::operator_part` meets its contract. Assumes nothing.
 use mathlib.Core.Path.{_≡_, ap, _∙_}
-use Prim.Native.Nat.{_+_, _≤_}
+use Prim.Native.Nat.{ℕ, _+_, _≤_}
 use native.Mathlib.Omega.{arith}
-use Rattle.formula.specs.Tree.{rows-all}
+use Rattle.formula.specs.Tree.{Forest, rows-all, count}
 use Rattle.formula.specs.Expand.{relevant}
-use Rattle.reading.specs.Subtrees.{kids, subtree-in, literals}
+use Rattle.reading.specs.Subtrees.{kids, subtree-in, siblings-in, literals}
 use Rattle.reading.proofs.Siblings.{Children, children-read, end-subtree}
 use Rattle.reading.proofs.TurnCost.{span-read, kept-within}
 use Rattle.reading.proofs.Growth.{operator-part-read}
@@ -30,16 +30,24 @@ children c =
     let a = c .before .before .before in
     children-read (a .args .b .now) (a .pre .0) (a .args .at) (a .pre .2) (omega arith) (c .children-at .ensures .0)
 
-kept : (c : tie.After-relevant-rows) →
-    let a = c .before .before .before .before .before .args in
-    c .relevant-rows .result ≡
-    rows-all (relevant (literals (a .set)) (kids (subtree-in (a .width) (a .v) (a .n) (a .b .now) (a .at))))
-kept c =
+-- the relevant children, by a sum over them
+of-children : (c : tie.After-relevant-children) (sum : Forest → ℕ) →
+    let counted = c .before .before in
+    let a = counted .before .before .before .args in
+    sum (relevant (literals (a .set)) (siblings-in (a .width) (a .v) (a .n) (a .b .now) (a .at + 1) (counted .children-at .result))) ≡
+    sum (relevant (literals (a .set)) (kids (subtree-in (a .width) (a .v) (a .n) (a .b .now) (a .at))))
+of-children c sum =
     let a = c .before .before .before .before .before in
-    c .relevant-rows .ensures ∙ ap (λ ts. rows-all (relevant (literals (a .args .set)) ts)) (children (c .before .before) .are)
+    ap (λ ts. sum (relevant (literals (a .args .set)) ts)) (children (c .before .before) .are)
 
-within : (c : tie.After-relevant-rows) →
-    let a = c .before .before .before .before .before .args in a .at + (1 + c .relevant-rows .result) ≤ a .n
+kept : (c : tie.After-relevant-children) →
+    let a = c .before .before .before .before .before .args in
+    c .relevant-children .result .rows ≡
+    rows-all (relevant (literals (a .set)) (kids (subtree-in (a .width) (a .v) (a .n) (a .b .now) (a .at))))
+kept c = c .relevant-children .ensures .0 ∙ of-children c rows-all
+
+within : (c : tie.After-relevant-children) →
+    let a = c .before .before .before .before .before .args in a .at + (1 + c .relevant-children .result .rows) ≤ a .n
 within c =
     let a = c .before .before .before .before .before in
     kept-within (literals (a .args .set)) (a .args .b .now) (a .pre .0) (a .args .at) (a .pre .2) (kept c)
@@ -49,16 +57,16 @@ child-with-requires c κs =
     let a = c .before .before .before in
     (a .pre .0, a .pre .1, children c .few)
 
-add-relevant-rows : tie.Need-add-relevant-rows
-add-relevant-rows c = omega arith
+add-relevant-children : tie.Need-add-relevant-children
+add-relevant-children c = omega arith
 
-relevant-rows-requires : tie.Need-relevant-rows-requires
-relevant-rows-requires c κs =
+relevant-children-requires : tie.Need-relevant-children-requires
+relevant-children-requires c κs =
     let a = c .before .before .before .before in
     (a .pre .0, a .pre .1, children (c .before) .few, omega (arith, a .pre .2), a .pre .3)
 
 add-rows : tie.Need-add-rows
-add-rows c = omega (arith, within c, c .before .before .before .before .before .pre .0 .few-nodes)
+add-rows c = omega (arith, within (c .before), c .before .before .before .before .before .before .pre .0 .few-nodes)
 
 mul-end : tie.Need-mul-end
 mul-end c = omega arith
@@ -67,16 +75,20 @@ shared-slice-read-end : tie.Need-shared-slice-read-end
 shared-slice-read-end c = omega arith
 
 cast-end : tie.Need-cast-end
-cast-end c = omega (arith, c .shared-slice-known3 .given (c .before .before .before .before .before .before .args .at))
+cast-end c = omega (arith, c .shared-slice-known3 .given (c .before .before .before .before .before .before .before .args .at))
 
-add-t13 : tie.Need-add-t13
-add-t13 c = omega (arith, within (c .before), c .before .before .before .before .before .before .pre .0 .few-nodes)
+add-t15 : tie.Need-add-t15
+add-t15 c = omega (arith, within (c .before .before), c .before .before .before .before .before .before .before .pre .0 .few-nodes)
 
 returns : tie.Need-returns
 returns c =
-    let a = c .before .before .before .before .before .before in
-    operator-part-read (literals (a .args .set)) (a .args .at) (subtree-in (a .args .width) (a .args .v) (a .args .n) (a .args .b .now) (a .args .at)) _
-    (span-read (a .args .first) (children (c .before .before .before)) (omega arith) (c .before .before .child-with .ensures)) (kept (c .before))
+    let counted = c .before .before in
+    let found = counted .before in
+    let a = found .before .before .before .before in
+    operator-part-read (literals (a .args .set)) (a .args .at)
+    (subtree-in (a .args .width) (a .args .v) (a .args .n) (a .args .b .now) (a .args .at)) _
+    (span-read (a .args .first) (children (found .before)) (omega arith) (found .child-with .ensures)) (kept counted)
+    (counted .relevant-children .ensures .1 ∙ of-children counted count)
     (end-subtree (a .args .b .now) (a .pre .0) (a .args .ends .now) (a .pre .1) (a .args .at) (a .pre .2))
 
 pub operator-part-spec : {M : Type 1} → statement M
@@ -88,11 +100,11 @@ operator-part-spec =
     children-at-requires
     add-child-with
     child-with-requires
-    add-relevant-rows
-    relevant-rows-requires
+    add-relevant-children
+    relevant-children-requires
     add-rows
     mul-end
     shared-slice-read-end
     cast-end
-    add-t13
+    add-t15
     returns)

@@ -1,24 +1,29 @@
--- `reading::cost::relevant_rows` meets its contract: the sum so far and what is left make the whole. Assumes nothing.
+-- `reading::cost::relevant_children` meets its contract: the share so far and what is left make the whole. Assumes nothing.
 use native.Mathlib.Omega.{arith}
-use Rattle.formula.specs.Tree.{rows-all}
+use Rattle.formula.specs.Tree.{rows-all, count}
 use Rattle.formula.specs.Expand.{relevant}
 use Rattle.reading.specs.Subtrees.{siblings-in, literals}
 use Rattle.reading.proofs.Siblings.{Walked, walk-on}
-use Rattle.reading.proofs.TurnCost.{Summing, sum-on, sum-fits, sum-none}
-use Rattle.reading.proofs.cost.relevant_rows.Statement.{statement}
-use Rattle.reading.proofs.cost.relevant_rows.Tie as tie
+use Rattle.reading.proofs.TurnCost.{Sharing, share-on, share-none}
+use Rattle.reading.proofs.cost.relevant_children.Statement.{statement}
+use Rattle.reading.proofs.cost.relevant_children.Tie as tie
 
 abbrev Inv-loop : tie.InvT-loop
-Inv-loop b width v n ends from count set at₀ left₀ sum₀ at left sum =
-    Summing (literals set) width v n b (rows-all (relevant (literals set) (siblings-in width v n b from count))) at left sum
+Inv-loop b width v n ends from children set at₀ left₀ share₀ at left share =
+    Sharing (literals set) width v n b (rows-all (relevant (literals set) (siblings-in width v n b from children)))
+    (count (relevant (literals set) (siblings-in width v n b from children))) at left share
 
 abbrev μ-loop : tie.MeasureT-loop
-μ-loop b width v n ends from count set at₀ left₀ sum₀ at left sum = left
+μ-loop b width v n ends from children set at₀ left₀ share₀ at left share = left
 
 loop-holds : tie.Need-loop-holds Inv-loop μ-loop
 loop-holds c =
     let a = c .before .before in
-    record { few = a .pre .2; within = a .pre .3; small = omega arith; same = omega arith }
+    record {
+      summed = record { few = a .pre .2; within = a .pre .3; small = omega arith; same = omega arith };
+      fewer = omega arith;
+      same = omega arith;
+    }
 
 walked : (c : tie.In-loop Inv-loop μ-loop) →
     let a = c .before .before .before .before .args in
@@ -26,10 +31,10 @@ walked : (c : tie.In-loop Inv-loop μ-loop) →
 walked c =
     let a = c .before .before .before .before in
     walk-on (a .args .b .now) (a .pre .0) (a .args .ends .now) (a .pre .1) (c .before .loop .at) (c .loop-test .taken)
-    (c .before .loop .inv .few)
+    (c .before .loop .inv .summed .few)
 
 mul-end : tie.Need-mul-end Inv-loop μ-loop
-mul-end c = omega (arith, c .before .loop .inv .within, c .before .before .before .before .pre .0 .few-nodes)
+mul-end c = omega (arith, c .before .loop .inv .summed .within, c .before .before .before .before .pre .0 .few-nodes)
 
 shared-slice-read-end : tie.Need-shared-slice-read-end Inv-loop μ-loop
 shared-slice-read-end c = let w = walked (c .before) in omega (arith, c .before .before .before .before .before .pre .1 .holds)
@@ -37,21 +42,12 @@ shared-slice-read-end c = let w = walked (c .before) in omega (arith, c .before 
 cast-end : tie.Need-cast-end Inv-loop μ-loop
 cast-end c = omega (arith, c .shared-slice-known3 .given (c .before .before .loop .at))
 
-rows-if-relevant-requires : tie.Need-rows-if-relevant-requires Inv-loop μ-loop
-rows-if-relevant-requires c κs =
+with-relevant-requires : tie.Need-with-relevant-requires Inv-loop μ-loop
+with-relevant-requires c κs =
     let a = c .before .before .before .before .before in
     let w = walked (c .before) in
-    (a .pre .0, w .inside, w .next, a .pre .4)
-
-add-sum : tie.Need-add-sum Inv-loop μ-loop
-add-sum c =
-    let head = c .before .before .before in
-    let a = head .before .before .before in
-    omega (
-      arith,
-      sum-fits (literals (a .args .set)) (walked (c .before .before)) (head .loop .inv) (c .rows-if-relevant .ensures),
-      a .pre .0 .few-nodes,
-    )
+    let s = c .before .before .loop .inv in
+    (a .pre .0, w .inside, w .next, a .pre .4, s .summed .small, omega (arith, s .fewer, s .summed .small))
 
 sub-left : tie.Need-sub-left Inv-loop μ-loop
 sub-left c = omega arith
@@ -63,13 +59,14 @@ loop-again : tie.Need-loop-again Inv-loop μ-loop
 loop-again c =
     let head = c .before .before .before in
     let a = head .before .before .before in
-    sum-on (literals (a .args .set)) (walked (c .before .before)) (head .loop .inv) (c .rows-if-relevant .ensures)
+    share-on (literals (a .args .set)) (walked (c .before .before)) (head .loop .inv) (c .with-relevant .ensures .0)
+    (c .with-relevant .ensures .1)
 
 returns : tie.Need-returns Inv-loop μ-loop
-returns c = sum-none (literals (c .before .before .before .before .args .set)) (c .loop-test .left) (c .before .loop .inv)
+returns c = share-none (literals (c .before .before .before .before .args .set)) (c .loop-test .left) (c .before .loop .inv)
 
-pub relevant-rows-spec : {M : Type 1} → statement M
-relevant-rows-spec =
+pub relevant-children-spec : {M : Type 1} → statement M
+relevant-children-spec =
     tie.close
     (tie.spec
     Inv-loop
@@ -78,8 +75,7 @@ relevant-rows-spec =
     mul-end
     shared-slice-read-end
     cast-end
-    rows-if-relevant-requires
-    add-sum
+    with-relevant-requires
     sub-left
     loop-less
     loop-again
