@@ -192,7 +192,7 @@ unfolding relevant keep rows-all
 sum-none L {w} {v} {n} {b} {all} {at} {left} {sum} h s =
     omega (arith, s .same, ap (λ ts. rows-all (keep (has L) ts)) (siblings-none w v n b at h))
 
--- their rows and how many they are; each has a row at least
+-- the rows of the relevant ones and how many they are; each has a row at least
 pub record Sharing (L : Literals) (w v n : ℕ) (b : Bytes) (all ones at left : ℕ) (share : Share) : Type 0 where
   pub summed : Summing L w v n b all at left (share .rows)
   pub fewer : share .children ≤ share .rows
