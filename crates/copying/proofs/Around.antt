@@ -5,8 +5,7 @@ use mathlib.Core.Bool.{Bool, true, false, cond}
 use mathlib.Core.List.{List, [], _∷_, _++_, append-nil, append-assoc, map}
 use Prim.Native.Nat.{ℕ, suc, _+_}
 use native.Mathlib.Nat.{add-zero, add-suc, suc-add, add-assoc}
-use lib.ListN.{length, take, drop, length-append}
-use lib.Seq.{take-at, drop-at, drop-drop}
+use lib.ListN.{length, length-append}
 use Rattle.formula.specs.Tree.{Op, Quantifier, Tree, lit, node, Forest, ∅, _▸_, Literals, of, rows, rows-all, has, has-any, count, keep}
 use Rattle.formula.specs.Expand.{Copying, copying, one-relevant, all-relevant, relevant, copies, at-first, expand-tree, expand-below}
 use Rattle.formula.proofs.Expand.{one-first, one-later, one-counts, no-child}
@@ -180,29 +179,3 @@ module _ (q : Quantifier) (x : ℕ) where
             (cond m (ancestor-row L t) (rows t + row-below L ts)) (cond m (ancestor L t) (ancestor-below L ts))
         by true e in-t in-ts = first i t ts (one-first L t ts h e) (in-t e)
         by false e in-t in-ts = later i t ts e (in-ts (one-later L t ts h e))
-
--- the raw tree's rows: those before the ancestor, the ancestor's own raw rows, and those behind it
-pub rows-expand-tree : (q : Quantifier) (x : ℕ) (t : Tree) → has (of x) t ≡ true
-    → tree-rows (expand-tree (copying q x) t) ≡
-    take (ancestor-row (of x) t) (tree-rows t) ++
-    (tree-rows (expand-tree (copying q x) (ancestor (of x) t)) ++
-    drop (ancestor-row (of x) t + rows (ancestor (of x) t)) (tree-rows t))
-rows-expand-tree q x t h = a .in-raw ∙ ap₂ (λ l m. l ++ (tree-rows (expand-tree (copying q x) u) ++ m)) (sym before) (sym behind)
-  where
-    k : ℕ
-    k = ancestor-row (of x) t
-
-    u : Tree
-    u = ancestor (of x) t
-
-    a : Around q x 0 (tree-rows t) (tree-rows (expand-tree (copying q x) t)) (subtree-ends 0 t) k u
-    a = around q x 0 t h
-
-    before : take k (tree-rows t) ≡ a .front
-    before = ap (take k) (a .in-rows) ∙ take-at (a .front) (tree-rows u ++ a .back) k (a .length-front)
-
-    behind : drop (k + rows u) (tree-rows t) ≡ a .back
-    behind =
-        sym (drop-drop (rows u) k (tree-rows t)) ∙
-        ap (drop (rows u)) (ap (drop k) (a .in-rows) ∙ drop-at (a .front) (tree-rows u ++ a .back) k (a .length-front)) ∙
-        drop-at (tree-rows u) (a .back) (rows u) (length-tree-rows u)

@@ -8,7 +8,6 @@ pub mod Hits
 pub mod Places
 pub mod Tidiness
 pub mod Growth
-pub mod Around
 pub mod Accepted
 mod TurnLiterals
 mod TurnFaults
