@@ -9,4 +9,5 @@ pub mod Closed
 pub mod Steps
 pub mod Choice
 pub mod Solve
+pub mod Longer
 pub mod Trial

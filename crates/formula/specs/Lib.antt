@@ -5,4 +5,5 @@ pub mod Tidy
 pub mod Settle
 pub mod Expand
 pub mod Solve
+pub mod Trace
 pub mod Trial
