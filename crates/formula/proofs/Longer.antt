@@ -8,9 +8,8 @@ use mathlib.Core.Option.{Option, none, some}
 use Prim.Native.Nat.{ℕ, zero, suc, _≤_}
 use native.Mathlib.Omega.{arith}
 use Rattle.formula.specs.Tree.{Formula}
-use Rattle.formula.specs.Tidy.{verdict}
 use Rattle.formula.specs.Expand.{expanded}
-use Rattle.formula.specs.Solve.{lowest, cheapest, State, ended, stopped, Step, halt, next, Fits, fits-raw, expand-step, undecided-step, step-by, step, Run, go-on, run, solve}
+use Rattle.formula.specs.Solve.{cheapest, State, ended, stopped, Step, halt, next, Fits, fits-raw, expand-step, undecided-step, step-by, step, Run, go-on, run, solve}
 use Rattle.formula.specs.Trace.{Looser, onward, trace, solve-trace}
 
 -- the last state of a trace is the one that the run reaches
@@ -59,17 +58,19 @@ module _ (fits fits′ : Fits) (looser : Looser fits fits′) where
       by true m′ h = inl (ap (λ (b : Bool). cond b made (halt (stopped x))) (h refl))
       by false m′ h = inr (x, refl)
 
-  pub step-follows : (s : State) → (step fits′ s ≡ step fits s) ⊎ ((x : ℕ) × (step fits s ≡ halt (stopped x)))
-  unfolding step step-by undecided-step Follows
-  step-follows s = by (verdict ((s .formula) .matrix))
-    where
-      undecided : (o : Option ℕ) → Follows (undecided-step fits s o) (undecided-step fits′ s o)
-      undecided none = expand-follows s (cheapest (s .formula))
-      undecided (some x) = inl refl
+  undecided-follows : (s : State) (o : Option ℕ) → Follows (undecided-step fits s o) (undecided-step fits′ s o)
+  unfolding undecided-step Follows
+  undecided-follows s none = expand-follows s (cheapest (s .formula))
+  undecided-follows s (some x) = inl refl
 
-      by : (o : Option Bool) → Follows (step-by fits s o) (step-by fits′ s o)
-      by (some v) = inl refl
-      by none = undecided (lowest (s .formula))
+  by-follows : (s : State) (o : Option Bool) → Follows (step-by fits s o) (step-by fits′ s o)
+  unfolding step-by Follows
+  by-follows s (some v) = inl refl
+  by-follows s none = undecided-follows s _
+
+  pub step-follows : (s : State) → (step fits′ s ≡ step fits s) ⊎ ((x : ℕ) × (step fits s ≡ halt (stopped x)))
+  unfolding step Follows
+  step-follows s = by-follows s _
 
   pub run-longer : (n m : ℕ) → n ≤ m → (s : State) → Longer (run fits n s) (run fits′ m s) (trace fits n s) (trace fits′ m s)
   unfolding run go-on trace onward

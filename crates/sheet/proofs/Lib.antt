@@ -11,3 +11,4 @@ pub mod Starred
 pub mod Calls
 pub mod Verdicts
 pub mod Refusals
+pub mod Longer

@@ -3,4 +3,5 @@ pub mod Format
 pub mod Sheet
 pub mod Check
 pub mod Operations
+pub mod Trace
 pub mod Calls
