@@ -1,17 +1,26 @@
--- Demand 2 of the code's own answer: Solve says true only for a sheet that is true, and false only for one that isn't.
+-- What the code's own answers can be relied on for: Solve says true only for a sheet that is true, and false only for one that isn't
+-- (demand 2); and with longer buffers it says the same.
 -- Assumes nothing.
-use mathlib.Core.Path.{_≡_, sym, ap, _∙_}
-use mathlib.Core.Bool.{true, false}
-use Prim.Native.Nat.{ℕ}
+use mathlib.Core.Path.{_≡_, refl, sym, ap, _∙_}
+use mathlib.Core.Bool.{true, false, true≢false}
+use mathlib.Core.List.{IsPrefix, getLast?}
+use mathlib.Core.Option.{some}
+use Prim.Native.Nat.{ℕ, _≤_}
+use native.Mathlib.Omega.{arith}
+use lib.ListN.{length}
+use Rattle.formula.specs.Tree.{Formula}
 use Rattle.formula.specs.Truth.{truth}
+use Rattle.formula.specs.Solve.{State, ended as run-ended, stopped as run-stopped}
 use Rattle.sheet.specs.Format.{Bytes, narrow}
-use Rattle.sheet.specs.Sheet.{formula}
-use Rattle.sheet.specs.Operations.{solve-call}
+use Rattle.sheet.specs.Sheet.{formula, sheet as sheet-of}
+use Rattle.sheet.specs.Operations.{padded, is-refused, is-stopped, is-ended, solved, solve-call}
+use Rattle.sheet.specs.Trace.{solve-states}
 use Rattle.sheet.proofs.Verdicts.{solve-ended}
+use Rattle.sheet.proofs.Longer.{Shows, no-state, last-state, solve-shows, Longer, longer-buffers, both-ended}
 use Rattle.solve.specs.declared.Verdict.{Verdict}
 use Rattle.solve.specs.declared.Verdict.the-variants.{True, False}
 use Rattle.solve.specs.declared.Solved.{Solved}
-use Rattle.solve.specs.declared.Solved.the-variants.{Ended}
+use Rattle.solve.specs.declared.Solved.the-variants.{Refused, Stopped, Ended}
 use Rattle.solve.specs.Answers.{verdict-of, solved-answer}
 
 -- an answer r of the call solve(sheet, first, second), as its contract has it
@@ -25,3 +34,87 @@ module _ (sheet first second : Bytes) (r : Solved) (contract : solved-answer r �
 
   pub false-only-if-false : {settled expanded : ℕ} → r ≡ Ended False settled expanded → truth (formula narrow sheet) ≡ false
   false-only-if-false e = ended e
+
+  -- a stop: the last of the states, which the answer shows, and what the first buffer then holds
+  module _ (held : Bytes) (holds : held ≡ (solve-call narrow sheet first second) .first) where
+    pub record Stop (settled expanded : ℕ) : Type 0 where
+      pub state : State
+      pub is-last : getLast? (solve-states narrow sheet first second) ≡ some state
+      pub its-settled : state .settles ≡ settled
+      pub its-expanded : state .expands ≡ expanded
+      pub its-sheet : held ≡ padded (length first) (sheet-of narrow (state .formula))
+
+    pub stop-shown : {x settled expanded : ℕ} → r ≡ Stopped x settled expanded → Stop settled expanded
+    unfolding solved
+    stop-shown {x} {settled} {expanded} e = by (solve-shows narrow sheet first second)
+      where
+        told : is-stopped x settled expanded ≡ (solve-call narrow sheet first second) .answer
+        told = ap solved-answer (sym e) ∙ contract
+
+        by : Shows narrow sheet first second → Stop settled expanded
+        by (no-state n i a l) = let k = told ∙ a in let z : _≡_ {A = ℕ} 0 1 = cc in absurd (omega arith)
+        by (last-state (run-ended v) s a h l) = let k = told ∙ a in let z : _≡_ {A = ℕ} 0 1 = cc in absurd (omega arith)
+        by (last-state (run-stopped y) s a h l) =
+            let k = told ∙ a in
+            record { state = s; is-last = l; its-settled = cc; its-expanded = cc; its-sheet = holds ∙ h }
+
+-- an answer is known by its words
+
+verdict-known : (v w : Verdict) → verdict-of v ≡ verdict-of w → v ≡ w
+verdict-known True True e = refl
+verdict-known True False e = absurd (true≢false e)
+verdict-known False True e = absurd (true≢false (sym e))
+verdict-known False False e = refl
+
+ended-known : (r : Solved) (v : Verdict) (settled expanded : ℕ) → solved-answer r ≡ is-ended (verdict-of v) settled expanded
+    → r ≡ Ended v settled expanded
+ended-known (Refused n i) v settled expanded e = let z : _≡_ {A = ℕ} 0 1 = cc in absurd (omega arith)
+ended-known (Stopped x n m) v settled expanded e = let z : _≡_ {A = ℕ} 0 1 = cc in absurd (omega arith)
+ended-known (Ended w n m) v settled expanded e =
+    let same : verdict-of w ≡ verdict-of v = cc in
+    let k = verdict-known w v same in
+    cc
+
+refused-known : (r : Solved) (n i : ℕ) → solved-answer r ≡ is-refused n i → r ≡ Refused n i
+refused-known (Refused m j) n i e = cc
+refused-known (Stopped x s t) n i e = let z : _≡_ {A = ℕ} 0 1 = cc in absurd (omega arith)
+refused-known (Ended w s t) n i e = let z : _≡_ {A = ℕ} 0 1 = cc in absurd (omega arith)
+
+-- answers r and r′ of the calls solve(sheet, first, second) and solve(sheet, first′, second′), as their contracts have them
+module _ (sheet first second first′ second′ : Bytes) (r r′ : Solved)
+    (contract : solved-answer r ≡ (solve-call narrow sheet first second) .answer)
+    (contract′ : solved-answer r′ ≡ (solve-call narrow sheet first′ second′) .answer) where
+  -- whichever buffers they have, two verdicts are the same one, with the same counts
+  pub one-word : {v v′ : Verdict} {settled settled′ expanded expanded′ : ℕ} → r ≡ Ended v settled expanded → r′ ≡ Ended v′ settled′ expanded′
+      → r ≡ r′
+  one-word {v} {v′} {settled} {settled′} {expanded} {expanded′} e e′ =
+      let same = both-ended narrow sheet first second first′ second′ (sym contract ∙ ap solved-answer e) (sym contract′ ∙ ap solved-answer e′) in
+      e ∙ sym (ended-known r′ v settled expanded (ap solved-answer e′ ∙ sym same))
+
+  module _ (longer : length first ≤ length first′) (longer′ : length second ≤ length second′) where
+    both : Longer narrow sheet first second first′ second′
+    both = longer-buffers narrow sheet first second first′ second′ longer longer′
+
+    -- a verdict stays, with its counts, and the same sheet is reached
+    pub verdict-stays : {v : Verdict} {settled expanded : ℕ} → r ≡ Ended v settled expanded → r′ ≡ Ended v settled expanded
+    verdict-stays {v} {settled} {expanded} e =
+        ended-known r′ v settled expanded
+        (contract′ ∙ both .on-ended (verdict-of v) settled expanded (sym contract ∙ ap solved-answer e) .same-answer)
+
+    pub sheet-stays : (held held′ : Bytes) → held ≡ (solve-call narrow sheet first second) .first
+        → held′ ≡ (solve-call narrow sheet first′ second′) .first → {v : Verdict} {settled expanded : ℕ} → r ≡ Ended v settled expanded
+        → (f : Formula) × (held ≡ padded (length first) (sheet-of narrow f)) × (held′ ≡ padded (length first′) (sheet-of narrow f))
+    sheet-stays held held′ holds holds′ {v} {settled} {expanded} e =
+        let same = both .on-ended (verdict-of v) settled expanded (sym contract ∙ ap solved-answer e) in
+        (same .reached, holds ∙ same .in-first, holds′ ∙ same .in-first′)
+
+    -- the second call makes exactly the first one's steps first
+    pub steps-first : IsPrefix (solve-states narrow sheet first second) (solve-states narrow sheet first′ second′)
+    steps-first = both .begins
+
+    -- refusals 1 to 8 stay; a refusal was one before, so no answer turns into one
+    pub refusal-stays : {n i : ℕ} → r ≡ Refused n i → (n ≡ 13 → ⊥) → r′ ≡ Refused n i
+    refusal-stays {n} {i} e k = refused-known r′ n i (contract′ ∙ both .on-refused n i (sym contract ∙ ap solved-answer e) k)
+
+    pub refusal-was : {n i : ℕ} → r′ ≡ Refused n i → r ≡ Refused n i
+    refusal-was {n} {i} e = refused-known r n i (contract ∙ both .was-refused n i (sym contract′ ∙ ap solved-answer e))
