@@ -2,3 +2,5 @@ pub mod Rows
 mod Turn
 mod Stores
 pub mod Sealing
+pub mod Layouts
+pub mod Lengths

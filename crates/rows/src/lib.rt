@@ -7,13 +7,41 @@ ghost use Rattle.rows.specs.Rows.{rows-in, Room};
 ghost use Rattle.rows.specs.Formats.{format-of};
 
 pub mod edit;
+pub mod fit;
+pub mod read;
 pub mod seal;
+pub mod write;
+
+// Kinds of rows: 1 exists, 2 for all, 3 a variable, 4 its negation, 5 AND, 6 OR.
+pub const EXISTS: u8 = 1;
+
+pub const FOR_ALL: u8 = 2;
+
+pub const POSITIVE: u8 = 3;
+
+pub const NEGATIVE: u8 = 4;
+
+pub const AND: u8 = 5;
+
+pub const OR: u8 = 6;
+
+// Entries of a table by node row and of one by variable number, enough for the wider format: 8,192 rows, numbers 0 to 1,024.
+pub const ROWS: usize = 8192;
+
+pub const NUMBERS: usize = 1025;
 
 // Bytes to a number, most variables (and the highest variable number), most nodes.
 pub struct Format {
     pub width: usize,
     pub most_variables: usize,
     pub most_nodes: usize,
+}
+
+// How a sheet's rows lie in its bytes: bytes to a number, variables, nodes.
+pub struct Layout {
+    pub width: usize,
+    pub variables: usize,
+    pub nodes: usize,
 }
 
 // The format of document 01's own sheets: 16 bits, 256 variables, 4,096 nodes.
