@@ -3,4 +3,5 @@ mod Turn
 mod Stores
 pub mod Sealing
 pub mod Layouts
+pub mod Formulas
 pub mod Lengths

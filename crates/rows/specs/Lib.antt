@@ -2,3 +2,4 @@
 pub mod Rows
 pub mod Formats
 pub mod Layouts
+pub mod Formulas

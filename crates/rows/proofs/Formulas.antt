@@ -1,0 +1,102 @@
+-- Formulas read where they lie: a sheet's own, and one whose rows have been written.
+-- Assumes nothing.
+use mathlib.Core.Path.{_≡_, sym, ap, ap₂, _∙_}
+use mathlib.Core.Bool.{true}
+use mathlib.Core.List.{[], _++_, map, append-nil}
+use Prim.Native.Nat.{ℕ, _+_, _≤_}
+use native.Mathlib.Omega.{arith}
+use lib.ListN.{length, getD, take, drop, length-drop, length-map, take-append-drop}
+use lib.Seq.{getD-drop, take-at, drop-at, length-take-le}
+use Rattle.formula.specs.Tree.{Tree, Prefix, Formula, rows}
+use Rattle.sheet.specs.Format.{Bytes, Format, row, sheet-length, variables, all-rows, prefix-rows, node-rows}
+use Rattle.sheet.specs.Sheet.{binding, binding-row, trees, root, tree-rows, formula-rows, formula}
+use Rattle.sheet.specs.Check.{passes, check-tests}
+use Rattle.sheet.proofs.Preorder.{length-tree-rows, trees-tree}
+use Rattle.sheet.proofs.CheckTests.{passed, passed-sizes, passed-quantifiers, map-binding-row}
+use Rattle.sheet.proofs.Accepted.{accepted-length, rows-matrix}
+use Rattle.rows.specs.Layouts.{total, rows-in}
+use Rattle.rows.specs.Formulas.{prefix-in, node-rows-in, matrix-in, formula-in, Readable, layout-of}
+use Rattle.rows.specs.declared.Layout.{Layout}
+use Rattle.rows.proofs.Layouts.{all-rows-in, length-rows-in}
+
+-- the formula of a sheet
+pub formula-read : (F : Format) (b : Bytes) → formula-in (layout-of F b) b ≡ formula F b
+unfolding formula-in prefix-in matrix-in node-rows-in formula prefix-rows node-rows
+formula-read F b = rw (all-rows-in F b)
+
+-- a node row by its number among all rows
+pub node-row : (s : Layout) (b : Bytes) (i : ℕ) → getD (rows-in s b) (s .variables + i) (row 0 0) ≡ getD (node-rows-in s b) i (row 0 0)
+unfolding node-rows-in
+node-row s b i = sym (getD-drop (s .variables) (rows-in s b) i (row 0 0))
+
+module _ {s : Layout} (b : Bytes) (ok : Readable s b) where
+  pub length-nodes : length (node-rows-in s b) ≡ s .nodes
+  unfolding node-rows-in
+  length-nodes = omega (arith, length-drop (s .variables) (rows-in s b), length-rows-in b (ok .room))
+
+  prefix-bound : length (take (s .variables) (rows-in s b)) ≡ s .variables
+  prefix-bound = length-take-le (s .variables) (rows-in s b) (omega (arith, length-rows-in b (ok .room)))
+
+  pub length-prefix : length (prefix-in s b) ≡ s .variables
+  unfolding prefix-in
+  length-prefix = length-map (take (s .variables) (rows-in s b)) binding ∙ prefix-bound
+
+  length-bound : length (map binding-row (prefix-in s b)) ≡ s .variables
+  length-bound = length-map (prefix-in s b) binding-row ∙ length-prefix
+
+  -- the first rows are quantifiers, and those behind them the nodes of one tree
+  pub quantifiers : map binding-row (prefix-in s b) ≡ take (s .variables) (rows-in s b)
+  unfolding formula-rows formula-in
+  quantifiers =
+      sym (take-at (map binding-row (prefix-in s b)) (tree-rows (matrix-in s b)) (s .variables) length-bound) ∙
+      ap (take (s .variables)) (ok .is-formula)
+
+  pub one-tree : tree-rows (matrix-in s b) ≡ node-rows-in s b
+  unfolding formula-rows formula-in node-rows-in
+  one-tree =
+      sym (drop-at (map binding-row (prefix-in s b)) (tree-rows (matrix-in s b)) (s .variables) length-bound) ∙
+      ap (drop (s .variables)) (ok .is-formula)
+
+  pub rows-nodes : rows (matrix-in s b) ≡ s .nodes
+  rows-nodes = sym (length-tree-rows (matrix-in s b)) ∙ ap length one-tree ∙ length-nodes
+
+-- rows that have been written: a formula's rows are read as that formula
+module _ (s : Layout) (b : Bytes) (g : Formula) (is : rows-in s b ≡ formula-rows g) (vs : length (g .prefix) ≡ s .variables) where
+  counted : length (map binding-row (g .prefix)) ≡ s .variables
+  counted = length-map (g .prefix) binding-row ∙ vs
+
+  pub formula-written : formula-in s b ≡ g
+  unfolding formula-in prefix-in matrix-in node-rows-in formula-rows root
+  formula-written =
+      ap₂ (λ (p : Prefix) (t : Tree). record { prefix = p; matrix = t })
+      (ap (λ rs. map binding (take (s .variables) rs)) is ∙
+      ap (map binding) (take-at (map binding-row (g .prefix)) (tree-rows (g .matrix)) (s .variables) counted) ∙
+      map-binding-row (g .prefix))
+      (ap (λ rs. root (trees (drop (s .variables) rs))) is ∙
+      ap (λ rs. root (trees rs)) (drop-at (map binding-row (g .prefix)) (tree-rows (g .matrix)) (s .variables) counted) ∙
+      ap (λ rs. root (trees rs)) (sym (append-nil (tree-rows (g .matrix)))) ∙ ap root (trees-tree (g .matrix) []))
+
+  pub written-is-formula : formula-rows (formula-in s b) ≡ rows-in s b
+  written-is-formula = ap formula-rows formula-written ∙ sym is
+
+-- a sheet that Check accepts is readable
+module _ (F : Format) (b : Bytes) (h : passes (check-tests F b) ≡ true) where
+  pub rows-accepted : formula-rows (formula F b) ≡ all-rows F b
+  unfolding formula-rows formula prefix-rows node-rows
+  rows-accepted =
+      ap₂ _++_ (passed-quantifiers F (prefix-rows F b) (passed F b h .quantifiers) .rows-of-prefix) (rows-matrix F b h) ∙ halves
+    where
+      halves : prefix-rows F b ++ node-rows F b ≡ all-rows F b
+      halves = take-append-drop (variables F b) (all-rows F b)
+
+  pub accepted-readable : F .width ≤ 4 → F .most-variables ≤ 1024 → F .most-nodes ≤ 8192 → Readable (layout-of F b) b
+  unfolding sheet-length
+  accepted-readable narrow few-variables few-nodes =
+      let sizes = passed-sizes F b (passed F b h .sizes) in
+      record {
+        room = record { few-bytes = narrow; holds = omega (arith, accepted-length F b h) };
+        few-variables = omega (arith, sizes .few-variables);
+        some-nodes = omega (arith, sizes .some-node);
+        few-nodes = omega (arith, sizes .few-nodes);
+        is-formula = ap formula-rows (formula-read F b) ∙ rows-accepted ∙ all-rows-in F b;
+      }
