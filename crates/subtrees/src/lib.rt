@@ -1,0 +1,3 @@
+// The subtrees of a sheet's matrix, by the node row at which they start. Node rows are counted from the first of them.
+pub mod ends;
+pub mod nodes;
