@@ -1,0 +1,3 @@
+-- The relevant part of a matrix for a set of literals.
+pub mod Parts
+pub mod Cuts
