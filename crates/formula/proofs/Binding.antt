@@ -47,7 +47,7 @@ bind-leads (z ∷ p) f g h ρ =
     (bind p f (put ρ (z .variable) true)) (bind p g (put ρ (z .variable) true))
     (bind-leads p f g h (put ρ (z .variable) false)) (bind-leads p f g h (put ρ (z .variable) true))
 
-same-op-eq : (o k : Op) → same-op o k ≡ true → o ≡ k
+pub same-op-eq : (o k : Op) → same-op o k ≡ true → o ≡ k
 same-op-eq and and h = refl
 same-op-eq and or h = absurd (false≢true h)
 same-op-eq or and h = absurd (false≢true h)

@@ -1,0 +1,2 @@
+-- The prefix by the numbers of its rows.
+pub mod Places
