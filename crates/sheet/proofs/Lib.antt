@@ -1,6 +1,7 @@
 pub mod Every
 pub mod Numbers
 pub mod Tests
+pub mod Writing
 pub mod Limits
 pub mod Preorder
 pub mod Parts
