@@ -1,0 +1,226 @@
+-- Faults, child by child and row by row.
+-- Assumes nothing.
+use mathlib.Core.Path.{_≡_, refl, sym, ap, ap₂, _∙_}
+use mathlib.Core.Bool.{Bool, true, false, not, _&&_, _||_, cond, or-false, or-true, and-false, and-true}
+use mathlib.Core.List.{List, [], _∷_, append-nil}
+use Prim.Native.Nat.{ℕ, zero, suc, _+_, _≤_, _<_}
+use native.Mathlib.Omega.{arith}
+use lib.Dec.{eqb}
+use lib.ListN.{drop}
+use lib.Seq.{drop-length}
+use borrow.Author.Tests.{eq-eqb, ne-eqb}
+use Rattle.formula.proofs.Booleans.{eqb-comm}
+use Rattle.formula.specs.Tree.{Op, and, or, Tree, lit, node, Forest, ∅, _▸_, Literals, of, count, some-child, some-two, _⧺_}
+use Rattle.formula.specs.Tidy.{is-op, same-variable, alone, childless, breaks, faults, faults-all, root-faults, any, first-true, is-tidy, first-fault}
+use Rattle.formula.specs.Settle.{is-lit}
+use Rattle.sheet.specs.Format.{Bytes}
+use Rattle.sheet.specs.Sheet.{operator-kind, trees}
+use Rattle.rows.specs.Formulas.{node-rows-in, matrix-in, Readable}
+use Rattle.rows.specs.declared.Layout.{Layout}
+use Rattle.rows.proofs.Formulas.{length-nodes}
+use Rattle.subtrees.specs.Subtrees.{top, kids, forest-in, subtree-in}
+use Rattle.subtrees.proofs.Forest.{rest, stepped-at, faults-⧺}
+use Rattle.subtrees.proofs.Matrix.{sound-nodes, trees-nodes}
+use Rattle.subtrees.proofs.Siblings.{below-row}
+use Rattle.tidiness.specs.Faults.{clash, first-breaks, some-breaks, at-fault}
+
+-- is-lit
+
+pub operator-is-none : (L : Literals) (t : Tree) → 4 < (top t) .kind → is-lit L t ≡ false
+unfolding is-lit
+operator-is-none L (lit true v) h = absurd (omega arith)
+operator-is-none L (lit false v) h = absurd (omega arith)
+operator-is-none L (node o ts) h = refl
+
+pub literal-is-of : (x : ℕ) (t : Tree) → (top t) .kind ≤ 4 → is-lit (of x) t ≡ eqb ((top t) .argument) x
+unfolding is-lit
+literal-is-of x (lit s v) h = refl
+literal-is-of x (node and ts) h = absurd (omega arith)
+literal-is-of x (node or ts) h = absurd (omega arith)
+
+-- some-child
+
+pub some-child-none : (P : Tree → Bool) → some-child P ∅ ≡ false
+unfolding some-child
+some-child-none P = refl
+
+pub some-child-more : (P : Tree → Bool) (t : Tree) (ts : Forest) → some-child P (t ▸ ts) ≡ (P t || some-child P ts)
+unfolding some-child
+some-child-more P t ts = refl
+
+some-child-same : (P Q : Tree → Bool) → ((u : Tree) → P u ≡ Q u) → (ts : Forest) → some-child P ts ≡ some-child Q ts
+unfolding some-child
+some-child-same P Q same ∅ = refl
+some-child-same P Q same (t ▸ ts) = ap₂ _||_ (same t) (some-child-same P Q same ts)
+
+some-child-never : (P : Tree → Bool) → ((u : Tree) → P u ≡ false) → (ts : Forest) → some-child P ts ≡ false
+unfolding some-child
+some-child-never P never ∅ = refl
+some-child-never P never (t ▸ ts) = rw (never t) (some-child-never P never ts)
+
+-- clash
+
+same-variable-of : (s : Bool) (x : ℕ) (u : Tree) → same-variable (lit s x) u ≡ is-lit (of x) u
+unfolding same-variable is-lit
+same-variable-of s x (lit s′ v) = eqb-comm x v
+same-variable-of s x (node o ts) = refl
+
+pub clash-operator : (t : Tree) (ts : Forest) → 4 < (top t) .kind → clash (t ▸ ts) ≡ false
+unfolding clash same-variable
+clash-operator (lit true v) ts h = absurd (omega arith)
+clash-operator (lit false v) ts h = absurd (omega arith)
+clash-operator (node o cs) ts h = some-child-never (same-variable (node o cs)) (λ u. refl) ts
+
+pub clash-literal : (t : Tree) (ts : Forest) {x : ℕ} → (top t) .kind ≤ 4 → x ≡ (top t) .argument
+    → clash (t ▸ ts) ≡ some-child (is-lit (of x)) ts
+unfolding clash
+clash-literal (lit s v) ts h e = some-child-same _ _ (same-variable-of s v) ts ∙ ap (λ y. some-child (is-lit (of y)) ts) (sym e)
+clash-literal (node and cs) ts h e = absurd (omega arith)
+clash-literal (node or cs) ts h e = absurd (omega arith)
+
+-- first-breaks
+
+module _ (t : Tree) (ts : Forest) (k : ℕ) where
+  pub breaks-kind : (top t) .kind ≡ k → first-breaks k (t ▸ ts) ≡ true
+  unfolding first-breaks
+  breaks-kind e = ap (λ c. c || clash (t ▸ ts)) (eq-eqb _ k e)
+
+  pub breaks-other : ((top t) .kind ≡ k → ⊥) → first-breaks k (t ▸ ts) ≡ clash (t ▸ ts)
+  unfolding first-breaks
+  breaks-other e = ap (λ c. c || clash (t ▸ ts)) (ne-eqb _ k e)
+
+-- some-breaks
+
+pub some-breaks-none : (k : ℕ) → some-breaks k ∅ ≡ false
+unfolding some-breaks
+some-breaks-none k = refl
+
+pub some-breaks-more : (k : ℕ) (t : Tree) (ts : Forest) → some-breaks k (t ▸ ts) ≡ (first-breaks k (t ▸ ts) || some-breaks k ts)
+unfolding some-breaks
+some-breaks-more k t ts = refl
+
+is-op-kind : (o : Op) (t : Tree) → is-op o t ≡ eqb ((top t) .kind) (operator-kind o)
+unfolding is-op
+is-op-kind and (lit true v) = refl
+is-op-kind and (lit false v) = refl
+is-op-kind and (node and ts) = refl
+is-op-kind and (node or ts) = refl
+is-op-kind or (lit true v) = refl
+is-op-kind or (lit false v) = refl
+is-op-kind or (node and ts) = refl
+is-op-kind or (node or ts) = refl
+
+swap-inner : (a b c d : Bool) → ((a || b) || (c || d)) ≡ ((a || c) || (b || d))
+swap-inner true b c d = refl
+swap-inner false true true d = refl
+swap-inner false true false d = refl
+swap-inner false false c d = refl
+
+some-breaks-limits : (o : Op) (ts : Forest) → (some-child (is-op o) ts || some-two same-variable ts) ≡ some-breaks (operator-kind o) ts
+unfolding some-breaks first-breaks clash some-child some-two
+some-breaks-limits o ∅ = refl
+some-breaks-limits o (t ▸ ts) =
+    swap-inner (is-op o t) (some-child (is-op o) ts) (some-child (same-variable t) ts) (some-two same-variable ts) ∙
+    ap₂ (λ c d. (c || some-child (same-variable t) ts) || d) (is-op-kind o t) (some-breaks-limits o ts)
+
+-- at-fault
+
+pub fault-literal : (i : ℕ) (t : Tree) → (top t) .kind ≤ 4 → at-fault i t ≡ false
+unfolding at-fault
+fault-literal i (lit s v) h = refl
+fault-literal i (node and ts) h = absurd (omega arith)
+fault-literal i (node or ts) h = absurd (omega arith)
+
+pub fault-childless : (i : ℕ) (t : Tree) → 4 < (top t) .kind → (top t) .argument ≡ 0 → at-fault i t ≡ not (eqb i 0)
+unfolding at-fault breaks childless alone some-child some-two count
+fault-childless i (lit true v) h e = absurd (omega arith)
+fault-childless i (lit false v) h e = absurd (omega arith)
+fault-childless i (node o ∅) h e = or-false (not (eqb i 0) && true) ∙ and-true (not (eqb i 0))
+fault-childless i (node o (t ▸ ts)) h e = absurd (omega arith)
+
+pub fault-alone : (i : ℕ) (t : Tree) → 4 < (top t) .kind → (top t) .argument ≡ 1 → at-fault i t ≡ true
+unfolding at-fault breaks childless alone count
+fault-alone i (lit true v) h e = absurd (omega arith)
+fault-alone i (lit false v) h e = absurd (omega arith)
+fault-alone i (node o ∅) h e = absurd (omega arith)
+fault-alone i (node o (t ▸ ∅)) h e = or-true (not (eqb i 0) && false)
+fault-alone i (node o (t ▸ u ▸ ts)) h e = absurd (omega arith)
+
+pub fault-more : (i : ℕ) (t : Tree) → 4 < (top t) .kind → 1 < (top t) .argument
+    → at-fault i t ≡ some-breaks ((top t) .kind) (kids t)
+unfolding at-fault breaks childless alone count
+fault-more i (lit true v) h e = absurd (omega arith)
+fault-more i (lit false v) h e = absurd (omega arith)
+fault-more i (node o ∅) h e = absurd (omega arith)
+fault-more i (node o (t ▸ ∅)) h e = absurd (omega arith)
+fault-more i (node o (t ▸ u ▸ ts)) h e =
+    rw (and-false (not (eqb i 0))) (some-breaks-limits o (t ▸ u ▸ ts))
+
+-- row by row
+
+faults-row : (i : ℕ) (t : Tree) (ts : Forest) → faults-all (t ▸ ts) ≡ at-fault (suc i) t ∷ faults-all (kids t ⧺ ts)
+unfolding faults-all faults at-fault _⧺_
+faults-row i (lit s v) ts = refl
+faults-row i (node o cs) ts =
+    ap₂ _∷_ (ap (λ c. (c && childless cs) || breaks o cs) (sym (ap not (ne-eqb (suc i) 0 (λ e. omega arith))))) (sym (faults-⧺ cs ts))
+
+root-faults-row : (t : Tree) → root-faults t ≡ at-fault 0 t ∷ faults-all (kids t ⧺ ∅)
+unfolding root-faults at-fault faults-all _⧺_
+root-faults-row (lit s v) = refl
+root-faults-row (node o ts) = ap (λ l. breaks o ts ∷ l) (sym (faults-⧺ ts ∅ ∙ append-nil (faults-all ts)))
+
+-- what is left of the matrix's faults from row i on
+abbrev remaining : Layout → Bytes → ℕ → List Bool
+remaining s b zero = root-faults (matrix-in s b)
+remaining s b (suc i) = faults-all (forest-in s b (suc i))
+
+pub record Searching (s : Layout) (b : Bytes) (i : ℕ) : Type 0 where
+  pub within : i ≤ s .nodes
+  pub first : first-fault (matrix-in s b) ≡ i + first-true (remaining s b i)
+  pub some : any (root-faults (matrix-in s b)) ≡ any (remaining s b i)
+
+module _ {s : Layout} (b : Bytes) (ok : Readable s b) where
+  remaining-row : (i : ℕ) → i < s .nodes → remaining s b i ≡ at-fault i (subtree-in s b i) ∷ remaining s b (suc i)
+  unfolding subtree-in forest-in matrix-in rest
+  remaining-row zero h =
+      root-faults-row (matrix-in s b) ∙
+      ap (λ ts. at-fault 0 (matrix-in s b) ∷ faults-all ts)
+      (sym (below-row b ok 0 h ∙ ap (λ ts. kids (matrix-in s b) ⧺ rest ts) (trees-nodes b ok)))
+  remaining-row (suc i) h =
+      ap faults-all (stepped-at (node-rows-in s b) (sound-nodes b ok) (suc i) (omega (arith, length-nodes b ok)) .whole) ∙
+      faults-row i (subtree-in s b (suc i)) (rest (forest-in s b (suc i))) ∙
+      ap (λ ts. at-fault (suc i) (subtree-in s b (suc i)) ∷ faults-all ts) (sym (below-row b ok (suc i) h))
+
+  pub search-start : Searching s b 0
+  unfolding first-fault
+  search-start = record { within = omega arith; first = omega arith; some = refl }
+
+  pub search-on : (i : ℕ) {j : ℕ} → i < s .nodes → j ≡ suc i → Searching s b i → at-fault i (subtree-in s b i) ≡ false
+      → Searching s b j
+  unfolding first-true any
+  search-on i {j} h next so e =
+      let row = remaining-row i h ∙ ap (λ c. c ∷ remaining s b (suc i)) e in
+      rw next
+      (record {
+        within = h;
+        first = omega (arith, so .first, ap first-true row);
+        some = so .some ∙ ap any row;
+      })
+
+  pub search-found : (i : ℕ) → i < s .nodes → Searching s b i → at-fault i (subtree-in s b i) ≡ true
+      → i ≡ cond (is-tidy (matrix-in s b)) (s .nodes) (first-fault (matrix-in s b))
+  unfolding first-true any is-tidy
+  search-found i h so e =
+      let row = remaining-row i h ∙ ap (λ c. c ∷ remaining s b (suc i)) e in
+      rw (so .some ∙ ap any row) (omega (arith, so .first, ap first-true row))
+
+  nothing-remains : (i : ℕ) → i ≡ s .nodes → remaining s b i ≡ []
+  unfolding forest-in faults-all trees
+  nothing-remains zero e = absurd (omega (arith, ok .some-nodes))
+  nothing-remains (suc i) e =
+      ap (λ m. faults-all (trees (drop m (node-rows-in s b)))) (e ∙ sym (length-nodes b ok)) ∙
+      ap (λ l. faults-all (trees l)) (drop-length (node-rows-in s b))
+
+  pub search-all : (i : ℕ) → s .nodes ≤ i → Searching s b i → s .nodes ≡ cond (is-tidy (matrix-in s b)) (s .nodes) (first-fault (matrix-in s b))
+  unfolding any is-tidy
+  search-all i h so = rw (so .some ∙ ap any (nothing-remains i (omega (arith, so .within))))

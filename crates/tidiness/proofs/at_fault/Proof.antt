@@ -1,0 +1,71 @@
+-- `tidiness::at_fault` meets its contract: by the row's kind and count of children, then by its children. Assumes nothing.
+use borrow.Author.Needs.{needs}
+use mathlib.Core.Path.{sym, ap₂, _∙_}
+use native.Mathlib.Omega.{arith}
+use Prim.Native.Nat.{_+_}
+use Rattle.subtrees.proofs.Siblings.{Children, children-of}
+use Rattle.tidiness.specs.Faults.{some-breaks}
+use Rattle.tidiness.proofs.Faults.{fault-literal, fault-childless, fault-alone, fault-more}
+use Rattle.tidiness.proofs.at_fault.Statement.{statement}
+use Rattle.tidiness.proofs.at_fault.Tie as tie
+
+kind-at-requires : tie.Need-kind-at-requires
+kind-at-requires c κs = search needs
+
+returns : tie.Need-returns
+returns c =
+    let a = c .before .before .before .before in
+    let k = c .before .kind-at .ensures in
+    sym (fault-literal (a .args .i) _ (omega arith))
+
+argument-at-requires : tie.Need-argument-at-requires
+argument-at-requires c κs = search needs
+
+returns-2 : tie.Need-returns-2
+returns-2 c =
+    let a = c .before .before .before .before .before .before in
+    let k = c .before .before .before .kind-at .ensures in
+    sym (fault-childless (a .args .i) _ (omega arith) (sym (c .before .argument-at .ensures .0) ∙ c .if2 .taken))
+
+returns-3 : tie.Need-returns-3
+returns-3 c =
+    let a = c .before .before .before .before .before .before .before in
+    let k = c .before .before .before .before .kind-at .ensures in
+    sym (fault-alone (a .args .i) _ (omega arith) (sym (c .before .before .argument-at .ensures .0) ∙ c .if3 .taken))
+
+add-t8 : tie.Need-add-t8
+add-t8 c = search needs
+
+-- the children stand from the next row on
+children : (c : tie.Else3) →
+    let a = c .before .before .before .before .before .before .before .args in
+    Children (a .s) (a .b .now) (a .i) (a .i + 1) (c .before .before .argument-at .result)
+children c =
+    let a = c .before .before .before .before .before .before .before in
+    let k = c .before .before .before .before .kind-at .ensures in
+    children-of (a .args .b .now) (a .pre .0 .readable) (a .args .i) (a .pre .1) (omega arith) (omega arith) (c .before .before .argument-at .ensures .0)
+
+some-breaks-requires : tie.Need-some-breaks-requires
+some-breaks-requires c κs =
+    (c .before .before .before .before .before .before .before .pre .0, children c .few)
+
+returns-4 : tie.Need-returns-4
+returns-4 c =
+    let a = c .before .before .before .before .before .before .before .before in
+    let k = c .before .before .before .before .before .kind-at .ensures in
+    let x = c .before .before .before .argument-at .ensures .0 in
+    c .some-breaks .ensures ∙ ap₂ some-breaks k (children (c .before) .are) ∙
+    sym (fault-more (a .args .i) _ (omega arith) (omega arith))
+
+pub at-fault-spec : {M : Type 1} → statement M
+at-fault-spec =
+    tie.close
+    (tie.spec
+    kind-at-requires
+    returns
+    argument-at-requires
+    returns-2
+    returns-3
+    add-t8
+    some-breaks-requires
+    returns-4)

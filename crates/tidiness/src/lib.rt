@@ -1,0 +1,135 @@
+// Tidiness: the first operator at fault ("Tidy sheets", refusal 9).
+use rows::Layout;
+use subtrees::nodes::argument_at;
+use subtrees::nodes::kind_at;
+ghost use mathlib.Core.Path.{_≡_};
+ghost use mathlib.Core.Bool.{cond};
+ghost use Prim.Native.Nat.{_<_};
+ghost use Rattle.formula.specs.Tree.{of, some-child};
+ghost use Rattle.formula.specs.Tidy.{is-tidy, first-fault};
+ghost use Rattle.formula.specs.Settle.{is-lit};
+ghost use Rattle.rows.specs.Formulas.{matrix-in, Readable};
+ghost use Rattle.subtrees.specs.Subtrees.{subtree-in, siblings-in, Beside};
+ghost use Rattle.subtrees.specs.Ends.{Indexed};
+ghost use Rattle.tidiness.specs.Faults.{clash, first-breaks, some-breaks, at-fault};
+
+// Subtrees that stand side by side: the node row of the first, and how many are left.
+struct Siblings {
+    at: usize,
+    left: usize,
+}
+
+// Whether node row `i` is a literal of the variable `x`.
+fn is_literal(b: &[u8], s: Layout, i: usize, x: usize) -> bool
+    requires { ⌜ Readable s (now b) × (i < s .nodes) ⌝ }
+    ensures { λ r. ⌜ r ≡ is-lit (of x) (subtree-in s (now (b .entry)) i) ⌝ }
+{
+    if rows::NEGATIVE < kind_at(b, s, i) {
+        return false;
+    }
+    argument_at(b, s, i) == x
+}
+
+// Whether a literal of the variable `x` is among siblings.
+fn literal_among(b: &[u8], s: Layout, ends: &[u16], c: Siblings, x: usize) -> bool
+    requires { ⌜ Indexed s (now b) (now ends) × Beside s (now b) (c .at) (c .left) ⌝ }
+    ensures { λ r. ⌜ r ≡ some-child (is-lit (of x)) (siblings-in s (now (b .entry)) (c .at) (c .left)) ⌝ }
+{
+    let mut at = c.at;
+    let mut left = c.left;
+    while 0 < left {
+        if is_literal(b, s, at, x) {
+            return true;
+        }
+        at = ends[at] as usize;
+        left -= 1;
+    }
+    false
+}
+
+// Whether the first of an operator's children that are left clashes with one behind it.
+fn clashes(b: &[u8], s: Layout, ends: &[u16], c: Siblings) -> bool
+    requires { ⌜ Indexed s (now b) (now ends) × Beside s (now b) (c .at) (c .left) × (0 < c .left) ⌝ }
+    ensures { λ r. ⌜ r ≡ clash (siblings-in s (now (b .entry)) (c .at) (c .left)) ⌝ }
+{
+    let at = c.at;
+    if rows::NEGATIVE < kind_at(b, s, at) {
+        return false;
+    }
+    let behind = Siblings {
+        at: ends[at] as usize,
+        left: c.left - 1,
+    };
+    literal_among(b, s, ends, behind, argument_at(b, s, at))
+}
+
+// Whether the first child that is left of an operator of the kind `parent` breaks a limit.
+fn first_breaks(b: &[u8], s: Layout, ends: &[u16], c: Siblings, parent: u8) -> bool
+    requires { ⌜ Indexed s (now b) (now ends) × Beside s (now b) (c .at) (c .left) × (0 < c .left) ⌝ }
+    ensures { λ r. ⌜ r ≡ first-breaks parent (siblings-in s (now (b .entry)) (c .at) (c .left)) ⌝ }
+{
+    if kind_at(b, s, c.at) == parent {
+        return true;
+    }
+    clashes(b, s, ends, c)
+}
+
+// Whether one of the children of an operator of the kind `parent` breaks a limit.
+fn some_breaks(b: &[u8], s: Layout, ends: &[u16], c: Siblings, parent: u8) -> bool
+    requires { ⌜ Indexed s (now b) (now ends) × Beside s (now b) (c .at) (c .left) ⌝ }
+    ensures { λ r. ⌜ r ≡ some-breaks parent (siblings-in s (now (b .entry)) (c .at) (c .left)) ⌝ }
+{
+    let mut at = c.at;
+    let mut left = c.left;
+    while 0 < left {
+        if first_breaks(b, s, ends, Siblings { at: at, left: left }, parent) {
+            return true;
+        }
+        at = ends[at] as usize;
+        left -= 1;
+    }
+    false
+}
+
+// Whether node row `i` is an operator at fault: only the root may be childless, and a child is never alone.
+fn at_fault(b: &[u8], s: Layout, ends: &[u16], i: usize) -> bool
+    requires { ⌜ Indexed s (now b) (now ends) × (i < s .nodes) ⌝ }
+    ensures { λ r. ⌜ r ≡ at-fault i (subtree-in s (now (b .entry)) i) ⌝ }
+{
+    let kind = kind_at(b, s, i);
+    if kind <= rows::NEGATIVE {
+        return false;
+    }
+    let count = argument_at(b, s, i);
+    if count == 0 {
+        return i != 0;
+    }
+    if count == 1 {
+        return true;
+    }
+    some_breaks(
+        b,
+        s,
+        ends,
+        Siblings {
+            at: i + 1,
+            left: count,
+        },
+        kind,
+    )
+}
+
+// The first node row that is an operator at fault; of a tidy sheet, the number of node rows.
+pub fn first_fault(b: &[u8], s: Layout, ends: &[u16]) -> usize
+    requires { ⌜ Indexed s (now b) (now ends) ⌝ }
+    ensures { λ r. ⌜ r ≡ cond (is-tidy (matrix-in s (now (b .entry)))) (s .nodes) (first-fault (matrix-in s (now (b .entry)))) ⌝ }
+{
+    let mut i = 0;
+    while i < s.nodes {
+        if at_fault(b, s, ends, i) {
+            return i;
+        }
+        i += 1;
+    }
+    s.nodes
+}
