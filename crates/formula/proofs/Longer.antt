@@ -10,6 +10,7 @@ use native.Mathlib.Omega.{arith}
 use Rattle.formula.specs.Tree.{Formula}
 use Rattle.formula.specs.Expand.{expanded}
 use Rattle.formula.specs.Solve.{cheapest, State, ended, stopped, Step, halt, next, Fits, fits-raw, expand-step, undecided-step, step-by, step, Run, go-on, run, solve}
+use Rattle.formula.specs.Right.{Longer}
 use Rattle.formula.specs.Trace.{Looser, onward, trace, solve-trace}
 
 -- the last state of a trace is the one that the run reaches
@@ -31,11 +32,6 @@ last-trace fits (suc n) s = by (step fits s) (last-trace fits n)
 pub last-solve-trace : (fits : Fits) (f : Formula) → getLast? (solve-trace fits f) ≡ some ((solve fits f) .state)
 unfolding solve-trace solve
 last-solve-trace fits f = last-trace fits _ _
-
--- a run r′ beside a run r that may stop earlier: the states of r first, and nothing else if r ended with a verdict
-pub record Longer (r r′ : Run) (states states′ : List State) : Type 0 where
-  pub begins : IsPrefix states states′
-  pub on-ended : (v : Bool) → r .end ≡ ended v → (r′ ≡ r) × (states′ ≡ states)
 
 stopped-longer : (s : State) (x : ℕ) (r′ : Run) (more : List State) → Longer (record { end = stopped x; state = s }) r′ (s ∷ []) (s ∷ more)
 stopped-longer s x r′ more =

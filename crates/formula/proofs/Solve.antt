@@ -14,16 +14,10 @@ use Rattle.formula.specs.Tidy.{tidied, verdict}
 use Rattle.formula.specs.Settle.{may-settle, settled}
 use Rattle.formula.specs.Expand.{raw, expanded}
 use Rattle.formula.specs.Solve.{is-some, lowest, cheapest, State, End, ended, stopped, Step, halt, next, Fits, fits-raw, settle-step, expand-step, undecided-step, step-by, step, Run, go-on, run, solve}
+use Rattle.formula.specs.Right.{Stuck, SolveRight}
 use Rattle.formula.proofs.Closed.{length-without}
 use Rattle.formula.proofs.Steps.{Proper, truth-tidied, proper-tidied, truth-settled, proper-settled, truth-expanded, proper-expanded, verdict-truth, decided-without-variables}
 use Rattle.formula.proofs.Choice.{lowest-chosen, cheapest-chosen, cheapest-found}
-
--- nothing can be settled, and the cheapest innermost expansion doesn't fit
-pub record Stuck (fits : Fits) (f : Formula) (x : ℕ) : Type 0 where
-  pub undecided : verdict (f .matrix) ≡ none
-  pub nothing-settles : lowest f ≡ none
-  pub is-cheapest : cheapest f ≡ some x
-  pub too-long : fits-raw fits x f ≡ false
 
 -- a step made: one variable less, one step more, and the same truth
 pub record Made (s s′ : State) : Type 0 where
@@ -148,13 +142,6 @@ run-right fits (suc n) s h p = by (step fits s) (step-right fits s p) (λ s′ l
     by (next s′) r more =
         let m : Made s s′ = r in
         went-on fits s s′ (run fits n s′) m (more s′ (omega (arith, m .one-less)) (m .still-proper))
-
--- Solve itself, on a formula without a number twice and with every literal bound
-pub record SolveRight (fits : Fits) (f : Formula) (r : Run) : Type 0 where
-  pub same-truth : truth ((r .state) .formula) ≡ truth f
-  pub counts : (r .state) .settles + (r .state) .expands + length (((r .state) .formula) .prefix) ≡ length (f .prefix)
-  pub on-ended : (v : Bool) → r .end ≡ ended v → v ≡ truth f
-  pub on-stopped : (x : ℕ) → r .end ≡ stopped x → Stuck fits ((r .state) .formula) x
 
 pub solve-right : (fits : Fits) (f : Formula) → distinct (f .prefix) ≡ true → closed f ≡ true → SolveRight fits f (solve fits f)
 unfolding solve tidied

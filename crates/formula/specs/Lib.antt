@@ -7,3 +7,4 @@ pub mod Expand
 pub mod Solve
 pub mod Trace
 pub mod Trial
+pub mod Right

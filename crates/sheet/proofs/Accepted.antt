@@ -13,7 +13,7 @@ use Rattle.sheet.specs.Sheet.{binding, formula, tree-rows, formula-rows,
 use Rattle.sheet.specs.Check.{passes, node-tests, arguments, check-tests}
 use Rattle.sheet.proofs.Every.{every-take, every-drop}
 use Rattle.sheet.proofs.Numbers.{IsByte, AllBytes, digits-number-at}
-use Rattle.sheet.proofs.Limits.{Within}
+use Rattle.sheet.specs.Limits.{Within}
 use Rattle.sheet.proofs.Preorder.{length-tree-rows, rows-root-trees}
 use Rattle.sheet.proofs.Parts.{row-kinds-zip, length-zip-rows, row-arguments-zip, parts, variables-wide, nodes-wide, length-kind-bytes, length-argument-bytes}
 use Rattle.sheet.proofs.CheckTests.{passed, SizesFit, passed-sizes, Quantifiers, passed-quantifiers, passes-node-tests, passed-nodes}

@@ -24,9 +24,10 @@ use Rattle.sheet.specs.Format.{Bytes, Format, fits, variables, nodes}
 use Rattle.sheet.specs.Sheet.{formula, sheet}
 use Rattle.sheet.specs.Check.{Answer, refused, accepted, Test, answer, passes, Sizes, check-tests, check}
 use Rattle.sheet.specs.Operations.{padded, output-after, write, tidy-and-bound-tests, settle-tests, settle-call, expand-tests, expand-call}
-use Rattle.sheet.specs.Calls.{Call, settle, expand, perform, Held, held-after, perform-all}
+use Rattle.sheet.specs.Calls.{Call, settle, expand, perform, Held, held-after, perform-all, held, sheet-verdict, Demand-3}
 use Rattle.sheet.proofs.Tests.{passed-∷, passed-++, answer-passes, accepted-passes}
-use Rattle.sheet.proofs.Limits.{Sound, within-step}
+use Rattle.sheet.specs.Limits.{Sound}
+use Rattle.sheet.proofs.Limits.{within-step}
 use Rattle.sheet.proofs.RoundTrip.{formula-sheet, passes-sheet}
 use Rattle.sheet.proofs.Accepted.{accepted-within, accepted-variables}
 
@@ -165,30 +166,6 @@ module _ (F : Format) (sound : Sound F) where
   well-after-all b [] h w = w
   well-after-all b (c ∷ cs) h w =
       well-after-all b cs (held-after h ((perform F c (h .sheet)) .answer) ((perform F c (h .sheet)) .output)) (well-after b h c w)
-
--- the sheet held at the end of a list of calls that starts from b
-unfoldable pub held : Format → Bytes → List Call → Held
-held F b cs = perform-all F cs (record { sheet = b; accepted-calls = 0 })
-
--- the verdict of a sheet, if it has one
-abbrev pub sheet-verdict : Format → Bytes → Option Bool
-sheet-verdict F b = verdict ((formula F b) .matrix)
-
--- What demand 3 says of a first sheet and a list of calls.
-pub record Demand-3 (F : Format) (b : Bytes) (cs : List Call) : Type 0 where
-  -- the sheet held is accepted and tidy, and true exactly when the first was
-  pub is-accepted : (s : Sizes) × (check F ((held F b cs) .sheet) ≡ accepted s)
-  pub stays-tidy : is-tidy ((formula F ((held F b cs) .sheet)) .matrix) ≡ true
-  pub same-truth : truth (formula F ((held F b cs) .sheet)) ≡ truth (formula F b)
-  -- accepted calls + variables left = variables at the start
-  pub counts : (held F b cs) .accepted-calls + variables F ((held F b cs) .sheet) ≡ variables F b
-  -- no variable left means a verdict
-  pub decided : variables F ((held F b cs) .sheet) ≡ 0 → (v : Bool) × (sheet-verdict F ((held F b cs) .sheet) ≡ some v)
-  -- a verdict is the first sheet's truth value
-  pub is-truth : (v : Bool) → sheet-verdict F ((held F b cs) .sheet) ≡ some v → v ≡ truth (formula F b)
-  -- so any two lists that reach a verdict agree
-  pub agree : (others : List Call) (v w : Bool) → sheet-verdict F ((held F b cs) .sheet) ≡ some v
-      → sheet-verdict F ((held F b others) .sheet) ≡ some w → v ≡ w
 
 empty-prefix : (p : Prefix) → length p ≡ 0 → p ≡ []
 empty-prefix [] h = refl

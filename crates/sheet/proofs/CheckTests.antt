@@ -17,7 +17,7 @@ use Rattle.sheet.specs.Check.{passes, size-tests, member, quantifier-tes
 use Rattle.sheet.proofs.Every.{Every}
 use Rattle.formula.proofs.Booleans.{and-parts, or-parts, eqb-comm}
 use Rattle.sheet.proofs.Tests.{passed-∷, passes-++, passed-++}
-use Rattle.sheet.proofs.Limits.{numbered}
+use Rattle.sheet.specs.Limits.{numbered}
 use Rattle.sheet.proofs.Preorder.{NodeRow, node-kind}
 use Rattle.sheet.proofs.Parts.{sheet-length-rows}
 

@@ -10,22 +10,13 @@ use lib.ListN.{length, getD}
 use borrow.Author.Tests.{not-true, ltb-false, eqb-true}
 use Rattle.formula.specs.Tree.{Binding, Prefix, Formula, binds, without, distinct, rows, closed}
 use Rattle.sheet.specs.Format.{Format, narrow}
+use Rattle.sheet.specs.Limits.{Sound, numbered, Within}
 use Rattle.formula.proofs.Booleans.{and-parts, or-parts}
 use Rattle.formula.proofs.Closed.{length-without}
 use Rattle.formula.proofs.Steps.{Proper}
 
--- the format's numbers hold its sizes
-pub record Sound (F : Format) : Type 0 where
-  pub variables-fit : F .most-variables < 256 ^ F .width
-  pub nodes-fit : F .most-nodes < 256 ^ F .width
-
 pub narrow-sound : Sound narrow
 narrow-sound = record { variables-fit = omega arith; nodes-fit = omega arith }
-
--- every quantifier number is 1 to the most
-unfoldable pub numbered : Format → Prefix → Bool
-numbered F [] = true
-numbered F (z ∷ p) = not (eqb (z .variable) 0 || ltb (F .most-variables) (z .variable)) && numbered F p
 
 pub numbered-∷ : (F : Format) (z : Binding) (p : Prefix) → numbered F (z ∷ p) ≡ true
     → (z .variable ≤ F .most-variables) × (numbered F p ≡ true)
@@ -53,13 +44,6 @@ binds-numbered F (z ∷ p) x h e =
         → (binds p x ≡ true → x ≤ F .most-variables) → x ≤ F .most-variables
     go true q e n ih = omega (arith, eqb-true (z .variable) x q)
     go false q e n ih = ih e
-
-pub record Within (F : Format) (f : Formula) : Type 0 where
-  pub few-variables : length (f .prefix) ≤ F .most-variables
-  pub few-nodes : rows (f .matrix) ≤ F .most-nodes
-  pub is-numbered : numbered F (f .prefix) ≡ true
-  pub is-distinct : distinct (f .prefix) ≡ true
-  pub is-closed : closed f ≡ true
 
 -- the limits that a step keeps
 numbered-without : (F : Format) (x : ℕ) (p : Prefix) → numbered F p ≡ true → numbered F (without x p) ≡ true

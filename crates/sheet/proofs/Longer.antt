@@ -19,6 +19,7 @@ use Rattle.sheet.specs.Sheet.{formula, sheet}
 use Rattle.sheet.specs.Check.{Answer, refused, accepted, Test, test, answer, check-tests}
 use Rattle.sheet.specs.Operations.{padded, tidy-tests, is-refused, is-ended, solved, solving, solve-call}
 use Rattle.sheet.specs.Trace.{room, states, solve-states}
+use Rattle.sheet.specs.Reliance.{Shows, no-state, last-state, SameEnd, Longer}
 use Rattle.sheet.proofs.Refusals.{solved-not-refused}
 
 -- tests of fit
@@ -112,18 +113,10 @@ module _ (F : Format) (b first second : Bytes) where
         its-states = ap states (r (List State) _);
       }
 
-  -- What a call shows of its states: refused there is none; else it is the last, with its counts in the answer and its sheet in the
-  -- first buffer.
-  pub data Shows : Type 0 where
-    no-state : (n i : ℕ) → (solve-call F b first second) .answer ≡ is-refused n i → solve-states F b first second ≡ [] → Shows
-    last-state : (e : End) (s : State) → (solve-call F b first second) .answer ≡ solved e s
-        → (solve-call F b first second) .first ≡ padded (length first) (sheet F (s .formula))
-        → getLast? (solve-states F b first second) ≡ some s → Shows
-
-  pub solve-shows : Shows
+  pub solve-shows : Shows F b first second
   solve-shows = by (later-tests F b (room first second) (room first second) (omega arith))
     where
-      by : Later tests tests → Shows
+      by : Later tests tests → Shows F b first second
       by (both-refuse n i r r′) = no-state n i (refused-call r .0) (refused-call r .1)
       by (then-accepts r r′) = no-state 13 0 (refused-call r .0) (refused-call r .1)
       by (both-accept r r′) =
@@ -134,27 +127,8 @@ module _ (F : Format) (b first second : Bytes) where
 -- two calls on a sheet
 
 module _ (F : Format) (b first second first′ second′ : Bytes) where
-  -- a call that ended as the other one did, state after state, with the same sheet in its first buffer
-  pub record SameEnd (v : Bool) (settles expands : ℕ) : Type 0 where
-    pub same-answer : (solve-call F b first′ second′) .answer ≡ is-ended v settles expands
-    pub same-states : solve-states F b first′ second′ ≡ solve-states F b first second
-    pub reached : Formula
-    pub in-first : (solve-call F b first second) .first ≡ padded (length first) (sheet F reached)
-    pub in-first′ : (solve-call F b first′ second′) .first ≡ padded (length first′) (sheet F reached)
-
-  -- Longer buffers, same word: a verdict stays, with its counts and its sheet; the states come first, whatever the answer; of the
-  -- refusals 13 alone may turn into an answer, and no answer turns into a refusal.
-  pub record Longer : Type 0 where
-    pub begins : IsPrefix (solve-states F b first second) (solve-states F b first′ second′)
-    pub on-ended : (v : Bool) (settles expands : ℕ) → (solve-call F b first second) .answer ≡ is-ended v settles expands
-        → SameEnd v settles expands
-    pub on-refused : (n i : ℕ) → (solve-call F b first second) .answer ≡ is-refused n i → (n ≡ 13 → ⊥)
-        → (solve-call F b first′ second′) .answer ≡ is-refused n i
-    pub was-refused : (n i : ℕ) → (solve-call F b first′ second′) .answer ≡ is-refused n i
-        → (solve-call F b first second) .answer ≡ is-refused n i
-
   -- it is the shorter buffer of each pair that counts
-  pub longer-room : room first second ≤ room first′ second′ → Longer
+  pub longer-room : room first second ≤ room first′ second′ → Longer F b first second first′ second′
   longer-room h = by (later-tests F b (room first second) (room first′ second′) h)
     where
       -- no state comes first, and no verdict stays
@@ -164,7 +138,7 @@ module _ (F : Format) (b first second first′ second′ : Bytes) where
           (solve-states F b first′ second′, ap (λ (l : List State). l ++ solve-states F b first′ second′) (refused-call F b first second r .1))
 
       never-ended : {n i : ℕ} → Refuses (tests F b first second) n i → (v : Bool) (settles expands : ℕ)
-          → (solve-call F b first second) .answer ≡ is-ended v settles expands → SameEnd v settles expands
+          → (solve-call F b first second) .answer ≡ is-ended v settles expands → SameEnd F b first second first′ second′ v settles expands
       never-ended r v settles expands e =
           let k = sym (refused-call F b first second r .0) ∙ e in
           let z : _≡_ {A = ℕ} 0 1 = cc in
@@ -175,7 +149,7 @@ module _ (F : Format) (b first second first′ second′ : Bytes) where
       accepted-after r n i e =
           absurd (solved-not-refused _ _ (sym (accepted-call F b first′ second′ r .answers) ∙ e))
 
-      by : Later (tests F b first second) (tests F b first′ second′) → Longer
+      by : Later (tests F b first second) (tests F b first′ second′) → Longer F b first second first′ second′
       by (both-refuse n i r r′) =
           let same = refused-call F b first second r .0 ∙ sym (refused-call F b first′ second′ r′ .0) in
           record {
@@ -211,7 +185,7 @@ module _ (F : Format) (b first second first′ second′ : Bytes) where
             was-refused = accepted-after r′;
           }
 
-  pub longer-buffers : length first ≤ length first′ → length second ≤ length second′ → Longer
+  pub longer-buffers : length first ≤ length first′ → length second ≤ length second′ → Longer F b first second first′ second′
   longer-buffers h k = longer-room (omega arith)
 
 -- whichever buffers two calls on a sheet are lent, if both end they have the same verdict and the same counts

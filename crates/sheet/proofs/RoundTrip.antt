@@ -15,7 +15,8 @@ use Rattle.sheet.specs.Check.{accepted, passes, check-tests, check}
 use Rattle.sheet.proofs.Every.{Every, every-++, every-map}
 use Rattle.sheet.proofs.Numbers.{IsByte, AllBytes, length-digits, digits-bytes, number-digits}
 use Rattle.sheet.proofs.Tests.{answer-passes}
-use Rattle.sheet.proofs.Limits.{Sound, numbered, numbered-∷, binds-numbered, Within}
+use Rattle.sheet.specs.Limits.{Sound, numbered, Within}
+use Rattle.sheet.proofs.Limits.{numbered-∷, binds-numbered}
 use Rattle.sheet.proofs.Preorder.{root-trees, length-tree-rows, rows-positive, arguments-tree, tree-test-one, node-kind-byte, node-rows-tree}
 use Rattle.sheet.proofs.Parts.{length-row-kinds, length-row-arguments, ArgumentFits, zip-rows-rows, Read, read-parts, sheet-length-rows}
 use Rattle.sheet.proofs.CheckTests.{check-tests-pass, SizesFit, size-tests-pass, map-binding-row, quantifier-tests-pass, passes-node-tests}

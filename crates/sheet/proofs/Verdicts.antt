@@ -10,22 +10,16 @@ use Rattle.formula.specs.Tree.{Formula}
 use Rattle.formula.specs.Truth.{truth}
 use Rattle.formula.specs.Solve.{End, ended, stopped, Run, solve}
 use Rattle.formula.specs.Trial.{Tried, trial}
-use Rattle.formula.proofs.Solve.{Stuck, SolveRight, solve-right}
+use Rattle.formula.specs.Right.{Stuck, SolveRight}
+use Rattle.formula.proofs.Solve.{solve-right}
 use Rattle.formula.proofs.Trial.{trial-verdict, trial-leaves}
 use Rattle.sheet.specs.Format.{Bytes, Format, fits, variables}
 use Rattle.sheet.specs.Sheet.{formula, sheet}
 use Rattle.sheet.specs.Check.{Answer, refused, accepted, answer, check-tests}
 use Rattle.sheet.specs.Operations.{padded, tidy-tests, Solved, is-refused, is-stopped, is-ended, solved, solving, solve-call, trial-call}
+use Rattle.sheet.specs.Reliance.{Reached}
 use Rattle.sheet.proofs.Tests.{passed-++, answer-passes, accepted-passes}
 use Rattle.sheet.proofs.Accepted.{accepted-within, accepted-variables}
-
--- The formula that a run of Solve reached, with its counts: both buffers show it, its truth is the first sheet's, and every step took
--- one variable away.
-pub record Reached (F : Format) (b first second : Bytes) (f : Formula) (settles expands : ℕ) : Type 0 where
-  pub in-first : (solve-call F b first second) .first ≡ padded (length first) (sheet F f)
-  pub in-second : (solve-call F b first second) .second ≡ replicate (length second) 0
-  pub same-truth : truth f ≡ truth (formula F b)
-  pub counts : settles + expands + length (f .prefix) ≡ variables F b
 
 module _ (F : Format) (b first second : Bytes) where
   abbrev shorter : ℕ

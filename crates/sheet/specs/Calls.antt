@@ -1,10 +1,16 @@
--- Lists of Settle and Expand calls and the sheet held ("Settling and expanding": what demand 3 is about).
+-- Lists of Settle and Expand calls, the sheet held, and what demand 3 says of them ("Settling and expanding").
 -- Assumes nothing.
+use mathlib.Core.Path.{_≡_}
+use mathlib.Core.Bool.{Bool, true}
 use mathlib.Core.List.{List, [], _∷_}
-use Prim.Native.Nat.{ℕ, suc}
+use mathlib.Core.Option.{Option, some}
+use Prim.Native.Nat.{ℕ, suc, _+_}
 use lib.ListN.{take}
-use Rattle.sheet.specs.Format.{Bytes, Format}
-use Rattle.sheet.specs.Check.{Answer, refused, accepted}
+use Rattle.formula.specs.Truth.{truth}
+use Rattle.formula.specs.Tidy.{is-tidy, verdict}
+use Rattle.sheet.specs.Format.{Bytes, Format, variables}
+use Rattle.sheet.specs.Sheet.{formula}
+use Rattle.sheet.specs.Check.{Answer, refused, accepted, Sizes, check}
 use Rattle.sheet.specs.Operations.{Written, settle-call, expand-call}
 
 -- a call: the operation, any number as x, and an output of any length and contents
@@ -31,3 +37,27 @@ perform-all F [] h = h
 perform-all F (c ∷ cs) h =
     let w = perform F c (h .sheet) in
     perform-all F cs (held-after h (w .answer) (w .output))
+
+-- the sheet held at the end of a list of calls that starts from b
+unfoldable pub held : Format → Bytes → List Call → Held
+held F b cs = perform-all F cs (record { sheet = b; accepted-calls = 0 })
+
+-- the verdict of a sheet, if it has one
+abbrev pub sheet-verdict : Format → Bytes → Option Bool
+sheet-verdict F b = verdict ((formula F b) .matrix)
+
+-- What demand 3 says of a first sheet and a list of calls.
+pub record Demand-3 (F : Format) (b : Bytes) (cs : List Call) : Type 0 where
+  -- the sheet held is accepted and tidy, and true exactly when the first was
+  pub is-accepted : (s : Sizes) × (check F ((held F b cs) .sheet) ≡ accepted s)
+  pub stays-tidy : is-tidy ((formula F ((held F b cs) .sheet)) .matrix) ≡ true
+  pub same-truth : truth (formula F ((held F b cs) .sheet)) ≡ truth (formula F b)
+  -- accepted calls + variables left = variables at the start
+  pub counts : (held F b cs) .accepted-calls + variables F ((held F b cs) .sheet) ≡ variables F b
+  -- no variable left means a verdict
+  pub decided : variables F ((held F b cs) .sheet) ≡ 0 → (v : Bool) × (sheet-verdict F ((held F b cs) .sheet) ≡ some v)
+  -- a verdict is the first sheet's truth value
+  pub is-truth : (v : Bool) → sheet-verdict F ((held F b cs) .sheet) ≡ some v → v ≡ truth (formula F b)
+  -- so any two lists that reach a verdict agree
+  pub agree : (others : List Call) (v w : Bool) → sheet-verdict F ((held F b cs) .sheet) ≡ some v
+      → sheet-verdict F ((held F b others) .sheet) ≡ some w → v ≡ w

@@ -5,3 +5,6 @@ pub mod Check
 pub mod Operations
 pub mod Trace
 pub mod Calls
+pub mod Limits
+pub mod Reliance
+pub mod Starred

@@ -19,7 +19,7 @@ use Rattle.sheet.specs.Sheet.{formula, sheet}
 use Rattle.sheet.specs.Check.{Answer, refused, accepted, test, answer, check-tests, check}
 use Rattle.sheet.specs.Operations.{padded, tidy-tests, Solved, is-refused, solved, Solving, solving, solve-call}
 use Rattle.sheet.proofs.Tests.{answer-++, refused-first}
-use Rattle.sheet.proofs.Limits.{Within}
+use Rattle.sheet.specs.Limits.{Within}
 use Rattle.sheet.proofs.Accepted.{accepted-length, accepted-variables, accepted-nodes, accepted-within}
 use Rattle.sheet.proofs.RoundTrip.{length-sheet}
 use Rattle.reading.specs.Reading.{formula-in}

@@ -20,7 +20,7 @@ use Rattle.formula.proofs.Steps.{proper-settled, proper-expanded}
 use Rattle.sheet.specs.Format.{Bytes, Format, Row, sheet-length, fits}
 use Rattle.sheet.specs.Sheet.{binding-row, tree-rows, formula-rows, sheet}
 use Rattle.sheet.specs.Operations.{padded}
-use Rattle.sheet.proofs.Limits.{Within}
+use Rattle.sheet.specs.Limits.{Within}
 use Rattle.sheet.proofs.RoundTrip.{length-sheet}
 use Rattle.rows.specs.Rows.{rows-in, Room}
 use Rattle.reading.specs.Reading.{prefix-in, matrix-in, formula-in}

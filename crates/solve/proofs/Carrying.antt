@@ -13,7 +13,7 @@ use Rattle.formula.proofs.Tidy.Growth.{rows-tidy}
 use Rattle.sheet.specs.Format.{Bytes, Format, sheet-length, number, nodes}
 use Rattle.sheet.specs.Sheet.{formula-rows, sheet}
 use Rattle.sheet.specs.Operations.{padded}
-use Rattle.sheet.proofs.Limits.{Within}
+use Rattle.sheet.specs.Limits.{Within}
 use Rattle.sheet.proofs.RoundTrip.{length-formula-rows, length-sheet, nodes-sheet}
 use Rattle.rows.specs.Rows.{rows-in, Room}
 use Rattle.rows.proofs.Rows.{length-rows-in}

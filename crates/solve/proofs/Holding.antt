@@ -12,7 +12,8 @@ use Rattle.formula.proofs.Steps.{Proper}
 use Rattle.sheet.specs.Format.{Bytes, Format, row}
 use Rattle.sheet.specs.Sheet.{binding, binding-row, trees, root, tree-rows, formula, sheet}
 use Rattle.sheet.specs.Operations.{padded}
-use Rattle.sheet.proofs.Limits.{Sound, Within, numbered-at}
+use Rattle.sheet.specs.Limits.{Sound, Within}
+use Rattle.sheet.proofs.Limits.{numbered-at}
 use Rattle.sheet.proofs.RoundTrip.{variables-sheet, nodes-sheet, formula-sheet, passes-sheet}
 use Rattle.rows.specs.Rows.{rows-in}
 use Rattle.reading.specs.Reading.{node-rows-in, prefix-in, matrix-in, formula-in, Readable, Quantified}

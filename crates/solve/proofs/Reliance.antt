@@ -16,7 +16,8 @@ use Rattle.sheet.specs.Sheet.{formula, sheet as sheet-of}
 use Rattle.sheet.specs.Operations.{padded, is-refused, is-stopped, is-ended, solved, solve-call}
 use Rattle.sheet.specs.Trace.{solve-states}
 use Rattle.sheet.proofs.Verdicts.{solve-ended}
-use Rattle.sheet.proofs.Longer.{Shows, no-state, last-state, solve-shows, Longer, longer-buffers, both-ended}
+use Rattle.sheet.specs.Reliance.{Shows, no-state, last-state, Longer}
+use Rattle.sheet.proofs.Longer.{solve-shows, longer-buffers, both-ended}
 use Rattle.solve.specs.declared.Verdict.{Verdict}
 use Rattle.solve.specs.declared.Verdict.the-variants.{True, False}
 use Rattle.solve.specs.declared.Solved.{Solved}

@@ -16,7 +16,8 @@ use Rattle.formula.specs.Solve.{lowest, cheapest, State, halt, next, stopped, e
 use Rattle.formula.proofs.Choice.{lowest-chosen, cheapest-chosen}
 use Rattle.formula.proofs.Steps.{Proper, proper-settled, rows-settled, proper-expanded, rows-expanded, decided-without-variables}
 use Rattle.sheet.specs.Format.{Format, sheet-length, fits}
-use Rattle.sheet.proofs.Limits.{Within, within-step}
+use Rattle.sheet.specs.Limits.{Within}
+use Rattle.sheet.proofs.Limits.{within-step}
 
 module _ (fits : Fits) (f : Formula) (a e : ℕ) where
   abbrev s : State

@@ -10,7 +10,7 @@ use Rattle.formula.specs.Solve.{State as Reached, halt, next, ended, stopped, s
 use Rattle.sheet.specs.Format.{Bytes, Format, fits}
 use Rattle.sheet.specs.Sheet.{sheet}
 use Rattle.sheet.specs.Operations.{padded}
-use Rattle.sheet.proofs.Limits.{Within}
+use Rattle.sheet.specs.Limits.{Within}
 use Rattle.reading.specs.Reading.{formula-in}
 use Rattle.tidying.specs.Limits.{Countable}
 use Rattle.solve.specs.declared.State.{State}

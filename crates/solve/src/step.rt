@@ -24,7 +24,7 @@ ghost use Rattle.formula.specs.Solve.{lowest};
 ghost use Rattle.sheet.specs.Format.{fits};
 ghost use Rattle.sheet.specs.Sheet.{formula-rows, sheet};
 ghost use Rattle.sheet.specs.Operations.{padded};
-ghost use Rattle.sheet.proofs.Limits.{Within};
+ghost use Rattle.sheet.specs.Limits.{Within};
 ghost use Rattle.rows.specs.Rows.{rows-in, Room};
 ghost use Rattle.rows.specs.Formats.{format-of};
 ghost use Rattle.reading.specs.Reading.{matrix-in, formula-in};

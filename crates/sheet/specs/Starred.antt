@@ -1,0 +1,79 @@
+-- The formulas of document 01 that are marked *: one list, each with its sheet's bytes and what is to come of it.
+-- Assumes nothing.
+use mathlib.Core.Bool.{Bool, true, false}
+use mathlib.Core.List.{List, [], _∷_}
+use Prim.Native.Nat.{ℕ}
+use lib.ListN.{replicate}
+use Rattle.formula.specs.Trial.{Tried}
+use Rattle.sheet.specs.Format.{Bytes, narrow}
+use Rattle.sheet.specs.Check.{Answer, accepted}
+use Rattle.sheet.specs.Operations.{Line, line, says-true, says-false, says-stopped, solve-call, trial-call, line-of}
+
+-- a sheet with what is asked of it and what is to come: the program's line with two buffers of a length, or Trial's verdict and leaves
+pub data Tested : Type 0 where
+  solves : Bytes → ℕ → Line → Tested
+  tries : Bytes → Bool → ℕ → Tested
+
+pub data Result : Type 0 where
+  writes : Line → Result
+  answers : Answer Tried → Result
+
+-- no variable, AND of nothing
+abbrev and-of-nothing : Bytes
+and-of-nothing = 0 ∷ 0 ∷ 1 ∷ 0 ∷ 5 ∷ 0 ∷ 0 ∷ []
+
+-- no variable, OR of nothing
+abbrev or-of-nothing : Bytes
+or-of-nothing = 0 ∷ 0 ∷ 1 ∷ 0 ∷ 6 ∷ 0 ∷ 0 ∷ []
+
+-- for all 1: (1 or not 1)
+abbrev excluded-middle : Bytes
+excluded-middle = 1 ∷ 0 ∷ 3 ∷ 0 ∷ 2 ∷ 6 ∷ 3 ∷ 4 ∷ 1 ∷ 0 ∷ 2 ∷ 0 ∷ 1 ∷ 0 ∷ 1 ∷ 0 ∷ []
+
+-- for all 1, 2: OR of the four ANDs
+abbrev four-ands : Bytes
+four-ands = 2 ∷ 0 ∷ 13 ∷ 0 ∷ 2 ∷ 2 ∷ 6 ∷ 5 ∷ 3 ∷ 3 ∷ 5 ∷ 3 ∷ 4 ∷ 5 ∷ 4 ∷ 3 ∷ 5 ∷ 4 ∷ 4 ∷ 1 ∷ 0 ∷ 2 ∷ 0 ∷ 4 ∷ 0 ∷ 2 ∷ 0 ∷ 1 ∷ 0 ∷ 2 ∷ 0 ∷ 2 ∷ 0 ∷ 1 ∷ 0 ∷ 2 ∷ 0 ∷ 2 ∷ 0 ∷ 1 ∷ 0 ∷ 2 ∷ 0 ∷ 2 ∷ 0 ∷ 1 ∷ 0 ∷ 2 ∷ 0 ∷ []
+
+-- document 001, figure 1: y1 = 1, x = 2, y2 = 3, y3 = 4
+abbrev figure-001 : Bytes
+figure-001 = 4 ∷ 0 ∷ 15 ∷ 0 ∷ 1 ∷ 2 ∷ 1 ∷ 1 ∷ 5 ∷ 6 ∷ 4 ∷ 3 ∷ 4 ∷ 6 ∷ 3 ∷ 4 ∷ 6 ∷ 3 ∷ 3 ∷ 6 ∷ 3 ∷ 4 ∷ 4 ∷ 1 ∷ 0 ∷ 2 ∷ 0 ∷ 3 ∷ 0 ∷ 4 ∷ 0 ∷ 4 ∷ 0 ∷ 3 ∷ 0 ∷ 1 ∷ 0 ∷ 2 ∷ 0 ∷ 3 ∷ 0 ∷ 2 ∷ 0 ∷ 3 ∷ 0 ∷ 4 ∷ 0 ∷ 2 ∷ 0 ∷ 3 ∷ 0 ∷ 4 ∷ 0 ∷ 3 ∷ 0 ∷ 1 ∷ 0 ∷ 2 ∷ 0 ∷ 3 ∷ 0 ∷ []
+
+-- document 000, figure 1, all exists: a = 1, b = 2, d = 3, e = 4
+abbrev figure-000-exists : Bytes
+figure-000-exists = 4 ∷ 0 ∷ 9 ∷ 0 ∷ 1 ∷ 1 ∷ 1 ∷ 1 ∷ 6 ∷ 4 ∷ 5 ∷ 3 ∷ 3 ∷ 4 ∷ 5 ∷ 3 ∷ 4 ∷ 1 ∷ 0 ∷ 2 ∷ 0 ∷ 3 ∷ 0 ∷ 4 ∷ 0 ∷ 3 ∷ 0 ∷ 1 ∷ 0 ∷ 3 ∷ 0 ∷ 2 ∷ 0 ∷ 3 ∷ 0 ∷ 4 ∷ 0 ∷ 2 ∷ 0 ∷ 1 ∷ 0 ∷ 3 ∷ 0 ∷ []
+
+-- the same, all for-all
+abbrev figure-000-for-all : Bytes
+figure-000-for-all = 4 ∷ 0 ∷ 9 ∷ 0 ∷ 2 ∷ 2 ∷ 2 ∷ 2 ∷ 6 ∷ 4 ∷ 5 ∷ 3 ∷ 3 ∷ 4 ∷ 5 ∷ 3 ∷ 4 ∷ 1 ∷ 0 ∷ 2 ∷ 0 ∷ 3 ∷ 0 ∷ 4 ∷ 0 ∷ 3 ∷ 0 ∷ 1 ∷ 0 ∷ 3 ∷ 0 ∷ 2 ∷ 0 ∷ 3 ∷ 0 ∷ 4 ∷ 0 ∷ 2 ∷ 0 ∷ 1 ∷ 0 ∷ 3 ∷ 0 ∷ []
+
+-- for all 2, exists 1: both equal
+abbrev equal-for-all-exists : Bytes
+equal-for-all-exists = 2 ∷ 0 ∷ 7 ∷ 0 ∷ 2 ∷ 1 ∷ 6 ∷ 5 ∷ 3 ∷ 3 ∷ 5 ∷ 4 ∷ 4 ∷ 2 ∷ 0 ∷ 1 ∷ 0 ∷ 2 ∷ 0 ∷ 2 ∷ 0 ∷ 1 ∷ 0 ∷ 2 ∷ 0 ∷ 2 ∷ 0 ∷ 1 ∷ 0 ∷ 2 ∷ 0 ∷ []
+
+-- exists 1, for all 2: both equal
+abbrev equal-exists-for-all : Bytes
+equal-exists-for-all = 2 ∷ 0 ∷ 7 ∷ 0 ∷ 1 ∷ 2 ∷ 6 ∷ 5 ∷ 3 ∷ 3 ∷ 5 ∷ 4 ∷ 4 ∷ 1 ∷ 0 ∷ 2 ∷ 0 ∷ 2 ∷ 0 ∷ 2 ∷ 0 ∷ 1 ∷ 0 ∷ 2 ∷ 0 ∷ 2 ∷ 0 ∷ 1 ∷ 0 ∷ 2 ∷ 0 ∷ []
+
+unfoldable pub starred : List Tested
+starred =
+    solves and-of-nothing 13060 (line says-true 0 0 0) ∷
+    solves or-of-nothing 13060 (line says-false 0 0 0) ∷
+    solves excluded-middle 13060 (line says-true 0 0 0) ∷
+    solves four-ands 88 (line says-true 0 1 0) ∷
+    solves four-ands 87 (line says-stopped 0 0 1) ∷
+    solves figure-001 13060 (line says-false 1 2 0) ∷
+    solves figure-000-exists 13060 (line says-true 1 0 0) ∷
+    solves figure-000-for-all 13060 (line says-false 3 0 0) ∷
+    solves equal-for-all-exists 13060 (line says-true 0 1 0) ∷
+    solves equal-exists-for-all 13060 (line says-false 0 1 0) ∷
+    tries equal-for-all-exists true 3 ∷
+    tries equal-exists-for-all false 3 ∷
+    []
+
+unfoldable pub expected : Tested → Result
+expected (solves b n l) = writes l
+expected (tries b v n) = answers (accepted (record { verdict = v; leaves = n }))
+
+unfoldable pub computed : Tested → Result
+computed (solves b n l) = writes (line-of ((solve-call narrow b (replicate n 0) (replicate n 0)) .answer))
+computed (tries b v n) = answers (trial-call narrow b)
