@@ -11,7 +11,7 @@ use lib.Seq.{getD-set-same, getD-set-other}
 use borrow.Author.Tests.{eqb-true, eqb-false, le-leb, lt-leb}
 use Rattle.sheet.specs.Format.{Format, Row}
 use Rattle.sheet.specs.Check.{member, quantifier-tests, arguments}
-use Rattle.checking.specs.Stages.{Marks, unbound}
+use Rattle.checking.specs.Inner.Stages.{Marks, unbound}
 
 or-left-comm : (a b c : Bool) → (a || (b || c)) ≡ (b || (a || c))
 or-left-comm true true c = refl
@@ -39,14 +39,14 @@ quantifier-tests-bound F i bound bound′ (r ∷ rs) h =
 
 -- the table
 
+pub all-false : (n x : ℕ) → getD (replicate n false) x false ≡ false
+all-false zero x = refl
+all-false (suc n) zero = refl
+all-false (suc n) (suc x) = all-false n x
+
 pub marks-none : Marks (replicate 1025 false) []
 unfolding member
-marks-none = record { entries = length-replicate 1025 false; entry = none 1025 }
-  where
-    none : (n x : ℕ) → getD (replicate n false) x false ≡ false
-    none zero x = refl
-    none (suc n) zero = refl
-    none (suc n) (suc x) = none n x
+marks-none = record { entries = length-replicate 1025 false; entry = all-false 1025 }
 
 pub marks-more : (table : List Bool) (bound : List ℕ) (x : ℕ) → x < 1025 → Marks table bound → Marks (set table x true) (x ∷ bound)
 unfolding member

@@ -14,7 +14,7 @@ use Rattle.sheet.specs.Format.{Row, row, children}
 use Rattle.sheet.specs.Check.{refused, accepted, test, answer, tree-test}
 use Rattle.sheet.specs.Operations.{span}
 use Rattle.checking.specs.declared.Reached.{Reached}
-use Rattle.checking.specs.Stages.{pay}
+use Rattle.checking.specs.Inner.Stages.{pay}
 use Rattle.checking.proofs.Tests.{stops, last-passes}
 
 abbrev reached : ℕ → ℕ → Reached
@@ -98,10 +98,17 @@ module _ {A : Type 0} (a : A) (rs : List Row) (v end : ℕ) (here : end ≡ v + 
   unfolding one-tree
   tree-whole o h = sym (tree-test-walked ∙ last-passes 8 (w .row) a (rw (eq-eqb (w .owed) 0 o, eq-eqb (w .row) end h)))
 
--- a walk ends behind the rows that its subtree spans
+-- a walk ends behind the rows that its subtree spans, and those are some of its rows
 pub pay-span : (owed i : ℕ) (rs : List Row) → (pay owed i rs) .row ≡ i + span owed rs
 unfolding pay span
 pay-span zero i [] = omega arith
 pay-span zero i (r ∷ rs) = omega arith
 pay-span (suc owed) i [] = omega arith
 pay-span (suc owed) i (r ∷ rs) = omega (arith, pay-span (owed + children r) (suc i) rs)
+
+pub span-length : (rs : List Row) (owed : ℕ) → span owed rs ≤ length rs
+unfolding span
+span-length [] zero = omega arith
+span-length [] (suc owed) = omega arith
+span-length (r ∷ rs) zero = omega arith
+span-length (r ∷ rs) (suc owed) = omega (arith, span-length rs (owed + children r))

@@ -1,6 +1,6 @@
-pub mod Accepted
+pub mod CheckedSheets
 pub mod Debt
-mod Bound
+pub mod Bound
 mod Sizes
 mod Tests
 mod Turn

@@ -13,7 +13,7 @@ use borrow.Author.Tests.{ltb-false}
 use Rattle.sheet.specs.Format.{Format, Row, row}
 use Rattle.sheet.specs.Check.{refused, accepted, Test, Sizes, test, answer, member, quantifier-tests, node-tests, arguments}
 use Rattle.formula.proofs.Booleans.{or-parts}
-use Rattle.checking.specs.Stages.{quantifier, misnumbered, node, Marks, unbound}
+use Rattle.checking.specs.Inner.Stages.{quantifier, misnumbered, node, Marks, unbound}
 use Rattle.checking.proofs.Tests.{stops, goes-on}
 use Rattle.checking.proofs.Bound.{member-last, quantifier-tests-bound, marks-more, marks-same}
 

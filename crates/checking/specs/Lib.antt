@@ -1,3 +1,5 @@
--- What Check answers, and the stages of its code.
+-- What a reader of Check's contracts must believe.
 pub mod Answers
-pub mod Stages
+pub mod Limits
+-- how its code goes about it
+pub mod Inner

@@ -1,20 +1,40 @@
 // Check: refusals 1 to 8 of document 01, in its order. One body serves every format.
+use rows::EXISTS;
+use rows::FOR_ALL;
+use rows::Format;
+use rows::Layout;
+use rows::NEGATIVE;
+use rows::NUMBERS;
+use rows::OR;
+use rows::POSITIVE;
+use rows::fit::sheet_length;
+use rows::number_at;
+use rows::read::argument_at;
+use rows::read::children_at;
+use rows::read::kind_at;
 ghost use mathlib.Core.Path.{_≡_};
 ghost use mathlib.Core.Bool.{false};
 ghost use mathlib.Core.List.{[]};
-ghost use Prim.Native.Nat.{_^_, _≤_, _<_};
+ghost use Prim.Native.Nat.{_≤_, _<_};
 ghost use lib.ListN.{length, getD, drop};
 ghost use Rattle.sheet.specs.Format.{row, narrow};
-ghost use Rattle.sheet.specs.Check.{accepted, arguments, check};
-ghost use Rattle.rows.specs.Rows.{rows-in, Room};
+ghost use Rattle.sheet.specs.Check.{accepted, check};
+ghost use Rattle.rows.specs.Layouts.{total, rows-in, Room};
 ghost use Rattle.rows.specs.Formats.{format-of};
 ghost use Rattle.checking.specs.Answers.{checked-answer};
-ghost use Rattle.checking.specs.Stages.{Manageable, Sized, sizes, prefix-in, size-answer, prefix-answer, node-answer, tree-answer};
-ghost use Rattle.checking.specs.Stages.{outside, quantifier, misnumbered, node, Marks, unbound, pay};
+ghost use Rattle.checking.specs.Limits.{Manageable};
+ghost use Rattle.checking.specs.Inner.Stages.{Sized, sizes, bound-in, size-answer, prefix-answer, node-answer, tree-answer};
+ghost use Rattle.checking.specs.Inner.Stages.{outside, quantifier, misnumbered, node, Marks, unbound, pay};
 
 // What Check answers: V and N, or a refusal's number and place.
 pub enum Checked {
     Accepted(usize, usize),
+    Refused(usize, usize),
+}
+
+// What an operation that writes a sheet answers: the new sheet's length, or a refusal's number and place.
+pub enum Written {
+    Accepted(usize),
     Refused(usize, usize),
 }
 
@@ -25,7 +45,7 @@ pub struct Reached {
 }
 
 // Whether a size is outside its limits: V above its own, N 0 or above its own.
-fn is_outside(f: rows::Format, v: usize, n: usize) -> bool
+fn is_outside(f: Format, v: usize, n: usize) -> bool
     ensures { λ r. ⌜ r ≡ outside (format-of f) v n ⌝ }
 {
     if f.most_variables < v {
@@ -38,18 +58,18 @@ fn is_outside(f: rows::Format, v: usize, n: usize) -> bool
 }
 
 // The sizes: 1 shorter than the header, 2 a size outside its limits, 3 wrong length.
-fn check_sizes(sheet: &[u8], f: rows::Format) -> Checked
+fn check_sizes(sheet: &[u8], f: Format) -> Checked
     requires { ⌜ Manageable (format-of f) ⌝ }
     ensures { λ r. ⌜ checked-answer r ≡ size-answer (format-of f) (now (sheet .entry)) ⌝ }
 {
-    let w = f.width;
-    if sheet.len() < 2 * w {
+    let width = f.width;
+    if sheet.len() < 2 * width {
         return Checked::Refused(1, 0);
     }
-    let v = rows::number_at(sheet, 0, w);
-    let n = rows::number_at(sheet, w, w);
+    let v = number_at(sheet, 0, width);
+    let n = number_at(sheet, width, width);
     let outside = is_outside(f, v, n);
-    let exact = sheet.len() == 2 * w + (1 + w) * (v + n);
+    let exact = sheet.len() == sheet_length(f, v, n);
     if outside {
         return Checked::Refused(2, 0);
     }
@@ -63,10 +83,10 @@ fn check_sizes(sheet: &[u8], f: rows::Format) -> Checked
 fn is_quantifier(kind: u8) -> bool
     ensures { λ r. ⌜ r ≡ quantifier kind ⌝ }
 {
-    if kind == 1 {
+    if kind == EXISTS {
         return true;
     }
-    kind == 2
+    kind == FOR_ALL
 }
 
 // Whether a quantifier number is outside 1 to `most`.
@@ -80,36 +100,27 @@ fn is_misnumbered(x: usize, most: usize) -> bool
 }
 
 // Whether a number is bound.
-fn is_bound(bound: &[bool; 1025], x: usize) -> bool
+fn is_bound(bound: &[bool; NUMBERS], x: usize) -> bool
     requires { ⌜ length (now bound) ≡ 1025 ⌝ }
     ensures { λ r. ⌜ r ≡ getD (now (bound .entry)) x false ⌝ }
 {
-    if x < 1025 {
+    if x < NUMBERS {
         return bound[x];
     }
     false
 }
 
 // The prefix rows: 4 kind, 5 quantifier number, 6 bound twice. Accepted, the table marks the numbers bound.
-fn check_prefix(
-    sheet: &[u8],
-    f: rows::Format,
-    v: usize,
-    n: usize,
-    bound: &mut [bool; 1025],
-) -> Checked
-    requires { ⌜ Manageable (format-of f) × Sized (f .width) v n (length (now sheet)) × Marks (now bound) [] ⌝ }
-    ensures { λ r. ⌜ checked-answer r ≡ prefix-answer (format-of f) v n (now (sheet .entry)) ⌝ }
-    ensures { λ r.
-        ⌜ (checked-answer r ≡ accepted (sizes v n)
-        → Marks (now (bound .exit)) (arguments (prefix-in (f .width) v n (now (sheet .entry))))) ⌝ }
+fn check_prefix(sheet: &[u8], f: Format, s: Layout, bound: &mut [bool; NUMBERS]) -> Checked
+    requires { ⌜ Manageable (format-of f) × Sized s (length (now sheet)) × Marks (now bound) [] ⌝ }
+    ensures { λ r. ⌜ checked-answer r ≡ prefix-answer (format-of f) s (now (sheet .entry)) ⌝ }
+    ensures { λ r. ⌜ (checked-answer r ≡ accepted (sizes s) → Marks (now (bound .exit)) (bound-in s (now (sheet .entry)))) ⌝ }
 {
-    let w = f.width;
-    let total = v + n;
+    let v = s.variables;
     let mut r = 0;
     while r < v {
-        let quantifier = is_quantifier(rows::kind_at(sheet, w, total, r));
-        let x = rows::argument_at(sheet, w, total, r);
+        let quantifier = is_quantifier(kind_at(sheet, s, r));
+        let x = argument_at(sheet, s, r);
         let misnumbered = is_misnumbered(x, f.most_variables);
         let twice = is_bound(bound, x);
         if !quantifier {
@@ -124,40 +135,40 @@ fn check_prefix(
         bound[x] = true;
         r += 1;
     }
-    Checked::Accepted(v, n)
+    Checked::Accepted(s.variables, s.nodes)
 }
 
 // Kinds 3 and 4, the literals, and 5 and 6, the operators.
 fn is_node(kind: u8) -> bool
     ensures { λ r. ⌜ r ≡ node kind ⌝ }
 {
-    if kind < 3 {
+    if kind < POSITIVE {
         return false;
     }
-    kind <= 6
+    kind <= OR
 }
 
 // Whether row `r` is a literal of a number that is not bound.
-fn is_unbound(sheet: &[u8], w: usize, n: usize, r: usize, bound: &[bool; 1025]) -> bool
-    requires { ⌜ Room w n (length (now sheet)) × (r < n) × (length (now bound) ≡ 1025) ⌝ }
-    ensures { λ u. ⌜ u ≡ unbound (now (bound .entry)) (getD (rows-in w n (now (sheet .entry))) r (row 0 0)) ⌝ }
+fn is_unbound(sheet: &[u8], s: Layout, r: usize, bound: &[bool; NUMBERS]) -> bool
+    requires { ⌜ Room s (length (now sheet)) × (r < total s) × (length (now bound) ≡ 1025) ⌝ }
+    ensures { λ u. ⌜ u ≡ unbound (now (bound .entry)) (getD (rows-in s (now (sheet .entry))) r (row 0 0)) ⌝ }
 {
-    if 4 < rows::kind_at(sheet, w, n, r) {
+    if NEGATIVE < kind_at(sheet, s, r) {
         return false;
     }
-    !is_bound(bound, rows::argument_at(sheet, w, n, r))
+    !is_bound(bound, argument_at(sheet, s, r))
 }
 
 // The node rows: 4 kind, 7 literal unbound.
-fn check_nodes(sheet: &[u8], w: usize, v: usize, n: usize, bound: &[bool; 1025]) -> Checked
-    requires { ⌜ Sized w v n (length (now sheet)) × Marks (now bound) (arguments (prefix-in w v n (now sheet))) ⌝ }
-    ensures { λ r. ⌜ checked-answer r ≡ node-answer w v n (now (sheet .entry)) ⌝ }
+fn check_nodes(sheet: &[u8], s: Layout, bound: &[bool; NUMBERS]) -> Checked
+    requires { ⌜ Sized s (length (now sheet)) × Marks (now bound) (bound-in s (now sheet)) ⌝ }
+    ensures { λ r. ⌜ checked-answer r ≡ node-answer s (now (sheet .entry)) ⌝ }
 {
-    let total = v + n;
-    let mut r = v;
-    while r < total {
-        let node = is_node(rows::kind_at(sheet, w, total, r));
-        let unbound = is_unbound(sheet, w, total, r, bound);
+    let end = s.variables + s.nodes;
+    let mut r = s.variables;
+    while r < end {
+        let node = is_node(kind_at(sheet, s, r));
+        let unbound = is_unbound(sheet, s, r, bound);
         if !node {
             return Checked::Refused(4, r);
         }
@@ -166,62 +177,67 @@ fn check_nodes(sheet: &[u8], w: usize, v: usize, n: usize, bound: &[bool; 1025])
         }
         r += 1;
     }
-    Checked::Accepted(v, n)
+    Checked::Accepted(s.variables, s.nodes)
 }
 
-// Walks the rows from `from` on with one node owed, until nothing is owed or the `n` rows run out.
-pub fn walk(sheet: &[u8], w: usize, n: usize, from: usize) -> Reached
-    requires { ⌜ Room w n (length (now sheet)) × (n < 2 ^ 16) × (from ≤ n) ⌝ }
-    ensures { λ r. ⌜ r ≡ pay 1 from (drop from (rows-in w n (now (sheet .entry)))) ⌝ }
+// Walks the rows from `from` on with one node owed, until nothing is owed or the rows run out.
+pub fn walk(sheet: &[u8], s: Layout, from: usize) -> Reached
+    requires { ⌜ Sized s (length (now sheet)) × (from ≤ total s) ⌝ }
+    ensures { λ r. ⌜ r ≡ pay 1 from (drop from (rows-in s (now (sheet .entry)))) ⌝ }
 {
+    let end = s.variables + s.nodes;
     let mut owed: usize = 1;
     let mut row = from;
-    while row < n {
+    while row < end {
         if owed == 0 {
             return Reached { row, owed };
         }
-        owed = owed - 1 + rows::children_at(sheet, w, n, row);
+        owed = owed - 1 + children_at(sheet, s, row);
         row += 1;
     }
     Reached { row, owed }
 }
 
 // 8 not one tree, at the row where the debt walk ends.
-fn check_tree(sheet: &[u8], w: usize, v: usize, n: usize) -> Checked
-    requires { ⌜ Sized w v n (length (now sheet)) ⌝ }
-    ensures { λ r. ⌜ checked-answer r ≡ tree-answer w v n (now (sheet .entry)) ⌝ }
+fn check_tree(sheet: &[u8], s: Layout) -> Checked
+    requires { ⌜ Sized s (length (now sheet)) ⌝ }
+    ensures { λ r. ⌜ checked-answer r ≡ tree-answer s (now (sheet .entry)) ⌝ }
 {
-    let total = v + n;
-    let end = walk(sheet, w, total, v);
-    if end.owed != 0 {
-        return Checked::Refused(8, end.row);
+    let end = s.variables + s.nodes;
+    let reached = walk(sheet, s, s.variables);
+    if reached.owed != 0 {
+        return Checked::Refused(8, reached.row);
     }
-    if end.row != total {
-        return Checked::Refused(8, end.row);
+    if reached.row != end {
+        return Checked::Refused(8, reached.row);
     }
-    Checked::Accepted(v, n)
+    Checked::Accepted(s.variables, s.nodes)
 }
 
 // Checks a sheet of any format within the limits of this code.
-pub fn check_in(sheet: &[u8], f: rows::Format) -> Checked
+pub fn check_in(sheet: &[u8], f: Format) -> Checked
     requires { ⌜ Manageable (format-of f) ⌝ }
     ensures { λ r. ⌜ checked-answer r ≡ check (format-of f) (now (sheet .entry)) ⌝ }
 {
-    let s = check_sizes(sheet, f);
-    let Checked::Accepted(v, n) = s else {
-        return s;
+    let c = check_sizes(sheet, f);
+    let Checked::Accepted(variables, nodes) = c else {
+        return c;
     };
-    let w = f.width;
-    let mut bound = [false; 1025];
-    let p = check_prefix(sheet, f, v, n, &mut bound);
+    let s = Layout {
+        width: f.width,
+        variables,
+        nodes,
+    };
+    let mut bound = [false; NUMBERS];
+    let p = check_prefix(sheet, f, s, &mut bound);
     let Checked::Accepted(_, _) = p else {
         return p;
     };
-    let m = check_nodes(sheet, w, v, n, &bound);
+    let m = check_nodes(sheet, s, &bound);
     let Checked::Accepted(_, _) = m else {
         return m;
     };
-    check_tree(sheet, w, v, n)
+    check_tree(sheet, s)
 }
 
 // Checks a sheet of document 01: accepted with V and N, or refused with number and place.

@@ -18,7 +18,7 @@ use Rattle.sheet.specs.Check.{passes, check-tests}
 use Rattle.sheet.specs.Operations.{tidy-and-bound-tests, expand-tests}
 use Rattle.sheet.proofs.Tests.{passed-∷, passed-++, accepted-passes}
 use Rattle.sheet.proofs.Accepted.{accepted-variables}
-use Rattle.checking.proofs.Accepted.{AcceptedSheet, accepted-again}
+use Rattle.checking.proofs.CheckedSheets.{AcceptedSheet, accepted-again}
 use Rattle.reading.specs.Places.{place}
 use Rattle.reading.proofs.Places.{binds-place}
 use Rattle.expand.specs.declared.plan.Plan.{Plan}

@@ -14,7 +14,7 @@ use Rattle.formula.specs.Expand.{all-of, innermost, raw-rows}
 use Rattle.formula.specs.Solve.{fits-raw}
 use Rattle.sheet.specs.Format.{Bytes, Format, sheet-length, fits}
 use Rattle.sheet.specs.Check.{Answer, refused, accepted, answer}
-use Rattle.checking.specs.Stages.{Manageable}
+use Rattle.checking.specs.Limits.{Manageable}
 use Rattle.reading.specs.Reading.{prefix-in, matrix-in, formula-in, Readable}
 use Rattle.reading.specs.Places.{place, binding-in}
 use Rattle.reading.proofs.Matrix.{rows-nodes}

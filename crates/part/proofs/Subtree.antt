@@ -8,15 +8,16 @@ use native.Mathlib.Omega.{arith}
 use lib.ListN.{length, take, drop, length-drop}
 use lib.Seq.{take-take, drop-drop}
 use borrow.Author.Tests.{lt-ltb, le-ltb}
-use Rattle.sheet.specs.Format.{Bytes, Format, Row, header, nodes, kind-bytes, children}
+use Rattle.sheet.specs.Format.{Bytes, Format, Row, nodes, kind-bytes}
 use Rattle.sheet.specs.Check.{passes, check-tests}
 use Rattle.sheet.specs.Operations.{span, part-call}
-use Rattle.rows.specs.Rows.{rows-in}
-use Rattle.rows.proofs.Rows.{length-rows-in}
+use Rattle.rows.specs.Layouts.{total, rows-in, Room}
+use Rattle.rows.specs.declared.Layout.{Layout}
+use Rattle.rows.proofs.Layouts.{all-rows-in, length-rows-in}
 use Rattle.checking.specs.declared.Reached.{Reached}
-use Rattle.checking.specs.Stages.{pay}
-use Rattle.checking.proofs.Debt.{pay-span}
-use Rattle.checking.proofs.Accepted.{AcceptedSheet, accepted-room, accepted-rows}
+use Rattle.checking.specs.Limits.{Sheet}
+use Rattle.checking.specs.Inner.Stages.{pay}
+use Rattle.checking.proofs.Debt.{pay-span, span-length}
 
 -- a part of the front, taken from the whole
 take-drop-take : {A : Type 0} (k s m : ℕ) (l : List A) → k + s ≤ m → take s (drop k (take m l)) ≡ take s (drop k l)
@@ -25,62 +26,47 @@ take-drop-take (suc k) s zero l h = absurd (omega arith)
 take-drop-take (suc k) s (suc m) [] h = refl
 take-drop-take (suc k) s (suc m) (x ∷ l) h = take-drop-take k s m l (omega arith)
 
-span-within : (owed : ℕ) (rs : List Row) → span owed rs ≤ length rs
-unfolding span
-span-within zero [] = omega arith
-span-within zero (r ∷ rs) = omega arith
-span-within (suc owed) [] = omega arith
-span-within (suc owed) (r ∷ rs) = omega (arith, span-within (owed + children r) rs)
-
 pub bad-sheet : (F : Format) (b : Bytes) (i : ℕ) → passes (check-tests F b) ≡ false → [] ≡ part-call F b i
 unfolding part-call
 bad-sheet F b i h = rw h
 
-module _ (F : Format) (b : Bytes) (v n i : ℕ) (s : AcceptedSheet F b v n) where
-  pub bad-node : n ≤ i → [] ≡ part-call F b i
+module _ {F : Format} {b : Bytes} {s : Layout} (i : ℕ) (h : Sheet F b s) where
+  nodes-are : s .nodes ≡ nodes F b
+  nodes-are = ap (λ (s : Layout). s .nodes) (h .layout-is)
+
+  pub bad-node : s .nodes ≤ i → [] ≡ part-call F b i
   unfolding part-call
-  bad-node h = rw (s .tests-pass, le-ltb i (nodes F b) (omega (arith, s .right .nodes-are)))
+  bad-node none = rw (h .tests-pass, le-ltb i (nodes F b) (omega (arith, nodes-are)))
 
   -- the rows from the node's own on
   abbrev subtree : List Row
-  subtree = drop (v + i) (rows-in (F .width) (v + n) b)
+  subtree = drop (s .variables + i) (rows-in s b)
 
-  module _ (few : F .width ≤ 4) (some : i < n) (w : Reached) (walked : w ≡ pay 1 (v + i) subtree) where
-    ends : w .row ≡ v + i + span 1 subtree
-    ends = ap (λ (w : Reached). w .row) walked ∙ pay-span 1 (v + i) subtree
+  module _ (room : Room s (length b)) (some : i < s .nodes) (w : Reached) (walked : w ≡ pay 1 (s .variables + i) subtree) where
+    ends : w .row ≡ s .variables + i + span 1 subtree
+    ends = ap (λ (w : Reached). w .row) walked ∙ pay-span 1 (s .variables + i) subtree
 
-    pub ends-behind : v + i ≤ w .row
+    pub ends-behind : s .variables + i ≤ w .row
     ends-behind = omega (arith, ends)
 
-    pub ends-within : w .row ≤ v + n
+    pub ends-within : w .row ≤ total s
     ends-within =
-        omega (
-          arith,
-          ends,
-          span-within 1 subtree,
-          length-drop (v + i) (rows-in (F .width) (v + n) b),
-          length-rows-in b (accepted-room few (s .right)),
-        )
+        omega (arith, ends, span-length subtree 1, length-drop (s .variables + i) (rows-in s b), length-rows-in b room)
 
-    own : take (span 1 subtree) (drop (v + i) (take (v + n) (drop (header F) b))) ≡ part-call F b i
+    own : take (span 1 subtree) (drop (s .variables + i) (take (total s) (drop (2 * s .width) b))) ≡ part-call F b i
     unfolding part-call kind-bytes
-    own =
-        rw (
-          s .tests-pass,
-          lt-ltb i (nodes F b) (omega (arith, s .right .nodes-are)),
-          accepted-rows (s .right),
-          ← s .right .variables-are,
-          ← s .right .nodes-are,
-        )
+    own = rw (h .layout-is, h .tests-pass, lt-ltb i (nodes F b) (omega (arith, nodes-are)), all-rows-in F b)
 
-    pub part-here : take (2 * F .width + w .row - (2 * F .width + (v + i))) (drop (2 * F .width + (v + i)) b) ≡ part-call F b i
+    pub part-here : take (2 * s .width + w .row - (2 * s .width + (s .variables + i))) (drop (2 * s .width + (s .variables + i)) b) ≡
+        part-call F b i
     part-here =
-        ap (λ k. take k (drop (2 * F .width + (v + i)) b)) covered ∙
-        rw (← drop-drop (v + i) (2 * F .width) b) (sym (take-drop-take (v + i) (span 1 subtree) (v + n) (drop (header F) b) within)) ∙
+        ap (λ k. take k (drop (2 * s .width + (s .variables + i)) b)) covered ∙
+        rw (← drop-drop (s .variables + i) (2 * s .width) b)
+        (sym (take-drop-take (s .variables + i) (span 1 subtree) (total s) (drop (2 * s .width) b) within)) ∙
         own
       where
-        covered : 2 * F .width + w .row - (2 * F .width + (v + i)) ≡ span 1 subtree
+        covered : 2 * s .width + w .row - (2 * s .width + (s .variables + i)) ≡ span 1 subtree
         covered = omega (arith, ends)
 
-        within : v + i + span 1 subtree ≤ v + n
+        within : s .variables + i + span 1 subtree ≤ total s
         within = omega (arith, ends, ends-within)

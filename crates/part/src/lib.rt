@@ -1,28 +1,35 @@
 // Part: the kind bytes of a subtree, as a part of the sheet lent.
 use checking::Checked;
+use rows::Format;
+use rows::Layout;
 ghost use mathlib.Core.Path.{_≡_};
 ghost use Rattle.sheet.specs.Format.{narrow};
 ghost use Rattle.sheet.specs.Operations.{part-call};
 ghost use Rattle.rows.specs.Formats.{format-of};
-ghost use Rattle.checking.specs.Stages.{Manageable};
+ghost use Rattle.checking.specs.Limits.{Manageable};
 
 // The part of a sheet of any format within the limits of Check's code.
-fn part_in<'a>(sheet: &'a [u8], f: rows::Format, node: usize) -> &'a [u8]
+fn part_in<'a>(sheet: &'a [u8], f: Format, node: usize) -> &'a [u8]
     requires { ⌜ Manageable (format-of f) ⌝ }
     ensures { λ r. ⌜ now r ≡ part-call (format-of f) (now (sheet .entry)) node ⌝ }
 {
     let c = checking::check_in(sheet, f);
-    let Checked::Accepted(v, n) = c else {
+    let Checked::Accepted(variables, nodes) = c else {
         return &sheet[0..0];
     };
-    if n <= node {
+    if nodes <= node {
         return &sheet[0..0];
     }
-    let w = f.width;
-    let first = v + node;
-    let end = checking::walk(sheet, w, v + n, first);
+    let s = Layout {
+        width: f.width,
+        variables,
+        nodes,
+    };
+    let first = variables + node;
+    let end = checking::walk(sheet, s, first);
     let last = end.row;
-    &sheet[2 * w + first..2 * w + last]
+    let kinds = 2 * f.width;
+    &sheet[kinds + first..kinds + last]
 }
 
 // The kind bytes that the subtree of a node covers, from 0 for the root on; none if Check refuses the sheet or there is no such node.

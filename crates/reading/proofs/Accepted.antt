@@ -14,8 +14,8 @@ use Rattle.sheet.proofs.CheckTests.{passed, passed-sizes, passed-quantifiers}
 use Rattle.sheet.proofs.Accepted.{accepted-length, rows-matrix}
 use Rattle.rows.specs.Rows.{rows-in}
 use Rattle.rows.proofs.Rows.{all-rows-in}
-use Rattle.checking.specs.Stages.{Manageable}
-use Rattle.checking.proofs.Accepted.{AcceptedSheet}
+use Rattle.checking.specs.Limits.{Manageable}
+use Rattle.checking.proofs.CheckedSheets.{AcceptedSheet}
 use Rattle.reading.specs.Reading.{node-rows-in, prefix-in, matrix-in, formula-in, Readable, Quantified}
 use Rattle.reading.specs.Places.{place, binding-at}
 use Rattle.reading.proofs.Places.{quantifier-of-place, variable-place}

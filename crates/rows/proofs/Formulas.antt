@@ -2,19 +2,19 @@
 -- Assumes nothing.
 use mathlib.Core.Path.{_≡_, sym, ap, ap₂, _∙_}
 use mathlib.Core.Bool.{true}
-use mathlib.Core.List.{[], _++_, map, append-nil}
+use mathlib.Core.List.{map}
 use Prim.Native.Nat.{ℕ, _+_, _≤_}
 use native.Mathlib.Omega.{arith}
-use lib.ListN.{length, getD, take, drop, length-drop, length-map, take-append-drop}
+use lib.ListN.{length, getD, take, drop, length-drop, length-map}
 use lib.Seq.{getD-drop, take-at, drop-at, length-take-le}
 use Rattle.formula.specs.Tree.{Tree, Prefix, Formula, rows}
-use Rattle.sheet.specs.Format.{Bytes, Format, row, sheet-length, variables, all-rows, prefix-rows, node-rows}
+use Rattle.sheet.specs.Format.{Bytes, Format, row, sheet-length, prefix-rows, node-rows}
 use Rattle.sheet.specs.Sheet.{binding, binding-row, trees, root, tree-rows, formula-rows, formula}
 use Rattle.sheet.specs.Check.{passes, check-tests}
-use Rattle.sheet.proofs.Preorder.{length-tree-rows, trees-tree}
-use Rattle.sheet.proofs.CheckTests.{passed, passed-sizes, passed-quantifiers, map-binding-row}
-use Rattle.sheet.proofs.Accepted.{accepted-length, rows-matrix}
-use Rattle.rows.specs.Layouts.{total, rows-in}
+use Rattle.sheet.proofs.Preorder.{length-tree-rows, root-trees}
+use Rattle.sheet.proofs.CheckTests.{passed, passed-sizes, map-binding-row}
+use Rattle.sheet.proofs.Accepted.{accepted-length, formula-rows-formula}
+use Rattle.rows.specs.Layouts.{rows-in}
 use Rattle.rows.specs.Formulas.{prefix-in, node-rows-in, matrix-in, formula-in, Readable, layout-of}
 use Rattle.rows.specs.declared.Layout.{Layout}
 use Rattle.rows.proofs.Layouts.{all-rows-in, length-rows-in}
@@ -66,7 +66,7 @@ module _ (s : Layout) (b : Bytes) (g : Formula) (is : rows-in s b ≡ formula-ro
   counted = length-map (g .prefix) binding-row ∙ vs
 
   pub formula-written : formula-in s b ≡ g
-  unfolding formula-in prefix-in matrix-in node-rows-in formula-rows root
+  unfolding formula-in prefix-in matrix-in node-rows-in formula-rows
   formula-written =
       ap₂ (λ (p : Prefix) (t : Tree). record { prefix = p; matrix = t })
       (ap (λ rs. map binding (take (s .variables) rs)) is ∙
@@ -74,21 +74,13 @@ module _ (s : Layout) (b : Bytes) (g : Formula) (is : rows-in s b ≡ formula-ro
       map-binding-row (g .prefix))
       (ap (λ rs. root (trees (drop (s .variables) rs))) is ∙
       ap (λ rs. root (trees rs)) (drop-at (map binding-row (g .prefix)) (tree-rows (g .matrix)) (s .variables) counted) ∙
-      ap (λ rs. root (trees rs)) (sym (append-nil (tree-rows (g .matrix)))) ∙ ap root (trees-tree (g .matrix) []))
+      root-trees (g .matrix))
 
   pub written-is-formula : formula-rows (formula-in s b) ≡ rows-in s b
   written-is-formula = ap formula-rows formula-written ∙ sym is
 
 -- a sheet that Check accepts is readable
 module _ (F : Format) (b : Bytes) (h : passes (check-tests F b) ≡ true) where
-  pub rows-accepted : formula-rows (formula F b) ≡ all-rows F b
-  unfolding formula-rows formula prefix-rows node-rows
-  rows-accepted =
-      ap₂ _++_ (passed-quantifiers F (prefix-rows F b) (passed F b h .quantifiers) .rows-of-prefix) (rows-matrix F b h) ∙ halves
-    where
-      halves : prefix-rows F b ++ node-rows F b ≡ all-rows F b
-      halves = take-append-drop (variables F b) (all-rows F b)
-
   pub accepted-readable : F .width ≤ 4 → F .most-variables ≤ 1024 → F .most-nodes ≤ 8192 → Readable (layout-of F b) b
   unfolding sheet-length
   accepted-readable narrow few-variables few-nodes =
@@ -98,5 +90,5 @@ module _ (F : Format) (b : Bytes) (h : passes (check-tests F b) ≡ true) where
         few-variables = omega (arith, sizes .few-variables);
         some-nodes = omega (arith, sizes .some-node);
         few-nodes = omega (arith, sizes .few-nodes);
-        is-formula = ap formula-rows (formula-read F b) ∙ rows-accepted ∙ all-rows-in F b;
+        is-formula = ap formula-rows (formula-read F b) ∙ formula-rows-formula F b h ∙ all-rows-in F b;
       }

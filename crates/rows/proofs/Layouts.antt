@@ -1,9 +1,9 @@
 -- The rows of a layout: how many there are, and what stands in each.
 -- Assumes nothing.
-use mathlib.Core.Path.{_≡_, refl}
+use mathlib.Core.Path.{_≡_}
 use Prim.Native.Nat.{ℕ, _+_, _*_, _≤_, _<_}
 use lib.ListN.{length, getD, take, drop}
-use Rattle.sheet.specs.Format.{Bytes, Format, Row, row, number, variables, nodes, all-rows}
+use Rattle.sheet.specs.Format.{Bytes, Format, row, number, variables, nodes, all-rows}
 use Rattle.rows.specs.Rows as rows
 use Rattle.rows.specs.Layouts.{total, rows-in, Room}
 use Rattle.rows.specs.declared.Layout.{Layout}

@@ -8,7 +8,7 @@ use Rattle.sheet.specs.Sheet.{formula}
 use Rattle.sheet.specs.Check.{refused, answer, check-tests, check}
 use Rattle.sheet.specs.Operations.{tidy-and-bound-tests, settle-tests}
 use Rattle.sheet.proofs.Tests.{answer-++, refused-first}
-use Rattle.checking.proofs.Accepted.{AcceptedSheet}
+use Rattle.checking.proofs.CheckedSheets.{AcceptedSheet}
 use Rattle.reading.proofs.Accepted.{accepted-formula}
 use Rattle.settle.specs.Plan.{choice, choice-in, later-tests, settle-plan}
 

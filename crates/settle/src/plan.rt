@@ -8,7 +8,7 @@ use reading::signs::settling_value;
 ghost use mathlib.Core.Path.{_≡_};
 ghost use Rattle.sheet.specs.Check.{answer};
 ghost use Rattle.rows.specs.Formats.{format-of};
-ghost use Rattle.checking.specs.Stages.{Manageable};
+ghost use Rattle.checking.specs.Limits.{Manageable};
 ghost use Rattle.reading.specs.Reading.{Readable};
 ghost use Rattle.settle.specs.Plan.{plan-answer, choice-in, later-tests, settle-plan};
 

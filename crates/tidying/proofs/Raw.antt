@@ -11,7 +11,7 @@ use Rattle.sheet.specs.Format.{narrow, Row}
 use Rattle.sheet.specs.Sheet.{binding-row, tree-rows, formula-rows}
 use Rattle.sheet.proofs.Preorder.{root-trees}
 use Rattle.sheet.proofs.CheckTests.{map-binding-row}
-use Rattle.checking.proofs.Accepted.{narrow-manageable}
+use Rattle.checking.proofs.CheckedSheets.{narrow-manageable}
 use Rattle.tidying.specs.InPlace.{rows-formula}
 use Rattle.tidying.specs.Limits.{Countable}
 

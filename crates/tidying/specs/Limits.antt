@@ -5,7 +5,7 @@ use mathlib.Core.Bool.{true}
 use Prim.Native.Nat.{ℕ, _+_, _^_, _<_}
 use Rattle.sheet.specs.Format.{Bytes, Format, variables, nodes}
 use Rattle.sheet.specs.Check.{passes, check-tests}
-use Rattle.checking.specs.Stages.{Manageable}
+use Rattle.checking.specs.Limits.{Manageable}
 
 -- Check's code takes the format, and how many rows a sheet has is a number of the format: while a sheet is tidied, an operator's
 -- argument counts the rows of its subtree

@@ -18,8 +18,8 @@ use Rattle.sheet.proofs.Tests.{answer-++, refused-first}
 use Rattle.sheet.proofs.Limits.{numbered-at}
 use Rattle.sheet.proofs.Accepted.{rows-matrix, accepted-within, accepted-variables}
 use Rattle.rows.specs.Rows.{rows-in}
-use Rattle.checking.specs.Stages.{Manageable}
-use Rattle.checking.proofs.Accepted.{AcceptedSheet, accepted-room, accepted-rows}
+use Rattle.checking.specs.Limits.{Manageable}
+use Rattle.checking.proofs.CheckedSheets.{AcceptedSheet, accepted-room, accepted-rows}
 use Rattle.trial.specs.declared.Shape.{Shape}
 use Rattle.trial.specs.Jumps.{matrix-rows, OneTree}
 use Rattle.trial.specs.Turns.{unread, semantic-tree, Numbered, Playable}

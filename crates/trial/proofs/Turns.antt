@@ -19,6 +19,7 @@ use Rattle.sheet.specs.Format.{Bytes, Row, row}
 use Rattle.sheet.specs.Sheet.{binding, trees, root}
 use Rattle.rows.specs.Rows.{rows-in}
 use Rattle.rows.proofs.Rows.{length-rows-in}
+use Rattle.checking.proofs.Bound.{all-false}
 use Rattle.trial.specs.declared.Shape.{Shape}
 use Rattle.trial.specs.declared.Outcome.{Outcome}
 use Rattle.trial.specs.Jumps.{Holds, matrix-rows, values}
@@ -153,12 +154,7 @@ module _ {q : Quantifier} {s : Shape} {b : Bytes} {r x : ℕ} {table t₀ : List
 -- the first turn, under the table of all false
 pub turns-first : (s : Shape) (b : Bytes) (n : ℕ) (o : Outcome) → tried o ≡ turns s b 0 (replicate n false) → tried o ≡ semantic-tree s b
 unfolding turns semantic-tree
-turns-first s b n o e = e ∙ ap (try (unread s b 0) (eval (root (trees (matrix-rows s b))))) (fun-ext (none n))
-  where
-    none : (n x : ℕ) → getD (replicate n false) x false ≡ false
-    none zero x = refl
-    none (suc n) zero = refl
-    none (suc n) (suc x) = none n x
+turns-first s b n o e = e ∙ ap (try (unread s b 0) (eval (root (trees (matrix-rows s b))))) (fun-ext (all-false n))
 
 -- how many calls of turns may follow one at row r: two for each row left, and one more if the row is the other side's
 

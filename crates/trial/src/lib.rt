@@ -10,7 +10,7 @@ ghost use Rattle.sheet.specs.Format.{narrow, row, children};
 ghost use Rattle.sheet.specs.Sheet.{trees, root};
 ghost use Rattle.sheet.specs.Operations.{trial-call};
 ghost use Rattle.rows.specs.Formats.{format-of};
-ghost use Rattle.checking.specs.Stages.{Manageable};
+ghost use Rattle.checking.specs.Limits.{Manageable};
 ghost use Rattle.trial.specs.Answers.{tried-answer};
 ghost use Rattle.trial.specs.Jumps.{Holds, matrix-rows, entry, Ends, hops, Hopping, Parent, Parents, past, Targets, Rooms};
 ghost use Rattle.trial.specs.Jumps.{OneTree, values, row-value, next, Jumps};

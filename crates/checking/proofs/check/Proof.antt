@@ -2,7 +2,7 @@
 use mathlib.Core.Path.{ap, _∙_}
 use borrow.Author.Needs.{needs}
 use Rattle.sheet.specs.Check.{check}
-use Rattle.checking.proofs.Accepted.{narrow-manageable}
+use Rattle.checking.proofs.CheckedSheets.{narrow-manageable}
 use Rattle.checking.proofs.check.Statement.{statement}
 use Rattle.checking.proofs.check.Tie as tie
 

@@ -1,32 +1,29 @@
 -- `checking::check_prefix` meets its contract: what is left of the tests at each row decides as all of them do. Assumes nothing.
 use mathlib.Core.Path.{_≡_, sym, ap, _∙_}
 use mathlib.Core.Bool.{false}
-use Prim.Native.Nat.{_+_, _-_, _≤_}
+use Prim.Native.Nat.{_-_, _≤_}
 use native.Mathlib.Omega.{arith}
 use borrow.Author.Tests.{not-true, not-false}
 use lib.ListN.{length, getD}
 use Rattle.sheet.specs.Format.{Row, row}
-use Rattle.rows.specs.Rows.{rows-in}
+use Rattle.rows.specs.Layouts.{rows-in}
 use Rattle.rows.specs.Formats.{format-of}
-use Rattle.rows.proofs.Rows.{length-rows-in}
-use Rattle.checking.specs.Stages.{sizes, quantifier, misnumbered}
+use Rattle.rows.proofs.Layouts.{length-rows-in}
+use Rattle.checking.specs.Inner.Stages.{sizes, quantifier, misnumbered}
 use Rattle.checking.proofs.Tests.{never-both}
 use Rattle.checking.proofs.Turn.{Prefixed, numbered-low, prefix-none, prefix-all, prefix-kind, prefix-number, prefix-twice, prefix-turn}
 use Rattle.checking.proofs.check_prefix.Statement.{statement}
 use Rattle.checking.proofs.check_prefix.Tie as tie
 
 abbrev Inv-loop : tie.InvT-loop
-Inv-loop sheet f v n bound₀ w total r₀ bound r = Prefixed (format-of f) (rows-in w total sheet) v (sizes v n) bound r
+Inv-loop sheet f s bound₀ v r₀ bound r = Prefixed (format-of f) (rows-in s sheet) (s .variables) (sizes s) bound r
 
 abbrev μ-loop : tie.MeasureT-loop
-μ-loop sheet f v n bound₀ w total r₀ bound r = v - r
+μ-loop sheet f s bound₀ v r₀ bound r = v - r
 
 enough : (c : tie.Start Inv-loop μ-loop)
-    → c .args .v ≤ length (rows-in (c .args .f .width) (c .args .v + c .args .n) (c .args .sheet .now))
+    → c .args .s .variables ≤ length (rows-in (c .args .s) (c .args .sheet .now))
 enough c = omega (arith, length-rows-in (c .args .sheet .now) (c .pre .1 .room))
-
-add-total : tie.Need-add-total Inv-loop μ-loop
-add-total c = omega arith
 
 loop-holds : tie.Need-loop-holds Inv-loop μ-loop
 loop-holds c = prefix-none _ _ _ _ (enough (c .before)) _ (c .before .pre .2)
@@ -50,7 +47,7 @@ is-bound-requires c κs = c .before .before .before .before .before .before .loo
 abbrev here : tie.In-loop Inv-loop μ-loop → Row
 here c =
     let a = c .before .before .before .args in
-    getD (rows-in (a .f .width) (a .v + a .n) (a .sheet .now)) (c .before .loop .r) (row 0 0)
+    getD (rows-in (a .s) (a .sheet .now)) (c .before .loop .r) (row 0 0)
 
 kind-here : (c : tie.After-is-quantifier Inv-loop μ-loop) → quantifier (here (c .before .before) .kind) ≡ c .is-quantifier .result
 kind-here c = sym (c .is-quantifier .ensures ∙ ap quantifier (c .before .kind-at .ensures))
@@ -133,7 +130,6 @@ check-prefix-spec =
     (tie.spec
     Inv-loop
     μ-loop
-    add-total
     loop-holds
     kind-at-requires
     is-quantifier-requires

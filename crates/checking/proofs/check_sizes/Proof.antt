@@ -1,12 +1,10 @@
 -- `checking::check_sizes` meets its contract: each return is the first of the three tests that fails. Assumes nothing.
 use mathlib.Core.Path.{sym, _∙_}
-use Prim.Native.Nat.{_+_, _*_, _^_, _<_}
 use borrow.Author.Needs.{needs}
 use borrow.Author.Tests.{not-true, not-false}
-use native.Mathlib.Omega.{arith}
 use Rattle.sheet.specs.Format.{variables, nodes}
 use Rattle.rows.specs.Formats.{format-of}
-use Rattle.checking.proofs.Sizes.{SizesRead, length-fits, too-short, size-outside, wrong-length, right-length}
+use Rattle.checking.proofs.Sizes.{SizesRead, too-short, size-outside, wrong-length, right-length}
 use Rattle.checking.proofs.check_sizes.Statement.{statement}
 use Rattle.checking.proofs.check_sizes.Tie as tie
 
@@ -27,27 +25,8 @@ number-at-requires-2 c κs = search needs
 is-outside-requires : tie.Need-is-outside-requires
 is-outside-requires c κs = search needs
 
-mul-exact : tie.Need-mul-exact
-mul-exact c = search needs
-
-add-exact : tie.Need-add-exact
-add-exact c = search needs
-
-add-exact-2 : tie.Need-add-exact-2
-add-exact-2 c = search needs
-
-fits : (c : tie.After-number-at2)
-    → let w = c .before .before .before .before .args .f .width in
-    2 * w + (1 + w) * (c .before .number-at .result + c .number-at2 .result) < 2 ^ 64
-fits c = length-fits _ _ _ (c .before .before .before .before .pre .few-bytes) (c .before .number-at .ensures .1) (c .number-at2 .ensures .1)
-
-mul-exact-2 : tie.Need-mul-exact-2
-mul-exact-2 c =
-    omega (arith, fits (c .before))
-
-add-exact-3 : tie.Need-add-exact-3
-add-exact-3 c =
-    omega (arith, fits (c .before))
+sheet-length-requires : tie.Need-sheet-length-requires
+sheet-length-requires c κs = search needs
 
 read : (c : tie.After-number-at2)
     → SizesRead (format-of (c .before .before .before .before .args .f)) (c .before .before .before .before .args .sheet .now)
@@ -62,18 +41,22 @@ read c =
 
 returns-2 : tie.Need-returns-2
 returns-2 c =
-    let o = c .before in
+    let o = c .before .before in
     size-outside _ _ _ _ (read (o .before)) (sym (o .is-outside .ensures) ∙ c .if2 .taken)
 
 returns-3 : tie.Need-returns-3
 returns-3 c =
-    let o = c .before .before in
-    wrong-length _ _ _ _ (read (o .before)) (sym (o .is-outside .ensures) ∙ c .before .if2 .left) (not-true _ (c .if3 .taken))
+    let l = c .before .before in
+    let o = l .before in
+    wrong-length _ _ _ _ (read (o .before)) (sym (o .is-outside .ensures) ∙ c .before .if2 .left) (l .sheet-length .ensures)
+    (not-true _ (c .if3 .taken))
 
 returns-4 : tie.Need-returns-4
 returns-4 c =
-    let o = c .before .before in
-    right-length _ _ _ _ (read (o .before)) (sym (o .is-outside .ensures) ∙ c .before .if2 .left) (not-false _ (c .if3 .left))
+    let l = c .before .before in
+    let o = l .before in
+    right-length _ _ _ _ (read (o .before)) (sym (o .is-outside .ensures) ∙ c .before .if2 .left) (l .sheet-length .ensures)
+    (not-false _ (c .if3 .left))
 
 pub check-sizes-spec : {M : Type 1} → statement M
 check-sizes-spec =
@@ -84,11 +67,7 @@ check-sizes-spec =
     number-at-requires
     number-at-requires-2
     is-outside-requires
-    mul-exact
-    add-exact
-    add-exact-2
-    mul-exact-2
-    add-exact-3
+    sheet-length-requires
     returns-2
     returns-3
     returns-4)

@@ -2,7 +2,7 @@
 use mathlib.Core.Path.{ap, _∙_}
 use borrow.Author.Needs.{needs}
 use Rattle.sheet.specs.Operations.{part-call}
-use Rattle.checking.proofs.Accepted.{narrow-manageable}
+use Rattle.checking.proofs.CheckedSheets.{narrow-manageable}
 use Rattle.part.proofs.part.Statement.{statement}
 use Rattle.part.proofs.part.Tie as tie
 

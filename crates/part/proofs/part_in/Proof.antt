@@ -2,10 +2,12 @@
 use Prim.Native.Nat.{_+_, _≤_}
 use borrow.Author.Needs.{needs}
 use native.Mathlib.Omega.{arith}
-use lib.ListN.{length}
 use Rattle.rows.specs.Formats.{format-of}
-use Rattle.checking.specs.Stages.{Sized}
-use Rattle.checking.proofs.Accepted.{AcceptedSheet, accepted-sheet, accepted-sized, refused-sheet}
+use Rattle.rows.specs.Layouts.{total}
+use Rattle.rows.specs.Formulas.{Readable}
+use Rattle.rows.specs.declared.Layout.{Layout}
+use Rattle.checking.specs.Limits.{Sheet}
+use Rattle.checking.proofs.CheckedSheets.{layout-with, refused-sheet, sheet-checked, sheet-readable, sheet-sized}
 use Rattle.part.proofs.Subtree.{bad-sheet, bad-node, ends-behind, ends-within, part-here}
 use Rattle.part.proofs.part_in.Statement.{statement}
 use Rattle.part.proofs.part_in.Tie as tie
@@ -45,69 +47,67 @@ part-result-start-2 c = search needs
 part-result-end-2 : tie.Need-part-result-end-2
 part-result-end-2 c = search needs
 
--- the sheet that Check accepted
-accepted : (c : tie.After-c)
-    → AcceptedSheet (format-of (c .before .before .before .before .args .f)) (c .before .before .before .before .args .sheet .now)
-    (c .c .given .0 .0) (c .c .given .0 .1 .0)
-accepted c = accepted-sheet (c .c .given .1) (c .before .before .check-in .ensures)
+-- the sheet that Check accepted, with its layout
+abbrev start : tie.After-c → tie.Start
+start c = c .before .before .before .before
 
-sized : (c : tie.After-c)
-    → Sized (c .before .before .before .before .args .f .width) (c .c .given .0 .0) (c .c .given .0 .1 .0)
-    (length (c .before .before .before .before .args .sheet .now))
-sized c = accepted-sized (c .before .before .before .before .pre) (accepted c .right)
+abbrev layout : tie.After-c → Layout
+layout c = layout-with (format-of (start c .args .f)) (c .c .given .0 .0) (c .c .given .0 .1 .0)
+
+checked : (c : tie.After-c) → Sheet (format-of (start c .args .f)) (start c .args .sheet .now) (layout c)
+checked c = sheet-checked (c .c .given .1) (c .before .before .check-in .ensures)
+
+readable : (c : tie.After-c) → Readable (layout c) (start c .args .sheet .now)
+readable c = sheet-readable (checked c) (start c .pre)
 
 returns-2 : tie.Need-returns-2
-returns-2 c = bad-node _ _ _ _ _ (accepted (c .before .before .before)) (omega arith)
+returns-2 c = bad-node _ (checked (c .before .before .before)) (omega arith)
 
 add-first : tie.Need-add-first
-add-first c = omega (arith, sized (c .before .before))
-
-add-walk : tie.Need-add-walk
-add-walk c = omega (arith, sized (c .before .before))
+add-first c = omega (arith, readable (c .before .before))
 
 walk-requires : tie.Need-walk-requires
 walk-requires c κs =
-    let s = sized (c .before .before) in
-    (s .room, s .few-rows, omega arith)
+    let s = c .before .before in
+    (sheet-sized (checked s) (start s .pre), omega arith)
 
 -- where the walk ends
+abbrev accepted : tie.After-walk → tie.After-c
+accepted c = c .before .before .before
+
 end : (c : tie.After-walk)
-    → let sizes = c .before .before .before .c .given .0 in
-    (sizes .0 + c .before .before .before .before .before .before .before .args .node ≤ c .walk .result .row) ×
-    (c .walk .result .row ≤ sizes .0 + sizes .1 .0)
+    → let s = layout (accepted c) in
+    (s .variables + start (accepted c) .args .node ≤ c .walk .result .row) × (c .walk .result .row ≤ total s)
 end c =
-    let s = c .before .before .before in
-    let few = s .before .before .before .before .pre .few-bytes in (
-      ends-behind _ _ _ _ _ (accepted s) few (c .before .if1 .left) (c .walk .result) (c .walk .ensures),
-      ends-within _ _ _ _ _ (accepted s) few (c .before .if1 .left) (c .walk .result) (c .walk .ensures),
+    let s = accepted c in
+    let room = readable s .room in (
+      ends-behind _ (checked s) room (c .before .if1 .left) (c .walk .result) (c .walk .ensures),
+      ends-within _ (checked s) room (c .before .if1 .left) (c .walk .result) (c .walk .ensures),
     )
 
-mul-result : tie.Need-mul-result
-mul-result c = search needs
+mul-kinds : tie.Need-mul-kinds
+mul-kinds c = search needs
 
 add-result : tie.Need-add-result
-add-result c = omega (arith, sized (c .before .before .before))
-
-mul-result-2 : tie.Need-mul-result-2
-mul-result-2 c = search needs
+add-result c = omega (arith, readable (accepted (c .before)))
 
 add-result-2 : tie.Need-add-result-2
-add-result-2 c = omega (arith, sized (c .before .before .before), end c)
+add-result-2 c = omega (arith, readable (accepted (c .before)), end (c .before))
 
 sub-result-3 : tie.Need-sub-result-3
-sub-result-3 c = omega (arith, end c)
+sub-result-3 c = omega (arith, end (c .before))
 
 part-result-start-3 : tie.Need-part-result-start-3
-part-result-start-3 c = omega (arith, end c)
+part-result-start-3 c = omega (arith, end (c .before))
 
 part-result-end-3 : tie.Need-part-result-end-3
-part-result-end-3 c = omega (arith, sized (c .before .before .before), end c)
+part-result-end-3 c = omega (arith, readable (accepted (c .before)), end (c .before))
 
 returns-3 : tie.Need-returns-3
 returns-3 c =
-    let w = c .before in
-    let s = w .before .before .before in
-    part-here _ _ _ _ _ (accepted s) (s .before .before .before .before .pre .few-bytes) (w .before .if1 .left) (w .walk .result) (w .walk .ensures)
+    let w = c .before .before in
+    let s = accepted w in
+    part-here _ (checked s) (readable s .room) (w .before .if1 .left) (w .walk .result) (w .walk .ensures)
 
 pub part-in-spec : {M : Type 1} → statement M
 part-in-spec =
@@ -125,11 +125,9 @@ part-in-spec =
     part-result-end-2
     returns-2
     add-first
-    add-walk
     walk-requires
-    mul-result
+    mul-kinds
     add-result
-    mul-result-2
     add-result-2
     sub-result-3
     part-result-start-3

@@ -3,7 +3,7 @@ use mathlib.Core.Path.{sym, ap, _∙_}
 use borrow.Author.Needs.{needs}
 use Rattle.rows.specs.Formats.{format-of}
 use Rattle.checking.specs.Answers.{checked-answer}
-use Rattle.checking.proofs.Accepted.{accepted-sheet}
+use Rattle.checking.proofs.CheckedSheets.{accepted-sheet}
 use Rattle.solve.proofs.Answering.{unchecked-call}
 use Rattle.solve.proofs.solve_in.Statement.{statement}
 use Rattle.solve.proofs.solve_in.Tie as tie

@@ -2,7 +2,7 @@
 use mathlib.Core.Path.{sym, ap, _∙_}
 use Rattle.rows.specs.Formats.{format-of}
 use Rattle.checking.specs.Answers.{checked-answer}
-use Rattle.checking.proofs.Accepted.{accepted-sheet}
+use Rattle.checking.proofs.CheckedSheets.{accepted-sheet}
 use Rattle.tidying.proofs.Call.{unchecked-call}
 use borrow.Author.Needs.{needs}
 use Rattle.tidying.proofs.tidy_in.Statement.{statement}

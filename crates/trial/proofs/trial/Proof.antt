@@ -2,7 +2,7 @@
 -- Assumes nothing.
 use mathlib.Core.Path.{ap, _∙_}
 use Rattle.sheet.specs.Operations.{trial-call}
-use Rattle.checking.proofs.Accepted.{narrow-manageable}
+use Rattle.checking.proofs.CheckedSheets.{narrow-manageable}
 use borrow.Author.Needs.{needs}
 use Rattle.trial.proofs.trial.Statement.{statement}
 use Rattle.trial.proofs.trial.Tie as tie

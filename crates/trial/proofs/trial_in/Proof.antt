@@ -3,7 +3,7 @@
 use mathlib.Core.Path.{sym, ap, _∙_}
 use Rattle.rows.specs.Formats.{format-of}
 use Rattle.checking.specs.Answers.{checked-answer}
-use Rattle.checking.proofs.Accepted.{AcceptedSheet, accepted-sheet}
+use Rattle.checking.proofs.CheckedSheets.{AcceptedSheet, accepted-sheet}
 use Rattle.trial.proofs.Answers.{check-refuses, playable, many-refused, tree-answered}
 use borrow.Author.Needs.{needs}
 use Rattle.trial.proofs.trial_in.Statement.{statement}

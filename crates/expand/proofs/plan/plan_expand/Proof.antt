@@ -4,7 +4,7 @@ use mathlib.Core.Path.{sym, ap, _∙_}
 use borrow.Author.Needs.{needs}
 use Rattle.rows.specs.Formats.{format-of}
 use Rattle.checking.specs.Answers.{checked-answer}
-use Rattle.checking.proofs.Accepted.{AcceptedSheet, accepted-sheet}
+use Rattle.checking.proofs.CheckedSheets.{AcceptedSheet, accepted-sheet}
 use Rattle.reading.proofs.Accepted.{accepted-readable}
 use Rattle.expand.proofs.Accepted.{check-refuses, plan-later}
 use Rattle.expand.proofs.plan.plan_expand.Statement.{statement}

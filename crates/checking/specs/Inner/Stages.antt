@@ -3,50 +3,44 @@
 use mathlib.Core.Path.{_≡_}
 use mathlib.Core.Bool.{Bool, false, not, _&&_, _||_}
 use mathlib.Core.List.{List, [], _∷_}
-use Prim.Native.Nat.{ℕ, zero, suc, _+_, _^_, _≤_, _<_}
+use Prim.Native.Nat.{ℕ, zero, suc, _+_, _^_, _<_}
 use lib.Dec.{eqb, ltb, leb}
-use lib.ListN.{length, getD, take, drop}
-use Rattle.sheet.specs.Format.{Bytes, Format, Row, variables, nodes, children}
+use lib.ListN.{length, getD, take}
+use Rattle.sheet.specs.Format.{Bytes, Format, Row, children}
 use Rattle.sheet.specs.Check.{Answer, Sizes, answer, size-tests, member, quantifier-tests, node-tests, tree-test, arguments}
-use Rattle.rows.specs.Rows.{rows-in, Room}
+use Rattle.rows.specs.Layouts.{total, rows-in, Room}
+use Rattle.rows.specs.Formulas.{node-rows-in, layout-of}
+use Rattle.rows.specs.declared.Layout.{Layout}
 use Rattle.checking.specs.declared.Reached.{Reached}
 
--- the limits that this code takes: numbers of 32 bits, a table of 1,025 entries, a debt of 64 bits
-pub record Manageable (F : Format) : Type 0 where
-  pub few-bytes : F .width ≤ 4
-  pub few-variables : F .most-variables ≤ 1024
-  pub few-nodes : F .most-nodes ≤ 8192
+-- the rows have their place in len bytes, and their debt fits 64 bits
+pub record Sized (s : Layout) (len : ℕ) : Type 0 where
+  pub room : Room s len
+  pub few-rows : total s < 2 ^ 16
 
--- v and n rows of width w have their place in len bytes, and their debt fits 64 bits
-pub record Sized (w v n len : ℕ) : Type 0 where
-  pub room : Room w (v + n) len
-  pub few-rows : v + n < 2 ^ 16
+-- what Check returns of a layout
+abbrev pub sizes : Layout → Sizes
+sizes s = record { variables = s .variables; nodes = s .nodes }
 
-abbrev pub sizes : ℕ → ℕ → Sizes
-sizes v n = record { variables = v; nodes = n }
+-- the quantifier rows, and the numbers that they bind
+abbrev pub prefix-rows-in : Layout → Bytes → List Row
+prefix-rows-in s b = take (s .variables) (rows-in s b)
 
-abbrev pub sizes-of : Format → Bytes → Sizes
-sizes-of F b = sizes (variables F b) (nodes F b)
-
--- the first v rows, and the n rows behind them
-abbrev pub prefix-in : ℕ → ℕ → ℕ → Bytes → List Row
-prefix-in w v n b = take v (rows-in w (v + n) b)
-
-abbrev pub nodes-in : ℕ → ℕ → ℕ → Bytes → List Row
-nodes-in w v n b = drop v (rows-in w (v + n) b)
+abbrev pub bound-in : Layout → Bytes → List ℕ
+bound-in s b = arguments (prefix-rows-in s b)
 
 -- the answers of the stages
 abbrev pub size-answer : Format → Bytes → Answer Sizes
-size-answer F b = answer (size-tests F b) (sizes-of F b)
+size-answer F b = answer (size-tests F b) (sizes (layout-of F b))
 
-abbrev pub prefix-answer : Format → ℕ → ℕ → Bytes → Answer Sizes
-prefix-answer F v n b = answer (quantifier-tests F 0 [] (prefix-in (F .width) v n b)) (sizes v n)
+abbrev pub prefix-answer : Format → Layout → Bytes → Answer Sizes
+prefix-answer F s b = answer (quantifier-tests F 0 [] (prefix-rows-in s b)) (sizes s)
 
-abbrev pub node-answer : ℕ → ℕ → ℕ → Bytes → Answer Sizes
-node-answer w v n b = answer (node-tests v (arguments (prefix-in w v n b)) (nodes-in w v n b)) (sizes v n)
+abbrev pub node-answer : Layout → Bytes → Answer Sizes
+node-answer s b = answer (node-tests (s .variables) (bound-in s b) (node-rows-in s b)) (sizes s)
 
-abbrev pub tree-answer : ℕ → ℕ → ℕ → Bytes → Answer Sizes
-tree-answer w v n b = answer (tree-test 1 v (nodes-in w v n b) ∷ []) (sizes v n)
+abbrev pub tree-answer : Layout → Bytes → Answer Sizes
+tree-answer s b = answer (tree-test 1 (s .variables) (node-rows-in s b) ∷ []) (sizes s)
 
 -- the tests in Check's own words: a size outside its limits; kinds 1 and 2; a quantifier number outside 1 to the most; kinds 3 to 6
 abbrev pub outside : Format → ℕ → ℕ → Bool
