@@ -16,8 +16,8 @@ use Rattle.formula.specs.Truth.{Assignment, unit, join, eval, eval-all}
 use Rattle.sheet.specs.Format.{Row, row, children}
 use Rattle.sheet.specs.Sheet.{literal-kind, operator-kind, trees, root, tree-rows, forest-rows}
 use Rattle.sheet.proofs.Preorder.{root-trees, length-tree-rows, rows-positive}
-use Rattle.trial.specs.Jumps.{entry, end-of, Ends, Parent, past, is-and, Wired, Targets, row-value, next, Decides, Jumps, OneTree}
-use Rattle.trial.proofs.Span.{end-bound, end-behind, end-within, end-tree}
+use Rattle.trial.specs.Jumps.{entry, Parent, past, is-and, Wired, Targets, row-value, next, Decides, Jumps}
+use Rattle.trial.proofs.Span.{end-of, end-bound, end-behind, end-within, end-tree}
 
 -- a list from a row on
 
@@ -48,7 +48,7 @@ parent-unique ends p q r P Q = go (decLt p q) (decLt q p)
     go (no f) (yes l) = absurd (omega (arith, Q .others-closed p l (P .before)))
     go (no f) (no g) = omega arith
 
-module _ (R : List Row) (ends high low : List ℕ) (marked : Ends R ends 0) (targets : Targets R ends high low (length R)) where
+module _ (R : List Row) (ends high low : List ℕ) (entry-end : (r : ℕ) → r < length R → entry ends r ≡ end-of R r) (targets : Targets R ends high low (length R)) where
   -- the row to go on at, by the value of the subtree at r
   to : Bool → ℕ → ℕ
   to true r = entry high r
@@ -84,9 +84,6 @@ module _ (R : List Row) (ends high low : List ℕ) (marked : Ends R ends 0) (tar
     earlier : (y : ℕ) → p < y → y < c → end-of R y ≤ c
     here : drop c R ≡ forest-rows ts ++ rest
 
-  entry-end : (r : ℕ) → r ≤ length R → entry ends r ≡ end-of R r
-  entry-end r h = marked r (omega arith) h
-
   module _ {o : Op} (t : Tree) (ts : Forest) {p c : ℕ} {rest : List Row} (l : Left o (t ▸ ts) p c rest) where
     first-tree : drop c R ≡ tree-rows t ++ (forest-rows ts ++ rest)
     unfolding forest-rows
@@ -107,7 +104,7 @@ module _ (R : List Row) (ends high low : List ℕ) (marked : Ends R ends 0) (tar
         record {
           before = l .parent-before;
           still-open = omega (arith, entry-end p (omega (arith, l .parent-before, first-within)), family-end, rows-positive t);
-          others-closed = λ y py yc. omega (arith, entry-end y (omega (arith, first-within)), l .earlier y py yc);
+          others-closed = λ y py yc. omega (arith, entry-end y (omega (arith, first-within, rows-positive t)), l .earlier y py yc);
         }
 
     first-target : (b : Bool) → to b c ≡ past (Bool·beq b (unit o)) (c + rows t) (c + rows t + rows-all ts) (to b p)
@@ -118,7 +115,7 @@ module _ (R : List Row) (ends high low : List ℕ) (marked : Ends R ends 0) (tar
         rw (
           e,
           l .kind,
-          entry-end c (omega (arith, first-within)),
+          entry-end c (omega (arith, first-within, rows-positive t)),
           entry-end p (omega (arith, l .parent-before, first-within)),
           first-end,
           family-end,
@@ -263,9 +260,3 @@ module _ (R : List Row) (ends high low : List ℕ) (marked : Ends R ends 0) (tar
       verdict : (ρ : Assignment) (x : Bool) → Goes ρ x (to x 0)
       verdict ρ true = record { steps = 0; leads = targets .root-high }
       verdict ρ false = record { steps = 0; leads = targets .root-low }
-
-pub one-tree : (R : List Row) (n : ℕ) → length R ≡ n → OneTree R → (0 < n) × (end-of R 0 ≡ n)
-one-tree R n all e =
-    let t = root (trees R) in
-    let rows-all = sym (length-tree-rows t) ∙ ap length e in
-    (omega (arith, rows-positive t, rows-all), end-tree R t 0 [] (sym e ∙ sym (append-nil (tree-rows t))) ∙ omega (arith, rows-all))

@@ -1,19 +1,17 @@
 -- One turn of each loop that builds the tables.
 -- Assumes nothing.
-use mathlib.Core.Path.{_≡_, refl, sym, ap, _∙_}
+use mathlib.Core.Path.{_≡_, refl, _∙_}
 use mathlib.Core.Bool.{Bool, true, false, not}
 use mathlib.Core.List.{List}
-use Prim.Native.Nat.{ℕ, zero, suc, _+_, _-_, _≤_, _<_}
+use Prim.Native.Nat.{ℕ, zero, suc, _+_, _≤_, _<_}
 use native.Mathlib.Decide.{decLt}
 use native.Mathlib.Omega.{arith}
 use lib.Dec.{eqb}
-use lib.ListN.{length, getD, drop, set}
+use lib.ListN.{length, getD, set}
 use lib.Seq.{getD-set-same, getD-set-other}
 use borrow.Author.Tests.{lt-ltb, le-ltb}
-use Rattle.sheet.specs.Format.{Row, row, children}
-use Rattle.sheet.specs.Operations.{span}
-use Rattle.trial.specs.Jumps.{entry, end-of, Ends, hops, Hopping, Parent, Parents, past, is-and, Wired, Targets}
-use Rattle.trial.proofs.Span.{span-zero, end-after, end-bound, end-last, end-next, end-children}
+use Rattle.sheet.specs.Format.{Row, row}
+use Rattle.trial.specs.Jumps.{entry, Parent, Parents, past, is-and, Wired, Targets}
 
 -- past
 
@@ -28,26 +26,6 @@ past-child false e l up h k = let z : _≡_ {A = ℕ} 0 1 = cc in absurd (omega 
 pub past-last : (u : Bool) (e l up : ℕ) → l ≤ e → up ≡ past u e l up
 past-last true e l up k = rw (le-ltb e l k)
 past-last false e l up k = refl
-
--- hop
-
-module _ (ends : List ℕ) where
-  pub hop-within : (k r : ℕ) → 0 < k → Hopping ends k r → r < length ends
-  hop-within zero r h w = absurd (omega arith)
-  hop-within (suc k) r h w = w .0
-
-  pub hop-on : (k r x : ℕ) → 0 < k → Hopping ends k r → x ≡ entry ends r
-      → Hopping ends (k - 1) x × (hops ends (k - 1) x ≡ hops ends k r)
-  unfolding hops
-  hop-on zero r x h w e = absurd (omega arith)
-  hop-on (suc k) r x h w e =
-      let p : suc k - 1 ≡ k = omega arith in
-      rw (p, e) (w .1, refl)
-
-  pub hop-done : (k r : ℕ) → k ≤ 0 → hops ends k r ≡ r
-  unfolding hops
-  hop-done zero r h = refl
-  hop-done (suc k) r h = absurd (omega arith)
 
 -- parent_of: the subtrees between p and r have come to their ends
 
@@ -69,46 +47,6 @@ module _ (ends parents : List ℕ) (r : ℕ) (root-open : r < entry ends 0) (kno
       go y py yr k (no f) (no g) =
           let same : y ≡ suc p = omega arith in
           rw same e
-
--- mark_ends
-
-module _ (R : List Row) (n : ℕ) (all : length R ≡ n) (ends : List ℕ) (room : n < length ends) where
-  pub mark-last : Ends R (set ends n n) n
-  mark-last y l h =
-      let e : y ≡ n = omega arith in
-      rw (e, getD-set-same ends n n 0 room) (sym (ap (end-of R) (sym all) ∙ end-last R ∙ all))
-
-  module _ {from : ℕ} (marked : Ends R ends from) where
-    hopping : (k r : ℕ) → from ≤ r → r ≤ length R → Hopping ends k r
-    hopping zero r l h = tt
-    hopping (suc k) r l h =
-        (omega (arith, room), rw (marked r l h) (hopping k (end-of R r) (omega (arith, end-after R r)) (end-bound R r h)))
-
-    hops-span : (k r : ℕ) → from ≤ r → r ≤ length R → hops ends k r ≡ r + span k (drop r R)
-    unfolding hops
-    hops-span zero r l h = omega (arith, span-zero (drop r R))
-    hops-span (suc k) r l h =
-        ap (hops ends k) (marked r l h) ∙ hops-span k (end-of R r) (omega (arith, end-after R r)) (end-bound R r h) ∙ sym (end-next R r k)
-
-  module _ (r : ℕ) (h : 0 < r) (l : r ≤ n) (marked : Ends R ends r) where
-    pub mark-hopping : (k : ℕ) → Hopping ends k (r - 1 + 1)
-    mark-hopping k = hopping marked k (r - 1 + 1) (omega arith) (omega arith)
-
-    module _ (k x : ℕ) (kids : k ≡ children (getD R (r - 1) (row 0 0))) (hopped : x ≡ hops ends k (r - 1 + 1)) where
-      mark-end : x ≡ end-of R (r - 1)
-      mark-end =
-          hopped ∙ ap (λ j. hops ends j (r - 1 + 1)) kids ∙
-          hops-span marked (children (getD R (r - 1) (row 0 0))) (r - 1 + 1) (omega arith) (omega arith) ∙
-          sym (end-children R (r - 1) (omega arith))
-
-      pub mark : (x ≤ n) × Ends R (set ends (r - 1) x) (r - 1)
-      mark = (omega (arith, mark-end, end-bound R (r - 1) (omega arith)), λ y from b. go y b from (decLt (r - 1) y))
-        where
-          go : (y : ℕ) → y ≤ length R → r - 1 ≤ y → Dec (r - 1 < y) → entry (set ends (r - 1) x) y ≡ end-of R y
-          go y b from (yes d) = getD-set-other ends (r - 1) y x 0 (λ e. omega arith) ∙ marked y (omega arith) b
-          go y b from (no f) =
-              let e : y ≡ r - 1 = omega arith in
-              rw e (getD-set-same ends (r - 1) x 0 (omega (arith, room)) ∙ mark-end)
 
 -- wire
 
@@ -168,9 +106,9 @@ pub record Wiring (R : List Row) (ends parents₀ high₀ low₀ : List ℕ) (n 
   pub parents-length : length parents ≡ length parents₀
   pub high-length : length high ≡ length high₀
   pub low-length : length low ≡ length low₀
-  pub parents-room : n < length parents
-  pub high-room : n < length high
-  pub low-room : n < length low
+  pub parents-room : n ≤ length parents
+  pub high-room : n ≤ length high
+  pub low-room : n ≤ length low
   pub started : 0 < r
   pub within : r ≤ n
   pub known : Parents ends parents r

@@ -13,12 +13,10 @@ use Rattle.sheet.specs.Format.{Row, row, children}
 use Rattle.sheet.specs.Sheet.{tree-rows}
 use Rattle.sheet.specs.Operations.{span}
 use Rattle.sheet.proofs.Preorder.{span-tree}
-use Rattle.checking.proofs.Debt.{span-length}
-use Rattle.trial.specs.Jumps.{end-of}
 
 -- span
 
-pub span-zero : (rs : List Row) → span 0 rs ≡ 0
+span-zero : (rs : List Row) → span 0 rs ≡ 0
 unfolding span
 span-zero [] = refl
 span-zero (r ∷ rs) = refl
@@ -40,6 +38,13 @@ span-split (r ∷ rs) (suc a) k =
     swap : (a k c : ℕ) → a + k + c ≡ a + c + k
     swap a k c = omega arith
 
+span-length : (rs : List Row) (k : ℕ) → span k rs ≤ length rs
+unfolding span
+span-length [] zero = omega arith
+span-length [] (suc k) = omega arith
+span-length (r ∷ rs) zero = omega arith
+span-length (r ∷ rs) (suc k) = omega (arith, span-length rs (k + children r))
+
 -- a subtree that begins within the rows of a debt ends there
 span-within : (rs : List Row) (k j : ℕ) → j < span k rs → j + span 1 (drop j rs) ≤ span k rs
 unfolding span
@@ -54,6 +59,10 @@ span-within (r ∷ rs) (suc k) (suc j) h = omega (arith, span-within rs (k + chi
 
 -- end-of
 
+-- the row behind the subtree at r
+unfoldable pub end-of : List Row → ℕ → ℕ
+end-of R r = r + span 1 (drop r R)
+
 module _ (R : List Row) where
   -- r + j is a row behind r
   drop-behind : (r j : ℕ) → drop j (drop r R) ≡ drop (r + j) R
@@ -63,34 +72,9 @@ module _ (R : List Row) where
   unfolding end-of
   end-bound r h = omega (arith, span-length (drop r R) 1, length-drop r R)
 
-  pub end-after : (r : ℕ) → r ≤ end-of R r
-  unfolding end-of
-  end-after r = omega arith
-
   pub end-behind : (r : ℕ) → r < length R → r < end-of R r
   unfolding end-of span
   end-behind r h = rw (drop-cons R r (row 0 0) h) (omega arith)
-
-  pub end-last : end-of R (length R) ≡ length R
-  unfolding end-of
-  end-last = omega (arith, end-bound (length R) (omega arith))
-
-  -- the debt of a row's children
-  pub end-children : (r : ℕ) → r < length R → end-of R r ≡ r + 1 + span (children (getD R r (row 0 0))) (drop (r + 1) R)
-  unfolding end-of span
-  end-children r h = rw (drop-cons R r (row 0 0) h, zero-add, add-one) (omega arith)
-
-  -- one child of k + 1 is paid for, and k are left
-  pub end-next : (r k : ℕ) → r + span (suc k) (drop r R) ≡ end-of R r + span k (drop (end-of R r) R)
-  unfolding end-of
-  end-next r k =
-      let n = span 1 (drop r R) in
-      omega (
-        arith,
-        ap (λ m. span m (drop r R)) (one-add k),
-        span-split (drop r R) 1 k,
-        ap (λ l. span k l) (drop-behind r n),
-      )
 
   -- a subtree that begins within another ends within it
   pub end-within : (p r : ℕ) → p ≤ r → r < end-of R p → end-of R r ≤ end-of R p

@@ -2,27 +2,27 @@
 -- Assumes nothing.
 use mathlib.Core.Path.{_≡_, refl, sym, ap, ap₂, subst, _∙_, fun-ext}
 use mathlib.Core.Bool.{Bool, true, false, cond, Bool·beq}
-use mathlib.Core.List.{List, _∷_, map}
+use mathlib.Core.List.{List, _∷_}
 use Prim.Native.Nat.{ℕ, zero, suc, _+_, _-_, _*_, _^_, _≤_, _<_}
 use native.Mathlib.Numerals.{add-one}
 use native.Mathlib.Omega.{arith}
 use lib.Dec.{eqb}
-use lib.ListN.{length, getD, replicate, take, drop, set, length-set, length-map, length-drop, drop-of-length-le}
+use lib.ListN.{length, getD, replicate, take, drop, set, length-set, length-drop, drop-of-length-le, List·getD-map}
 use lib.Pow.{pow-mono}
-use lib.Seq.{length-take-le, drop-cons, getD-take, getD-set-same, getD-set-other, set-set, set-getD}
+use lib.Seq.{drop-cons, getD-take, getD-set-same, getD-set-other, set-set, set-getD}
 use borrow.Author.Tests.{eqb-true, eqb-false}
 use Rattle.formula.specs.Tree.{Quantifier, exists, for-all}
 use Rattle.formula.specs.Truth.{put, eval}
 use Rattle.formula.specs.Trial.{Tried, stops-at, turn, try}
 use Rattle.formula.proofs.Trial.{try-leaves}
-use Rattle.sheet.specs.Format.{Bytes, Row, row}
-use Rattle.sheet.specs.Sheet.{binding, trees, root}
-use Rattle.rows.specs.Rows.{rows-in}
-use Rattle.rows.proofs.Rows.{length-rows-in}
-use Rattle.checking.proofs.Bound.{all-false}
-use Rattle.trial.specs.declared.Shape.{Shape}
+use Rattle.sheet.specs.Format.{Bytes, row}
+use Rattle.sheet.specs.Sheet.{binding}
+use Rattle.rows.specs.Layouts.{rows-in}
+use Rattle.rows.specs.Formulas.{prefix-in, matrix-in, Readable}
+use Rattle.rows.specs.declared.Layout.{Layout}
+use Rattle.rows.proofs.Formulas.{length-prefix}
 use Rattle.trial.specs.declared.Outcome.{Outcome}
-use Rattle.trial.specs.Jumps.{Holds, matrix-rows, values}
+use Rattle.trial.specs.Jumps.{values}
 use Rattle.trial.specs.Turns.{tried, prefix-row, unread, turns, semantic-tree, Ready, Turned}
 
 -- the assignment
@@ -34,7 +34,7 @@ put-values table x v h = fun-ext (λ y. go y (eqb y x) refl)
     go y true e = sym (ap (λ z. getD (set table x v) z false) (eqb-true y x e) ∙ getD-set-same table x v false h)
     go y false e = sym (getD-set-other table x y v false (eqb-false y x e))
 
-pub ready-kept : {s : Shape} {b : Bytes} {high low : List ℕ} {n m : ℕ} → Ready s b high low n → m ≡ n → Ready s b high low m
+pub ready-kept : {s : Layout} {b : Bytes} {high low : List ℕ} {n m : ℕ} → Ready s b high low n → m ≡ n → Ready s b high low m
 ready-kept {s} {b} {high} {low} r e = subst (Ready s b high low) (sym e) r
 
 -- a turn on two values
@@ -50,35 +50,31 @@ turn-goes-on q t₀ t₁ e = rw e
 
 -- the prefix rows
 
-module _ (s : Shape) (b : Bytes) (holds : Holds s (length b)) where
-  P : List Row
-  P = take (s .variables) (rows-in (s .width) (s .variables + s .nodes) b)
-
-  length-P : length P ≡ s .variables
-  unfolding P
-  length-P = length-take-le (s .variables) (rows-in (s .width) (s .variables + s .nodes) b) (omega (arith, length-rows-in b (holds .room)))
-
+module _ (s : Layout) (b : Bytes) (ok : Readable s b) where
   unread-row : (r : ℕ) → r < s .variables → unread s b r ≡ binding (prefix-row s b r) ∷ unread s b (r + 1)
-  unfolding unread P
+  unfolding unread prefix-in
   unread-row r h =
-      rw (add-one, drop-cons P r (row 0 0) (omega (arith, length-P)))
-      (ap (λ x. binding x ∷ map binding (drop (suc r) P))
-      (getD-take (s .variables) (rows-in (s .width) (s .variables + s .nodes) b) r (row 0 0) h))
+      let R = rows-in s b in
+      rw (add-one, drop-cons (prefix-in s b) r (binding (row 0 0)) (omega (arith, length-prefix b ok)))
+      (ap (λ x. x ∷ drop (suc r) (prefix-in s b))
+      (List·getD-map binding (take (s .variables) R) r (row 0 0) ∙ ap binding (getD-take (s .variables) R r (row 0 0) h)))
 
-  pub turns-leaf : (table : List Bool) (v : Bool) → v ≡ eval (root (trees (matrix-rows s b))) (values table)
+  pub turns-leaf : (table : List Bool) (v : Bool) → v ≡ eval (matrix-in s b) (values table)
       → record { verdict = v; leaves = 1 } ≡ turns s b (s .variables) table
-  unfolding turns unread try P
-  turns-leaf table v e = rw (drop-of-length-le P {i = s .variables} (omega (arith, length-P))) (ap (λ u. record { verdict = u; leaves = 1 }) e)
+  unfolding turns unread try
+  turns-leaf table v e =
+      rw (drop-of-length-le (prefix-in s b) {i = s .variables} (omega (arith, length-prefix b ok)))
+      (ap (λ u. record { verdict = u; leaves = 1 }) e)
 
   pub turned-leaf : (o : Outcome) (r : ℕ) (table : List Bool) → r ≡ s .variables → tried o ≡ turns s b (s .variables) table
       → Turned s b r table o table
   turned-leaf o r table e h = record { outcome = rw e h; unchanged = refl }
 
   turns-leaves : (r : ℕ) (table : List Bool) → s .variables ≤ 20 → (turns s b r table) .leaves ≤ 2 ^ 20
-  unfolding turns unread P
+  unfolding turns unread
   turns-leaves r table few =
-      let left : length (unread s b r) ≤ 20 = omega (arith, length-map (drop r P) binding, length-drop r P, length-P) in
-      omega (arith, try-leaves (unread s b r) (eval (root (trees (matrix-rows s b)))) (values table), pow-mono left)
+      let left : length (unread s b r) ≤ 20 = omega (arith, length-drop r (prefix-in s b), length-prefix b ok) in
+      omega (arith, try-leaves (unread s b r) (eval (matrix-in s b)) (values table), pow-mono left)
 
   -- what a row's turn makes of the turns on its two values
   turns-row : (r x : ℕ) (table : List Bool) → r < s .variables → x ≡ (prefix-row s b r) .argument → x < length table
@@ -88,8 +84,8 @@ module _ (s : Shape) (b : Bytes) (holds : Holds s (length b)) where
   turns-row r x table h e l = rw (unread-row r h, ← e, put-values table x false l, put-values table x true l)
 
 -- row r is of the side q and binds x
-pub record Own (q : Quantifier) (s : Shape) (b : Bytes) (r x : ℕ) (table : List Bool) : Type 0 where
-  pub holds : Holds s (length b)
+pub record Own (q : Quantifier) (s : Layout) (b : Bytes) (r x : ℕ) (table : List Bool) : Type 0 where
+  pub readable : Readable s b
   pub few : s .variables ≤ 20
   pub within : r < s .variables
   pub owner : cond (eqb ((prefix-row s b r) .kind) 1) exists for-all ≡ q
@@ -97,11 +93,11 @@ pub record Own (q : Quantifier) (s : Shape) (b : Bytes) (r x : ℕ) (table : Lis
   pub inside : x < length table
 
 -- 0 was tried first
-module _ {q : Quantifier} {s : Shape} {b : Bytes} {r x : ℕ} {table t₀ : List Bool} {zero : Outcome} (own : Own q s b r x table)
+module _ {q : Quantifier} {s : Layout} {b : Bytes} {r x : ℕ} {table t₀ : List Bool} {zero : Outcome} (own : Own q s b r x table)
     (first : Turned s b (r + 1) (set table x false) zero t₀) where
   row-turn : turns s b r table ≡ turn q (tried zero) (turns s b (r + 1) (set table x true))
   row-turn =
-      turns-row s b (own .holds) r x table (own .within) (own .binds) (own .inside) ∙
+      turns-row s b (own .readable) r x table (own .within) (own .binds) (own .inside) ∙
       ap₂ (λ u t. turn u t (turns s b (r + 1) (set table x true))) (own .owner) (sym (first .outcome))
 
   pub restored-one : set t₀ x (getD table x false) ≡ table
@@ -124,8 +120,8 @@ module _ {q : Quantifier} {s : Shape} {b : Bytes} {r x : ℕ} {table t₀ : List
     leaves-fit =
         omega (
           arith,
-          turns-leaves s b (own .holds) (r + 1) (set table x false) (own .few),
-          turns-leaves s b (own .holds) (r + 1) (set t₀ x true) (own .few),
+          turns-leaves s b (own .readable) (r + 1) (set table x false) (own .few),
+          turns-leaves s b (own .readable) (r + 1) (set t₀ x true) (own .few),
           ap (λ (t : Tried). t .leaves) (first .outcome),
           ap (λ (t : Tried). t .leaves) (second .outcome),
         )
@@ -152,19 +148,24 @@ module _ {q : Quantifier} {s : Shape} {b : Bytes} {r x : ℕ} {table t₀ : List
         }
 
 -- the first turn, under the table of all false
-pub turns-first : (s : Shape) (b : Bytes) (n : ℕ) (o : Outcome) → tried o ≡ turns s b 0 (replicate n false) → tried o ≡ semantic-tree s b
-unfolding turns semantic-tree
-turns-first s b n o e = e ∙ ap (try (unread s b 0) (eval (root (trees (matrix-rows s b))))) (fun-ext (all-false n))
+pub turns-first : (s : Layout) (b : Bytes) (n : ℕ) (o : Outcome) → tried o ≡ turns s b 0 (replicate n false) → tried o ≡ semantic-tree s b
+unfolding turns semantic-tree unread
+turns-first s b n o e = e ∙ ap (try (prefix-in s b) (eval (matrix-in s b))) (fun-ext (none n))
+  where
+    none : (n x : ℕ) → getD (replicate n false) x false ≡ false
+    none zero x = refl
+    none (suc n) zero = refl
+    none (suc n) (suc x) = none n x
 
 -- how many calls of turns may follow one at row r: two for each row left, and one more if the row is the other side's
 
-pub existential-calls : Shape → Bytes → ℕ → ℕ
+pub existential-calls : Layout → Bytes → ℕ → ℕ
 existential-calls s b r = 2 * (s .variables - r) + cond (eqb ((prefix-row s b r) .kind) 1) 0 1
 
-pub universal-calls : Shape → Bytes → ℕ → ℕ
+pub universal-calls : Layout → Bytes → ℕ → ℕ
 universal-calls s b r = 2 * (s .variables - r) + cond (eqb ((prefix-row s b r) .kind) 1) 1 0
 
-module _ (s : Shape) (b : Bytes) (r : ℕ) where
+module _ (s : Layout) (b : Bytes) (r : ℕ) where
   one-row : (u : Bool) → (cond u 0 1 ≤ 1) × (cond u 1 0 ≤ 1)
   one-row true = omega arith
   one-row false = omega arith

@@ -6,44 +6,14 @@ use mathlib.Core.Bool.{Bool, true, false, not, _&&_, cond, Bool·beq}
 use mathlib.Core.List.{List}
 use Prim.Native.Nat.{ℕ, zero, suc, _+_, _≤_, _<_}
 use lib.Dec.{eqb, ltb, leb}
-use lib.ListN.{length, getD, drop}
+use lib.ListN.{length, getD}
 use Rattle.formula.specs.Truth.{Assignment, eval}
-use Rattle.sheet.specs.Format.{Bytes, Row, row, children}
-use Rattle.sheet.specs.Sheet.{trees, root, tree-rows}
-use Rattle.sheet.specs.Operations.{span}
-use Rattle.rows.specs.Rows.{rows-in, Room}
-use Rattle.trial.specs.declared.Shape.{Shape}
-
--- a sheet of this shape has its place in len bytes, and its rows in the tables
-pub record Holds (s : Shape) (len : ℕ) : Type 0 where
-  pub room : Room (s .width) (s .variables + s .nodes) len
-  pub few-variables : s .variables ≤ 1024
-  pub few-nodes : s .nodes ≤ 8192
-
--- the N node rows
-unfoldable pub matrix-rows : Shape → Bytes → List Row
-matrix-rows s b = drop (s .variables) (rows-in (s .width) (s .variables + s .nodes) b)
+use Rattle.sheet.specs.Format.{Row, row, children}
+use Rattle.sheet.specs.Sheet.{trees, root}
 
 -- an entry of a table
 abbrev pub entry : List ℕ → ℕ → ℕ
 entry table r = getD table r 0
-
--- the row behind the subtree at r
-unfoldable pub end-of : List Row → ℕ → ℕ
-end-of R r = r + span 1 (drop r R)
-
--- a table of the subtrees' ends, from a row on; behind the last row it is that row itself
-abbrev pub Ends : List Row → List ℕ → ℕ → Type 0
-Ends R ends from = (r : ℕ) → from ≤ r → r ≤ length R → entry ends r ≡ end-of R r
-
--- the row behind k subtrees from r on, by such a table, and that each hop on the way is within the table
-unfoldable pub hops : List ℕ → ℕ → ℕ → ℕ
-hops ends zero r = r
-hops ends (suc k) r = hops ends k (entry ends r)
-
-abbrev pub Hopping : List ℕ → ℕ → ℕ → Type 0
-Hopping ends zero r = Unit {0}
-Hopping ends (suc k) r = (r < length ends) × Hopping ends k (entry ends r)
 
 -- p is the parent of r: of the subtrees that begin before r, the last one that is not yet at its end
 pub record Parent (ends : List ℕ) (p r : ℕ) : Type 0 where
@@ -76,12 +46,8 @@ pub record Targets (R : List Row) (ends high low : List ℕ) (r : ℕ) : Type 0 
 
 -- n rows have their targets' places in both tables
 pub record Rooms (n : ℕ) (high low : List ℕ) : Type 0 where
-  pub high-room : n < length high
-  pub low-room : n < length low
-
--- the rows of one tree
-abbrev pub OneTree : List Row → Type 0
-OneTree R = tree-rows (root (trees R)) ≡ R
+  pub high-room : n ≤ length high
+  pub low-room : n ≤ length low
 
 -- the assignment that a table holds
 abbrev pub values : List Bool → Assignment

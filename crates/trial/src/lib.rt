@@ -1,19 +1,24 @@
 // Trial: decides a formula by trying values, 0 first, along its semantic tree.
 use checking::Checked;
+use rows::Layout;
+use subtrees::ends::fill_ends;
+use subtrees::nodes::argument_at;
+use subtrees::nodes::children_at;
+use subtrees::nodes::kind_at;
 ghost use mathlib.Core.Path.{_≡_};
 ghost use mathlib.Core.Bool.{Bool·beq};
 ghost use Prim.Native.Nat.{_+_, _^_, _≤_, _<_};
 ghost use lib.Dec.{eqb};
 ghost use lib.ListN.{length, getD};
 ghost use Rattle.formula.specs.Truth.{eval};
-ghost use Rattle.sheet.specs.Format.{narrow, row, children};
-ghost use Rattle.sheet.specs.Sheet.{trees, root};
+ghost use Rattle.sheet.specs.Format.{narrow, row};
 ghost use Rattle.sheet.specs.Operations.{trial-call};
 ghost use Rattle.rows.specs.Formats.{format-of};
+ghost use Rattle.rows.specs.Formulas.{node-rows-in, matrix-in, Readable};
+ghost use Rattle.subtrees.specs.Ends.{Indexed};
 ghost use Rattle.checking.specs.Limits.{Manageable};
 ghost use Rattle.trial.specs.Answers.{tried-answer};
-ghost use Rattle.trial.specs.Jumps.{Holds, matrix-rows, entry, Ends, hops, Hopping, Parent, Parents, past, Targets, Rooms};
-ghost use Rattle.trial.specs.Jumps.{OneTree, values, row-value, next, Jumps};
+ghost use Rattle.trial.specs.Jumps.{entry, Parent, Parents, past, Targets, Rooms, values, row-value, next, Jumps};
 ghost use Rattle.trial.specs.Turns.{tried, prefix-row, turns, semantic-tree, Playable, Ready, Turned};
 
 // What Trial answers: the verdict and the leaves tried, or a refusal's number and place.
@@ -22,47 +27,10 @@ pub enum Tried {
     Refused(usize, usize),
 }
 
-// Entries of a table: one for each node row, and two for the verdicts.
-const ROWS: usize = 8194;
-
-// Entries of an assignment: one for each variable number.
-const NUMBERS: usize = 1025;
-
-// The sizes of a checked sheet: bytes to a number, V and N.
-struct Shape {
-    width: usize,
-    variables: usize,
-    nodes: usize,
-}
-
 // A verdict and the leaves tried.
 struct Outcome {
     verdict: bool,
     leaves: u64,
-}
-
-// The kind of node row `r`.
-fn node_kind(sheet: &[u8], s: Shape, r: usize) -> u8
-    requires { ⌜ Holds s (length (now sheet)) × (r < s .nodes) ⌝ }
-    ensures { λ k. ⌜ k ≡ (getD (matrix-rows s (now (sheet .entry))) r (row 0 0)) .kind ⌝ }
-{
-    rows::kind_at(sheet, s.width, s.variables + s.nodes, s.variables + r)
-}
-
-// The argument of node row `r`.
-fn node_argument(sheet: &[u8], s: Shape, r: usize) -> usize
-    requires { ⌜ Holds s (length (now sheet)) × (r < s .nodes) ⌝ }
-    ensures { λ a. ⌜ a ≡ (getD (matrix-rows s (now (sheet .entry))) r (row 0 0)) .argument ⌝ }
-{
-    rows::argument_at(sheet, s.width, s.variables + s.nodes, s.variables + r)
-}
-
-// How many children node row `r` has.
-fn node_children(sheet: &[u8], s: Shape, r: usize) -> usize
-    requires { ⌜ Holds s (length (now sheet)) × (r < s .nodes) ⌝ }
-    ensures { λ a. ⌜ a ≡ children (getD (matrix-rows s (now (sheet .entry))) r (row 0 0)) ⌝ }
-{
-    rows::children_at(sheet, s.width, s.variables + s.nodes, s.variables + r)
 }
 
 // A table's entry as a row.
@@ -72,43 +40,14 @@ fn to_row(entry: u16) -> usize
     entry as usize
 }
 
-// The row behind `count` subtrees, of which the first begins at `from`.
-fn hop(ends: &[u16], count: usize, from: usize) -> usize
-    requires { ⌜ Hopping (now ends) count from ⌝ }
-    ensures { λ r. ⌜ r ≡ hops (now (ends .entry)) count from ⌝ }
+// The parent of row `i`: up from the row before it, past every subtree that has come to its end.
+fn parent_of(ends: &[u16], parents: &[u16], i: usize) -> usize
+    requires { ⌜ (0 < i) × (i < length (now ends)) × (i < length (now parents)) ×
+        (i < entry (now ends) 0) × Parents (now ends) (now parents) i ⌝ }
+    ensures { λ p. ⌜ Parent (now (ends .entry)) p i ⌝ }
 {
-    let mut left = count;
-    let mut r = from;
-    while 0 < left {
-        r = to_row(ends[r]);
-        left -= 1;
-    }
-    r
-}
-
-// Finds where each subtree ends, the last row first: an operator ends where its last child does.
-fn mark_ends(sheet: &[u8], s: Shape, ends: &mut [u16])
-    requires { ⌜ Holds s (length (now sheet)) × (s .nodes < length (now ends)) ⌝ }
-    ensures { λ _. ⌜ Ends (matrix-rows s (now (sheet .entry))) (now (ends .exit)) 0 ⌝ }
-{
-    let mut r = s.nodes;
-    // Behind the last row nothing is left to hop over.
-    ends[r] = r as u16;
-    while 0 < r {
-        r -= 1;
-        let end = hop(ends, node_children(sheet, s, r), r + 1);
-        ends[r] = end as u16;
-    }
-}
-
-// The parent of row `r`: up from the row before it, past every subtree that has come to its end.
-fn parent_of(ends: &[u16], parents: &[u16], r: usize) -> usize
-    requires { ⌜ (0 < r) × (r < length (now ends)) × (r < length (now parents)) ×
-        (r < entry (now ends) 0) × Parents (now ends) (now parents) r ⌝ }
-    ensures { λ p. ⌜ Parent (now (ends .entry)) p r ⌝ }
-{
-    let mut p = r - 1;
-    while to_row(ends[p]) <= r {
+    let mut p = i - 1;
+    while to_row(ends[p]) <= i {
         p = to_row(parents[p]);
     }
     p
@@ -130,41 +69,39 @@ fn past(undecided: bool, end: u16, last: u16, up: u16) -> u16
 // Gives every row its two targets, the first row first: the root's are the verdicts, a child's are made from its parent's.
 fn wire(
     sheet: &[u8],
-    s: Shape,
+    s: Layout,
     ends: &[u16],
     parents: &mut [u16],
     high: &mut [u16],
     low: &mut [u16],
 )
-    requires { ⌜ Holds s (length (now sheet)) × (0 < s .nodes) × Ends (matrix-rows s (now sheet)) (now ends) 0 ×
-        (entry (now ends) 0 ≡ s .nodes) ⌝ }
-    requires { ⌜ (s .nodes < length (now ends)) × (s .nodes < length (now parents)) × Rooms (s .nodes) (now high) (now low) ⌝ }
-    ensures { λ _. ⌜ Targets (matrix-rows s (now (sheet .entry))) (now (ends .entry)) (now (high .exit)) (now (low .exit)) (s .nodes) ⌝ }
+    requires { ⌜ Indexed s (now sheet) (now ends) × (s .nodes ≤ length (now parents)) × Rooms (s .nodes) (now high) (now low) ⌝ }
+    ensures { λ _. ⌜ Targets (node-rows-in s (now (sheet .entry))) (now (ends .entry)) (now (high .exit)) (now (low .exit)) (s .nodes) ⌝ }
 {
     let n = s.nodes;
     high[0] = n as u16;
     low[0] = (n + 1) as u16;
-    let mut r = 1;
-    while r < n {
-        let p = parent_of(ends, parents, r);
-        parents[r] = p as u16;
-        let conjunction = node_kind(sheet, s, p) == 5;
-        let end = ends[r];
+    let mut i = 1;
+    while i < n {
+        let p = parent_of(ends, parents, i);
+        parents[i] = p as u16;
+        let conjunction = kind_at(sheet, s, p) == rows::AND;
+        let end = ends[i];
         let last = ends[p];
-        high[r] = past(conjunction, end, last, high[p]);
-        low[r] = past(!conjunction, end, last, low[p]);
-        r += 1;
+        high[i] = past(conjunction, end, last, high[p]);
+        low[i] = past(!conjunction, end, last, low[p]);
+        i += 1;
     }
 }
 
 // Builds the matrix's jump tables: where to go on once a subtree is known to be true (high) or false (low).
-fn build(sheet: &[u8], s: Shape, high: &mut [u16], low: &mut [u16])
-    requires { ⌜ Holds s (length (now sheet)) × OneTree (matrix-rows s (now sheet)) × Rooms (s .nodes) (now high) (now low) ⌝ }
-    ensures { λ _. ⌜ Jumps (matrix-rows s (now (sheet .entry))) (now (high .exit)) (now (low .exit)) ⌝ }
+fn build(sheet: &[u8], s: Layout, high: &mut [u16], low: &mut [u16])
+    requires { ⌜ Readable s (now sheet) × Rooms (s .nodes) (now high) (now low) ⌝ }
+    ensures { λ _. ⌜ Jumps (node-rows-in s (now (sheet .entry))) (now (high .exit)) (now (low .exit)) ⌝ }
 {
-    let mut ends = [0u16; ROWS];
-    let mut parents = [0u16; ROWS];
-    mark_ends(sheet, s, &mut ends);
+    let mut ends = [0u16; rows::ROWS];
+    let mut parents = [0u16; rows::ROWS];
+    fill_ends(sheet, s, &mut ends);
     wire(sheet, s, &ends, &mut parents, high, low);
 }
 
@@ -178,66 +115,65 @@ fn value_of(assignment: &[bool], x: usize) -> bool
     false
 }
 
-// The value of row `r`, a literal or an operator that has no child.
-fn row_value(sheet: &[u8], s: Shape, assignment: &[bool], r: usize) -> bool
-    requires { ⌜ Holds s (length (now sheet)) × (r < s .nodes) ⌝ }
-    ensures { λ v. ⌜ v ≡ row-value (getD (matrix-rows s (now (sheet .entry))) r (row 0 0)) (values (now (assignment .entry))) ⌝ }
+// The value of row `i`, a literal or an operator that has no child.
+fn row_value(sheet: &[u8], s: Layout, assignment: &[bool], i: usize) -> bool
+    requires { ⌜ Readable s (now sheet) × (i < s .nodes) ⌝ }
+    ensures { λ v. ⌜ v ≡ row-value (getD (node-rows-in s (now (sheet .entry))) i (row 0 0)) (values (now (assignment .entry))) ⌝ }
 {
-    let kind = node_kind(sheet, s, r);
-    if kind <= 4 {
-        let value = value_of(assignment, node_argument(sheet, s, r));
-        return (kind == 3) == value;
+    let kind = kind_at(sheet, s, i);
+    if kind <= rows::NEGATIVE {
+        let value = value_of(assignment, argument_at(sheet, s, i));
+        return (kind == rows::POSITIVE) == value;
     }
-    kind == 5
+    kind == rows::AND
 }
 
-// The row at which evaluation goes on after row `r`.
-fn next(sheet: &[u8], s: Shape, high: &[u16], low: &[u16], assignment: &[bool], r: usize) -> usize
-    requires { ⌜ Holds s (length (now sheet)) × (r < s .nodes) × Rooms (s .nodes) (now high) (now low) ⌝ }
+// The row at which evaluation goes on after row `i`.
+fn next(sheet: &[u8], s: Layout, high: &[u16], low: &[u16], assignment: &[bool], i: usize) -> usize
+    requires { ⌜ Readable s (now sheet) × (i < s .nodes) × Rooms (s .nodes) (now high) (now low) ⌝ }
     ensures { λ e.
-        ⌜ e ≡ next (matrix-rows s (now (sheet .entry))) (now (high .entry)) (now (low .entry)) (values (now (assignment .entry))) r ⌝ }
+        ⌜ e ≡ next (node-rows-in s (now (sheet .entry))) (now (high .entry)) (now (low .entry)) (values (now (assignment .entry))) i ⌝ }
 {
-    if node_children(sheet, s, r) != 0 {
-        return r + 1;
+    if children_at(sheet, s, i) != 0 {
+        return i + 1;
     }
-    if row_value(sheet, s, assignment, r) {
-        return to_row(high[r]);
+    if row_value(sheet, s, assignment, i) {
+        return to_row(high[i]);
     }
-    to_row(low[r])
+    to_row(low[i])
 }
 
 // The matrix's value: one pass that jumps over every subtree once its parent is decided.
-fn evaluate(sheet: &[u8], s: Shape, high: &[u16], low: &[u16], assignment: &[bool]) -> bool
-    requires { ⌜ Holds s (length (now sheet)) × Jumps (matrix-rows s (now sheet)) (now high) (now low) ×
-        Rooms (s .nodes) (now high) (now low) ⌝ }
-    ensures { λ v. ⌜ v ≡ eval (root (trees (matrix-rows s (now (sheet .entry))))) (values (now (assignment .entry))) ⌝ }
+fn evaluate(sheet: &[u8], s: Layout, high: &[u16], low: &[u16], assignment: &[bool]) -> bool
+    requires { ⌜ Readable s (now sheet) × Jumps (node-rows-in s (now sheet)) (now high) (now low) × Rooms (s .nodes) (now high) (now low) ⌝ }
+    ensures { λ v. ⌜ v ≡ eval (matrix-in s (now (sheet .entry))) (values (now (assignment .entry))) ⌝ }
 {
     let n = s.nodes;
-    let mut r = 0;
-    while r < n {
-        r = next(sheet, s, high, low, assignment, r);
+    let mut i = 0;
+    while i < n {
+        i = next(sheet, s, high, low, assignment, i);
     }
-    r == n
+    i == n
 }
 
-// Whether prefix row `r` is the existential side's.
-fn is_existential(sheet: &[u8], s: Shape, r: usize) -> bool
-    requires { ⌜ Holds s (length (now sheet)) × (r < s .variables) ⌝ }
-    ensures { λ e. ⌜ e ≡ eqb ((prefix-row s (now (sheet .entry)) r) .kind) 1 ⌝ }
+// Whether prefix row `i` is the existential side's.
+fn is_existential(sheet: &[u8], s: Layout, i: usize) -> bool
+    requires { ⌜ Readable s (now sheet) × (i < s .variables) ⌝ }
+    ensures { λ e. ⌜ e ≡ eqb ((prefix-row s (now (sheet .entry)) i) .kind) 1 ⌝ }
 {
-    rows::kind_at(sheet, s.width, s.variables + s.nodes, r) == 1
+    rows::read::kind_at(sheet, s, i) == rows::EXISTS
 }
 
-// The variable that prefix row `r` binds.
-fn variable_at(sheet: &[u8], s: Shape, r: usize) -> usize
-    requires { ⌜ Holds s (length (now sheet)) × (r < s .variables) ⌝ }
-    ensures { λ x. ⌜ x ≡ (prefix-row s (now (sheet .entry)) r) .argument ⌝ }
+// The variable that prefix row `i` binds.
+fn variable_at(sheet: &[u8], s: Layout, i: usize) -> usize
+    requires { ⌜ Readable s (now sheet) × (i < s .variables) ⌝ }
+    ensures { λ x. ⌜ x ≡ (prefix-row s (now (sheet .entry)) i) .argument ⌝ }
 {
-    rows::argument_at(sheet, s.width, s.variables + s.nodes, r)
+    rows::read::argument_at(sheet, s, i)
 }
 
 // A leaf of the semantic tree: no prefix row is left.
-fn leaf(sheet: &[u8], s: Shape, high: &[u16], low: &[u16], assignment: &[bool]) -> Outcome
+fn leaf(sheet: &[u8], s: Layout, high: &[u16], low: &[u16], assignment: &[bool]) -> Outcome
     requires { ⌜ Ready s (now sheet) (now high) (now low) (length (now assignment)) ⌝ }
     ensures { λ o. ⌜ tried o ≡ turns s (now (sheet .entry)) (s .variables) (now (assignment .entry)) ⌝ }
 {
@@ -268,31 +204,31 @@ fn both(zero: Outcome, one: Outcome) -> Outcome
 // An existential turn hands over to the universal side if that owns the next row, and stops at true.
 fn existential(
     sheet: &[u8],
-    s: Shape,
+    s: Layout,
     high: &[u16],
     low: &[u16],
     assignment: &mut [bool],
-    r: usize,
+    i: usize,
 ) -> Outcome
-    requires { ⌜ Ready s (now sheet) (now high) (now low) (length (now assignment)) × (r ≤ s .variables) ⌝ }
-    ensures { λ o. ⌜ Turned s (now (sheet .entry)) r (now (assignment .entry)) o (now (assignment .exit)) ⌝ }
+    requires { ⌜ Ready s (now sheet) (now high) (now low) (length (now assignment)) × (i ≤ s .variables) ⌝ }
+    ensures { λ o. ⌜ Turned s (now (sheet .entry)) i (now (assignment .entry)) o (now (assignment .exit)) ⌝ }
 {
-    if r == s.variables {
+    if i == s.variables {
         return leaf(sheet, s, high, low, assignment);
     }
-    if !is_existential(sheet, s, r) {
-        return universal(sheet, s, high, low, assignment, r);
+    if !is_existential(sheet, s, i) {
+        return universal(sheet, s, high, low, assignment, i);
     }
-    let x = variable_at(sheet, s, r);
+    let x = variable_at(sheet, s, i);
     let old = assignment[x];
     assignment[x] = false;
-    let zero = existential(sheet, s, high, low, assignment, r + 1);
+    let zero = existential(sheet, s, high, low, assignment, i + 1);
     if stops(zero, true) {
         assignment[x] = old;
         return zero;
     }
     assignment[x] = true;
-    let one = existential(sheet, s, high, low, assignment, r + 1);
+    let one = existential(sheet, s, high, low, assignment, i + 1);
     assignment[x] = old;
     both(zero, one)
 }
@@ -300,43 +236,43 @@ fn existential(
 // A universal turn hands over to the existential side if that owns the next row, and stops at false.
 fn universal(
     sheet: &[u8],
-    s: Shape,
+    s: Layout,
     high: &[u16],
     low: &[u16],
     assignment: &mut [bool],
-    r: usize,
+    i: usize,
 ) -> Outcome
-    requires { ⌜ Ready s (now sheet) (now high) (now low) (length (now assignment)) × (r ≤ s .variables) ⌝ }
-    ensures { λ o. ⌜ Turned s (now (sheet .entry)) r (now (assignment .entry)) o (now (assignment .exit)) ⌝ }
+    requires { ⌜ Ready s (now sheet) (now high) (now low) (length (now assignment)) × (i ≤ s .variables) ⌝ }
+    ensures { λ o. ⌜ Turned s (now (sheet .entry)) i (now (assignment .entry)) o (now (assignment .exit)) ⌝ }
 {
-    if r == s.variables {
+    if i == s.variables {
         return leaf(sheet, s, high, low, assignment);
     }
-    if is_existential(sheet, s, r) {
-        return existential(sheet, s, high, low, assignment, r);
+    if is_existential(sheet, s, i) {
+        return existential(sheet, s, high, low, assignment, i);
     }
-    let y = variable_at(sheet, s, r);
+    let y = variable_at(sheet, s, i);
     let old = assignment[y];
     assignment[y] = false;
-    let zero = universal(sheet, s, high, low, assignment, r + 1);
+    let zero = universal(sheet, s, high, low, assignment, i + 1);
     if stops(zero, false) {
         assignment[y] = old;
         return zero;
     }
     assignment[y] = true;
-    let one = universal(sheet, s, high, low, assignment, r + 1);
+    let one = universal(sheet, s, high, low, assignment, i + 1);
     assignment[y] = old;
     both(zero, one)
 }
 
 // Tries the whole semantic tree of a checked sheet, existential turn first; the first assignment is never read.
-fn semantic_tree(sheet: &[u8], s: Shape) -> Outcome
+fn semantic_tree(sheet: &[u8], s: Layout) -> Outcome
     requires { ⌜ Playable s (now sheet) 1025 ⌝ }
     ensures { λ o. ⌜ tried o ≡ semantic-tree s (now (sheet .entry)) ⌝ }
 {
-    let mut high = [0u16; ROWS];
-    let mut low = [0u16; ROWS];
-    let mut assignment = [false; NUMBERS];
+    let mut high = [0u16; rows::ROWS];
+    let mut low = [0u16; rows::ROWS];
+    let mut assignment = [false; rows::NUMBERS];
     build(sheet, s, &mut high, &mut low);
     existential(sheet, s, &high, &low, &mut assignment, 0)
 }
@@ -353,7 +289,7 @@ fn trial_in(sheet: &[u8], f: rows::Format) -> Tried
             if 20 < v {
                 return Tried::Refused(14, 0);
             }
-            let s = Shape {
+            let s = Layout {
                 width: f.width,
                 variables: v,
                 nodes: n,

@@ -95,17 +95,17 @@ existential-same-length t c = refl
 existential-returns : (t : ℕ) → existential-lts.Need-returns (existential-callees t) (existential-at t) existential.Post
 existential-returns t c =
     let a = c .before .before .before .before .before .before .before .before in
-    turned-leaf (a .args .s) (a .args .sheet .now) (a .pre .1 .0 .holds) (c .leaf .result) (a .args .r) (a .args .assignment .now)
+    turned-leaf (a .args .s) (a .args .sheet .now) (a .pre .1 .0 .readable) (c .leaf .result) (a .args .i) (a .args .assignment .now)
     (c .before .before .if1 .taken) (c .leaf .ensures)
 
 existential-is-existential-requires : (t : ℕ) → existential-lts.Need-is-existential-requires (existential-callees t) (existential-at t) existential.Post
-existential-is-existential-requires t c κs = (c .before .before .before .before .before .before .pre .1 .0 .holds, omega arith)
+existential-is-existential-requires t c κs = (c .before .before .before .before .before .before .pre .1 .0 .readable, omega arith)
 
 existential-universal-requires : (t : ℕ) → existential-lts.Need-universal-requires (existential-callees t) (existential-at t) existential.Post
 existential-universal-requires t c κs =
     let a = c .before .before .before .before .before .before .before .before .before in
     let e = sym (c .before .before .is-existential .ensures) ∙ not-true _ (c .before .if2 .taken) in
-    (omega (arith, to-universal (a .args .s) (a .args .sheet .now) (a .args .r) e, a .pre .0), a .pre .1)
+    (omega (arith, to-universal (a .args .s) (a .args .sheet .now) (a .args .i) e, a .pre .0), a .pre .1)
 
 existential-same-length-2 : (t : ℕ) → existential-lts.Need-same-length-2 (existential-callees t) (existential-at t) existential.Post
 existential-same-length-2 t c = c .before .before .universal .kept .1 .1 .1 .1 .0
@@ -116,7 +116,7 @@ existential-returns-2 t c =
     record { outcome = turned .outcome; unchanged = turned .unchanged }
 
 existential-variable-at-requires : (t : ℕ) → existential-lts.Need-variable-at-requires (existential-callees t) (existential-at t) existential.Post
-existential-variable-at-requires t c κs = (c .before .before .before .before .before .before .before .before .pre .1 .0 .holds, omega arith)
+existential-variable-at-requires t c κs = (c .before .before .before .before .before .before .before .before .pre .1 .0 .readable, omega arith)
 
 -- a row of this side, and the turn that came to it
 abbrev existential-row : ℕ → Type 0
@@ -127,28 +127,28 @@ existential-start t c = c .before .before .before .before .before .before .befor
 
 existential-own : (t : ℕ) (c : existential-row t)
     → let a = existential-start t c .args in
-    Own exists (a .s) (a .sheet .now) (a .r) (c .variable-at .result) (a .assignment .now)
+    Own exists (a .s) (a .sheet .now) (a .i) (c .variable-at .result) (a .assignment .now)
 existential-own t c =
     let a = existential-start t c in
     let ready = a .pre .1 .0 in
-    let within : a .args .r < a .args .s .variables = omega (arith, a .pre .1 .1, c .before .before .before .if1 .left) in
+    let within : a .args .i < a .args .s .variables = omega (arith, a .pre .1 .1, c .before .before .before .if1 .left) in
     record {
-      holds = ready .holds;
+      readable = ready .readable;
       few = ready .few;
       within = within;
       owner = rw (sym (c .before .before .is-existential .ensures) ∙ not-false _ (c .before .if2 .left));
       binds = c .variable-at .ensures;
-      inside = omega (arith, c .variable-at .ensures, ready .numbered (a .args .r) within);
+      inside = omega (arith, c .variable-at .ensures, ready .numbered (a .args .i) within);
     }
 
 -- the next row's turn has fewer calls before it
 existential-next : (t : ℕ) (c : existential-row t)
     → let a = existential-start t c .args in
-    (existential-calls (a .s) (a .sheet .now) (a .r + 1) < t) × (a .r + 1 ≤ a .s .variables)
+    (existential-calls (a .s) (a .sheet .now) (a .i + 1) < t) × (a .i + 1 ≤ a .s .variables)
 existential-next t c =
     let a = existential-start t c in
     let within = existential-own t c .within in
-    (omega (arith, existential-falls (a .args .s) (a .args .sheet .now) (a .args .r) within, a .pre .0), omega (arith, within))
+    (omega (arith, existential-falls (a .args .s) (a .args .sheet .now) (a .args .i) within, a .pre .0), omega (arith, within))
 
 existential-slice-read-old : (t : ℕ) → existential-lts.Need-slice-read-old (existential-callees t) (existential-at t) existential.Post
 existential-slice-read-old t c = existential-own t (c .before) .inside
@@ -249,17 +249,17 @@ universal-same-length t c = refl
 universal-returns : (t : ℕ) → universal-lts.Need-returns (universal-callees t) (universal-at t) universal.Post
 universal-returns t c =
     let a = c .before .before .before .before .before .before .before .before in
-    turned-leaf (a .args .s) (a .args .sheet .now) (a .pre .1 .0 .holds) (c .leaf .result) (a .args .r) (a .args .assignment .now)
+    turned-leaf (a .args .s) (a .args .sheet .now) (a .pre .1 .0 .readable) (c .leaf .result) (a .args .i) (a .args .assignment .now)
     (c .before .before .if1 .taken) (c .leaf .ensures)
 
 universal-is-existential-requires : (t : ℕ) → universal-lts.Need-is-existential-requires (universal-callees t) (universal-at t) universal.Post
-universal-is-existential-requires t c κs = (c .before .before .before .before .before .before .pre .1 .0 .holds, omega arith)
+universal-is-existential-requires t c κs = (c .before .before .before .before .before .before .pre .1 .0 .readable, omega arith)
 
 universal-existential-requires : (t : ℕ) → universal-lts.Need-existential-requires (universal-callees t) (universal-at t) universal.Post
 universal-existential-requires t c κs =
     let a = c .before .before .before .before .before .before .before .before .before in
     let e = sym (c .before .before .is-existential .ensures) ∙ (c .before .if2 .taken) in
-    (omega (arith, to-existential (a .args .s) (a .args .sheet .now) (a .args .r) e, a .pre .0), a .pre .1)
+    (omega (arith, to-existential (a .args .s) (a .args .sheet .now) (a .args .i) e, a .pre .0), a .pre .1)
 
 universal-same-length-2 : (t : ℕ) → universal-lts.Need-same-length-2 (universal-callees t) (universal-at t) universal.Post
 universal-same-length-2 t c = c .before .before .existential .kept .1 .1 .1 .1 .0
@@ -270,7 +270,7 @@ universal-returns-2 t c =
     record { outcome = turned .outcome; unchanged = turned .unchanged }
 
 universal-variable-at-requires : (t : ℕ) → universal-lts.Need-variable-at-requires (universal-callees t) (universal-at t) universal.Post
-universal-variable-at-requires t c κs = (c .before .before .before .before .before .before .before .before .pre .1 .0 .holds, omega arith)
+universal-variable-at-requires t c κs = (c .before .before .before .before .before .before .before .before .pre .1 .0 .readable, omega arith)
 
 -- a row of this side, and the turn that came to it
 abbrev universal-row : ℕ → Type 0
@@ -281,28 +281,28 @@ universal-start t c = c .before .before .before .before .before .before .before 
 
 universal-own : (t : ℕ) (c : universal-row t)
     → let a = universal-start t c .args in
-    Own for-all (a .s) (a .sheet .now) (a .r) (c .variable-at .result) (a .assignment .now)
+    Own for-all (a .s) (a .sheet .now) (a .i) (c .variable-at .result) (a .assignment .now)
 universal-own t c =
     let a = universal-start t c in
     let ready = a .pre .1 .0 in
-    let within : a .args .r < a .args .s .variables = omega (arith, a .pre .1 .1, c .before .before .before .if1 .left) in
+    let within : a .args .i < a .args .s .variables = omega (arith, a .pre .1 .1, c .before .before .before .if1 .left) in
     record {
-      holds = ready .holds;
+      readable = ready .readable;
       few = ready .few;
       within = within;
       owner = rw (sym (c .before .before .is-existential .ensures) ∙ (c .before .if2 .left));
       binds = c .variable-at .ensures;
-      inside = omega (arith, c .variable-at .ensures, ready .numbered (a .args .r) within);
+      inside = omega (arith, c .variable-at .ensures, ready .numbered (a .args .i) within);
     }
 
 -- the next row's turn has fewer calls before it
 universal-next : (t : ℕ) (c : universal-row t)
     → let a = universal-start t c .args in
-    (universal-calls (a .s) (a .sheet .now) (a .r + 1) < t) × (a .r + 1 ≤ a .s .variables)
+    (universal-calls (a .s) (a .sheet .now) (a .i + 1) < t) × (a .i + 1 ≤ a .s .variables)
 universal-next t c =
     let a = universal-start t c in
     let within = universal-own t c .within in
-    (omega (arith, universal-falls (a .args .s) (a .args .sheet .now) (a .args .r) within, a .pre .0), omega (arith, within))
+    (omega (arith, universal-falls (a .args .s) (a .args .sheet .now) (a .args .i) within, a .pre .0), omega (arith, within))
 
 universal-slice-read-old : (t : ℕ) → universal-lts.Need-slice-read-old (universal-callees t) (universal-at t) universal.Post
 universal-slice-read-old t c = universal-own t (c .before) .inside

@@ -1,20 +1,21 @@
--- `trial::build` meets its contract: the tables that `wire` fills over the ends that `mark_ends` finds evaluate the matrix.
+-- `trial::build` meets its contract: the tables that `wire` fills over the ends that `fill_ends` finds evaluate the matrix.
 -- Assumes nothing.
-use mathlib.Core.Path.{sym, subst, _∙_}
+use mathlib.Core.Path.{sym, subst}
 use native.Mathlib.Omega.{arith}
-use Rattle.sheet.specs.Sheet.{trees, root}
-use Rattle.trial.specs.Jumps.{matrix-rows, Targets}
-use Rattle.trial.proofs.Rows.{length-matrix-rows}
-use Rattle.trial.proofs.Jumps.{one-tree, jumps}
+use Rattle.rows.specs.Formulas.{node-rows-in, matrix-in}
+use Rattle.trial.specs.Jumps.{Targets}
+use Rattle.rows.proofs.Formulas.{one-tree, length-nodes}
+use Rattle.trial.proofs.Rows.{end-entry}
+use Rattle.trial.proofs.Jumps.{jumps}
 use borrow.Author.Needs.{needs}
 use Rattle.trial.proofs.build.Statement.{statement}
 use Rattle.trial.proofs.build.Tie as tie
 
-slice-aggregate-mark-ends : tie.Need-slice-aggregate-mark-ends
-slice-aggregate-mark-ends c = search needs
+slice-aggregate-fill-ends : tie.Need-slice-aggregate-fill-ends
+slice-aggregate-fill-ends c = search needs
 
-mark-ends-requires : tie.Need-mark-ends-requires
-mark-ends-requires c κs = search needs
+fill-ends-requires : tie.Need-fill-ends-requires
+fill-ends-requires c κs = search needs
 
 slice-aggregate-wire : tie.Need-slice-aggregate-wire
 slice-aggregate-wire c = search needs
@@ -25,14 +26,9 @@ slice-aggregate-wire-2 c = search needs
 wire-requires : tie.Need-wire-requires
 wire-requires c κs =
     let a = c .before .before .before .before .before .before .before .before .before .before in
-    let R = matrix-rows (a .args .s) (a .args .sheet .now) in
-    let called = c .before .before .before .before .before .mark-ends in
-    let marked = called .ensures in
-    let one = one-tree R (a .args .s .nodes) (length-matrix-rows (a .args .s) (a .args .sheet .now) (a .pre .0)) (a .pre .1) in
-    let few = a .pre .0 .few-nodes in (
-      (a .pre .0, one .0, marked, marked 0 (omega arith) (omega arith) ∙ one .1),
-      (omega (arith, few, called .kept .1 .1 .0), omega (arith, few), a .pre .2),
-    )
+    let called = c .before .before .before .before .before .fill-ends in
+    let few = a .pre .0 .few-nodes in
+    (called .ensures .0, omega (arith, few), a .pre .1)
 
 same-length : tie.Need-same-length
 same-length c = search needs
@@ -43,18 +39,19 @@ same-length-2 c = search needs
 returns : tie.Need-returns
 returns c =
     let a = c .before .before .before .before .before .before .before .before .before .before .before .before .before .before .before .before in
-    let R = matrix-rows (a .args .s) (a .args .sheet .now) in
-    let all = length-matrix-rows (a .args .s) (a .args .sheet .now) (a .pre .0) in
+    let R = node-rows-in (a .args .s) (a .args .sheet .now) in
+    let all = length-nodes (a .args .sheet .now) (a .pre .0) in
     let wired = c .before .before .before .before .before .wire .ensures in
-    let marked = c .before .before .before .before .before .before .before .before .before .before .before .mark-ends .ensures in
-    jumps R _ _ _ marked (subst (Targets R _ _ _) (sym all) wired) (root (trees R)) (sym (a .pre .1))
+    let filled = c .before .before .before .before .before .before .before .before .before .before .before .fill-ends .ensures .0 in
+    jumps R _ _ _ (λ i h. end-entry (a .args .sheet .now) (a .pre .0) i (omega (arith, all)) _ filled) (subst (Targets R _ _ _) (sym all) wired)
+    (matrix-in (a .args .s) (a .args .sheet .now)) (sym (one-tree (a .args .sheet .now) (a .pre .0)))
 
 pub build-spec : {M : Type 1} → statement M
 build-spec =
     tie.close
     (tie.spec
-    slice-aggregate-mark-ends
-    mark-ends-requires
+    slice-aggregate-fill-ends
+    fill-ends-requires
     slice-aggregate-wire
     slice-aggregate-wire-2
     wire-requires

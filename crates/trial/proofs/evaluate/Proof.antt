@@ -7,8 +7,9 @@ use lib.ListN.{length}
 use Rattle.formula.specs.Truth.{Assignment, eval}
 use Rattle.sheet.specs.Format.{Row}
 use Rattle.sheet.specs.Sheet.{trees, root}
-use Rattle.trial.specs.Jumps.{matrix-rows, values, next, Decides}
-use Rattle.trial.proofs.Rows.{length-matrix-rows}
+use Rattle.rows.specs.Formulas.{node-rows-in, matrix-in}
+use Rattle.trial.specs.Jumps.{values, next, Decides}
+use Rattle.rows.proofs.Formulas.{length-nodes}
 use Rattle.trial.proofs.Evaluation.{next-on, verdict-at}
 use Rattle.trial.proofs.evaluate.Statement.{statement}
 use Rattle.trial.proofs.evaluate.Tie as tie
@@ -19,7 +20,7 @@ Going R high low ρ r = Decides (length R) (next R high low ρ) (eval (root (tre
 
 abbrev Inv-loop : tie.InvT-loop
 Inv-loop sheet s high low assignment n r₀ r =
-    (r ≤ n + 1) × Going (matrix-rows s sheet) high low (values assignment) r
+    (r ≤ n + 1) × Going (node-rows-in s sheet) high low (values assignment) r
 
 abbrev μ-loop : tie.MeasureT-loop
 μ-loop sheet s high low assignment n r₀ r = n + 2 - r
@@ -42,15 +43,15 @@ next-requires c κs =
 
 on : (c : tie.After-next Inv-loop μ-loop)
     → let a = start c .args in
-    (head c .loop .r < c .next .result) × (c .next .result ≤ a .s .nodes + 1) ×
-    Going (matrix-rows (a .s) (a .sheet .now)) (a .high .now) (a .low .now) (values (a .assignment .now)) (c .next .result)
+    (head c .loop .i < c .next .result) × (c .next .result ≤ a .s .nodes + 1) ×
+    Going (node-rows-in (a .s) (a .sheet .now)) (a .high .now) (a .low .now) (values (a .assignment .now)) (c .next .result)
 on c =
     let a = start c in
-    let R = matrix-rows (a .args .s) (a .args .sheet .now) in
+    let R = node-rows-in (a .args .s) (a .args .sheet .now) in
     let ρ = values (a .args .assignment .now) in
-    let all = length-matrix-rows (a .args .s) (a .args .sheet .now) (a .pre .0) in
+    let all = length-nodes (a .args .sheet .now) (a .pre .0) in
     next-on R (a .args .s .nodes) all (a .args .high .now) (a .args .low .now) ρ (eval (root (trees R)) ρ)
-    (head c .loop .r) (c .next .result) (a .pre .1) (c .before .loop-test .taken) (head c .loop .inv .1) (c .next .ensures)
+    (head c .loop .i) (c .next .result) (a .pre .1) (c .before .loop-test .taken) (head c .loop .inv .1) (c .next .ensures)
 
 loop-less : tie.Need-loop-less Inv-loop μ-loop
 loop-less c = omega (arith, on c .0, head c .loop .inv .0)
@@ -59,10 +60,11 @@ loop-again : tie.Need-loop-again Inv-loop μ-loop
 loop-again c = (on c .1, on c .2)
 
 returns : tie.Need-returns Inv-loop μ-loop
+unfolding matrix-in
 returns c =
     let a = c .before .before .before .before .before .before in
-    let all = length-matrix-rows (a .args .s) (a .args .sheet .now) (a .pre .0) in
-    verdict-at _ (a .args .s .nodes) _ _ (c .before .loop .r) all (c .loop-test .left) (c .before .loop .inv .1)
+    let all = length-nodes (a .args .sheet .now) (a .pre .0) in
+    verdict-at _ (a .args .s .nodes) _ _ (c .before .loop .i) all (c .loop-test .left) (c .before .loop .inv .1)
 
 pub evaluate-spec : {M : Type 1} → statement M
 evaluate-spec =

@@ -6,9 +6,6 @@ use borrow.Author.Needs.{needs}
 use Rattle.trial.proofs.is_existential.Statement.{statement}
 use Rattle.trial.proofs.is_existential.Tie as tie
 
-add-kind-at : tie.Need-add-kind-at
-add-kind-at c = search needs
-
 kind-at-requires : tie.Need-kind-at-requires
 kind-at-requires c κs = search needs
 
@@ -16,4 +13,4 @@ returns : tie.Need-returns
 returns c = ap (λ k. eqb k 1) (c .kind-at .ensures)
 
 pub is-existential-spec : {M : Type 1} → statement M
-is-existential-spec = tie.close (tie.spec add-kind-at kind-at-requires returns)
+is-existential-spec = tie.close (tie.spec kind-at-requires returns)

@@ -1,22 +1,24 @@
 -- `trial::next` meets its contract.
 -- Assumes nothing.
-use Rattle.trial.specs.Jumps.{matrix-rows, values}
+use Rattle.rows.specs.Formulas.{node-rows-in}
+use Rattle.trial.specs.Jumps.{values}
+use Rattle.trial.proofs.Rows.{children-row}
 use Rattle.trial.proofs.Evaluation.{next-child, next-high, next-low}
 use borrow.Author.Needs.{needs}
 use Rattle.trial.proofs.next.Statement.{statement}
 use Rattle.trial.proofs.next.Tie as tie
 
-node-children-requires : tie.Need-node-children-requires
-node-children-requires c κs = search needs
+children-at-requires : tie.Need-children-at-requires
+children-at-requires c κs = search needs
 
 add-result : tie.Need-add-result
 add-result c = search needs
 
 returns : tie.Need-returns
 returns c =
-    let a = c .before .before .before .before .before .before .args in
-    next-child (matrix-rows (a .s) (a .sheet .now)) (a .high .now) (a .low .now) (values (a .assignment .now)) (a .r)
-    (c .before .node-children .result) (c .before .node-children .ensures) (c .if1 .taken)
+    let a = c .before .before .before .before .before .before in
+    next-child (node-rows-in (a .args .s) (a .args .sheet .now)) (a .args .high .now) (a .args .low .now) (values (a .args .assignment .now)) (a .args .i)
+    (c .before .children-at .result) (children-row (a .args .sheet .now) (a .pre .0) (a .args .i) (a .pre .1) (c .before .children-at .ensures .0)) (c .if1 .taken)
 
 row-value-requires : tie.Need-row-value-requires
 row-value-requires c κs = search needs
@@ -32,10 +34,11 @@ to-row-requires c κs = search needs
 
 returns-2 : tie.Need-returns-2
 returns-2 c =
-    let a = c .before .before .before .before .before .before .before .before .before .before .args in
-    let kids = c .before .before .before .before .before .node-children in
+    let a = c .before .before .before .before .before .before .before .before .before .before in
+    let kids = c .before .before .before .before .before .children-at in
     let value = c .before .before .before .row-value in
-    next-high (matrix-rows (a .s) (a .sheet .now)) (a .high .now) (a .low .now) (values (a .assignment .now)) (a .r) (kids .result) (kids .ensures)
+    next-high (node-rows-in (a .args .s) (a .args .sheet .now)) (a .args .high .now) (a .args .low .now) (values (a .args .assignment .now)) (a .args .i) (kids .result)
+    (children-row (a .args .sheet .now) (a .pre .0) (a .args .i) (a .pre .1) (kids .ensures .0))
     (c .before .before .before .before .if1 .left) (value .result) (value .ensures) (c .to-row .result)
     (c .before .before .if2 .taken) (c .to-row .ensures)
 
@@ -50,10 +53,11 @@ to-row-requires-2 c κs = search needs
 
 returns-3 : tie.Need-returns-3
 returns-3 c =
-    let a = c .before .before .before .before .before .before .before .before .before .before .args in
-    let kids = c .before .before .before .before .before .node-children in
+    let a = c .before .before .before .before .before .before .before .before .before .before in
+    let kids = c .before .before .before .before .before .children-at in
     let value = c .before .before .before .row-value in
-    next-low (matrix-rows (a .s) (a .sheet .now)) (a .high .now) (a .low .now) (values (a .assignment .now)) (a .r) (kids .result) (kids .ensures)
+    next-low (node-rows-in (a .args .s) (a .args .sheet .now)) (a .args .high .now) (a .args .low .now) (values (a .args .assignment .now)) (a .args .i) (kids .result)
+    (children-row (a .args .sheet .now) (a .pre .0) (a .args .i) (a .pre .1) (kids .ensures .0))
     (c .before .before .before .before .if1 .left) (value .result) (value .ensures) (c .to-row2 .result)
     (c .before .before .if2 .left) (c .to-row2 .ensures)
 
@@ -61,7 +65,7 @@ pub next-spec : {M : Type 1} → statement M
 next-spec =
     tie.close
     (tie.spec
-    node-children-requires
+    children-at-requires
     add-result
     returns
     row-value-requires

@@ -43,10 +43,10 @@ to-row-requires-2 : tie.Need-to-row-requires-2 Inv-loop μ-loop
 to-row-requires-2 c κs = tt
 
 up : (c : tie.After-to-row2 Inv-loop μ-loop)
-    → (c .to-row2 .result < head c .loop .p) × Closed (start c .args .ends .now) (c .to-row2 .result) (start c .args .r)
+    → (c .to-row2 .result < head c .loop .p) × Closed (start c .args .ends .now) (c .to-row2 .result) (start c .args .i)
 up c =
     let a = start c in
-    climb (a .args .ends .now) (a .args .parents .now) (a .args .r) (a .pre .3) (a .pre .4) (head c .loop .p) (c .to-row2 .result)
+    climb (a .args .ends .now) (a .args .parents .now) (a .args .i) (a .pre .3) (a .pre .4) (head c .loop .p) (c .to-row2 .result)
     (head c .loop .inv .0) (omega arith) (c .to-row2 .ensures) (head c .loop .inv .1)
 
 loop-less : tie.Need-loop-less Inv-loop μ-loop

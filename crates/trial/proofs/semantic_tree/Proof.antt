@@ -15,8 +15,8 @@ slice-aggregate-build-2 c = search needs
 build-requires : tie.Need-build-requires
 build-requires c κs =
     let p = c .before .before .before .pre in
-    let room = p .holds .few-nodes in
-    (p .holds, p .one-tree, record { high-room = omega (arith, room); low-room = omega (arith, room) })
+    let room = p .readable .few-nodes in
+    (p .readable, record { high-room = omega (arith, room); low-room = omega (arith, room) })
 
 slice-aggregate-existential : tie.Need-slice-aggregate-existential
 slice-aggregate-existential c = search needs
@@ -32,14 +32,14 @@ existential-requires c κs =
     let p = c .before .before .before .before .before .before .before .before .before .pre in
     let built = c .before .before .before .before .before .build in (
       record {
-        holds = p .holds;
+        readable = p .readable;
         few = p .few;
         numbered = p .numbered;
         jumps = built .ensures;
         rooms =
             record {
-              high-room = omega (arith, p .holds .few-nodes, built .kept .1 .1 .0);
-              low-room = omega (arith, p .holds .few-nodes, built .kept .1 .1 .1 .0);
+              high-room = omega (arith, p .readable .few-nodes, built .kept .1 .1 .0);
+              low-room = omega (arith, p .readable .few-nodes, built .kept .1 .1 .1 .0);
             };
       },
       omega arith,

@@ -7,15 +7,17 @@ use native.Mathlib.Omega.{arith}
 use lib.ListN.{length, length-set}
 use lib.Seq.{getD-set-same}
 use Rattle.sheet.specs.Format.{Row}
-use Rattle.trial.specs.Jumps.{matrix-rows, Targets}
-use Rattle.trial.proofs.Rows.{length-matrix-rows}
+use Rattle.rows.specs.Formulas.{node-rows-in}
+use Rattle.trial.specs.Jumps.{Targets}
+use Rattle.rows.proofs.Formulas.{length-nodes}
+use Rattle.trial.proofs.Rows.{kind-row, root-entry}
 use Rattle.trial.proofs.Loops.{Wiring, parents-more, wire-row}
 use Rattle.trial.proofs.wire.Statement.{statement}
 use Rattle.trial.proofs.wire.Tie as tie
 
 abbrev Inv-loop : tie.InvT-loop
 Inv-loop sheet s ends parents₀ high₀ low₀ n r₀ parents high low r =
-    Wiring (matrix-rows s sheet) ends parents₀ high₀ low₀ n parents high low r
+    Wiring (node-rows-in s sheet) ends parents₀ high₀ low₀ n parents high low r
 
 abbrev μ-loop : tie.MeasureT-loop
 μ-loop sheet s ends parents₀ high₀ low₀ n r₀ parents high low r = n - r
@@ -24,10 +26,10 @@ abbrev start : tie.At-loop Inv-loop μ-loop → tie.Start Inv-loop μ-loop
 start c = c .before .before .before .before .before .before
 
 abbrev R : tie.Start Inv-loop μ-loop → List Row
-R a = matrix-rows (a .args .s) (a .args .sheet .now)
+R a = node-rows-in (a .args .s) (a .args .sheet .now)
 
 all : (a : tie.Start Inv-loop μ-loop) → length (R a) ≡ a .args .s .nodes
-all a = length-matrix-rows (a .args .s) (a .args .sheet .now) (a .pre .0 .0)
+all a = length-nodes (a .args .sheet .now) (a .pre .0 .readable)
 
 cast-high : tie.Need-cast-high Inv-loop μ-loop
 cast-high c = omega arith
@@ -69,8 +71,10 @@ loop-holds c =
 parent-of-requires : tie.Need-parent-of-requires Inv-loop μ-loop
 parent-of-requires c κs =
     let head = c .before .before in
+    let a = start head in
     let i = head .loop .inv in
-    (i .started, omega arith, omega (arith, i .parents-room), omega arith, i .known)
+    let open-root = root-entry (a .args .sheet .now) (a .args .ends .now) (a .pre .0) in
+    (i .started, omega (arith, a .pre .0 .holds), omega (arith, i .parents-room), omega arith, i .known)
 
 cast-parents : tie.Need-cast-parents Inv-loop μ-loop
 cast-parents c = omega arith
@@ -81,8 +85,8 @@ mul-parents c = omega arith
 slice-write-parents : tie.Need-slice-write-parents Inv-loop μ-loop
 slice-write-parents c = omega arith
 
-node-kind-requires : tie.Need-node-kind-requires Inv-loop μ-loop
-node-kind-requires c κs = (start (c .before .before .before) .pre .0 .0, omega arith)
+kind-at-requires : tie.Need-kind-at-requires Inv-loop μ-loop
+kind-at-requires c κs = (start (c .before .before .before) .pre .0 .readable, omega arith)
 
 mul-end : tie.Need-mul-end Inv-loop μ-loop
 mul-end c = omega arith
@@ -126,8 +130,8 @@ mul-low c = omega arith
 slice-write-low-2 : tie.Need-slice-write-low-2 Inv-loop μ-loop
 slice-write-low-2 c = omega arith
 
-add-r : tie.Need-add-r Inv-loop μ-loop
-add-r c = omega arith
+add-i : tie.Need-add-i Inv-loop μ-loop
+add-i c = omega arith
 
 loop-less : tie.Need-loop-less Inv-loop μ-loop
 loop-less c = omega arith
@@ -137,11 +141,11 @@ loop-again c =
     let head = c .before .before .before .before .before .before .before .before .before .before in
     let a = start head in
     let ends = a .args .ends .now in
-    let r = head .loop .r in
+    let r = head .loop .i in
     let i = head .loop .inv in
     let taken = c .before .before .before .before .before .before .before .before .before .loop-test .taken in
     let up = c .before .before .before .before .before .before .before .parent-of in
-    let kind = c .before .before .before .before .before .before .node-kind in
+    let kind = c .before .before .before .before .before .before .kind-at in
     record {
       parents-length = simp length-set (i .parents-length);
       high-length = simp length-set (i .high-length ∙ simp length-set);
@@ -154,7 +158,7 @@ loop-again c =
       known = parents-more ends (head .loop .parents) r (up .result) (omega (arith, i .parents-room)) (up .ensures) (i .known);
       targets =
           wire-row (R a) ends (head .loop .high) (head .loop .low) r (up .result) (kind .result) (c .before .before .past .result) (c .past2 .result)
-          (i .started) (omega (arith, i .high-room)) (omega (arith, i .low-room)) (up .ensures) (kind .ensures) (c .before .before .past .ensures)
+          (i .started) (omega (arith, i .high-room)) (omega (arith, i .low-room)) (up .ensures) (kind-row (a .args .sheet .now) (a .pre .0 .readable) (up .result) (omega arith) (kind .ensures)) (c .before .before .past .ensures)
           (c .past2 .ensures) (i .targets);
     }
 
@@ -171,7 +175,7 @@ returns : tie.Need-returns Inv-loop μ-loop
 returns c =
     let a = start (c .before) in
     let last = c .before .loop in
-    let e : last .r ≡ a .args .s .nodes = omega arith in
+    let e : last .i ≡ a .args .s .nodes = omega arith in
     subst (Targets (R a) (a .args .ends .now) (last .high) (last .low)) e (last .inv .targets)
 
 pub wire-spec : {M : Type 1} → statement M
@@ -190,7 +194,7 @@ wire-spec =
     cast-parents
     mul-parents
     slice-write-parents
-    node-kind-requires
+    kind-at-requires
     mul-end
     shared-slice-read-end
     mul-last
@@ -205,7 +209,7 @@ wire-spec =
     past-requires-2
     mul-low
     slice-write-low-2
-    add-r
+    add-i
     loop-less
     loop-again
     same-length
