@@ -1,0 +1,3 @@
+-- Laws for callers.
+pub mod Marks
+pub mod Settling

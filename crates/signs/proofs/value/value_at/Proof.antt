@@ -1,0 +1,44 @@
+-- `signs::value::value_at` meets its contract: by the variable's four entries. Assumes nothing.
+use borrow.Author.Needs.{needs}
+use mathlib.Core.Path.{_∙_}
+use Prim.Native.Nat.{_≤_}
+use native.Mathlib.Omega.{arith}
+use Rattle.signs.proofs.Settling.{value-signed}
+use Rattle.signs.proofs.value.value_at.Statement.{statement}
+use Rattle.signs.proofs.value.value_at.Tie as tie
+
+variable-at-requires : tie.Need-variable-at-requires
+variable-at-requires c κs = search needs
+
+quantifier-index-requires : tie.Need-quantifier-index-requires
+quantifier-index-requires c κs = search needs
+
+abbrev start : tie.After-variable-at → tie.Start
+start c = c .before .before .before
+
+low : (c : tie.After-variable-at) → c .variable-at .result ≤ 1024
+low c = let a = start c in omega (arith, c .variable-at .ensures .0, a .pre .1 .few-numbers (a .args .i) (a .pre .2))
+
+signs-at-requires : tie.Need-signs-at-requires
+signs-at-requires c κs = (start (c .before) .pre .3 .size, low (c .before))
+
+settling-by-requires : tie.Need-settling-by-requires
+settling-by-requires c κs = search needs
+
+returns : tie.Need-returns
+returns c =
+    let index = c .before .before in
+    let read = index .before in
+    let a = start read in
+    c .settling-by .ensures ∙
+    value-signed (index .quantifier-index .ensures .1) (c .before .signs-at .ensures) (read .variable-at .ensures .0) (low read) (a .pre .3)
+
+pub value-at-spec : {M : Type 1} → statement M
+value-at-spec =
+    tie.close
+    (tie.spec
+    variable-at-requires
+    quantifier-index-requires
+    signs-at-requires
+    settling-by-requires
+    returns)

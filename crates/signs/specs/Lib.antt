@@ -1,0 +1,3 @@
+-- The signs of each variable's literals, and the value that they give.
+pub mod Table
+pub mod Value
