@@ -1,3 +1,5 @@
--- The relevant part of a matrix for a set of literals.
+-- The relevant part of a matrix for a set of literals, and where the literals of a set stand.
 pub mod Parts
 pub mod Cuts
+pub mod Chains
+pub mod Occurrences

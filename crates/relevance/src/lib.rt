@@ -1,4 +1,13 @@
 // Where an expansion takes place: the relevant part of a matrix for a set of literals, and the rows that the expansion adds ("Expand x").
+// The set is given by a chain: the rows of its first and its last literal, and a table that leads from each literal to the next. Tables
+// for the chains of all variables are filled in a few passes; then a part costs its literals and the path to them, not a pass.
+pub mod occurrences;
+
+// The rows of the first and the last literal of a chain.
+pub struct Range {
+    pub first: usize,
+    pub last: usize,
+}
 
 // The deepest operator above all chosen literals, or the one literal that is chosen: its node row, whether every child is
 // relevant, E, and how many children are relevant, none of a literal.
@@ -7,4 +16,10 @@ pub struct Relevant {
     pub all: bool,
     pub rows: usize,
     pub children: usize,
+}
+
+// An operator's node row, and that of the first literal of a chain, which stands behind it.
+pub struct Site {
+    pub operator: usize,
+    pub first: usize,
 }

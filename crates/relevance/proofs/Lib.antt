@@ -1,0 +1,4 @@
+-- Laws of chains and of the relevant part, and the turns of this crate's loops.
+pub mod Hits
+pub mod Chains
+mod TurnOccurrences

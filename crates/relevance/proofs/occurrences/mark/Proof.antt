@@ -1,0 +1,76 @@
+-- `relevance::occurrences::mark` meets its contract: of the rows passed, each variable's last literal is in the table. Assumes nothing.
+use mathlib.Core.Path.{_≡_, refl, sym, _∙_}
+use Prim.Native.Nat.{_-_, _≤_}
+use native.Mathlib.Omega.{arith}
+use Rattle.relevance.specs.Occurrences.{Lasts, FirstsKept}
+use Rattle.relevance.proofs.TurnOccurrences.{mark-none, mark-turn, kept-turn}
+use Rattle.relevance.proofs.occurrences.mark.Statement.{statement}
+use Rattle.relevance.proofs.occurrences.mark.Tie as tie
+
+abbrev Inv-loop : tie.InvT-loop
+Inv-loop b s ranges₀ i₀ ranges i = Lasts s b i ranges × FirstsKept ranges₀ ranges × (i ≤ s .nodes)
+
+abbrev μ-loop : tie.MeasureT-loop
+μ-loop b s ranges₀ i₀ ranges i = s .nodes - i
+
+loop-holds : tie.Need-loop-holds Inv-loop μ-loop
+loop-holds c = let a = c .before .before in (mark-none (a .args .b .now) (a .pre .0) (a .pre .1), λ x. refl, omega arith)
+
+variable-at-requires : tie.Need-variable-at-requires Inv-loop μ-loop
+variable-at-requires c κs = let a = c .before .before .before .before .before in (a .pre .0, c .if1 .taken)
+
+mul-store : tie.Need-mul-store Inv-loop μ-loop
+mul-store c = omega arith
+
+add-store : tie.Need-add-store Inv-loop μ-loop
+add-store c = omega arith
+
+cast-store : tie.Need-cast-store Inv-loop μ-loop
+cast-store c = omega arith
+
+store-requires : tie.Need-store-requires Inv-loop μ-loop
+store-requires c κs = tt
+
+add-i : tie.Need-add-i Inv-loop μ-loop
+add-i c = omega arith
+
+loop-less : tie.Need-loop-less Inv-loop μ-loop
+loop-less c = omega arith
+
+loop-again : tie.Need-loop-again Inv-loop μ-loop
+loop-again c =
+    let stored = c .before .before in
+    let head = c .before .before .before .before .before .before .before in
+    let a = c .before .before .before .before .before .before .before .before .before .before in
+    let x = c .before .before .before .before .variable-at .result in (
+      rw (stored .store .ensures)
+          (mark-turn (a .args .b .now) (a .pre .0) (omega arith) (c .before .before .before .before .before .if1 .taken) (c .before .before .before .before .variable-at .ensures .0) (head .loop .inv .0)),
+      rw (stored .store .ensures) (kept-turn (a .args .ranges .now) (head .loop .ranges) x (head .loop .i) (head .loop .inv .1)),
+      omega arith,
+    )
+
+same-length : tie.Need-same-length Inv-loop μ-loop
+same-length c = c .before .before .loop .inv .0 .holds ∙ sym (c .before .before .before .before .before .pre .1)
+
+returns : tie.Need-returns Inv-loop μ-loop
+returns c =
+    let all : c .before .before .loop .i ≡ c .before .before .before .before .before .args .s .nodes = omega (arith, c .before .before .loop .inv .2) in
+    (rw all at (c .before .before .loop .inv .0), c .before .before .loop .inv .1)
+
+pub mark-spec : {M : Type 1} → statement M
+mark-spec =
+    tie.close
+    (tie.spec
+    Inv-loop
+    μ-loop
+    loop-holds
+    variable-at-requires
+    mul-store
+    add-store
+    cast-store
+    store-requires
+    add-i
+    loop-less
+    loop-again
+    same-length
+    returns)
