@@ -1,78 +1,121 @@
 //! One call on the proved operations and on the independent reading. A
 //! disagreement prints the sheet in hexadecimal and both answers.
 
-use outside::generate::{Call, Operation};
-use outside::reference::{self, Answer};
+use crate::{Library, LIBRARIES};
+use outside::generate::{self, Call, Rng};
+use outside::reference::{Answer, Refusal, SolveAnswer};
+use std::fmt::Debug;
+
+/// Runs `test` on `count` seeded generators for each library.
+pub fn cases(count: u64, mut test: impl FnMut(&Library, &mut Rng)) {
+    for library in &LIBRARIES {
+        generate::cases(count, |rng| test(library, rng));
+    }
+}
 
 pub fn hexadecimal(bytes: &[u8]) -> String {
     bytes.iter().map(|byte| format!("{byte:02x} ")).collect()
 }
 
-/// What an operation that writes a sheet answered, and its output afterwards.
+/// What a call answered, and what it left in its buffers.
 #[derive(PartialEq)]
-pub struct Outcome {
-    pub answer: Answer<usize>,
-    pub output: Vec<u8>,
+pub struct Outcome<T, const N: usize> {
+    pub answer: T,
+    pub buffers: [Vec<u8>; N],
 }
 
-impl Outcome {
+/// Of an operation that writes a sheet to an output.
+pub type Written = Outcome<Answer<usize>, 1>;
+
+impl Written {
+    pub fn output(&self) -> &[u8] {
+        &self.buffers[0]
+    }
+
     /// The sheet written, without the zeros behind it.
     pub fn sheet(&self) -> Option<&[u8]> {
         match self.answer {
-            Answer::Accepted(length) => Some(&self.output[..length]),
+            Answer::Accepted(length) => Some(&self.output()[..length]),
             Answer::Refused(..) => None,
         }
     }
+}
 
+impl<T: Debug, const N: usize> Outcome<T, N> {
     fn told(&self) -> String {
-        format!("{:?}, output {}", self.answer, hexadecimal(&self.output))
+        let buffers = self.buffers.iter().map(|buffer| format!(", left {}", hexadecimal(buffer)));
+        format!("{:?}{}", self.answer, buffers.collect::<String>())
     }
 }
 
-/// One operation on both, with equal outputs before it; what is left in them
-/// is compared too.
-pub fn agree(
+/// One call on both, with equal buffers before it; what is left in them is
+/// compared too.
+fn agree<T: PartialEq + Debug, const N: usize>(
     what: &str,
     sheet: &[u8],
-    before: &[u8],
-    proved: impl Fn(&[u8], &mut [u8]) -> Answer<usize>,
-    reference: impl Fn(&[u8], &mut [u8]) -> Answer<usize>,
-) -> Outcome {
-    let (mine, theirs) = (run(sheet, before, proved), run(sheet, before, reference));
+    before: [&[u8]; N],
+    proved: impl FnOnce(&mut [Vec<u8>; N]) -> T,
+    reference: impl FnOnce(&mut [Vec<u8>; N]) -> T,
+) -> Outcome<T, N> {
+    let mut buffers = before.map(<[u8]>::to_vec);
+    let answer = proved(&mut buffers);
+    let mine = Outcome { answer, buffers };
+    let mut buffers = before.map(<[u8]>::to_vec);
+    let answer = reference(&mut buffers);
+    let theirs = Outcome { answer, buffers };
     if mine != theirs {
-        let (proved, reference) = (mine.told(), theirs.told());
-        let sheet = hexadecimal(sheet);
+        let (sheet, proved, reference) = (hexadecimal(sheet), mine.told(), theirs.told());
         panic!("{what} of {sheet}\nproved: {proved}\nreference: {reference}");
     }
     mine
 }
 
-fn run(
-    sheet: &[u8],
-    before: &[u8],
-    operation: impl Fn(&[u8], &mut [u8]) -> Answer<usize>,
-) -> Outcome {
-    let mut output = before.to_vec();
-    let answer = operation(sheet, &mut output);
-    Outcome { answer, output }
-}
+impl Library {
+    pub fn agree_on_check(&self, sheet: &[u8]) -> Result<(usize, usize), Refusal> {
+        let format = self.reading.format;
+        agree("check", sheet, [], |_| self.check(sheet), |_| format.check(sheet)).answer
+    }
 
-pub fn agree_on_tidy(sheet: &[u8], before: &[u8]) -> Outcome {
-    agree("tidy", sheet, before, crate::tidy, reference::tidy)
-}
+    pub fn agree_on_trial(&self, sheet: &[u8]) -> Answer<(bool, u64)> {
+        let format = self.reading.format;
+        agree("trial", sheet, [], |_| self.trial(sheet), |_| format.trial(sheet)).answer
+    }
 
-/// Settle or Expand; the output is as long as the call says and has any contents.
-pub fn agree_on_call(sheet: &[u8], call: Call, before: &[u8]) -> Outcome {
-    let x = call.variable;
-    let (proved, reference): (crate::Step, crate::Step) = match call.operation {
-        Operation::Settle => (crate::settle, reference::settle),
-        Operation::Expand => (crate::expand, reference::expand),
-    };
-    agree(
-        &format!("{call:?}"),
-        sheet,
-        before,
-        |sheet, output| proved(sheet, x, output),
-        |sheet, output| reference(sheet, x, output),
-    )
+    pub fn agree_on_part(&self, sheet: &[u8], node: usize) {
+        let (what, format) = (format!("part {node}"), self.reading.format);
+        let (proved, reference) = (self.part(sheet, node), format.part_range(sheet, node));
+        agree(&what, sheet, [], |_| proved, |_| reference);
+    }
+
+    pub fn agree_on_tidy(&self, sheet: &[u8], before: &[u8]) -> Written {
+        agree(
+            "tidy",
+            sheet,
+            [before],
+            |[output]| self.tidy(sheet, output),
+            |[output]| self.reading.tidy(sheet, output),
+        )
+    }
+
+    /// Settle or Expand; the output is as long as the call says and has any contents.
+    pub fn agree_on_call(&self, sheet: &[u8], call: Call, before: &[u8]) -> Written {
+        let Call { operation, variable: x, .. } = call;
+        agree(
+            &format!("{call:?}"),
+            sheet,
+            [before],
+            |[output]| self.step(operation, sheet, x, output),
+            |[output]| self.reading.step(operation, sheet, x, output),
+        )
+    }
+
+    pub fn agree_on_solve(&self, sheet: &[u8], before: [&[u8]; 2]) -> Outcome<SolveAnswer, 2> {
+        agree(
+            "solve",
+            sheet,
+            before,
+            |[first, second]| self.solve(sheet, first, second),
+            |[first, second]| self.reading.solve(sheet, first, second),
+        )
+    }
 }

@@ -1,47 +1,22 @@
 //! Safe calls of the proved operations, with the answers of `outside::reference`.
 
-use outside::reference::SolveAnswer;
-use outside::reference::{Answer, Refusal, Variable};
+use outside::reference::{Answer, Operation, Reading, Refusal, SolveAnswer, Variable};
 use std::ops::Range;
 
 pub mod compare;
+mod foreign;
 
-mod foreign {
-    // As include/plumanchor.h declares them.
-    extern "C" {
-        pub fn plumanchor_check(sheet: *const u8, length: usize) -> u64;
-        pub fn plumanchor_trial(sheet: *const u8, length: usize) -> u64;
-        pub fn plumanchor_part(sheet: *const u8, length: usize, node: usize) -> usize;
-        pub fn plumanchor_tidy(
-            sheet: *const u8,
-            length: usize,
-            output: *mut u8,
-            room: usize,
-        ) -> u64;
-        pub fn plumanchor_settle(
-            sheet: *const u8,
-            length: usize,
-            x: usize,
-            output: *mut u8,
-            room: usize,
-        ) -> u64;
-        pub fn plumanchor_expand(
-            sheet: *const u8,
-            length: usize,
-            x: usize,
-            output: *mut u8,
-            room: usize,
-        ) -> u64;
-        pub fn plumanchor_solve(
-            sheet: *const u8,
-            length: usize,
-            first: *mut u8,
-            first_room: usize,
-            second: *mut u8,
-            second_room: usize,
-        ) -> u64;
-    }
+/// The proved operations on sheets of one format.
+pub struct Library {
+    /// What the operations are to agree with.
+    pub reading: Reading,
+    entries: foreign::Entries,
 }
+
+pub const NARROW: Library = Library { reading: Reading::NARROW, entries: foreign::NARROW };
+
+/// One for each format that has entry points; every comparison runs on all.
+pub const LIBRARIES: [Library; 1] = [NARROW];
 
 /// An answer's four parts.
 struct Packed {
@@ -62,78 +37,83 @@ impl From<u64> for Packed {
     }
 }
 
-pub fn check(sheet: &[u8]) -> Result<(usize, usize), Refusal> {
-    // Sound: the pointer and the length are those of a slice that lives until the call returns.
-    let answer = Packed::from(unsafe { foreign::plumanchor_check(sheet.as_ptr(), sheet.len()) });
-    match answer.number {
-        0 => Ok((answer.low, answer.high as usize)),
-        number => Err((number, answer.low)),
+impl Packed {
+    /// The value of an accepted call, or the refusal's number and place.
+    fn accepted<T>(&self, value: T) -> Result<T, Refusal> {
+        match self.number {
+            0 => Ok(value),
+            number => Err((number, self.low)),
+        }
     }
 }
 
-pub fn trial(sheet: &[u8]) -> Answer<(bool, u64)> {
-    let answer = Packed::from(unsafe { foreign::plumanchor_trial(sheet.as_ptr(), sheet.len()) });
-    match answer.number {
-        0 => Answer::Accepted((answer.word == 1, answer.high.into())),
-        number => Answer::Refused(number, answer.low),
+// Every call is sound: each pointer comes with the length of a slice that lives until the call
+// returns, and outputs are borrowed for it alone.
+impl Library {
+    pub fn check(&self, sheet: &[u8]) -> Result<(usize, usize), Refusal> {
+        let answer = unsafe { (self.entries.check)(sheet.as_ptr(), sheet.len()) };
+        let answer = Packed::from(answer);
+        answer.accepted((answer.low, answer.high as usize))
     }
-}
 
-/// The range of the sheet's bytes that Part answers with, `0..0` if it is empty.
-pub fn part(sheet: &[u8], node: usize) -> Range<usize> {
-    match unsafe { foreign::plumanchor_part(sheet.as_ptr(), sheet.len(), node) } {
-        0 => 0..0,
-        rows => {
-            let start = 4 + usize::from(u16::from_le_bytes([sheet[0], sheet[1]])) + node;
-            start..start + rows
+    pub fn trial(&self, sheet: &[u8]) -> Answer<(bool, u64)> {
+        let answer = unsafe { (self.entries.trial)(sheet.as_ptr(), sheet.len()) };
+        let answer = Packed::from(answer);
+        answer.accepted((answer.word == 1, answer.high.into())).into()
+    }
+
+    /// The range of the sheet's bytes that Part answers with, `0..0` if it is empty.
+    pub fn part(&self, sheet: &[u8], node: usize) -> Range<usize> {
+        match unsafe { (self.entries.part)(sheet.as_ptr(), sheet.len(), node) } {
+            0 => 0..0,
+            rows => {
+                let format = self.reading.format;
+                let (v, _) = format.sizes(sheet).expect("a sheet with a part");
+                let start = format.header() + v + node;
+                start..start + rows
+            }
+        }
+    }
+
+    pub fn tidy(&self, sheet: &[u8], output: &mut [u8]) -> Answer<usize> {
+        let (out, room) = (output.as_mut_ptr(), output.len());
+        written(unsafe { (self.entries.tidy)(sheet.as_ptr(), sheet.len(), out, room) })
+    }
+
+    pub fn step(
+        &self,
+        operation: Operation,
+        sheet: &[u8],
+        x: Variable,
+        output: &mut [u8],
+    ) -> Answer<usize> {
+        let entry = match operation {
+            Operation::Settle => self.entries.settle,
+            Operation::Expand => self.entries.expand,
+        };
+        let (out, room) = (output.as_mut_ptr(), output.len());
+        written(unsafe { entry(sheet.as_ptr(), sheet.len(), x, out, room) })
+    }
+
+    /// Solve, with the counts in the answer's two values and the variable stopped at above the second.
+    pub fn solve(&self, sheet: &[u8], first: &mut [u8], second: &mut [u8]) -> SolveAnswer {
+        let (length, rooms) = (sheet.len(), (first.len(), second.len()));
+        let (first, second) = (first.as_mut_ptr(), second.as_mut_ptr());
+        let answer = Packed::from(unsafe {
+            (self.entries.solve)(sheet.as_ptr(), length, first, rooms.0, second, rooms.1)
+        });
+        let (settled, expanded) = (answer.low, usize::from(answer.high as u16));
+        match (answer.number, answer.word, usize::from((answer.high >> 16) as u16)) {
+            (0, 0, 0) => SolveAnswer::Ended { verdict: false, settled, expanded },
+            (0, 1, 0) => SolveAnswer::Ended { verdict: true, settled, expanded },
+            (0, 2, variable) => SolveAnswer::Stopped { variable, settled, expanded },
+            (number, 0, 0) if expanded == 0 => SolveAnswer::Refused(number, answer.low),
+            _ => panic!("no answer of Solve: {settled} {expanded}"),
         }
     }
 }
 
 fn written(answer: u64) -> Answer<usize> {
     let answer = Packed::from(answer);
-    match answer.number {
-        0 => Answer::Accepted(answer.high as usize),
-        number => Answer::Refused(number, answer.low),
-    }
-}
-
-pub fn tidy(sheet: &[u8], output: &mut [u8]) -> Answer<usize> {
-    written(unsafe {
-        foreign::plumanchor_tidy(sheet.as_ptr(), sheet.len(), output.as_mut_ptr(), output.len())
-    })
-}
-
-/// Settle and Expand: a sheet, a variable and the output.
-pub type Step = fn(&[u8], Variable, &mut [u8]) -> Answer<usize>;
-
-pub fn settle(sheet: &[u8], x: Variable, output: &mut [u8]) -> Answer<usize> {
-    let (length, room) = (sheet.len(), output.len());
-    written(unsafe {
-        foreign::plumanchor_settle(sheet.as_ptr(), length, x, output.as_mut_ptr(), room)
-    })
-}
-
-pub fn expand(sheet: &[u8], x: Variable, output: &mut [u8]) -> Answer<usize> {
-    let (length, room) = (sheet.len(), output.len());
-    written(unsafe {
-        foreign::plumanchor_expand(sheet.as_ptr(), length, x, output.as_mut_ptr(), room)
-    })
-}
-
-/// Solve, with the counts in the answer's two values and the variable stopped at above the second.
-pub fn solve(sheet: &[u8], first: &mut [u8], second: &mut [u8]) -> SolveAnswer {
-    let (length, rooms) = (sheet.len(), (first.len(), second.len()));
-    let (first, second) = (first.as_mut_ptr(), second.as_mut_ptr());
-    let answer = Packed::from(unsafe {
-        foreign::plumanchor_solve(sheet.as_ptr(), length, first, rooms.0, second, rooms.1)
-    });
-    let (settled, expanded) = (answer.low, usize::from(answer.high as u16));
-    match (answer.number, answer.word, usize::from((answer.high >> 16) as u16)) {
-        (0, 0, 0) => SolveAnswer::Ended { verdict: false, settled, expanded },
-        (0, 1, 0) => SolveAnswer::Ended { verdict: true, settled, expanded },
-        (0, 2, variable) => SolveAnswer::Stopped { variable, settled, expanded },
-        (number, 0, 0) if expanded == 0 => SolveAnswer::Refused(number, answer.low),
-        _ => panic!("no answer of Solve: {settled} {expanded}"),
-    }
+    answer.accepted(answer.high as usize).into()
 }

@@ -2,10 +2,17 @@
 
 use outside::examples::examples;
 use outside::generate::{cases, damage, limit_sheets, sheet, Limits};
-use outside::reference::program_line;
+use outside::reference::{Format, Reading};
 use outside::with_deep_stack;
 use std::io::Write;
 use std::process::{Command, Stdio};
+
+/// What the program reads.
+const FORMAT: Format = Format::NARROW;
+
+fn program_line(input: &[u8]) -> String {
+    Reading::NARROW.program_line(input)
+}
 
 /// What the program writes for an input.
 fn run(input: &[u8]) -> String {
@@ -33,9 +40,9 @@ fn program_gives_the_examples_lines() {
 fn program_gives_the_references_line() {
     with_deep_stack(|| {
         cases(300, |rng| {
-            let mut input = sheet(rng, Limits::MEDIUM);
+            let mut input = sheet(rng, Limits::medium(FORMAT));
             if rng.one_in(3) {
-                input = damage(rng, &input);
+                input = damage(rng, FORMAT, &input);
             }
             assert_eq!(run(&input).trim_end(), program_line(&input), "sheet {input:02x?}");
         })
@@ -45,7 +52,7 @@ fn program_gives_the_references_line() {
 #[test]
 fn program_reads_no_more_than_a_sheet_may_have() {
     with_deep_stack(|| {
-        for limit in limit_sheets() {
+        for limit in limit_sheets(FORMAT) {
             assert_eq!(run(&limit.sheet).trim_end(), program_line(&limit.sheet), "{}", limit.name);
         }
         assert_eq!(run(&vec![0; 20_000]), "refused 0 0 2\n");

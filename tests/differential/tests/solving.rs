@@ -1,68 +1,58 @@
 //! Solve against the independent reading, against Trial and against a solver
 //! from outside. A disagreement prints the sheet in hexadecimal and both answers.
 
-use differential::compare::hexadecimal;
+use differential::compare::{cases, hexadecimal};
+use differential::{Library, LIBRARIES};
 use outside::formulas::tried_by_hand;
-use outside::generate::{self, cases, limit_sheets, Family, Limits, Rng};
-use outside::reference::{self, *};
+use outside::generate::{self, limit_sheets, Family, Limits, Rng};
+use outside::reference::*;
 use outside::{depqbf, with_deep_stack};
 
-/// One call on both, with equal buffers; what is left in them is compared too.
-fn agree(sheet: &[u8], first: &[u8], second: &[u8]) -> SolveAnswer {
-    let run = |solve: fn(&[u8], &mut [u8], &mut [u8]) -> SolveAnswer| {
-        let (mut first, mut second) = (first.to_vec(), second.to_vec());
-        let answer = solve(sheet, &mut first, &mut second);
-        (answer, first, second)
-    };
-    let (mine, theirs) = (run(differential::solve), run(reference::solve));
-    if mine != theirs {
-        let told = |(answer, first, second): &(SolveAnswer, Vec<u8>, Vec<u8>)| {
-            format!("{answer:?}, first {}, second {}", hexadecimal(first), hexadecimal(second))
-        };
-        let (sheet, proved, reference) = (hexadecimal(sheet), told(&mine), told(&theirs));
-        panic!("solve of {sheet}\nproved: {proved}\nreference: {reference}");
+/// Solve on both, with equal buffers of any contents.
+fn agree_in(rng: &mut Rng, library: &Library, sheet: &[u8], rooms: (usize, usize)) -> SolveAnswer {
+    let before = [generate::dirty(rng, rooms.0), generate::dirty(rng, rooms.1)];
+    let outcome = library.agree_on_solve(sheet, [&before[0], &before[1]]);
+    if let Some((settled, expanded)) = outcome.answer.counts() {
+        let left = check_buffers(&library.reading, sheet, &outcome.buffers);
+        let started = library.reading.format.parse(sheet).expect("a sheet that was not refused");
+        assert_eq!(settled + expanded + left, started.prefix.len());
     }
-    check_buffers(sheet, mine.0, &mine.1, &mine.2);
-    mine.0
+    outcome.answer
 }
 
-/// The sheet reached is good and tidy, the variables add up, the second buffer
-/// is clear.
-fn check_buffers(sheet: &[u8], answer: SolveAnswer, first: &[u8], second: &[u8]) {
-    let (settled, expanded) = match answer {
-        SolveAnswer::Refused(..) => return,
-        SolveAnswer::Stopped { settled, expanded, .. } => (settled, expanded),
-        SolveAnswer::Ended { settled, expanded, .. } => (settled, expanded),
-    };
-    let number = |at: usize| usize::from(u16::from_le_bytes([first[at], first[at + 1]]));
-    let length = sheet_length(number(0), number(2));
-    let reached = parse(&first[..length]).expect("the sheet reached is a good one");
-    let started = parse(sheet).expect("a sheet that was not refused");
-    assert!(is_tidy(&reached.matrix), "{}", hexadecimal(sheet));
-    assert_eq!(settled + expanded + reached.prefix.len(), started.prefix.len());
-    assert!(first[length..].iter().chain(second).all(|&byte| byte == 0), "{}", hexadecimal(sheet));
+/// The sheet reached is good and tidy, the second buffer is clear. Answers with
+/// the variables left.
+fn check_buffers(reading: &Reading, sheet: &[u8], [first, second]: &[Vec<u8>; 2]) -> usize {
+    let front = reading.format.front(first);
+    let reached = reading.format.parse(front).expect("the sheet reached is a good one");
+    assert!(reading.rules.is_tidy(&reached.matrix), "{}", hexadecimal(sheet));
+    let mut behind = first[front.len()..].iter().chain(second);
+    assert!(behind.all(|&byte| byte == 0), "{}", hexadecimal(sheet));
+    reached.prefix.len()
 }
 
-fn agree_in(rng: &mut Rng, sheet: &[u8], rooms: (usize, usize)) -> SolveAnswer {
-    agree(sheet, &generate::dirty(rng, rooms.0), &generate::dirty(rng, rooms.1))
+/// In the program's buffers.
+fn agree_in_full(rng: &mut Rng, library: &Library, sheet: &[u8]) -> SolveAnswer {
+    let longest = library.reading.format.longest_sheet();
+    agree_in(rng, library, sheet, (longest, longest))
 }
 
 /// The lengths at which Solve's answer may change: the sheet's own, and those
 /// of the raw sheets on the way.
-fn critical_lengths(formula: &Formula) -> Vec<usize> {
-    let mut lengths = vec![encode(formula).len()];
-    let mut held = tidy_formula(formula);
+fn critical_lengths(reading: &Reading, formula: &Formula) -> Vec<usize> {
+    let Reading { format, rules } = reading;
+    let mut lengths = vec![format.encode(formula).len()];
+    let mut held = rules.tidy_formula(formula);
     loop {
-        held = match next_move(&held) {
+        held = match rules.next_move(&held) {
             Move::End(_) => return lengths,
-            Move::Settle(x, value) => settle_formula(&held, x, value),
+            Move::Settle(x, value) => rules.settle_formula(&held, x, value),
             Move::Expand(x) => {
-                let rows = raw_rows(&held, x);
-                lengths.push(sheet_length(held.prefix.len() - 1, rows));
-                if rows > MAX_NODES {
+                lengths.push(format.least_output(Operation::Expand, &held, x));
+                if raw_rows(&held, x) > format.most_nodes {
                     return lengths;
                 }
-                expand_formula(&held, x)
+                rules.expand_formula(&held, x)
             }
         };
     }
@@ -86,12 +76,13 @@ fn pairs_around(rng: &mut Rng, limit: usize) -> Vec<(usize, usize)> {
 #[test]
 fn buffers_around_every_limit() {
     let mut stopped = 0;
-    cases(4_000, |rng| {
-        let formula = generate::formula(rng, Limits::SMALL);
-        let sheet = encode(&formula);
-        for limit in critical_lengths(&formula) {
+    cases(4_000, |library, rng| {
+        let format = library.reading.format;
+        let formula = generate::formula(rng, Limits::small(format));
+        let sheet = format.encode(&formula);
+        for limit in critical_lengths(&library.reading, &formula) {
             for rooms in pairs_around(rng, limit) {
-                let answer = agree_in(rng, &sheet, rooms);
+                let answer = agree_in(rng, library, &sheet, rooms);
                 stopped += u32::from(matches!(answer, SolveAnswer::Stopped { .. }));
             }
         }
@@ -102,15 +93,16 @@ fn buffers_around_every_limit() {
 #[test]
 fn random_and_damaged_sheets() {
     let mut refused = [0; 15];
-    cases(30_000, |rng| {
-        let sheet = generate::sheet(rng, Limits::SMALL);
-        let damaged = generate::damage(rng, &sheet);
+    cases(30_000, |library, rng| {
+        let format = library.reading.format;
+        let sheet = generate::sheet(rng, Limits::small(format));
+        let damaged = generate::damage(rng, format, &sheet);
         for sheet in [sheet, damaged] {
             let rooms = (
-                generate::length_around(rng, sheet.len()),
-                generate::length_around(rng, 2 * sheet.len()),
+                generate::length_around(rng, format, sheet.len()),
+                generate::length_around(rng, format, 2 * sheet.len()),
             );
-            if let SolveAnswer::Refused(number, _) = agree_in(rng, &sheet, rooms) {
+            if let SolveAnswer::Refused(number, _) = agree_in(rng, library, &sheet, rooms) {
                 refused[usize::from(number)] += 1;
             }
         }
@@ -123,56 +115,60 @@ fn random_and_damaged_sheets() {
 #[test]
 fn formulas_tried_by_hand() {
     let mut rng = Rng::new(generate::run_seed());
-    let lines = [
-        "true 0 0 0",
-        "false 0 0 0",
-        "true 0 0 0",
-        "true 0 1 0",
-        "false 1 2 0",
-        "true 1 0 0",
-        "false 3 0 0",
-        "true 0 1 0",
-        "false 0 1 0",
-    ];
-    for (formula, line) in tried_by_hand().into_iter().zip(lines) {
-        let sheet = encode(&formula);
-        assert_eq!(line_of(&agree_in(&mut rng, &sheet, (PROGRAM_BUFFER, PROGRAM_BUFFER))), line);
-        for room in 0..120 {
-            agree_in(&mut rng, &sheet, (room, room));
+    for library in &LIBRARIES {
+        for (formula, line) in tried_by_hand() {
+            let sheet = library.reading.format.encode(&formula);
+            assert_eq!(line_of(&agree_in_full(&mut rng, library, &sheet)), line);
+            for room in 0..120 {
+                agree_in(&mut rng, library, &sheet, (room, room));
+            }
         }
     }
-    let four_cubes = encode(&tried_by_hand()[3]);
-    assert_eq!(line_of(&agree_in(&mut rng, &four_cubes, (88, 88))), "true 0 1 0");
-    assert_eq!(line_of(&agree_in(&mut rng, &four_cubes, (88, 87))), "stopped 0 0 1");
-    assert_eq!(line_of(&agree_in(&mut rng, &four_cubes, (87, 88))), "stopped 0 0 1");
+}
+
+#[test]
+fn raw_sheet_of_the_four_cubes() {
+    let mut rng = Rng::new(generate::run_seed());
+    let (four_cubes, line) = &tried_by_hand()[3];
+    for library in &LIBRARIES {
+        let format = library.reading.format;
+        let sheet = format.encode(four_cubes);
+        let raw = format.sheet_length(1, 27);
+        let mut line_in = |rooms| line_of(&agree_in(&mut rng, library, &sheet, rooms));
+        assert_eq!(line_in((raw, raw)), *line);
+        assert_eq!(line_in((raw, raw - 1)), "stopped 0 0 1");
+        assert_eq!(line_in((raw - 1, raw)), "stopped 0 0 1");
+    }
 }
 
 #[test]
 fn large_sheets() {
     with_deep_stack(|| {
         let mut rng = Rng::new(generate::run_seed());
-        for limit in limit_sheets() {
-            agree_in(&mut rng, &limit.sheet, (PROGRAM_BUFFER, PROGRAM_BUFFER));
+        for library in &LIBRARIES {
+            for limit in limit_sheets(library.reading.format) {
+                agree_in_full(&mut rng, library, &limit.sheet);
+            }
         }
-        cases(100, |rng| {
-            for limits in [Limits::MEDIUM, Limits::FULL] {
+        cases(100, |library, rng| {
+            let format = library.reading.format;
+            for limits in [Limits::medium(format), Limits::full(format)] {
                 let sheet = generate::sheet(rng, limits);
-                let rooms = (generate::length_around(rng, sheet.len()), PROGRAM_BUFFER + 40);
-                agree_in(rng, &sheet, rooms);
-                agree_in(rng, &sheet, (PROGRAM_BUFFER, PROGRAM_BUFFER));
+                let first = generate::length_around(rng, format, sheet.len());
+                agree_in(rng, library, &sheet, (first, format.longest_sheet() + 40));
+                agree_in_full(rng, library, &sheet);
             }
         });
     });
 }
 
 /// Trial's verdict, of up to 20 variables, is Solve's.
-fn agree_with_trial(rng: &mut Rng, formula: &Formula) -> Option<bool> {
-    let sheet = encode(formula);
-    let answer = agree_in(rng, &sheet, (PROGRAM_BUFFER, PROGRAM_BUFFER));
-    let SolveAnswer::Ended { verdict, .. } = answer else {
+fn agree_with_trial(rng: &mut Rng, library: &Library, formula: &Formula) -> Option<bool> {
+    let sheet = library.reading.format.encode(formula);
+    let SolveAnswer::Ended { verdict, .. } = agree_in_full(rng, library, &sheet) else {
         return None;
     };
-    match differential::trial(&sheet) {
+    match library.trial(&sheet) {
         Answer::Accepted((tried, _)) => assert_eq!(tried, verdict, "{}", hexadecimal(&sheet)),
         refused => panic!("{refused:?}: {}", hexadecimal(&sheet)),
     }
@@ -187,15 +183,17 @@ fn verdicts_are_trials() {
             verdicts[usize::from(verdict)] += 1;
         }
     };
-    cases(3_000, |rng| {
-        let formula = generate::formula(rng, Limits { variables: 12, nodes: 120 });
-        count(agree_with_trial(rng, &formula));
+    cases(3_000, |library, rng| {
+        let limits = Limits { format: library.reading.format, variables: 12, nodes: 120 };
+        let formula = generate::formula(rng, limits);
+        count(agree_with_trial(rng, library, &formula));
     });
-    cases(60, |rng| {
+    cases(60, |library, rng| {
         let family = rng.pick(&[Family::Clauses, Family::Tidy, Family::Parity]);
         let nodes = rng.between(60, 160);
-        let formula = generate::alternating_formula(rng, family, 20, nodes);
-        count(agree_with_trial(rng, &formula));
+        let limits = Limits { format: library.reading.format, variables: 20, nodes };
+        let formula = generate::alternating_formula(rng, family, limits);
+        count(agree_with_trial(rng, library, &formula));
     });
     assert!(verdicts.iter().all(|&count| count > 800), "{verdicts:?}");
 }
@@ -206,10 +204,10 @@ fn verdicts_are_those_of_a_solver_from_outside() {
         // By Solve: false, true, stopped; of those with a verdict, how many depqbf decided.
         let mut answers = [0; 3];
         let (mut compared, mut expansions) = (0, 0);
-        cases(4_000, |rng| {
-            let formula = generate::solver_formula(rng);
-            let sheet = encode(&formula);
-            match agree_in(rng, &sheet, (PROGRAM_BUFFER, PROGRAM_BUFFER)) {
+        cases(4_000, |library, rng| {
+            let formula = generate::solver_formula(rng, library.reading.format);
+            let sheet = library.reading.format.encode(&formula);
+            match agree_in_full(rng, library, &sheet) {
                 SolveAnswer::Ended { verdict, expanded, .. } => {
                     answers[usize::from(verdict)] += 1;
                     expansions += expanded;

@@ -2,30 +2,32 @@
 //! every byte of the output, over buffers around every limit and of any
 //! contents.
 
-use differential::compare::{self, agree_on_call, hexadecimal};
+use differential::compare::{cases, hexadecimal};
+use differential::{Library, LIBRARIES};
 use outside::formulas::{all, clause, formula, lit};
-use outside::generate::{self, cases, limit_sheets, Call, Limits, Operation, Rng};
+use outside::generate::{self, limit_sheets, Call, Limits, Rng};
 use outside::reference::*;
 use outside::with_deep_stack;
 use Operation::{Expand, Settle};
 use Quantifier::{Exists, ForAll};
 
-fn agree_on_tidy(rng: &mut Rng, sheet: &[u8]) {
-    let room = generate::length_around(rng, sheet.len());
-    let outcome = compare::agree_on_tidy(sheet, &generate::dirty(rng, room));
+fn agree_on_tidy(rng: &mut Rng, library: &Library, sheet: &[u8]) {
+    let room = generate::length_around(rng, library.reading.format, sheet.len());
+    let outcome = library.agree_on_tidy(sheet, &generate::dirty(rng, room));
     if let Some(tidied) = outcome.sheet() {
-        let again = compare::agree_on_tidy(tidied, &generate::dirty(rng, tidied.len()));
-        assert!(again.output == tidied, "tidied twice: {}", hexadecimal(sheet));
+        let again = library.agree_on_tidy(tidied, &generate::dirty(rng, tidied.len()));
+        assert!(again.output() == tidied, "tidied twice: {}", hexadecimal(sheet));
     }
 }
 
 #[test]
 fn tidy_on_small_sheets() {
-    cases(30_000, |rng| {
-        let sheet = generate::sheet(rng, Limits::SMALL);
-        agree_on_tidy(rng, &sheet);
-        let damaged = generate::damage(rng, &sheet);
-        agree_on_tidy(rng, &damaged);
+    cases(30_000, |library, rng| {
+        let format = library.reading.format;
+        let sheet = generate::sheet(rng, Limits::small(format));
+        agree_on_tidy(rng, library, &sheet);
+        let damaged = generate::damage(rng, format, &sheet);
+        agree_on_tidy(rng, library, &damaged);
     });
 }
 
@@ -33,69 +35,72 @@ fn tidy_on_small_sheets() {
 fn tidy_on_large_sheets() {
     with_deep_stack(|| {
         let mut rng = Rng::new(generate::run_seed());
-        for limit in limit_sheets() {
-            agree_on_tidy(&mut rng, &limit.sheet);
+        for library in &LIBRARIES {
+            for limit in limit_sheets(library.reading.format) {
+                agree_on_tidy(&mut rng, library, &limit.sheet);
+            }
         }
-        cases(200, |rng| {
-            let sheet = generate::sheet(rng, Limits::MEDIUM);
-            agree_on_tidy(rng, &sheet);
-            let sheet = generate::sheet(rng, Limits::FULL);
-            agree_on_tidy(rng, &sheet);
+        cases(200, |library, rng| {
+            let format = library.reading.format;
+            for limits in [Limits::medium(format), Limits::full(format)] {
+                let sheet = generate::sheet(rng, limits);
+                agree_on_tidy(rng, library, &sheet);
+            }
         });
     });
 }
 
 /// A variable of the formula, of its innermost block, or any other number.
-fn variable(rng: &mut Rng, formula: &Formula) -> Variable {
+fn variable(rng: &mut Rng, reading: &Reading, formula: &Formula) -> Variable {
     if formula.prefix.is_empty() || rng.one_in(8) {
-        return rng.pick(&[0, 1, 256, 257, 65_537, usize::MAX]);
+        let (last, highest) = (reading.format.most_variables, reading.format.highest_number());
+        return rng.pick(&[0, 1, last, last + 1, highest + 2, usize::MAX]);
     }
-    let rows = if rng.one_in(2) { &formula.prefix } else { formula.innermost_block() };
-    rng.pick(rows).1
-}
-
-/// The least output that suffices.
-fn needed(formula: &Formula, operation: Operation, x: Variable) -> usize {
-    let rows = match operation {
-        Settle => formula.matrix.rows(),
-        Expand => raw_rows(formula, x),
-    };
-    sheet_length(formula.prefix.len().saturating_sub(1), rows)
+    let whole_prefix = rng.one_in(2);
+    let innermost = || reading.rules.innermost_block(formula);
+    rng.pick(&if whole_prefix { formula.variables() } else { innermost() })
 }
 
 /// One call with an output about as long as it needs; answers with the refusal
 /// number, 0 if it was accepted.
-fn agree_around(rng: &mut Rng, operation: Operation, formula: &Formula, sheet: &[u8]) -> usize {
-    let variable = variable(rng, formula);
-    let room = generate::length_around(rng, needed(formula, operation, variable));
+fn agree_around(
+    rng: &mut Rng,
+    library: &Library,
+    operation: Operation,
+    formula: &Formula,
+    sheet: &[u8],
+) -> usize {
+    let format = library.reading.format;
+    let variable = variable(rng, &library.reading, formula);
+    let exact = format.least_output(operation, formula, variable);
+    let room = generate::length_around(rng, format, exact);
     let call = Call { operation, variable, room };
-    match agree_on_call(sheet, call, &generate::dirty(rng, room)).answer {
-        Answer::Accepted(_) => 0,
-        Answer::Refused(number, _) => number.into(),
-    }
+    library.agree_on_call(sheet, call, &generate::dirty(rng, room)).answer.number()
 }
 
 /// Tidy, untidy and damaged sheets; every refusal must come up.
 fn agree_on_small_sheets(operation: Operation, refusals: &[usize]) {
     let mut seen = [0; 15];
-    cases(40_000, |rng| {
-        let formula = generate::tidy_formula(rng, Limits::SMALL);
-        let sheet = encode(&formula);
-        seen[agree_around(rng, operation, &formula, &sheet)] += 1;
-        let untidy = generate::formula(rng, Limits::SMALL);
-        seen[agree_around(rng, operation, &untidy, &encode(&untidy))] += 1;
-        let damaged = generate::damage(rng, &sheet);
-        seen[agree_around(rng, operation, &formula, &damaged)] += 1;
+    cases(40_000, |library, rng| {
+        let format = library.reading.format;
+        let formula = generate::tidy_formula(rng, Limits::small(format));
+        let sheet = format.encode(&formula);
+        seen[agree_around(rng, library, operation, &formula, &sheet)] += 1;
+        let untidy = generate::formula(rng, Limits::small(format));
+        seen[agree_around(rng, library, operation, &untidy, &format.encode(&untidy))] += 1;
+        let damaged = generate::damage(rng, format, &sheet);
+        seen[agree_around(rng, library, operation, &formula, &damaged)] += 1;
     });
     assert!(refusals.iter().all(|&number| seen[number] > 400), "{seen:?}");
 }
 
 fn agree_on_large_sheets(operation: Operation) {
     with_deep_stack(|| {
-        cases(400, |rng| {
-            for limits in [Limits::MEDIUM, Limits::FULL] {
+        cases(400, |library, rng| {
+            let format = library.reading.format;
+            for limits in [Limits::medium(format), Limits::full(format)] {
                 let formula = generate::tidy_formula(rng, limits);
-                agree_around(rng, operation, &formula, &encode(&formula));
+                agree_around(rng, library, operation, &formula, &format.encode(&formula));
             }
         });
     });
@@ -122,22 +127,28 @@ fn expand_on_large_sheets() {
 }
 
 /// One call with each length around the least that suffices.
-fn agree_at_limits(rng: &mut Rng, operation: Operation, formula: &Formula, variable: Variable) {
-    let sheet = encode(formula);
-    let exact = needed(formula, operation, variable);
+fn agree_at_limits(
+    rng: &mut Rng,
+    library: &Library,
+    operation: Operation,
+    formula: &Formula,
+    variable: Variable,
+) {
+    let format = library.reading.format;
+    let exact = format.least_output(operation, formula, variable);
     for room in [0, exact - 1, exact, exact + 1] {
         let call = Call { operation, variable, room };
-        agree_on_call(&sheet, call, &generate::dirty(rng, room));
+        library.agree_on_call(&format.encode(formula), call, &generate::dirty(rng, room));
     }
 }
 
 #[test]
 fn steps_at_every_limit_of_the_output() {
-    cases(6_000, |rng| {
-        let formula = generate::tidy_formula(rng, Limits::SMALL);
-        for &(_, variable) in &formula.prefix {
-            agree_at_limits(rng, Settle, &formula, variable);
-            agree_at_limits(rng, Expand, &formula, variable);
+    cases(6_000, |library, rng| {
+        let formula = generate::tidy_formula(rng, Limits::small(library.reading.format));
+        for variable in formula.variables() {
+            agree_at_limits(rng, library, Settle, &formula, variable);
+            agree_at_limits(rng, library, Expand, &formula, variable);
         }
     });
 }
@@ -161,7 +172,7 @@ fn relevant_groups(kind: Kind, count: usize) -> Vec<Node> {
 
 /// Matrices whose expansion of variable 1 has `raw` rows: with no literal of
 /// it, with one, with some of the root's children relevant, and with all.
-fn with_raw_rows(kind: Kind, raw: usize) -> Vec<Node> {
+fn with_raw_rows(format: Format, kind: Kind, raw: usize) -> Vec<Node> {
     let filled = |mut children: Vec<Node>, rows: usize| {
         let middle = children.len() / 2;
         children.splice(middle..middle, filling(kind.other(), rows));
@@ -172,7 +183,7 @@ fn with_raw_rows(kind: Kind, raw: usize) -> Vec<Node> {
         filled(vec![lit(1)], raw - 4),
         filled(relevant_groups(kind.other(), some), raw - 4 - 6 * some),
     ];
-    if raw <= MAX_NODES {
+    if raw <= format.most_nodes {
         matrices.push(filled(vec![], raw - 1));
     }
     if raw % 6 == 3 {
@@ -181,38 +192,53 @@ fn with_raw_rows(kind: Kind, raw: usize) -> Vec<Node> {
     matrices
 }
 
+/// Expansions of variable 1 with exactly `raw` rows; answers with how many
+/// were accepted.
+fn agree_on_raw_rows(rng: &mut Rng, library: &Library, kind: Kind, raw: usize) -> usize {
+    let format = library.reading.format;
+    let mut accepted = 0;
+    for matrix in with_raw_rows(format, kind, raw) {
+        for quantifier in [Exists, ForAll] {
+            let formula = formula(&all(quantifier, 4), matrix.clone());
+            assert_eq!(raw_rows(&formula, 1), raw);
+            agree_at_limits(rng, library, Expand, &formula, 1);
+            let room = 3 * format.longest_sheet();
+            let call = Call { operation: Expand, variable: 1, room };
+            let sheet = format.encode(&formula);
+            let outcome = library.agree_on_call(&sheet, call, &generate::dirty(rng, room));
+            assert_eq!(outcome.sheet().is_some(), raw <= format.most_nodes);
+            accepted += usize::from(outcome.sheet().is_some());
+        }
+    }
+    accepted
+}
+
 #[test]
 fn expand_around_the_row_limit() {
     let mut rng = Rng::new(generate::run_seed());
-    let mut accepted = 0;
-    for raw in MAX_NODES - 3..=MAX_NODES + 5 {
-        for kind in [Kind::And, Kind::Or] {
-            for (matrix, quantifier) in with_raw_rows(kind, raw)
-                .into_iter()
-                .flat_map(|matrix| [(matrix.clone(), Exists), (matrix, ForAll)])
-            {
-                let formula = formula(&all(quantifier, 4), matrix);
-                assert_eq!(raw_rows(&formula, 1), raw);
-                agree_at_limits(&mut rng, Expand, &formula, 1);
-                let call = Call { operation: Expand, variable: 1, room: 40_000 };
-                let outcome =
-                    agree_on_call(&encode(&formula), call, &generate::dirty(&mut rng, 40_000));
-                assert_eq!(outcome.sheet().is_some(), raw <= MAX_NODES);
-                accepted += u32::from(outcome.sheet().is_some());
+    for library in &LIBRARIES {
+        let limit = library.reading.format.most_nodes;
+        let mut accepted = 0;
+        for raw in limit - 3..=limit + 5 {
+            for kind in [Kind::And, Kind::Or] {
+                accepted += agree_on_raw_rows(&mut rng, library, kind, raw);
             }
         }
+        assert!(accepted > 20, "{accepted}");
     }
-    assert!(accepted > 20, "{accepted}");
 }
 
 #[test]
 fn expansion_of_a_clause_under_a_long_prefix() {
     let mut rng = Rng::new(generate::run_seed());
-    for quantifier in [Exists, ForAll] {
-        for v in [2, 255, 256] {
-            let formula = formula(&all(quantifier, v), clause(&[1, -2]));
-            for variable in [1, 2, v, v + 1] {
-                agree_at_limits(&mut rng, Expand, &formula, variable);
+    for library in &LIBRARIES {
+        let most = library.reading.format.most_variables;
+        for quantifier in [Exists, ForAll] {
+            for v in [2, most - 1, most] {
+                let formula = formula(&all(quantifier, v), clause(&[1, -2]));
+                for variable in [1, 2, v, v + 1] {
+                    agree_at_limits(&mut rng, library, Expand, &formula, variable);
+                }
             }
         }
     }

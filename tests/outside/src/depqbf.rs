@@ -33,12 +33,13 @@ pub fn verdict(formula: &Formula) -> Option<bool> {
 mod tests {
     use super::*;
     use crate::generate::{self, Limits};
+    use crate::reference::Format;
     use crate::truth;
 
     #[test]
     fn verdicts_are_the_truth() {
         generate::cases(300, |rng| {
-            let formula = generate::formula(rng, Limits::SMALL);
+            let formula = generate::formula(rng, Limits::small(Format::NARROW));
             assert_eq!(verdict(&formula), Some(truth::is_true(&formula)));
         });
     }

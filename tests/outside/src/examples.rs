@@ -2,8 +2,10 @@
 //! stopped at, and a question of the print works, each with the program's line.
 
 use crate::formulas::*;
-use crate::reference::*;
+use crate::reference::{Format, Node, Quantifier};
 use Quantifier::{Exists, ForAll};
+
+const NARROW: Format = Format::NARROW;
 
 pub struct Example {
     pub name: &'static str,
@@ -33,35 +35,35 @@ fn crowded() -> Vec<u8> {
     });
     let mut prefix: Vec<_> = (2..=12).map(|x| (ForAll, x)).collect();
     prefix.push((Exists, 1));
-    sheet(&prefix, and(guards.collect()))
+    sheet(NARROW, &prefix, and(guards.collect()))
 }
 
 pub fn examples() -> Vec<Example> {
-    let pair = |first, second| sheet(&[first, second], equal_pair());
+    let pair = |first, second| sheet(NARROW, &[first, second], equal_pair());
     vec![
-        example("and-of-nothing", "true 0 0 0", "no variable, AND of nothing", sheet(&[], and(vec![]))),
-        example("or-of-nothing", "false 0 0 0", "no variable, OR of nothing", sheet(&[], or(vec![]))),
-        example("one-tautology", "true 0 0 0", "for all 1: 1 or not 1", sheet(&all(ForAll, 1), clause(&[1, -1]))),
-        example("two-tautology", "true 0 1 0", "for all 1, 2: one of the four cases holds", sheet(&all(ForAll, 2), four_cubes())),
-        example("semantic-tree", "false 1 2 0", "document 001, figure 1", encode(&semantic_tree_figure())),
-        example("nnf-exists", "true 1 0 0", "document 000, figure 1, all exists", sheet(&all(Exists, 4), nnf_tree_figure())),
-        example("nnf-for-all", "false 3 0 0", "document 000, figure 1, all for-all", sheet(&all(ForAll, 4), nnf_tree_figure())),
+        example("and-of-nothing", "true 0 0 0", "no variable, AND of nothing", sheet(NARROW, &[], and(vec![]))),
+        example("or-of-nothing", "false 0 0 0", "no variable, OR of nothing", sheet(NARROW, &[], or(vec![]))),
+        example("one-tautology", "true 0 0 0", "for all 1: 1 or not 1", sheet(NARROW, &all(ForAll, 1), clause(&[1, -1]))),
+        example("two-tautology", "true 0 1 0", "for all 1, 2: one of the four cases holds", sheet(NARROW, &all(ForAll, 2), four_cubes())),
+        example("semantic-tree", "false 1 2 0", "document 001, figure 1", NARROW.encode(&semantic_tree_figure())),
+        example("nnf-exists", "true 1 0 0", "document 000, figure 1, all exists", sheet(NARROW, &all(Exists, 4), nnf_tree_figure())),
+        example("nnf-for-all", "false 3 0 0", "document 000, figure 1, all for-all", sheet(NARROW, &all(ForAll, 4), nnf_tree_figure())),
         example("equal-after", "true 0 1 0", "for all 2, exists 1: both are equal", pair((ForAll, 2), (Exists, 1))),
         example("equal-before", "false 0 1 0", "exists 1, for all 2: both are equal", pair((Exists, 1), (ForAll, 2))),
         example(
             "press-line",
             "true 0 3 0",
             "signal 1, then valve 2, then signal 3, then valve 4: 2 follows 1, and 4 is open exactly if one of 1 and 3 is on",
-            sheet(&[(ForAll, 1), (Exists, 2), (ForAll, 3), (Exists, 4)], guards()),
+            sheet(NARROW, &[(ForAll, 1), (Exists, 2), (ForAll, 3), (Exists, 4)], guards()),
         ),
         example(
             "press-line-early",
             "false 0 3 0",
             "the same with valve 4 set before signal 3",
-            sheet(&[(ForAll, 1), (Exists, 2), (Exists, 4), (ForAll, 3)], guards()),
+            sheet(NARROW, &[(ForAll, 1), (Exists, 2), (Exists, 4), (ForAll, 3)], guards()),
         ),
         example("crowded", "stopped 0 0 1", "exists 1 innermost, in 600 guards: two copies have too many rows", crowded()),
-        example("too-many-variables", "refused 0 0 2", "V = 257", raw_sheet(257, &vec![(1, 1); 258])),
+        example("too-many-variables", "refused 0 0 2", "V = 257", NARROW.sheet_of(257, &vec![(1, 1); 258])),
         example("cut-short", "refused 0 0 3", "the last byte is missing", {
             let mut bytes = pair((ForAll, 2), (Exists, 1));
             bytes.pop();

@@ -1,6 +1,6 @@
 //! Document 01's formulas tried by hand, and short ways to write others.
 
-use crate::reference::*;
+use crate::reference::{Binding, Format, Formula, Node, Quantifier};
 use Quantifier::{Exists, ForAll};
 
 pub fn lit(signed: i32) -> Node {
@@ -25,26 +25,16 @@ pub fn clause(literals: &[i32]) -> Node {
     or(literals.iter().map(|&signed| lit(signed)).collect())
 }
 
-pub fn formula(prefix: &[(Quantifier, Variable)], matrix: Node) -> Formula {
+pub fn formula(prefix: &[Binding], matrix: Node) -> Formula {
     Formula { prefix: prefix.to_vec(), matrix }
 }
 
-pub fn all(quantifier: Quantifier, count: usize) -> Vec<(Quantifier, Variable)> {
+pub fn all(quantifier: Quantifier, count: usize) -> Vec<Binding> {
     (1..=count).map(|var| (quantifier, var)).collect()
 }
 
-pub fn sheet(prefix: &[(Quantifier, Variable)], matrix: Node) -> Vec<u8> {
-    encode(&formula(prefix, matrix))
-}
-
-/// A sheet from rows of kind and argument, good or not.
-pub fn raw_sheet(v: usize, rows: &[(u8, u16)]) -> Vec<u8> {
-    let mut bytes = Vec::new();
-    bytes.extend((v as u16).to_le_bytes());
-    bytes.extend(((rows.len() - v) as u16).to_le_bytes());
-    bytes.extend(rows.iter().map(|row| row.0));
-    rows.iter().for_each(|row| bytes.extend(row.1.to_le_bytes()));
-    bytes
+pub fn sheet(format: Format, prefix: &[Binding], matrix: Node) -> Vec<u8> {
+    format.encode(&formula(prefix, matrix))
 }
 
 /// The tautology over 1 and 2 with thirteen rows.
@@ -69,17 +59,17 @@ pub fn equal_pair() -> Node {
     or(vec![cube(&[1, 2]), cube(&[-1, -2])])
 }
 
-/// The formulas of document 01's list, in its order.
-pub fn tried_by_hand() -> Vec<Formula> {
+/// The formulas of document 01's list, in its order, with its line for each.
+pub fn tried_by_hand() -> Vec<(Formula, &'static str)> {
     vec![
-        formula(&[], and(vec![])),
-        formula(&[], or(vec![])),
-        formula(&all(ForAll, 1), clause(&[1, -1])),
-        formula(&all(ForAll, 2), four_cubes()),
-        semantic_tree_figure(),
-        formula(&all(Exists, 4), nnf_tree_figure()),
-        formula(&all(ForAll, 4), nnf_tree_figure()),
-        formula(&[(ForAll, 2), (Exists, 1)], equal_pair()),
-        formula(&[(Exists, 1), (ForAll, 2)], equal_pair()),
+        (formula(&[], and(vec![])), "true 0 0 0"),
+        (formula(&[], or(vec![])), "false 0 0 0"),
+        (formula(&all(ForAll, 1), clause(&[1, -1])), "true 0 0 0"),
+        (formula(&all(ForAll, 2), four_cubes()), "true 0 1 0"),
+        (semantic_tree_figure(), "false 1 2 0"),
+        (formula(&all(Exists, 4), nnf_tree_figure()), "true 1 0 0"),
+        (formula(&all(ForAll, 4), nnf_tree_figure()), "false 3 0 0"),
+        (formula(&[(ForAll, 2), (Exists, 1)], equal_pair()), "true 0 1 0"),
+        (formula(&[(Exists, 1), (ForAll, 2)], equal_pair()), "false 0 1 0"),
     ]
 }

@@ -19,8 +19,8 @@ pub mod truth;
 
 const DEEP_STACK: usize = 512 << 20;
 
-/// Runs `work` on a stack that holds any recursion over 4,096 nested nodes,
-/// dropping such a tree included.
+/// Runs `work` on a stack that holds any recursion over as many nested nodes as
+/// a format has, dropping such a tree included.
 pub fn with_deep_stack<T: Send>(work: impl FnOnce() -> T + Send) -> T {
     std::thread::scope(|scope| {
         let worker = std::thread::Builder::new()

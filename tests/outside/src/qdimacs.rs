@@ -4,7 +4,7 @@
 //! implications between the gate and its operator. A gate is then a function
 //! of the variables before it, so the prefix's truth is kept.
 
-use crate::reference::{Formula, Kind, Node, Quantifier, Variable};
+use crate::reference::{Binding, Formula, Kind, Node, Quantifier, Variable};
 
 /// A prenex clause set. A clause is a list of signed variable numbers.
 #[derive(Clone, Debug, PartialEq, Eq)]
@@ -18,7 +18,7 @@ pub struct Qdimacs {
 
 /// The clause set of a formula; true exactly when the formula is.
 pub fn translate(formula: &Formula) -> Qdimacs {
-    let highest = formula.prefix.iter().map(|row| row.1).max().unwrap_or(0);
+    let highest = formula.highest_variable();
     let mut gates = Gates { last: highest, clauses: Vec::new() };
     let root = match &formula.matrix {
         // QDIMACS wants an existential block innermost, so a lone literal gets a gate too.
@@ -77,7 +77,7 @@ fn clean(mut clause: Vec<i32>) -> Option<Vec<i32>> {
     (!tautology).then_some(clause)
 }
 
-fn blocks_of(prefix: &[(Quantifier, Variable)]) -> Vec<(Quantifier, Vec<Variable>)> {
+fn blocks_of(prefix: &[Binding]) -> Vec<(Quantifier, Vec<Variable>)> {
     let mut blocks = Vec::new();
     for &(quantifier, var) in prefix {
         bind(&mut blocks, quantifier, var);
@@ -141,7 +141,7 @@ impl Qdimacs {
         self.holds(&prefix, &mut vec![None; self.variables + 1])
     }
 
-    fn holds(&self, prefix: &[(Quantifier, Variable)], values: &mut [Option<bool>]) -> bool {
+    fn holds(&self, prefix: &[Binding], values: &mut [Option<bool>]) -> bool {
         if self.clauses.iter().any(|clause| falsified(clause, values)) {
             return false;
         }
@@ -174,6 +174,7 @@ fn falsified(clause: &[i32], values: &[Option<bool>]) -> bool {
 mod tests {
     use super::*;
     use crate::generate::{self, Limits};
+    use crate::reference::Format;
     use crate::truth;
 
     #[test]
@@ -209,7 +210,7 @@ mod tests {
 
     #[test]
     fn translation_keeps_truth() {
-        let limits = Limits { variables: 6, nodes: 24 };
+        let limits = Limits { format: Format::NARROW, variables: 6, nodes: 24 };
         let mut verdicts = [0; 2];
         generate::cases(3000, |rng| {
             let formula = generate::formula(rng, limits);

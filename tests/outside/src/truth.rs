@@ -1,19 +1,20 @@
 //! Truth by the two splitting rules, over every assignment. It shares no code
 //! with Trial, so that either can judge the other.
 
-use crate::reference::{Formula, Kind, Node, Quantifier, Variable, MAX_VARIABLES};
+use crate::reference::{Binding, Formula, Kind, Node, Quantifier};
 
 /// Truth of a formula. Time doubles with each variable.
 pub fn is_true(formula: &Formula) -> bool {
-    split(&formula.prefix, &formula.matrix, &mut [false; MAX_VARIABLES + 1])
+    split(&formula.prefix, &formula.matrix, &mut zeros(formula))
+}
+
+/// A value for each number up to the highest one bound.
+fn zeros(formula: &Formula) -> Vec<bool> {
+    vec![false; formula.highest_variable() + 1]
 }
 
 /// For exists, true with z=0 or with z=1; for all, with both.
-fn split(
-    prefix: &[(Quantifier, Variable)],
-    matrix: &Node,
-    assignment: &mut [bool; MAX_VARIABLES + 1],
-) -> bool {
+fn split(prefix: &[Binding], matrix: &Node, assignment: &mut [bool]) -> bool {
     let Some((&(quantifier, z), rest)) = prefix.split_first() else {
         return holds(matrix, assignment);
     };
@@ -28,7 +29,7 @@ fn split(
 }
 
 /// The usual meaning of AND and OR.
-pub fn holds(node: &Node, assignment: &[bool; MAX_VARIABLES + 1]) -> bool {
+pub fn holds(node: &Node, assignment: &[bool]) -> bool {
     match node {
         Node::Lit { positive, var } => assignment[*var] == *positive,
         Node::Op { kind, children } => {
@@ -45,16 +46,11 @@ pub fn holds(node: &Node, assignment: &[bool; MAX_VARIABLES + 1]) -> bool {
 /// counting slowest.
 pub fn table(formula: &Formula) -> Vec<bool> {
     let mut values = Vec::new();
-    fill_table(&formula.prefix, &formula.matrix, &mut [false; MAX_VARIABLES + 1], &mut values);
+    fill_table(&formula.prefix, &formula.matrix, &mut zeros(formula), &mut values);
     values
 }
 
-fn fill_table(
-    prefix: &[(Quantifier, Variable)],
-    matrix: &Node,
-    assignment: &mut [bool; MAX_VARIABLES + 1],
-    values: &mut Vec<bool>,
-) {
+fn fill_table(prefix: &[Binding], matrix: &Node, assignment: &mut [bool], values: &mut Vec<bool>) {
     let Some((&(_, z), rest)) = prefix.split_first() else {
         values.push(holds(matrix, assignment));
         return;

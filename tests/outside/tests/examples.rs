@@ -1,7 +1,7 @@
 //! The stored examples are the ones that `write_examples` writes, and the reference solves them with their lines.
 
 use outside::examples::examples;
-use outside::reference::program_line;
+use outside::reference::Reading;
 use outside::with_deep_stack;
 use std::fs;
 
@@ -18,7 +18,8 @@ fn examples_are_stored_as_written() {
 fn reference_gives_the_examples_lines() {
     with_deep_stack(|| {
         for example in examples() {
-            assert_eq!(program_line(&example.sheet).trim_end(), example.line, "{}", example.name);
+            let line = Reading::NARROW.program_line(&example.sheet);
+            assert_eq!(line, example.line, "{}", example.name);
         }
     });
 }

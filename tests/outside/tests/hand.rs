@@ -7,28 +7,22 @@ use outside::reference::*;
 use outside::{truth, with_deep_stack};
 use Quantifier::{Exists, ForAll};
 
+const READING: Reading = Reading::NARROW;
+const NARROW: Format = READING.format;
+const RULES: Rules = READING.rules;
+
 fn solve_line(sheet: &[u8], length: usize) -> String {
     let (mut first, mut second) = (vec![0xa5; length], vec![0x5a; length]);
-    line_of(&solve(sheet, &mut first, &mut second))
+    line_of(&READING.solve(sheet, &mut first, &mut second))
 }
 
 #[test]
 fn lines_of_the_formulas_tried() {
-    let tried = [
-        (sheet(&[], and(vec![])), "true 0 0 0"),
-        (sheet(&[], or(vec![])), "false 0 0 0"),
-        (sheet(&all(ForAll, 1), clause(&[1, -1])), "true 0 0 0"),
-        (sheet(&all(ForAll, 2), four_cubes()), "true 0 1 0"),
-        (encode(&semantic_tree_figure()), "false 1 2 0"),
-        (sheet(&all(Exists, 4), nnf_tree_figure()), "true 1 0 0"),
-        (sheet(&all(ForAll, 4), nnf_tree_figure()), "false 3 0 0"),
-        (sheet(&[(ForAll, 2), (Exists, 1)], equal_pair()), "true 0 1 0"),
-        (sheet(&[(Exists, 1), (ForAll, 2)], equal_pair()), "false 0 1 0"),
-    ];
-    for (sheet, line) in tried {
-        assert_eq!(program_line(&sheet), line);
-        let verdict = truth::is_true(&parse(&sheet).unwrap());
-        assert_eq!(line.split(' ').next(), Some(verdict.to_string().as_str()));
+    for (formula, line) in tried_by_hand() {
+        assert_eq!(READING.program_line(&NARROW.encode(&formula)), line);
+        assert_eq!(Reading::WIDE.program_line(&Format::WIDE.encode(&formula)), line);
+        let verdict = truth::is_true(&formula).to_string();
+        assert_eq!(line.split(' ').next(), Some(verdict.as_str()));
     }
 }
 
@@ -40,14 +34,14 @@ fn bytes_of_the_sheet_in_hexadecimal() {
         0x02, 0x00, 0x01, 0x00, 0x02, 0x00, 0x02, 0x00, 0x01, 0x00, // arguments
         0x02, 0x00, 0x02, 0x00, 0x01, 0x00, 0x02, 0x00,
     ];
-    assert_eq!(sheet(&[(ForAll, 2), (Exists, 1)], equal_pair()), bytes);
-    assert_eq!(check(&bytes), Ok((2, 7)));
-    assert_eq!(program_line(&bytes), "true 0 1 0");
+    assert_eq!(sheet(NARROW, &[(ForAll, 2), (Exists, 1)], equal_pair()), bytes);
+    assert_eq!(NARROW.check(&bytes), Ok((2, 7)));
+    assert_eq!(READING.program_line(&bytes), "true 0 1 0");
 }
 
 #[test]
 fn the_raw_size_decides_whether_a_sheet_fits() {
-    let sheet = sheet(&all(ForAll, 2), four_cubes());
+    let sheet = sheet(NARROW, &all(ForAll, 2), four_cubes());
     assert_eq!(sheet.len(), 49);
     assert_eq!(solve_line(&sheet, 88), "true 0 1 0");
     assert_eq!(solve_line(&sheet, 87), "stopped 0 0 1");
@@ -55,7 +49,7 @@ fn the_raw_size_decides_whether_a_sheet_fits() {
     assert_eq!(solve_line(&sheet, 48), "refused 0 0 13");
     let (mut first, mut second) = (vec![1; 88], vec![1; 87]);
     let stopped = SolveAnswer::Stopped { variable: 1, settled: 0, expanded: 0 };
-    assert_eq!(solve(&sheet, &mut first, &mut second), stopped);
+    assert_eq!(READING.solve(&sheet, &mut first, &mut second), stopped);
     assert_eq!(first[..49], sheet);
     assert_eq!(first[49..], [0; 39]);
     assert_eq!(second, [0; 87]);
@@ -63,36 +57,37 @@ fn the_raw_size_decides_whether_a_sheet_fits() {
 
 #[test]
 fn buffers_after_an_ended_run() {
-    let sheet = sheet(&all(ForAll, 2), four_cubes());
+    let sheet = sheet(NARROW, &all(ForAll, 2), four_cubes());
     let (mut first, mut second) = (vec![1; 90], vec![1; 95]);
     let ended = SolveAnswer::Ended { verdict: true, settled: 0, expanded: 1 };
-    assert_eq!(solve(&sheet, &mut first, &mut second), ended);
-    let reached = encode(&formula(&[(ForAll, 2)], and(vec![])));
+    assert_eq!(READING.solve(&sheet, &mut first, &mut second), ended);
+    let reached = NARROW.encode(&formula(&[(ForAll, 2)], and(vec![])));
     assert_eq!(first[..reached.len()], reached);
     assert!(first[reached.len()..].iter().chain(&second).all(|&byte| byte == 0));
 }
 
 #[test]
 fn leaves_of_trial() {
-    let tried = [
-        (sheet(&[], and(vec![])), (true, 1)),
-        (sheet(&[], or(vec![])), (false, 1)),
-        (sheet(&all(ForAll, 1), clause(&[1, -1])), (true, 2)),
-        (sheet(&all(ForAll, 2), four_cubes()), (true, 4)),
-        (encode(&semantic_tree_figure()), (false, 11)),
-        (sheet(&all(Exists, 4), nnf_tree_figure()), (true, 1)),
-        (sheet(&all(ForAll, 4), nnf_tree_figure()), (false, 11)),
-        (sheet(&[(ForAll, 2), (Exists, 1)], equal_pair()), (true, 3)),
-        (sheet(&[(Exists, 1), (ForAll, 2)], equal_pair()), (false, 3)),
+    let expected = [
+        (true, 1),
+        (false, 1),
+        (true, 2),
+        (true, 4),
+        (false, 11),
+        (true, 1),
+        (false, 11),
+        (true, 3),
+        (false, 3),
     ];
-    for (sheet, expected) in tried {
-        assert_eq!(trial(&sheet), Answer::Accepted(expected));
+    assert_eq!(tried_by_hand().len(), expected.len());
+    for ((formula, _), expected) in tried_by_hand().into_iter().zip(expected) {
+        assert_eq!(NARROW.trial(&NARROW.encode(&formula)), Answer::Accepted(expected));
     }
 }
 
 #[test]
 fn trial_takes_twenty_variables() {
-    let of = |quantifier, count| trial(&sheet(&all(quantifier, count), and(vec![])));
+    let of = |quantifier, count| NARROW.trial(&sheet(NARROW, &all(quantifier, count), and(vec![])));
     assert_eq!(of(Exists, 20), Answer::Accepted((true, 1)));
     assert_eq!(of(ForAll, 20), Answer::Accepted((true, 1 << 20)));
     assert_eq!(of(Exists, 21), Answer::Refused(14, 0));
@@ -101,13 +96,19 @@ fn trial_takes_twenty_variables() {
 #[test]
 fn sizes_at_their_limits() {
     with_deep_stack(|| {
-        assert_eq!(check(&encode(&with_variables(256))), Ok((256, 1)));
-        assert_eq!(check(&encode(&with_variables(257))), Err((2, 0)));
-        assert_eq!(check(&encode(&wide_formula(4096))), Ok((1, 4096)));
-        assert_eq!(check(&encode(&wide_formula(4097))), Err((2, 0)));
-        assert_eq!(check(&encode(&deep_formula(256, 4096))), Ok((256, 4096)));
-        assert_eq!(check(&[0, 0, 0, 0]), Err((2, 0)));
-        assert_eq!(encode(&deep_formula(256, 4096)).len(), PROGRAM_BUFFER);
+        for (format, v, n, longest) in
+            [(NARROW, 256, 4096, 13_060), (Format::WIDE, 1024, 8192, 46_088)]
+        {
+            let check = |formula: Formula| format.check(&format.encode(&formula));
+            assert_eq!(check(with_variables(v)), Ok((v, 1)));
+            assert_eq!(check(with_variables(v + 1)), Err((2, 0)));
+            assert_eq!(check(wide_formula(n)), Ok((1, n)));
+            assert_eq!(check(wide_formula(n + 1)), Err((2, 0)));
+            assert_eq!(check(deep_formula(v, n)), Ok((v, n)));
+            assert_eq!(format.check(&vec![0; format.header()]), Err((2, 0)));
+            assert_eq!(format.encode(&deep_formula(v, n)).len(), longest);
+            assert_eq!(format.longest_sheet(), longest);
+        }
     });
 }
 
@@ -122,38 +123,38 @@ fn refusals_of_check() {
         (vec![0, 0, 1, 0], 3, 0),
         (vec![0, 0, 1, 0, 5, 0], 3, 0),
         (vec![0, 0, 1, 0, 5, 0, 0, 0], 3, 0),
-        (raw_sheet(1, &[(0, 1), (5, 0)]), 4, 0),
-        (raw_sheet(1, &[(3, 1), (5, 0)]), 4, 0),
-        (raw_sheet(1, &[(1, 1), (7, 0)]), 4, 1),
-        (raw_sheet(1, &[(1, 1), (2, 1)]), 4, 1),
-        (raw_sheet(2, &[(1, 1), (2, 0), (5, 0)]), 5, 1),
-        (raw_sheet(2, &[(1, 1), (2, 257), (5, 0)]), 5, 1),
-        (raw_sheet(2, &[(1, 1), (2, 65535), (5, 0)]), 5, 1),
-        (raw_sheet(3, &[(1, 1), (2, 2), (2, 1), (5, 0)]), 6, 2),
-        (raw_sheet(1, &[(1, 1), (6, 2), (3, 1), (4, 2)]), 7, 3),
-        (raw_sheet(1, &[(1, 1), (3, 0)]), 7, 1),
-        (raw_sheet(1, &[(1, 1), (4, 257)]), 7, 1),
-        (raw_sheet(0, &[(5, 0), (5, 0)]), 8, 1),
-        (raw_sheet(1, &[(1, 1), (3, 1), (3, 1), (3, 1)]), 8, 2),
-        (raw_sheet(1, &[(1, 1), (5, 2), (3, 1)]), 8, 3),
-        (raw_sheet(1, &[(1, 1), (5, 65535)]), 8, 2),
+        (NARROW.sheet_of(1, &[(0, 1), (5, 0)]), 4, 0),
+        (NARROW.sheet_of(1, &[(3, 1), (5, 0)]), 4, 0),
+        (NARROW.sheet_of(1, &[(1, 1), (7, 0)]), 4, 1),
+        (NARROW.sheet_of(1, &[(1, 1), (2, 1)]), 4, 1),
+        (NARROW.sheet_of(2, &[(1, 1), (2, 0), (5, 0)]), 5, 1),
+        (NARROW.sheet_of(2, &[(1, 1), (2, 257), (5, 0)]), 5, 1),
+        (NARROW.sheet_of(2, &[(1, 1), (2, 65535), (5, 0)]), 5, 1),
+        (NARROW.sheet_of(3, &[(1, 1), (2, 2), (2, 1), (5, 0)]), 6, 2),
+        (NARROW.sheet_of(1, &[(1, 1), (6, 2), (3, 1), (4, 2)]), 7, 3),
+        (NARROW.sheet_of(1, &[(1, 1), (3, 0)]), 7, 1),
+        (NARROW.sheet_of(1, &[(1, 1), (4, 257)]), 7, 1),
+        (NARROW.sheet_of(0, &[(5, 0), (5, 0)]), 8, 1),
+        (NARROW.sheet_of(1, &[(1, 1), (3, 1), (3, 1), (3, 1)]), 8, 2),
+        (NARROW.sheet_of(1, &[(1, 1), (5, 2), (3, 1)]), 8, 3),
+        (NARROW.sheet_of(1, &[(1, 1), (5, 65535)]), 8, 2),
     ];
     for (bytes, number, place) in refused {
-        assert_eq!(check(&bytes), Err((number, place)), "{bytes:?}");
+        assert_eq!(NARROW.check(&bytes), Err((number, place)), "{bytes:?}");
     }
 }
 
 #[test]
 fn the_first_fault_is_named() {
     // Kind before number, number before a second binding, a row before the next.
-    assert_eq!(check(&raw_sheet(1, &[(9, 0), (5, 0)])), Err((4, 0)));
-    assert_eq!(check(&raw_sheet(2, &[(1, 0), (1, 0), (5, 0)])), Err((5, 0)));
-    assert_eq!(check(&raw_sheet(1, &[(1, 1), (5, 2), (3, 2), (9, 0)])), Err((7, 2)));
-    assert_eq!(check(&raw_sheet(1, &[(1, 1), (5, 2), (9, 0), (3, 2)])), Err((4, 2)));
+    assert_eq!(NARROW.check(&NARROW.sheet_of(1, &[(9, 0), (5, 0)])), Err((4, 0)));
+    assert_eq!(NARROW.check(&NARROW.sheet_of(2, &[(1, 0), (1, 0), (5, 0)])), Err((5, 0)));
+    assert_eq!(NARROW.check(&NARROW.sheet_of(1, &[(1, 1), (5, 2), (3, 2), (9, 0)])), Err((7, 2)));
+    assert_eq!(NARROW.check(&NARROW.sheet_of(1, &[(1, 1), (5, 2), (9, 0), (3, 2)])), Err((4, 2)));
     // A bad row comes before a bad tree, even when the tree ends earlier.
-    assert_eq!(check(&raw_sheet(1, &[(1, 1), (5, 0), (3, 2)])), Err((7, 2)));
+    assert_eq!(NARROW.check(&NARROW.sheet_of(1, &[(1, 1), (5, 0), (3, 2)])), Err((7, 2)));
     // Sizes come before the length.
-    assert_eq!(check(&[0, 0, 0, 0, 9]), Err((2, 0)));
+    assert_eq!(NARROW.check(&[0, 0, 0, 0, 9]), Err((2, 0)));
 }
 
 #[test]
@@ -176,7 +177,7 @@ fn tidying_by_each_rule() {
         (lit(3), lit(3)),
     ];
     for (before, after) in tidied {
-        assert_eq!(tidy_node(before), after);
+        assert_eq!(RULES.tidy_node(before), after);
     }
 }
 
@@ -194,22 +195,22 @@ fn places_of_untidiness() {
         (or(vec![lit(1), and(vec![lit(2), clause(&[3, -3])]), or(vec![])]), 3),
     ];
     for (matrix, place) in untidy {
-        let bytes = sheet(&prefix, matrix);
+        let bytes = sheet(NARROW, &prefix, matrix);
         let mut output = vec![7; 200];
-        assert_eq!(settle(&bytes, 1, &mut output), Answer::Refused(9, place));
-        assert_eq!(expand(&bytes, 9, &mut output), Answer::Refused(9, place));
+        assert_eq!(READING.settle(&bytes, 1, &mut output), Answer::Refused(9, place));
+        assert_eq!(READING.expand(&bytes, 9, &mut output), Answer::Refused(9, place));
         assert_eq!(output, [7; 200]);
     }
     for matrix in [and(vec![]), or(vec![]), lit(-2), cube(&[1, 2]), four_cubes()] {
-        assert!(is_tidy(&matrix));
+        assert!(RULES.is_tidy(&matrix));
     }
 }
 
 #[test]
 fn refusals_of_settle_in_order() {
-    let bytes = sheet(&[(ForAll, 2), (Exists, 1), (Exists, 9)], equal_pair());
-    let enough = sheet_length(2, 7);
-    let refusal = |x: Variable, room: usize| settle(&bytes, x, &mut vec![0; room]);
+    let bytes = sheet(NARROW, &[(ForAll, 2), (Exists, 1), (Exists, 9)], equal_pair());
+    let enough = NARROW.sheet_length(2, 7);
+    let refusal = |x: Variable, room: usize| READING.settle(&bytes, x, &mut vec![0; room]);
     assert_eq!(refusal(0, 0), Answer::Refused(10, 0));
     assert_eq!(refusal(3, enough), Answer::Refused(10, 0));
     assert_eq!(refusal(65537, enough), Answer::Refused(10, 0));
@@ -220,27 +221,27 @@ fn refusals_of_settle_in_order() {
 
 #[test]
 fn refusals_of_expand_in_order() {
-    let bytes = sheet(&[(ForAll, 2), (Exists, 1), (Exists, 9)], equal_pair());
-    let refusal = |x: Variable, room: usize| expand(&bytes, x, &mut vec![0; room]);
+    let bytes = sheet(NARROW, &[(ForAll, 2), (Exists, 1), (Exists, 9)], equal_pair());
+    let refusal = |x: Variable, room: usize| READING.expand(&bytes, x, &mut vec![0; room]);
     assert_eq!(refusal(7, 0), Answer::Refused(10, 0));
     assert_eq!(refusal(2, 0), Answer::Refused(11, 0));
     // Seven rows and all of them copied: 7 + 7 + 1.
-    assert_eq!(refusal(1, sheet_length(2, 15) - 1), Answer::Refused(13, 0));
-    assert_eq!(refusal(1, sheet_length(2, 15)), Answer::Accepted(sheet_length(2, 1)));
-    assert_eq!(refusal(9, sheet_length(2, 7) - 1), Answer::Refused(13, 0));
-    assert_eq!(refusal(9, sheet_length(2, 7)), Answer::Accepted(sheet_length(2, 7)));
+    assert_eq!(refusal(1, NARROW.sheet_length(2, 15) - 1), Answer::Refused(13, 0));
+    assert_eq!(refusal(1, NARROW.sheet_length(2, 15)), Answer::Accepted(NARROW.sheet_length(2, 1)));
+    assert_eq!(refusal(9, NARROW.sheet_length(2, 7) - 1), Answer::Refused(13, 0));
+    assert_eq!(refusal(9, NARROW.sheet_length(2, 7)), Answer::Accepted(NARROW.sheet_length(2, 7)));
 }
 
 #[test]
 fn short_outputs_of_tidy_and_solve() {
-    let bytes = sheet(&all(Exists, 1), and(vec![lit(1), lit(1)]));
+    let bytes = sheet(NARROW, &all(Exists, 1), and(vec![lit(1), lit(1)]));
     let short = bytes.len() - 1;
     let mut output = vec![3; short];
-    assert_eq!(tidy(&bytes, &mut output), Answer::Refused(13, 0));
+    assert_eq!(READING.tidy(&bytes, &mut output), Answer::Refused(13, 0));
     assert_eq!(output, vec![3; short]);
     for (a, b) in [(short, bytes.len()), (bytes.len(), short)] {
         let (mut first, mut second) = (vec![3; a], vec![4; b]);
-        assert_eq!(solve(&bytes, &mut first, &mut second), SolveAnswer::Refused(13, 0));
+        assert_eq!(READING.solve(&bytes, &mut first, &mut second), SolveAnswer::Refused(13, 0));
         assert_eq!((first, second), (vec![3; a], vec![4; b]));
     }
 }
@@ -285,7 +286,7 @@ fn expansion_copies_only_the_relevant_children() {
     let around = |new: Node| or(vec![lit(2), and(vec![lit(3), new, lit(6), lit(7)])]);
     assert_eq!(expansion.raw, formula(&all(Exists, 7)[1..], around(or(vec![zero, one]))));
     assert_eq!((expansion.e, expansion.raw_rows), (7, 12 + 7 + 2));
-    assert_eq!(expand_formula(&start, 1).matrix, around(clause(&[4, 5])));
+    assert_eq!(RULES.expand_formula(&start, 1).matrix, around(clause(&[4, 5])));
 }
 
 #[test]
@@ -311,15 +312,15 @@ fn many_clauses(clauses: i32) -> Node {
 
 #[test]
 fn raw_rows_are_limited_whatever_the_buffer() {
-    let bytes = sheet(&all(Exists, 8), many_clauses(800));
+    let bytes = sheet(NARROW, &all(Exists, 8), many_clauses(800));
     let mut output = vec![0; 40_000];
-    assert_eq!(check(&bytes), Ok((8, 2401)));
-    assert_eq!(expand(&bytes, 1, &mut output), Answer::Refused(13, 0));
-    let fewer = sheet(&all(Exists, 8), many_clauses(682));
+    assert_eq!(NARROW.check(&bytes), Ok((8, 2401)));
+    assert_eq!(READING.expand(&bytes, 1, &mut output), Answer::Refused(13, 0));
+    let fewer = sheet(NARROW, &all(Exists, 8), many_clauses(682));
     // 2 * 2047 + 1 rows are within the limit, 2 * 2050 + 1 are not.
-    assert!(matches!(expand(&fewer, 1, &mut output), Answer::Accepted(_)));
-    let more = sheet(&all(Exists, 8), many_clauses(683));
-    assert_eq!(expand(&more, 1, &mut output), Answer::Refused(13, 0));
+    assert!(matches!(READING.expand(&fewer, 1, &mut output), Answer::Accepted(_)));
+    let more = sheet(NARROW, &all(Exists, 8), many_clauses(683));
+    assert_eq!(READING.expand(&more, 1, &mut output), Answer::Refused(13, 0));
 }
 
 #[test]
@@ -327,44 +328,44 @@ fn solve_stops_at_the_row_limit_in_any_buffer() {
     // Both signs of both variables in every clause pair, so nothing can be settled.
     let pairs = [[1, 2], [1, -2], [-1, 2]];
     let clauses = (0..700).map(|at| clause(&pairs[at % 3])).collect();
-    let bytes = sheet(&all(Exists, 2), and(clauses));
+    let bytes = sheet(NARROW, &all(Exists, 2), and(clauses));
     assert_eq!(solve_line(&bytes, 40_000), "stopped 0 0 1");
-    assert_eq!(program_line(&bytes), "stopped 0 0 1");
+    assert_eq!(READING.program_line(&bytes), "stopped 0 0 1");
 }
 
 #[test]
 fn parts_of_the_kind_bytes() {
-    let bytes = sheet(&[(ForAll, 2), (Exists, 1)], equal_pair());
-    assert_eq!(part_range(&bytes, 0), 6..13);
-    assert_eq!(part(&bytes, 1), [5, 3, 3]);
-    assert_eq!(part_range(&bytes, 4), 10..13);
-    assert_eq!(part_range(&bytes, 6), 12..13);
-    assert!(part(&bytes, 7).is_empty());
-    assert!(part(&bytes, usize::MAX).is_empty());
-    assert!(part(&bytes[..30], 0).is_empty());
+    let bytes = sheet(NARROW, &[(ForAll, 2), (Exists, 1)], equal_pair());
+    assert_eq!(NARROW.part_range(&bytes, 0), 6..13);
+    assert_eq!(NARROW.part(&bytes, 1), [5, 3, 3]);
+    assert_eq!(NARROW.part_range(&bytes, 4), 10..13);
+    assert_eq!(NARROW.part_range(&bytes, 6), 12..13);
+    assert!(NARROW.part(&bytes, 7).is_empty());
+    assert!(NARROW.part(&bytes, usize::MAX).is_empty());
+    assert!(NARROW.part(&bytes[..30], 0).is_empty());
 }
 
 #[test]
 fn what_the_program_reads() {
     with_deep_stack(|| {
-        let longest = encode(&deep_formula(256, 4096));
-        assert_eq!(program_line(&longest), "true 1 0 0");
+        let longest = NARROW.encode(&deep_formula(256, 4096));
+        assert_eq!(READING.program_line(&longest), "true 1 0 0");
         let longer = [longest, vec![0; 5]].concat();
-        assert_eq!(program_line(&longer), "refused 0 0 3");
-        assert_eq!(program_line(&[]), "refused 0 0 1");
-        assert_eq!(program_line(&[0, 0, 1, 0, 5, 0, 0, 10]), "refused 0 0 3");
+        assert_eq!(READING.program_line(&longer), "refused 0 0 3");
+        assert_eq!(READING.program_line(&[]), "refused 0 0 1");
+        assert_eq!(READING.program_line(&[0, 0, 1, 0, 5, 0, 0, 10]), "refused 0 0 3");
     });
 }
 
 #[test]
 fn deepest_sheets() {
     with_deep_stack(|| {
-        let chain = encode(&deep_formula(1, 4096));
+        let chain = NARROW.encode(&deep_formula(1, 4096));
         let mut output = vec![1; chain.len()];
-        assert_eq!(tidy(&chain, &mut output), Answer::Accepted(sheet_length(1, 1)));
-        assert_eq!(settle(&chain, 1, &mut output), Answer::Refused(9, 1));
-        assert_eq!(trial(&chain), Answer::Accepted((true, 2)));
-        assert_eq!(part_range(&chain, 0), 5..4101);
-        assert_eq!(part_range(&chain, 4095), 4100..4101);
+        assert_eq!(READING.tidy(&chain, &mut output), Answer::Accepted(NARROW.sheet_length(1, 1)));
+        assert_eq!(READING.settle(&chain, 1, &mut output), Answer::Refused(9, 1));
+        assert_eq!(NARROW.trial(&chain), Answer::Accepted((true, 2)));
+        assert_eq!(NARROW.part_range(&chain, 0), 5..4101);
+        assert_eq!(NARROW.part_range(&chain, 4095), 4100..4101);
     });
 }

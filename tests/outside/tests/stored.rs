@@ -2,9 +2,11 @@
 //! lines of Solve on document 01's formulas are the ones in its list.
 
 use outside::formulas::{all, four_cubes, sheet, tried_by_hand};
-use outside::reference::{encode, Quantifier, PROGRAM_BUFFER};
+use outside::reference::{Format, Quantifier};
 use outside::{stored, with_deep_stack};
 use std::fs;
+
+const NARROW: Format = Format::NARROW;
 
 fn read(name: &str) -> Vec<u8> {
     let folder = concat!(env!("CARGO_MANIFEST_DIR"), "/../../crates/cases");
@@ -22,27 +24,15 @@ fn stored_cases_are_current() {
 
 #[test]
 fn stored_lines_of_the_formulas_tried() {
-    let lines = [
-        "true 0 0 0",
-        "false 0 0 0",
-        "true 0 0 0",
-        "true 0 1 0",
-        "false 1 2 0",
-        "true 1 0 0",
-        "false 3 0 0",
-        "true 0 1 0",
-        "false 0 1 0",
-    ];
-    let formulas = tried_by_hand();
-    assert_eq!(formulas.len(), lines.len());
-    for (formula, line) in formulas.iter().zip(lines) {
-        assert_eq!(stored_line(&encode(formula), PROGRAM_BUFFER, PROGRAM_BUFFER), line);
+    let longest = NARROW.longest_sheet();
+    for (formula, line) in tried_by_hand() {
+        assert_eq!(stored_line(&NARROW.encode(&formula), longest, longest), line);
     }
 }
 
 #[test]
 fn stored_lines_of_the_four_cubes() {
-    let sheet = sheet(&all(Quantifier::ForAll, 2), four_cubes());
+    let sheet = sheet(NARROW, &all(Quantifier::ForAll, 2), four_cubes());
     assert_eq!(stored_line(&sheet, 88, 88), "true 0 1 0");
     for (first, second) in [(88, 87), (87, 88), (87, 87)] {
         assert_eq!(stored_line(&sheet, first, second), "stopped 0 0 1");
@@ -52,7 +42,7 @@ fn stored_lines_of_the_four_cubes() {
 /// The program's line in the stored one for Solve with buffers of these lengths.
 fn stored_line(sheet: &[u8], first: usize, second: usize) -> String {
     let stored = String::from_utf8(read("stdout")).expect("text");
-    let wanted = stored::solve_call(first, second);
+    let wanted = stored::Call::solve(first, second);
     let cases = with_deep_stack(stored::cases);
     let calls = cases.iter().flat_map(|case| case.calls.iter().map(|call| (&case.sheet, call)));
     let mut lines = calls.zip(stored.lines());

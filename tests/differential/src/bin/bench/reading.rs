@@ -1,13 +1,16 @@
 //! Check, Part and Trial.
 
 use crate::{ratio, time_of};
+use differential::NARROW;
 use outside::formulas::{all, and, clause, formula};
 use outside::generate::{deep_formula, wide_formula};
-use outside::reference::{self, encode, Formula, Quantifier, MAX_NODES};
+use outside::reference::{Format, Formula, Quantifier};
+
+const FORMAT: Format = NARROW.reading.format;
 
 /// For all of `v` variables, a true AND of full clauses: no leaf stops early.
 fn longest_trial(v: usize) -> Formula {
-    let clauses = (0..MAX_NODES / 3).map(|i| {
+    let clauses = (0..FORMAT.most_nodes / 3).map(|i| {
         let x = (i % v + 1) as i32;
         clause(&[x, -x])
     });
@@ -23,29 +26,29 @@ fn row(name: &str, proved: impl FnMut(), reference: impl FnMut()) {
 pub fn report() {
     println!("{:<34}{:>12}{:>12}{:>8}", "operation and sheet", "time", "reference", "ratio");
     for (name, formula) in
-        [("wide", wide_formula(MAX_NODES)), ("deep", deep_formula(256, MAX_NODES))]
+        [("wide", wide_formula(FORMAT.most_nodes)), ("deep", deep_formula(256, FORMAT.most_nodes))]
     {
-        let sheet = encode(&formula);
+        let sheet = FORMAT.encode(&formula);
         row(
             &format!("check, 4,096 rows {name}"),
-            || assert!(differential::check(&sheet).is_ok()),
-            || assert!(reference::check(&sheet).is_ok()),
+            || assert!(NARROW.check(&sheet).is_ok()),
+            || assert!(FORMAT.check(&sheet).is_ok()),
         );
         row(
             &format!("part, 4,096 rows {name}"),
-            || assert!(!differential::part(&sheet, 0).is_empty()),
-            || assert!(!reference::part(&sheet, 0).is_empty()),
+            || assert!(!NARROW.part(&sheet, 0).is_empty()),
+            || assert!(!FORMAT.part(&sheet, 0).is_empty()),
         );
     }
     for v in [8, 12, 16] {
-        let sheet = encode(&longest_trial(v));
+        let sheet = FORMAT.encode(&longest_trial(v));
         row(
             &format!("trial, {v} variables, 4,096 rows"),
             || {
-                differential::trial(&sheet);
+                NARROW.trial(&sheet);
             },
             || {
-                reference::trial(&sheet);
+                FORMAT.trial(&sheet);
             },
         );
     }

@@ -2,15 +2,18 @@
 //! reading, and the program's process beside that of a solver from outside.
 
 use crate::{ratio, time_of};
+use differential::NARROW;
 use outside::depqbf;
-use outside::generate::{self, Family, Rng};
+use outside::generate::{self, Family, Limits, Rng};
 use outside::qdimacs::translate;
-use outside::reference::{self, encode, line_of, Formula, SolveAnswer, PROGRAM_BUFFER};
+use outside::reference::{line_of, Format, Formula};
 use std::io::{Result, Write};
 use std::process::{Command, Stdio};
 use std::time::{Duration, Instant};
 
 const PROGRAM: &str = concat!(env!("CARGO_MANIFEST_DIR"), "/../../target/bin/plumanchor");
+
+const FORMAT: Format = NARROW.reading.format;
 
 /// Variables and rows.
 const SIZES: [(usize, usize); 7] =
@@ -56,15 +59,16 @@ impl Point {
 }
 
 fn row(family: Family, formula: &Formula, before: Option<Point>) -> Point {
-    let sheet = encode(formula);
-    let (mut first, mut second) = (vec![0; PROGRAM_BUFFER], vec![0; PROGRAM_BUFFER]);
-    let answer = differential::solve(&sheet, &mut first, &mut second);
+    let sheet = FORMAT.encode(formula);
+    let (mut first, mut second) =
+        (vec![0; FORMAT.longest_sheet()], vec![0; FORMAT.longest_sheet()]);
+    let answer = NARROW.solve(&sheet, &mut first, &mut second);
     let line = line_of(&answer);
     let library = time_of(|| {
-        differential::solve(&sheet, &mut first, &mut second);
+        NARROW.solve(&sheet, &mut first, &mut second);
     });
     let reading = time_of(|| {
-        reference::solve(&sheet, &mut first, &mut second);
+        NARROW.reading.solve(&sheet, &mut first, &mut second);
     });
     let program = time_of_process(|| run_program(&sheet));
     let text = translate(formula).text();
@@ -74,11 +78,7 @@ fn row(family: Family, formula: &Formula, before: Option<Point>) -> Point {
         Some((_, None)) => "given up".into(),
         None => "not run".into(),
     };
-    let steps = match answer {
-        SolveAnswer::Refused(..) => 0,
-        SolveAnswer::Stopped { settled, expanded, .. } => settled + expanded,
-        SolveAnswer::Ended { settled, expanded, .. } => settled + expanded,
-    };
+    let steps = answer.counts().map_or(0, |(settled, expanded)| settled + expanded);
     let point = Point { rows: formula.matrix.rows(), step: library / (1 + steps as u32) };
     let growth = before.map_or("-".into(), |before| format!("{:.2}", point.growth_from(&before)));
     let (mine, others) = (program.as_ref().map(|run| run.0), outside.map(|run| run.0));
@@ -120,7 +120,8 @@ pub fn report() {
         let mut rng = Rng::new(generate::run_seed());
         let mut before = None;
         for (variables, nodes) in SIZES {
-            let formula = generate::alternating_formula(&mut rng, family, variables, nodes);
+            let limits = Limits { format: FORMAT, variables, nodes };
+            let formula = generate::alternating_formula(&mut rng, family, limits);
             before = Some(row(family, &formula, before));
         }
     }

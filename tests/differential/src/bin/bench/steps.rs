@@ -2,11 +2,14 @@
 //! 128 to 4,096 rows, and how the time grows with each doubling.
 
 use crate::{ratio, time_of};
+use differential::NARROW;
 use outside::formulas::{all, and, clause, formula, lit};
 use outside::generate::{self, ladder_formula, Family, Limits, Rng};
 use outside::reference::*;
 use std::time::Duration;
 use Quantifier::Exists;
+
+const FORMAT: Format = NARROW.reading.format;
 
 const ROWS: [usize; 6] = [128, 256, 512, 1024, 2048, 4096];
 
@@ -19,31 +22,39 @@ struct Sheet {
 
 impl Sheet {
     fn new(formula: Formula, x: Variable) -> Sheet {
-        Sheet { sheet: encode(&formula), rows: formula.matrix.rows(), x }
+        Sheet { sheet: FORMAT.encode(&formula), rows: formula.matrix.rows(), x }
     }
 
     /// For Expand the rows that are written count.
     fn raw(formula: Formula, x: Variable) -> Sheet {
-        Sheet { sheet: encode(&formula), rows: raw_rows(&formula, x), x }
+        Sheet { sheet: FORMAT.encode(&formula), rows: raw_rows(&formula, x), x }
     }
 }
 
-type Operation = fn(&[u8], Variable, &mut [u8]) -> Answer<usize>;
+type Writes = fn(&[u8], Variable, &mut [u8]) -> Answer<usize>;
 
-fn tidy_proved(sheet: &[u8], _: Variable, output: &mut [u8]) -> Answer<usize> {
-    differential::tidy(sheet, output)
-}
+/// An operation as proved and as read.
+type Both = (Writes, Writes);
 
-fn tidy_reference(sheet: &[u8], _: Variable, output: &mut [u8]) -> Answer<usize> {
-    tidy(sheet, output)
-}
+const TIDY: Both = (
+    |sheet, _, output| NARROW.tidy(sheet, output),
+    |sheet, _, output| NARROW.reading.tidy(sheet, output),
+);
+const SETTLE: Both = (
+    |sheet, x, output| NARROW.step(Operation::Settle, sheet, x, output),
+    |sheet, x, output| NARROW.reading.settle(sheet, x, output),
+);
+const EXPAND: Both = (
+    |sheet, x, output| NARROW.step(Operation::Expand, sheet, x, output),
+    |sheet, x, output| NARROW.reading.expand(sheet, x, output),
+);
 
 /// One operation on one shape, over all sizes.
-fn series(name: &str, proved: Operation, reference: Operation, sheet_of: impl Fn(usize) -> Sheet) {
+fn series(name: &str, (proved, reference): Both, sheet_of: impl Fn(usize) -> Sheet) {
     let mut last: Option<Duration> = None;
     for target in ROWS {
         let Sheet { sheet, rows, x } = sheet_of(target);
-        let mut output = vec![0; PROGRAM_BUFFER];
+        let mut output = vec![0; FORMAT.longest_sheet()];
         let accepted = matches!(proved(&sheet, x, &mut output), Answer::Accepted(_));
         let mine = time_of(|| {
             proved(&sheet, x, &mut output);
@@ -82,12 +93,12 @@ fn one_child_chain(rows: usize) -> Formula {
 
 /// A ladder of an odd number of rows.
 fn ladder(rows: usize, literals_of_1: usize) -> Formula {
-    ladder_formula(rows - 1 + rows % 2, literals_of_1)
+    ladder_formula(FORMAT, rows - 1 + rows % 2, literals_of_1)
 }
 
 /// Of a hundred random formulas of a family the one with the most rows.
 fn random(family: Family, rows: usize) -> Formula {
-    let limits = Limits { variables: MAX_VARIABLES, nodes: rows };
+    let limits = Limits { nodes: rows, ..Limits::full(FORMAT) };
     let mut rng = Rng::new(generate::run_seed());
     let formulas = (0..100).map(|_| generate::formula_of(&mut rng, family, limits));
     formulas.max_by_key(|formula| formula.matrix.rows()).expect("a hundred formulas")
@@ -95,8 +106,7 @@ fn random(family: Family, rows: usize) -> Formula {
 
 /// A variable that may be settled, the first of the prefix.
 fn settleable(formula: &Formula) -> Option<Variable> {
-    let mut variables = formula.prefix.iter().map(|row| row.1);
-    variables.find(|&x| settle_value(formula, x).is_some())
+    formula.variables().into_iter().find(|&x| settle_value(formula, x).is_some())
 }
 
 fn random_to_settle(rows: usize) -> Sheet {
@@ -108,8 +118,8 @@ fn random_to_settle(rows: usize) -> Sheet {
 /// The variable of the innermost block with the most raw rows that fit.
 fn random_to_expand(rows: usize) -> Sheet {
     let formula = random(Family::Tidy, rows / 2);
-    let block = formula.innermost_block().iter().map(|row| row.1);
-    let fitting = block.filter(|&x| raw_rows(&formula, x) <= MAX_NODES);
+    let block = NARROW.reading.rules.innermost_block(&formula).into_iter();
+    let fitting = block.filter(|&x| raw_rows(&formula, x) <= FORMAT.most_nodes);
     let x = fitting.max_by_key(|&x| raw_rows(&formula, x)).unwrap_or(1);
     Sheet::raw(formula, x)
 }
@@ -120,19 +130,16 @@ pub fn report() {
         "{:<28}{:>6}{:>11}{:>8}{:>11}{:>8}",
         "operation and shape", "rows", "ns", "growth", "reference", "ratio"
     );
-    let tidy: (Operation, Operation) = (tidy_proved, tidy_reference);
-    series("tidy, flat", tidy.0, tidy.1, |n| Sheet::new(flat_literals(n), 1));
-    series("tidy, flat clauses", tidy.0, tidy.1, |n| Sheet::new(flat_clauses(n, 4, true), 1));
-    series("tidy, random", tidy.0, tidy.1, |n| Sheet::new(random(Family::Untidy, n), 1));
-    series("tidy, chain", tidy.0, tidy.1, |n| Sheet::new(one_child_chain(n), 1));
-    series("tidy, ladder", tidy.0, tidy.1, |n| Sheet::new(ladder(n, 1), 1));
-    let step: (Operation, Operation) = (differential::settle, settle);
-    series("settle, flat", step.0, step.1, |n| Sheet::new(flat_clauses(n, 4, false), 1));
-    series("settle, random", step.0, step.1, random_to_settle);
-    series("settle, ladder", step.0, step.1, |n| Sheet::new(ladder(n, 1), 1));
-    let step: (Operation, Operation) = (differential::expand, expand);
-    series("expand, flat", step.0, step.1, |n| Sheet::raw(flat_clauses(n / 2, 1, true), 1));
-    series("expand, random", step.0, step.1, random_to_expand);
-    series("expand, ladder copied", step.0, step.1, |n| Sheet::raw(ladder(n / 2, 2), 1));
-    series("expand, ladder, one literal", step.0, step.1, |n| Sheet::raw(ladder(n - 3, 1), 1));
+    series("tidy, flat", TIDY, |n| Sheet::new(flat_literals(n), 1));
+    series("tidy, flat clauses", TIDY, |n| Sheet::new(flat_clauses(n, 4, true), 1));
+    series("tidy, random", TIDY, |n| Sheet::new(random(Family::Untidy, n), 1));
+    series("tidy, chain", TIDY, |n| Sheet::new(one_child_chain(n), 1));
+    series("tidy, ladder", TIDY, |n| Sheet::new(ladder(n, 1), 1));
+    series("settle, flat", SETTLE, |n| Sheet::new(flat_clauses(n, 4, false), 1));
+    series("settle, random", SETTLE, random_to_settle);
+    series("settle, ladder", SETTLE, |n| Sheet::new(ladder(n, 1), 1));
+    series("expand, flat", EXPAND, |n| Sheet::raw(flat_clauses(n / 2, 1, true), 1));
+    series("expand, random", EXPAND, random_to_expand);
+    series("expand, ladder copied", EXPAND, |n| Sheet::raw(ladder(n / 2, 2), 1));
+    series("expand, ladder, one literal", EXPAND, |n| Sheet::raw(ladder(n - 3, 1), 1));
 }

@@ -1,0 +1,49 @@
+//! The entry points, as include/plumanchor.h declares them: one set for each
+//! format.
+
+type Bytes = *const u8;
+type Output = *mut u8;
+type Reads = unsafe extern "C" fn(Bytes, usize) -> u64;
+type Finds = unsafe extern "C" fn(Bytes, usize, usize) -> usize;
+type Writes = unsafe extern "C" fn(Bytes, usize, Output, usize) -> u64;
+type Steps = unsafe extern "C" fn(Bytes, usize, usize, Output, usize) -> u64;
+type Solves = unsafe extern "C" fn(Bytes, usize, Output, usize, Output, usize) -> u64;
+
+pub struct Entries {
+    pub check: Reads,
+    pub trial: Reads,
+    pub part: Finds,
+    pub tidy: Writes,
+    pub settle: Steps,
+    pub expand: Steps,
+    pub solve: Solves,
+}
+
+pub const NARROW: Entries = Entries {
+    check: plumanchor_check,
+    trial: plumanchor_trial,
+    part: plumanchor_part,
+    tidy: plumanchor_tidy,
+    settle: plumanchor_settle,
+    expand: plumanchor_expand,
+    solve: plumanchor_solve,
+};
+
+extern "C" {
+    fn plumanchor_check(sheet: Bytes, length: usize) -> u64;
+    fn plumanchor_trial(sheet: Bytes, length: usize) -> u64;
+    fn plumanchor_part(sheet: Bytes, length: usize, node: usize) -> usize;
+    fn plumanchor_tidy(sheet: Bytes, length: usize, output: Output, room: usize) -> u64;
+    fn plumanchor_settle(sheet: Bytes, length: usize, x: usize, output: Output, room: usize)
+        -> u64;
+    fn plumanchor_expand(sheet: Bytes, length: usize, x: usize, output: Output, room: usize)
+        -> u64;
+    fn plumanchor_solve(
+        sheet: Bytes,
+        length: usize,
+        first: Output,
+        first_room: usize,
+        second: Output,
+        second_room: usize,
+    ) -> u64;
+}

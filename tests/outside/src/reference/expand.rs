@@ -1,0 +1,181 @@
+//! Expanding: the relevant subtree, its price, the raw sheet, Expand.
+
+use super::{Answer, Format, Formula, Kind, Node, Operation, Reading, Refusal, Rules, Variable};
+
+/// Child indices from the root down.
+type Path = Vec<usize>;
+
+/// What Expand copies for a variable.
+enum Relevant {
+    Nothing,
+    Literal {
+        path: Path,
+    },
+    /// The deepest operator above all literals, with a mark for each child
+    /// that contains one.
+    Operator {
+        path: Path,
+        marks: Vec<bool>,
+    },
+}
+
+fn relevant(matrix: &Node, x: Variable) -> Relevant {
+    let mut paths = Vec::new();
+    collect_paths(matrix, x, &mut Vec::new(), &mut paths);
+    match paths.as_slice() {
+        [] => Relevant::Nothing,
+        [path] => Relevant::Literal { path: path.clone() },
+        [first, others @ ..] => {
+            let lengths = others.iter().map(|path| shared_length(first, path));
+            let shared = lengths.min().expect("more than one literal");
+            let path = first[..shared].to_vec();
+            let mut marks = vec![false; node_at(matrix, &path).children().len()];
+            paths.iter().for_each(|literal| marks[literal[shared]] = true);
+            Relevant::Operator { path, marks }
+        }
+    }
+}
+
+fn collect_paths(node: &Node, x: Variable, here: &mut Path, paths: &mut Vec<Path>) {
+    if node.sign_of(x).is_some() {
+        paths.push(here.clone());
+    }
+    for (index, child) in node.children().iter().enumerate() {
+        here.push(index);
+        collect_paths(child, x, here, paths);
+        here.pop();
+    }
+}
+
+fn shared_length(a: &[usize], b: &[usize]) -> usize {
+    a.iter().zip(b).take_while(|(x, y)| x == y).count()
+}
+
+fn node_at<'a>(root: &'a Node, path: &[usize]) -> &'a Node {
+    path.iter().fold(root, |node, &index| &node.children()[index])
+}
+
+/// The matrix with `change` applied to the node at `path`.
+fn replace_at(node: &Node, path: &[usize], change: &dyn Fn(&Node) -> Node) -> Node {
+    let Some((&index, rest)) = path.split_first() else {
+        return change(node);
+    };
+    let Node::Op { kind, children } = node else {
+        unreachable!("a path goes through operators");
+    };
+    let replaced = |(at, child): (usize, &Node)| {
+        if at == index {
+            replace_at(child, rest, change)
+        } else {
+            child.clone()
+        }
+    };
+    Node::Op { kind: *kind, children: children.iter().enumerate().map(replaced).collect() }
+}
+
+fn marked<'a>(children: &'a [Node], marks: &'a [bool]) -> impl Iterator<Item = &'a Node> {
+    children.iter().zip(marks).filter(|(_, mark)| **mark).map(|(child, _)| child)
+}
+
+/// E and the raw rows by document 01's formulas; E is 0 with no literal.
+fn price(matrix: &Node, relevant: &Relevant) -> (usize, usize) {
+    let n = matrix.rows();
+    match relevant {
+        Relevant::Nothing => (0, n),
+        Relevant::Literal { .. } => (1, n + 1 + 1),
+        Relevant::Operator { path, marks } => {
+            let copied = marked(node_at(matrix, path).children(), marks);
+            let e = 1 + copied.map(Node::rows).sum::<usize>();
+            let every_child = marks.iter().all(|&mark| mark);
+            (e, n + e + if every_child { 1 } else { 2 })
+        }
+    }
+}
+
+/// Raw rows of expanding `x`.
+pub fn raw_rows(formula: &Formula, x: Variable) -> usize {
+    price(&formula.matrix, &relevant(&formula.matrix, x)).1
+}
+
+/// The expansion of a variable before tidying; E is 0 with no literal.
+#[derive(Clone, Debug, PartialEq, Eq)]
+pub struct Expansion {
+    pub raw: Formula,
+    pub e: usize,
+    pub raw_rows: usize,
+}
+
+/// Local expansion of a bound `x`, its row gone, not tidied.
+pub fn raw_expansion(formula: &Formula, x: Variable) -> Expansion {
+    let quantifier = formula.quantifier(x).expect("a bound variable");
+    let relevant = relevant(&formula.matrix, x);
+    let (e, raw_rows) = price(&formula.matrix, &relevant);
+    let matrix = raw_matrix(&formula.matrix, &relevant, quantifier.joins_with(), x);
+    assert_eq!(matrix.rows(), raw_rows, "raw rows as counted and by the formula");
+    Expansion { raw: Formula { prefix: formula.prefix_without(x), matrix }, e, raw_rows }
+}
+
+fn raw_matrix(matrix: &Node, relevant: &Relevant, join: Kind, x: Variable) -> Node {
+    let two_copies = |subtree: &Node| Node::Op {
+        kind: join,
+        children: vec![subtree.assign(x, false), subtree.assign(x, true)],
+    };
+    match relevant {
+        Relevant::Nothing => matrix.clone(),
+        Relevant::Literal { path } => replace_at(matrix, path, &two_copies),
+        Relevant::Operator { path, marks } => replace_at(matrix, path, &|operator| {
+            let Node::Op { kind, children } = operator else {
+                unreachable!("several literals meet in an operator");
+            };
+            let copied = marked(children, marks).cloned().collect();
+            let subtree = Node::Op { kind: *kind, children: copied };
+            if marks.iter().all(|&mark| mark) {
+                two_copies(&subtree)
+            } else {
+                Node::Op { kind: *kind, children: put_in(children, marks, two_copies(&subtree)) }
+            }
+        }),
+    }
+}
+
+/// `new` at the spot of the first marked child, the other marked ones removed.
+fn put_in(children: &[Node], marks: &[bool], new: Node) -> Vec<Node> {
+    let mut new = Some(new);
+    let pairs = children.iter().zip(marks);
+    pairs.filter_map(|(child, mark)| if *mark { new.take() } else { Some(child.clone()) }).collect()
+}
+
+impl Rules {
+    /// Expanding on formulas: the raw expansion, tidied.
+    pub fn expand_formula(&self, formula: &Formula, x: Variable) -> Formula {
+        self.tidy_formula(&raw_expansion(formula, x).raw)
+    }
+}
+
+impl Format {
+    /// Whether the raw sheet of expanding `x` fits an output of length `room`.
+    pub(super) fn raw_sheet_fits(self, formula: &Formula, x: Variable, room: usize) -> bool {
+        raw_rows(formula, x) <= self.most_nodes
+            && self.least_output(Operation::Expand, formula, x) <= room
+    }
+}
+
+impl Reading {
+    /// Expand: the new sheet's length.
+    pub fn expand(&self, sheet: &[u8], x: Variable, output: &mut [u8]) -> Answer<usize> {
+        let expanded = self.expanded(sheet, x, output.len());
+        expanded.map(|formula| self.format.write(&formula, output)).into()
+    }
+
+    fn expanded(&self, sheet: &[u8], x: Variable, room: usize) -> Result<Formula, Refusal> {
+        let formula = self.parse_tidy(sheet)?;
+        formula.quantifier(x).ok_or((10, 0))?;
+        if !self.rules.innermost_block(&formula).contains(&x) {
+            return Err((11, 0));
+        }
+        if !self.format.raw_sheet_fits(&formula, x, room) {
+            return Err((13, 0));
+        }
+        Ok(self.rules.expand_formula(&formula, x))
+    }
+}

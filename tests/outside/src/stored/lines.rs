@@ -1,0 +1,82 @@
+//! The line of each call.
+
+use super::{Call, Case, Letter, FORMAT, READING, SHORT};
+use crate::reference::{line_of, Answer};
+
+/// Every output is filled with this byte before a call.
+const FILLING: u8 = 165;
+
+pub fn lines(cases: &[Case]) -> String {
+    let of = |case: &Case| -> String {
+        case.calls.iter().map(|call| line(&case.sheet, call) + "\n").collect()
+    };
+    cases.iter().map(of).collect()
+}
+
+fn line(sheet: &[u8], call: &Call) -> String {
+    let Call { letter, number, room } = *call;
+    match letter {
+        Letter::Check => {
+            told("check", FORMAT.check(sheet).into(), |(v, n)| format!("accepted {v} {n}"))
+        }
+        Letter::Trial => {
+            told("trial", FORMAT.trial(sheet), |(verdict, leaves)| format!("{verdict} {leaves}"))
+        }
+        Letter::Part => {
+            let kinds = FORMAT.part(sheet, number).iter();
+            format!("part{}", kinds.map(|kind| format!(" {kind}")).collect::<String>())
+        }
+        Letter::Tidy => written_line("tidy", room, |output| READING.tidy(sheet, output)),
+        Letter::Settle => written_line(&format!("settle {number}"), room, |output| {
+            READING.settle(sheet, number, output)
+        }),
+        Letter::Expand => written_line(&format!("expand {number}"), room, |output| {
+            READING.expand(sheet, number, output)
+        }),
+        Letter::Solve => solve_line(sheet, room, number),
+    }
+}
+
+fn told<T>(name: &str, answer: Answer<T>, accepted: impl Fn(T) -> String) -> String {
+    match answer {
+        Answer::Refused(number, place) => format!("{name} refused {number} {place}"),
+        Answer::Accepted(value) => format!("{name} {}", accepted(value)),
+    }
+}
+
+/// The answer, a sum over the whole output, and the new sheet if it is short.
+fn written_line(name: &str, room: usize, write: impl Fn(&mut [u8]) -> Answer<usize>) -> String {
+    let mut output = vec![FILLING; room];
+    let answer = write(&mut output);
+    let written = match answer {
+        Answer::Refused(..) => String::new(),
+        Answer::Accepted(length) => short_sheet(&output[..length]),
+    };
+    let answer = told(name, answer, |length| format!("accepted {length}"));
+    format!("{answer} sum {}{written}", sum(&output))
+}
+
+/// The program's line, a sum over each buffer, and the sheet reached if it is short.
+fn solve_line(sheet: &[u8], first: usize, second: usize) -> String {
+    let (mut first, mut second) = (vec![FILLING; first], vec![FILLING; second]);
+    let answer = READING.solve(sheet, &mut first, &mut second);
+    let reached = match answer.counts() {
+        None => String::new(),
+        Some(_) => short_sheet(FORMAT.front(&first)),
+    };
+    format!("solve {} sum {} sum {}{reached}", line_of(&answer), sum(&first), sum(&second))
+}
+
+/// A sum that depends on each byte and on its place.
+fn sum(bytes: &[u8]) -> u32 {
+    bytes.iter().fold(0, |sum, &byte| (257 * sum + u32::from(byte)) % 65_521)
+}
+
+/// A short sheet in hexadecimal; nothing of a longer one.
+fn short_sheet(sheet: &[u8]) -> String {
+    if sheet.len() > SHORT {
+        return String::new();
+    }
+    let bytes: String = sheet.iter().map(|byte| format!(" {byte:02x}")).collect();
+    format!(" sheet{bytes}")
+}
