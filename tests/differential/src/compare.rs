@@ -13,6 +13,14 @@ pub fn cases(count: u64, mut test: impl FnMut(&Library, &mut Rng)) {
     }
 }
 
+/// Runs `test` on the sheets at and past each limit of each library's format.
+pub fn limit_sheets(mut test: impl FnMut(&Library, &[u8])) {
+    for library in &LIBRARIES {
+        let limits = generate::limit_sheets(library.reading.format);
+        limits.iter().for_each(|limit| test(library, &limit.sheet));
+    }
+}
+
 pub fn hexadecimal(bytes: &[u8]) -> String {
     bytes.iter().map(|byte| format!("{byte:02x} ")).collect()
 }

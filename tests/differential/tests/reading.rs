@@ -1,9 +1,9 @@
 //! Check, Trial and Part against the independent reading: answer for answer,
 //! place for place. A disagreement prints the sheet in hexadecimal.
 
-use differential::compare::cases;
-use differential::{Library, LIBRARIES};
-use outside::generate::{self, limit_sheets, Limits, Rng};
+use differential::compare::{cases, limit_sheets};
+use differential::Library;
+use outside::generate::{self, Limits, Rng};
 use outside::reference::Format;
 use outside::with_deep_stack;
 
@@ -52,16 +52,13 @@ fn check_on_a_million_byte_strings() {
 #[test]
 fn sheets_at_and_past_the_limits() {
     with_deep_stack(|| {
-        for library in &LIBRARIES {
-            for limit in limit_sheets(library.reading.format) {
-                let checked = library.agree_on_check(&limit.sheet);
-                agree_on_part(library, &limit.sheet);
-                let few = checked.map_or(true, |(v, _)| v < 2);
-                if few {
-                    library.agree_on_trial(&limit.sheet);
-                }
+        limit_sheets(|library, sheet| {
+            let few = library.agree_on_check(sheet).map_or(true, |(v, _)| v < 2);
+            agree_on_part(library, sheet);
+            if few {
+                library.agree_on_trial(sheet);
             }
-        }
+        });
     });
 }
 

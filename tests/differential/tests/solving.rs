@@ -1,10 +1,10 @@
 //! Solve against the independent reading, against Trial and against a solver
 //! from outside. A disagreement prints the sheet in hexadecimal and both answers.
 
-use differential::compare::{cases, hexadecimal};
+use differential::compare::{cases, hexadecimal, limit_sheets};
 use differential::{Library, LIBRARIES};
 use outside::formulas::tried_by_hand;
-use outside::generate::{self, limit_sheets, Family, Limits, Rng};
+use outside::generate::{self, Family, Limits, Rng};
 use outside::reference::*;
 use outside::{depqbf, with_deep_stack};
 
@@ -145,11 +145,9 @@ fn raw_sheet_of_the_four_cubes() {
 fn large_sheets() {
     with_deep_stack(|| {
         let mut rng = Rng::new(generate::run_seed());
-        for library in &LIBRARIES {
-            for limit in limit_sheets(library.reading.format) {
-                agree_in_full(&mut rng, library, &limit.sheet);
-            }
-        }
+        limit_sheets(|library, sheet| {
+            agree_in_full(&mut rng, library, sheet);
+        });
         cases(100, |library, rng| {
             let format = library.reading.format;
             for limits in [Limits::medium(format), Limits::full(format)] {

@@ -2,10 +2,10 @@
 //! every byte of the output, over buffers around every limit and of any
 //! contents.
 
-use differential::compare::{cases, hexadecimal};
+use differential::compare::{cases, hexadecimal, limit_sheets};
 use differential::{Library, LIBRARIES};
 use outside::formulas::{all, clause, formula, lit};
-use outside::generate::{self, limit_sheets, Call, Limits, Rng};
+use outside::generate::{self, Call, Limits, Rng};
 use outside::reference::*;
 use outside::with_deep_stack;
 use Operation::{Expand, Settle};
@@ -35,11 +35,7 @@ fn tidy_on_small_sheets() {
 fn tidy_on_large_sheets() {
     with_deep_stack(|| {
         let mut rng = Rng::new(generate::run_seed());
-        for library in &LIBRARIES {
-            for limit in limit_sheets(library.reading.format) {
-                agree_on_tidy(&mut rng, library, &limit.sheet);
-            }
-        }
+        limit_sheets(|library, sheet| agree_on_tidy(&mut rng, library, sheet));
         cases(200, |library, rng| {
             let format = library.reading.format;
             for limits in [Limits::medium(format), Limits::full(format)] {

@@ -51,7 +51,7 @@ impl Call {
         Call { letter: Letter::Solve, number: second, room: first }
     }
 
-    fn push(&self, bytes: &mut Vec<u8>) {
+    fn encode(&self, bytes: &mut Vec<u8>) {
         bytes.push(self.letter as u8);
         push_number(self.number, bytes);
         push_number(self.room, bytes);
@@ -60,15 +60,15 @@ impl Call {
 
 impl Case {
     /// The sheet's length, the number of calls, the sheet, the calls.
-    fn push(&self, bytes: &mut Vec<u8>) {
+    fn encode(&self, bytes: &mut Vec<u8>) {
         push_number(self.sheet.len(), bytes);
         push_number(self.calls.len(), bytes);
         bytes.extend(&self.sheet);
-        self.calls.iter().for_each(|call| call.push(bytes));
+        self.calls.iter().for_each(|call| call.encode(bytes));
     }
 }
 
-/// Two bytes, low byte first, whatever the format of the sheets.
+/// Two bytes, low byte first, in whatever format the sheets are.
 fn push_number(number: usize, bytes: &mut Vec<u8>) {
     bytes.extend(u16::try_from(number).expect("a number of two bytes").to_le_bytes());
 }
@@ -76,6 +76,6 @@ fn push_number(number: usize, bytes: &mut Vec<u8>) {
 /// What the test program reads.
 pub fn input(cases: &[Case]) -> Vec<u8> {
     let mut bytes = Vec::new();
-    cases.iter().for_each(|case| case.push(&mut bytes));
+    cases.iter().for_each(|case| case.encode(&mut bytes));
     bytes
 }

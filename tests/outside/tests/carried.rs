@@ -1,7 +1,7 @@
 //! Sheets carried over from the narrow format to the wide one: the same rows in
 //! other bytes, and the same answer of every operation.
 
-use outside::generate::{self, cases, Limits};
+use outside::generate::{self, cases, Call, Limits};
 use outside::reference::*;
 
 const NARROW: Reading = Reading::NARROW;
@@ -64,19 +64,18 @@ fn bad_rows_are_refused_alike() {
     assert!(refusals[4..].iter().all(|&count| count > 50), "{refusals:?}");
 }
 
-/// One operation in both formats, with outputs for as many rows, or a byte less.
+/// One operation in both formats, each with an output of its own length; answers
+/// with the refusal number, 0 if it was accepted.
 fn agree(
     sheet: &[u8],
-    rows: usize,
-    less: usize,
+    room: impl Fn(Format) -> usize,
     operation: impl Fn(&Reading, &[u8], &mut [u8]) -> Answer<usize>,
-) -> Answer<usize> {
-    let [narrow, wide] =
-        [(NARROW, sheet.to_vec()), (WIDE, widened(sheet))].map(|(reading, sheet)| {
-            let mut output = vec![0xa5; reading.format.sheet_length(0, rows) - less];
-            let answer = operation(&reading, &sheet, &mut output);
-            (answer, output)
-        });
+) -> usize {
+    let run = |reading: Reading, sheet: &[u8]| {
+        let mut output = vec![0xa5; room(reading.format)];
+        (operation(&reading, sheet, &mut output), output)
+    };
+    let (narrow, wide) = (run(NARROW, sheet), run(WIDE, &widened(sheet)));
     match (narrow.0, wide.0) {
         (Answer::Accepted(length), Answer::Accepted(wide_length)) => {
             assert_eq!(widened(&narrow.1[..length]), wide.1[..wide_length]);
@@ -87,7 +86,7 @@ fn agree(
             assert!(wide.1.iter().all(|&byte| byte == 0xa5));
         }
     }
-    narrow.0
+    narrow.0.number()
 }
 
 #[test]
@@ -96,24 +95,20 @@ fn writing_operations_agree() {
     cases(2_000, |rng| {
         let formula = generate::formula(rng, SMALL);
         let sheet = NARROW.format.encode(&formula);
-        let rows = formula.prefix.len() + formula.matrix.rows();
+        let Call { operation, variable: x, .. } = generate::call(rng, &NARROW, &formula);
         for less in [0, 1] {
-            let answer =
-                agree(&sheet, rows, less, |reading, sheet, output| reading.tidy(sheet, output));
-            answers[answer.number()] += 1;
-        }
-        let call = generate::call(rng, &NARROW, &formula);
-        let left = formula.prefix.len().saturating_sub(1);
-        let rows = left
-            + match call.operation {
-                Operation::Settle => formula.matrix.rows(),
-                Operation::Expand => raw_rows(&formula, call.variable),
-            };
-        for less in [0, 1] {
-            let answer = agree(&sheet, rows, less, |reading, sheet, output| {
-                reading.step(call.operation, sheet, call.variable, output)
-            });
-            answers[answer.number()] += 1;
+            let tidied = agree(
+                &sheet,
+                |format| format.encode(&formula).len() - less,
+                |reading, sheet, output| reading.tidy(sheet, output),
+            );
+            let stepped = agree(
+                &sheet,
+                |format| format.least_output(operation, &formula, x) - less,
+                |reading, sheet, output| reading.step(operation, sheet, x, output),
+            );
+            answers[tidied] += 1;
+            answers[stepped] += 1;
         }
     });
     for number in [0, 9, 10, 11, 12, 13] {

@@ -163,8 +163,7 @@ impl Format {
 impl Reading {
     /// Expand: the new sheet's length.
     pub fn expand(&self, sheet: &[u8], x: Variable, output: &mut [u8]) -> Answer<usize> {
-        let expanded = self.expanded(sheet, x, output.len());
-        expanded.map(|formula| self.format.write(&formula, output)).into()
+        self.format.answer(self.expanded(sheet, x, output.len()), output)
     }
 
     fn expanded(&self, sheet: &[u8], x: Variable, room: usize) -> Result<Formula, Refusal> {

@@ -47,8 +47,7 @@ impl Rules {
 impl Reading {
     /// Settle: the new sheet's length.
     pub fn settle(&self, sheet: &[u8], x: Variable, output: &mut [u8]) -> Answer<usize> {
-        let settled = self.settled(sheet, x, output.len());
-        settled.map(|formula| self.format.write(&formula, output)).into()
+        self.format.answer(self.settled(sheet, x, output.len()), output)
     }
 
     fn settled(&self, sheet: &[u8], x: Variable, room: usize) -> Result<Formula, Refusal> {

@@ -1,6 +1,6 @@
 //! The sheet: Check, and formulas from and to bytes.
 
-use super::{Format, Formula, Kind, Node, Quantifier, Refusal, Variable};
+use super::{Answer, Format, Formula, Kind, Node, Quantifier, Refusal, Variable};
 
 /// Kind and argument.
 pub type Row = (u8, usize);
@@ -97,6 +97,15 @@ impl Format {
         front.copy_from_slice(&sheet);
         behind.fill(0);
         sheet.len()
+    }
+
+    /// The answer of an operation that writes a sheet; refused, it writes nothing.
+    pub(super) fn answer(
+        self,
+        result: Result<Formula, Refusal>,
+        output: &mut [u8],
+    ) -> Answer<usize> {
+        result.map(|formula| self.write(&formula, output)).into()
     }
 }
 

@@ -4,14 +4,16 @@ use super::{Answer, Formula, Kind, Node, Reading, Refusal, Rules};
 use std::collections::HashSet;
 use std::ops::ControlFlow::{self, Break, Continue};
 
-/// What becomes of an operator's children, all of them tidied: children again,
-/// or the node that takes the operator's place.
-pub type TidyRule = fn(Kind, Vec<Node>) -> ControlFlow<Node, Vec<Node>>;
+/// What a rule makes of an operator's children, all of them tidied: children
+/// for the next rule, or the node that takes the operator's place.
+pub type TidyRule = fn(Kind, Vec<Node>) -> Tidied;
+
+type Tidied = ControlFlow<Node, Vec<Node>>;
 
 /// Whether the children of an operator of this kind break a limit.
 pub type Limit = fn(Kind, &[Node]) -> bool;
 
-pub(super) fn splice_own_kind(own: Kind, children: Vec<Node>) -> ControlFlow<Node, Vec<Node>> {
+pub(super) fn splice_own_kind(own: Kind, children: Vec<Node>) -> Tidied {
     let mut spliced = Vec::new();
     for child in children {
         match child {
@@ -22,10 +24,7 @@ pub(super) fn splice_own_kind(own: Kind, children: Vec<Node>) -> ControlFlow<Nod
     Continue(spliced)
 }
 
-pub(super) fn yield_to_empty_operator(
-    own: Kind,
-    children: Vec<Node>,
-) -> ControlFlow<Node, Vec<Node>> {
+pub(super) fn yield_to_empty_operator(own: Kind, children: Vec<Node>) -> Tidied {
     let other = Node::empty(own.other());
     if children.contains(&other) {
         Break(other)
@@ -34,10 +33,7 @@ pub(super) fn yield_to_empty_operator(
     }
 }
 
-pub(super) fn decide_by_opposite_literals(
-    own: Kind,
-    children: Vec<Node>,
-) -> ControlFlow<Node, Vec<Node>> {
+pub(super) fn decide_by_opposite_literals(own: Kind, children: Vec<Node>) -> Tidied {
     let literals: HashSet<_> = children.iter().filter_map(Node::as_literal).collect();
     if literals.iter().any(|&(var, positive)| literals.contains(&(var, !positive))) {
         Break(Node::empty(own.other()))
@@ -47,19 +43,13 @@ pub(super) fn decide_by_opposite_literals(
 }
 
 /// Of equal literals the first stays.
-pub(super) fn drop_repeated_literals(
-    _: Kind,
-    mut children: Vec<Node>,
-) -> ControlFlow<Node, Vec<Node>> {
+pub(super) fn drop_repeated_literals(_: Kind, mut children: Vec<Node>) -> Tidied {
     let mut seen = HashSet::new();
     children.retain(|child| child.as_literal().is_none_or(|literal| seen.insert(literal)));
     Continue(children)
 }
 
-pub(super) fn replace_by_lone_child(
-    _: Kind,
-    mut children: Vec<Node>,
-) -> ControlFlow<Node, Vec<Node>> {
+pub(super) fn replace_by_lone_child(_: Kind, mut children: Vec<Node>) -> Tidied {
     if children.len() == 1 {
         Break(children.remove(0))
     } else {
@@ -133,8 +123,7 @@ impl Rules {
 impl Reading {
     /// Tidy: the new sheet's length.
     pub fn tidy(&self, sheet: &[u8], output: &mut [u8]) -> Answer<usize> {
-        let tidied = self.tidied(sheet, output.len());
-        tidied.map(|formula| self.format.write(&formula, output)).into()
+        self.format.answer(self.tidied(sheet, output.len()), output)
     }
 
     pub(super) fn tidied(&self, sheet: &[u8], room: usize) -> Result<Formula, Refusal> {
