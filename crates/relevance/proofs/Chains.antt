@@ -21,13 +21,13 @@ use Rattle.relevance.proofs.Hits.{has-hits, length-hits, hits-row, hits
 
 -- first-true
 
-pub first-true-here : (xs ys : List Bool) → any xs ≡ true → first-true (xs ++ ys) < length xs
+first-true-here : (xs ys : List Bool) → any xs ≡ true → first-true (xs ++ ys) < length xs
 unfolding any first-true
 first-true-here [] ys h = absurd (false≢true h)
 first-true-here (true ∷ xs) ys h = omega arith
 first-true-here (false ∷ xs) ys h = omega (arith, first-true-here xs ys h)
 
-pub first-true-there : (xs ys : List Bool) → any xs ≡ false → first-true (xs ++ ys) ≡ length xs + first-true ys
+first-true-there : (xs ys : List Bool) → any xs ≡ false → first-true (xs ++ ys) ≡ length xs + first-true ys
 unfolding any first-true
 first-true-there [] ys h = omega arith
 first-true-there (true ∷ xs) ys h = absurd (true≢false h)
@@ -54,7 +54,7 @@ module _ (L : Literals) {s : Layout} (b : Bytes) (ok : Readable s b) where
   first-none = omega (arith, ap (λ ts. first-true (hits-all L ts)) (no-rows b ok (s .nodes) refl))
 
 module _ (L : Literals) {s : Layout} (b : Bytes) (ok : Readable s b) where
-  first-after : (i : ℕ) → i ≤ first-from L s b i
+  pub first-after : (i : ℕ) → i ≤ first-from L s b i
   unfolding first-from
   first-after i = omega arith
 

@@ -2,3 +2,6 @@
 pub mod Hits
 pub mod Chains
 mod TurnOccurrences
+pub mod Growth
+pub mod Descent
+mod TurnPart

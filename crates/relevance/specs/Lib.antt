@@ -3,3 +3,5 @@ pub mod Parts
 pub mod Cuts
 pub mod Chains
 pub mod Occurrences
+pub mod Walks
+pub mod Raw

@@ -2,6 +2,7 @@
 // The set is given by a chain: the rows of its first and its last literal, and a table that leads from each literal to the next. Tables
 // for the chains of all variables are filled in a few passes; then a part costs its literals and the path to them, not a pass.
 pub mod occurrences;
+pub mod part;
 
 // The rows of the first and the last literal of a chain.
 pub struct Range {

@@ -1,0 +1,86 @@
+-- What the walks along a chain find, for each set that has the chain.
+-- Assumes nothing.
+use mathlib.Core.Path.{_≡_}
+use mathlib.Core.Bool.{Bool, cond}
+use mathlib.Core.List.{List}
+use Prim.Native.Nat.{ℕ, zero, suc, _+_, _-_, _≤_, _<_}
+use lib.Dec.{eqb, ltb}
+use lib.ListN.{length, getD}
+use Rattle.formula.specs.Tree.{Tree, Forest, ∅, _▸_, Literals, rows, rows-all, count}
+use Rattle.formula.specs.Expand.{relevant}
+use Rattle.sheet.specs.Format.{Bytes}
+use Rattle.rows.specs.Formulas.{matrix-in}
+use Rattle.rows.specs.declared.Layout.{Layout}
+use Rattle.subtrees.specs.Subtrees.{kids, subtree-in}
+use Rattle.subtrees.specs.Ends.{Indexed}
+use Rattle.relevance.specs.Chains.{Bounds, Chain, Chained}
+use Rattle.relevance.specs.Parts.{relevant-part, operator-part}
+use Rattle.relevance.specs.declared.Relevant.{Relevant}
+use Rattle.relevance.specs.declared.Range.{Range}
+use Rattle.relevance.specs.declared.Site.{Site}
+use Rattle.relevance.specs.declared.part.Span.{Span}
+use Rattle.relevance.specs.declared.part.Share.{Share}
+
+-- of k subtrees side by side from row `at` on, by the table of their ends: the rows of the one that row r lies in
+unfoldable pub span-by : List ℕ → ℕ → ℕ → ℕ → Span
+span-by ends r at zero = record { from = at; to = at }
+span-by ends r at (suc k) =
+    cond (ltb r (getD ends at 0)) (record { from = at; to = getD ends at 0 }) (span-by ends r (getD ends at 0) k)
+
+-- the same of the trees, where the first tree's row is row i
+unfoldable pub child-span : ℕ → ℕ → Forest → Span
+child-span r i ∅ = record { from = i; to = i }
+child-span r i (t ▸ ts) = cond (ltb r (i + rows t)) (record { from = i; to = i + rows t }) (child-span r (i + rows t) ts)
+
+-- from the tree at row i to the child that has all rows from `first` to `last`, if there is one
+unfoldable pub narrower : Range → ℕ → Tree → ℕ
+narrower c i t =
+    cond (eqb i (c .first)) i
+    (cond (ltb (c .last) ((child-span (c .first) (suc i) (kids t)) .to)) ((child-span (c .first) (suc i) (kids t)) .from) i)
+
+-- the way down to the literals of some set: its first and its last literal
+pub record Bounded (s : Layout) (b : Bytes) (ends : List ℕ) (c : Range) : Type 0 where
+  pub indexed : Indexed s b ends
+  pub chosen : Literals
+  pub bounds : Bounds chosen s b (c .first) (c .last)
+
+-- the row of the relevant part's operator, or of the one literal
+abbrev pub IsAncestor : Layout → Bytes → Range → ℕ → Type 0
+IsAncestor s b c r = (L : Literals) → Bounds L s b (c .first) (c .last) → r ≡ (relevant-part L 0 (matrix-in s b)) .operator
+
+-- along a table from row to row, ever later ones, to the first that is not before row `end`
+pub data Way : List ℕ → ℕ → ℕ → ℕ → Type 0 where
+  there : {next : List ℕ} {end row : ℕ} → end ≤ row → Way next end row row
+  on : {next : List ℕ} {end row to : ℕ} → row < end → row < length next → row < getD next row 0 → Way next end (getD next row 0) to
+      → Way next end row to
+
+pub record Leads (next : List ℕ) (end row : ℕ) : Type 0 where
+  pub to : ℕ
+  pub way : Way next end row to
+
+-- a share with the tree from row i up to `end` added, if it is relevant
+unfoldable pub with-child : Bool → Share → ℕ → ℕ → Share
+with-child c r i end = cond c (record { rows = r .rows + (end - i); children = r .children + 1 }) r
+
+-- an operator before the first literal of a chain
+pub record Sited (s : Layout) (b : Bytes) (ends next : List ℕ) (o : Site) : Type 0 where
+  pub last : ℕ
+  pub chained : Chained s b ends next (o .first) last
+  pub before : o .operator < o .first
+
+-- of its children those that hold a literal of the set
+abbrev pub IsShare : Layout → Bytes → List ℕ → Site → Share → Type 0
+IsShare s b next o r =
+    (L : Literals) (last : ℕ) → Chain L s b next (o .first) last
+    → (r .rows ≡ rows-all (relevant L (kids (subtree-in s b (o .operator)))))
+    × (r .children ≡ count (relevant L (kids (subtree-in s b (o .operator)))))
+
+abbrev pub IsOperatorPart : Layout → Bytes → List ℕ → Site → Relevant → Type 0
+IsOperatorPart s b next o r =
+    (L : Literals) (last : ℕ) → Chain L s b next (o .first) last
+    → r ≡ operator-part L (o .operator) (kids (subtree-in s b (o .operator)))
+
+-- the relevant part
+abbrev pub IsPart : Layout → Bytes → List ℕ → Range → Relevant → Type 0
+IsPart s b next c r =
+    (L : Literals) → Chain L s b next (c .first) (c .last) → r ≡ relevant-part L 0 (matrix-in s b)
