@@ -12,7 +12,9 @@ use Rattle.sheet.proofs.Preorder.{rows-positive}
 use Rattle.subtrees.specs.Subtrees.{kids}
 use Rattle.subtrees.proofs.Forest.{rows-kids}
 use Rattle.relevance.specs.Parts.{relevant-part, part-below, operator-part}
-use Rattle.relevance.specs.Raw.{added, grown}
+use Rattle.relevance.specs.Raw.{added, presence, grown-by, copied}
+use Rattle.relevance.specs.declared.Relevant.{Relevant}
+use Rattle.relevance.specs.declared.variable.Presence.the-variants.{Absent, Present}
 
 -- relevant
 
@@ -122,12 +124,30 @@ mutual
       go true h k = omega arith
       go false h k = omega arith
 
--- raw-rows
+-- presence
 
-pub raw-absent : (L : Literals) (t : Tree) → has L t ≡ false → raw-rows L t ≡ rows t
-unfolding raw-rows
-raw-absent L t h = rw h
+pub absent : (L : Literals) (t : Tree) → has L t ≡ false → Absent ≡ presence L t
+unfolding presence
+absent L t h = rw h
 
-pub raw-present : (L : Literals) (t : Tree) → has L t ≡ true → raw-rows L t ≡ grown (rows t) (relevant-part L 0 t)
-unfolding raw-rows
-raw-present L t h = rw h (ap (λ m. rows t + m) (growth-part t L 0 h))
+pub present : (L : Literals) (t : Tree) {p : Relevant} → has L t ≡ true → p ≡ relevant-part L 0 t → Present p ≡ presence L t
+unfolding presence
+present L t {p} h e = ap Present e ∙ rw h
+
+-- the raw rows of a set are those that its part tells, and E is within the rows
+pub raw-grown : (L : Literals) (t : Tree) → grown-by (rows t) (presence L t) ≡ raw-rows L t
+unfolding presence raw-rows
+raw-grown L t = go (has L t) (λ h. growth-part t L 0 h)
+  where
+    go : (c : Bool) → (c ≡ true → growth L t ≡ added (relevant-part L 0 t))
+        → grown-by (rows t) (cond c (Present (relevant-part L 0 t)) Absent) ≡ cond c (rows t + growth L t) (rows t)
+    go true h = ap (λ m. rows t + m) (sym (h refl))
+    go false h = refl
+
+pub copied-most : (L : Literals) (t : Tree) → copied (presence L t) ≤ rows t
+unfolding presence
+copied-most L t = go (has L t)
+  where
+    go : (c : Bool) → copied (cond c (Present (relevant-part L 0 t)) Absent) ≤ rows t
+    go true = part-most t L 0
+    go false = omega arith

@@ -5,11 +5,27 @@ use Prim.Native.Nat.{ℕ, _+_}
 use Rattle.formula.specs.Tree.{Tree, Literals, has}
 use Rattle.relevance.specs.Parts.{relevant-part}
 use Rattle.relevance.specs.declared.Relevant.{Relevant}
+use Rattle.relevance.specs.declared.variable.Presence.{Presence}
+use Rattle.relevance.specs.declared.variable.Presence.the-variants.{Absent, Present}
 
 -- E + 1 for a single literal and where every child is relevant, E + 2 otherwise
 abbrev pub added : Relevant → ℕ
 added p = p .rows + cond (p .all) 1 2
 
--- and with these the rows of the matrix
+-- with the rows of the matrix
 abbrev pub grown : ℕ → Relevant → ℕ
 grown n p = n + added p
+
+-- the relevant part of a set of which a literal stands in the tree
+unfoldable pub presence : Literals → Tree → Presence
+presence L t = cond (has L t) (Present (relevant-part L 0 t)) Absent
+
+-- with no literal, the matrix stays
+abbrev pub grown-by : ℕ → Presence → ℕ
+grown-by n Absent = n
+grown-by n (Present p) = grown n p
+
+-- E, or 0
+abbrev pub copied : Presence → ℕ
+copied Absent = 0
+copied (Present p) = p .rows

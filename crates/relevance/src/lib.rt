@@ -3,6 +3,7 @@
 // for the chains of all variables are filled in a few passes; then a part costs its literals and the path to them, not a pass.
 pub mod occurrences;
 pub mod part;
+pub mod variable;
 
 // The rows of the first and the last literal of a chain.
 pub struct Range {
