@@ -5,3 +5,4 @@ mod TurnOccurrences
 pub mod Growth
 pub mod Descent
 mod TurnPart
+mod TurnCuts

@@ -1,11 +1,11 @@
 -- What the walks along a chain find, for each set that has the chain.
 -- Assumes nothing.
 use mathlib.Core.Path.{_≡_}
-use mathlib.Core.Bool.{Bool, cond}
+use mathlib.Core.Bool.{Bool, cond, Bool·beq}
 use mathlib.Core.List.{List}
 use Prim.Native.Nat.{ℕ, zero, suc, _+_, _-_, _≤_, _<_}
 use lib.Dec.{eqb, ltb}
-use lib.ListN.{length, getD}
+use lib.ListN.{length, getD, take, drop, set}
 use Rattle.formula.specs.Tree.{Tree, Forest, ∅, _▸_, Literals, rows, rows-all, count}
 use Rattle.formula.specs.Expand.{relevant}
 use Rattle.sheet.specs.Format.{Bytes}
@@ -14,10 +14,12 @@ use Rattle.rows.specs.declared.Layout.{Layout}
 use Rattle.subtrees.specs.Subtrees.{kids, subtree-in}
 use Rattle.subtrees.specs.Ends.{Indexed}
 use Rattle.relevance.specs.Chains.{Bounds, Chain, Chained}
+use Rattle.relevance.specs.Cuts.{cuts}
 use Rattle.relevance.specs.Parts.{relevant-part, operator-part}
 use Rattle.relevance.specs.declared.Relevant.{Relevant}
 use Rattle.relevance.specs.declared.Range.{Range}
 use Rattle.relevance.specs.declared.Site.{Site}
+use Rattle.relevance.specs.declared.cuts.Runs.{Runs}
 use Rattle.relevance.specs.declared.part.Span.{Span}
 use Rattle.relevance.specs.declared.part.Share.{Share}
 
@@ -84,3 +86,17 @@ IsOperatorPart s b next o r =
 abbrev pub IsPart : Layout → Bytes → List ℕ → Range → Relevant → Type 0
 IsPart s b next c r =
     (L : Literals) → Chain L s b next (c .first) (c .last) → r ≡ relevant-part L 0 (matrix-in s b)
+
+-- a cut at row `at`, unless the run goes on
+unfoldable pub run-cut : Bool → Runs → Runs
+run-cut holds r = cond (Bool·beq holds (r .holding)) r (record { cuts = r .cuts + 1; holding = holds })
+
+unfoldable pub table-cut : Bool → Runs → ℕ → List ℕ → List ℕ
+table-cut holds r at table = cond (Bool·beq holds (r .holding)) table (set table (r .cuts) at)
+
+-- a table with the cuts of the operator's children at its front
+abbrev pub IsCuts : Layout → Bytes → List ℕ → Site → List ℕ → ℕ → List ℕ → Type 0
+IsCuts s b next o before k table =
+    (drop k table ≡ drop k before) ×
+    ((L : Literals) (last : ℕ) → Chain L s b next (o .first) last
+    → take k table ≡ cuts L (suc (o .operator)) (kids (subtree-in s b (o .operator))))
