@@ -4,7 +4,7 @@ use mathlib.Core.Path.{_≡_, sym, ap, _∙_}
 use mathlib.Core.List.{List, _++_}
 use Prim.Native.Nat.{ℕ, _<_}
 use native.Mathlib.Omega.{arith}
-use lib.ListN.{length, getD, drop}
+use lib.ListN.{getD, drop}
 use Rattle.formula.specs.Tree.{count}
 use Rattle.sheet.specs.Format.{Bytes, Row, row, children}
 use Rattle.sheet.specs.Sheet.{tree-rows, forest-rows}

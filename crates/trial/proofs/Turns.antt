@@ -1,4 +1,4 @@
--- A turn on a prefix row: what it makes of the turns on the rows behind, how often it may hand over, and the assignment it leaves.
+-- A turn on a prefix row: what it makes of the turns on the rows behind, the assignment it leaves, and how often it may hand over.
 -- Assumes nothing.
 use mathlib.Core.Path.{_≡_, refl, sym, ap, ap₂, subst, _∙_, fun-ext}
 use mathlib.Core.Bool.{Bool, true, false, cond, Bool·beq}
@@ -11,7 +11,7 @@ use lib.ListN.{length, getD, replicate, take, drop, set, length-set, length-drop
 use lib.Pow.{pow-mono}
 use lib.Seq.{drop-cons, getD-take, getD-set-same, getD-set-other, set-set, set-getD}
 use borrow.Author.Tests.{eqb-true, eqb-false}
-use Rattle.formula.specs.Tree.{Quantifier, exists, for-all}
+use Rattle.formula.specs.Tree.{Quantifier, exists, for-all, and, or, dual, same-op}
 use Rattle.formula.specs.Truth.{put, eval}
 use Rattle.formula.specs.Trial.{Tried, stops-at, turn, try}
 use Rattle.formula.proofs.Trial.{try-leaves}
@@ -34,9 +34,6 @@ put-values table x v h = fun-ext (λ y. go y (eqb y x) refl)
     go y true e = sym (ap (λ z. getD (set table x v) z false) (eqb-true y x e) ∙ getD-set-same table x v false h)
     go y false e = sym (getD-set-other table x y v false (eqb-false y x e))
 
-pub ready-kept : {s : Layout} {b : Bytes} {high low : List ℕ} {n m : ℕ} → Ready s b high low n → m ≡ n → Ready s b high low m
-ready-kept {s} {b} {high} {low} r e = subst (Ready s b high low) (sym e) r
-
 -- a turn on two values
 
 turn-stops : (q : Quantifier) (t₀ t₁ : Tried) → Bool·beq (stops-at q) (t₀ .verdict) ≡ true → turn q t₀ t₁ ≡ t₀
@@ -49,6 +46,10 @@ unfolding turn
 turn-goes-on q t₀ t₁ e = rw e
 
 -- the prefix rows
+
+-- the side that owns row r
+abbrev pub owner : Layout → Bytes → ℕ → Quantifier
+owner s b r = cond (eqb ((prefix-row s b r) .kind) 1) exists for-all
 
 module _ (s : Layout) (b : Bytes) (ok : Readable s b) where
   unread-row : (r : ℕ) → r < s .variables → unread s b r ≡ binding (prefix-row s b r) ∷ unread s b (r + 1)
@@ -79,7 +80,7 @@ module _ (s : Layout) (b : Bytes) (ok : Readable s b) where
   -- what a row's turn makes of the turns on its two values
   turns-row : (r x : ℕ) (table : List Bool) → r < s .variables → x ≡ (prefix-row s b r) .argument → x < length table
       → turns s b r table ≡
-      turn (cond (eqb ((prefix-row s b r) .kind) 1) exists for-all) (turns s b (r + 1) (set table x false)) (turns s b (r + 1) (set table x true))
+      turn (owner s b r) (turns s b (r + 1) (set table x false)) (turns s b (r + 1) (set table x true))
   unfolding turns try binding
   turns-row r x table h e l = rw (unread-row r h, ← e, put-values table x false l, put-values table x true l)
 
@@ -88,9 +89,21 @@ pub record Own (q : Quantifier) (s : Layout) (b : Bytes) (r x : ℕ) (table : Li
   pub readable : Readable s b
   pub few : s .variables ≤ 20
   pub within : r < s .variables
-  pub owner : cond (eqb ((prefix-row s b r) .kind) 1) exists for-all ≡ q
+  pub owned : owner s b r ≡ q
   pub binds : x ≡ (prefix-row s b r) .argument
   pub inside : x < length table
+
+pub own-row : {q : Quantifier} {s : Layout} {b : Bytes} {r x : ℕ} {table : List Bool} {high low : List ℕ}
+    → Ready s b high low (length table) → r < s .variables → owner s b r ≡ q → x ≡ (prefix-row s b r) .argument → Own q s b r x table
+own-row {r = r} ready within owned binds =
+    record {
+      readable = ready .readable;
+      few = ready .few;
+      within = within;
+      owned = owned;
+      binds = binds;
+      inside = omega (arith, binds, ready .numbered r within);
+    }
 
 -- 0 was tried first
 module _ {q : Quantifier} {s : Layout} {b : Bytes} {r x : ℕ} {table t₀ : List Bool} {zero : Outcome} (own : Own q s b r x table)
@@ -98,13 +111,16 @@ module _ {q : Quantifier} {s : Layout} {b : Bytes} {r x : ℕ} {table t₀ : Lis
   row-turn : turns s b r table ≡ turn q (tried zero) (turns s b (r + 1) (set table x true))
   row-turn =
       turns-row s b (own .readable) r x table (own .within) (own .binds) (own .inside) ∙
-      ap₂ (λ u t. turn u t (turns s b (r + 1) (set table x true))) (own .owner) (sym (first .outcome))
+      ap₂ (λ u t. turn u t (turns s b (r + 1) (set table x true))) (own .owned) (sym (first .outcome))
 
   pub restored-one : set t₀ x (getD table x false) ≡ table
   restored-one = rw (first .unchanged, set-set) (set-getD table x false)
 
   pub inside-one : x < length t₀
   inside-one = rw (first .unchanged, length-set) (own .inside)
+
+  pub kept-one : length (set t₀ x true) ≡ length table
+  kept-one = length-set t₀ x true ∙ ap length (first .unchanged) ∙ length-set table x false
 
   pub turn-stopped : {stop : Bool} → stop ≡ Bool·beq (stops-at q) (zero .verdict) → stop ≡ true
       → Turned s b r table zero (set t₀ x (getD table x false))
@@ -157,32 +173,29 @@ turns-first s b n o e = e ∙ ap (try (prefix-in s b) (eval (matrix-in s b))) (f
     none (suc n) zero = refl
     none (suc n) (suc x) = none n x
 
--- how many calls of turns may follow one at row r: two for each row left, and one more if the row is the other side's
+-- how many calls of turns may follow one of the side q at row r: two for each row left, and one more if the row is the other side's
+pub calls : Quantifier → Layout → Bytes → ℕ → ℕ
+calls q s b r = 2 * (s .variables - r) + cond (same-op q (owner s b r)) 0 1
 
-pub existential-calls : Layout → Bytes → ℕ → ℕ
-existential-calls s b r = 2 * (s .variables - r) + cond (eqb ((prefix-row s b r) .kind) 1) 0 1
+falls : (q : Quantifier) (s : Layout) (b : Bytes) (r : ℕ) → r < s .variables → calls q s b (r + 1) < calls q s b r
+unfolding calls
+falls q s b r h = omega (arith, one (same-op q (owner s b (r + 1))))
+  where
+    one : (u : Bool) → cond u 0 1 ≤ 1
+    one true = omega arith
+    one false = omega arith
 
-pub universal-calls : Layout → Bytes → ℕ → ℕ
-universal-calls s b r = 2 * (s .variables - r) + cond (eqb ((prefix-row s b r) .kind) 1) 1 0
+-- the side that owns the row has fewer calls before it
+pub hands-over : (q : Quantifier) (s : Layout) (b : Bytes) (r : ℕ) → owner s b r ≡ dual q → calls (dual q) s b r < calls q s b r
+unfolding calls
+hands-over and s b r e = rw e (omega arith)
+hands-over or s b r e = rw e (omega arith)
 
-module _ (s : Layout) (b : Bytes) (r : ℕ) where
-  one-row : (u : Bool) → (cond u 0 1 ≤ 1) × (cond u 1 0 ≤ 1)
-  one-row true = omega arith
-  one-row false = omega arith
-
-  pub existential-falls : r < s .variables → existential-calls s b (r + 1) < existential-calls s b r
-  unfolding existential-calls
-  existential-falls h = omega (arith, one-row (eqb ((prefix-row s b (r + 1)) .kind) 1) .0)
-
-  pub universal-falls : r < s .variables → universal-calls s b (r + 1) < universal-calls s b r
-  unfolding universal-calls
-  universal-falls h = omega (arith, one-row (eqb ((prefix-row s b (r + 1)) .kind) 1) .1)
-
-  -- of the two, the side that owns the row has fewer calls before it
-  pub to-universal : eqb ((prefix-row s b r) .kind) 1 ≡ false → universal-calls s b r < existential-calls s b r
-  unfolding existential-calls universal-calls
-  to-universal e = rw e (omega arith)
-
-  pub to-existential : eqb ((prefix-row s b r) .kind) 1 ≡ true → existential-calls s b r < universal-calls s b r
-  unfolding existential-calls universal-calls
-  to-existential e = rw e (omega arith)
+-- the next row's turn has fewer calls before it, and finds what this one found
+pub next-turn : {q : Quantifier} {s : Layout} {b : Bytes} {r x t m : ℕ} {table : List Bool} {high low : List ℕ} → Own q s b r x table
+    → Ready s b high low (length table) → calls q s b r ≡ t → m ≡ length table
+    → (calls q s b (r + 1) < t) × (Ready s b high low m × (r + 1 ≤ s .variables))
+next-turn {q} {s} {b} {r} {high = high} {low = low} own ready is same = (
+  omega (arith, falls q s b r (own .within), is),
+  (subst (Ready s b high low) (sym same) ready, omega (arith, own .within)),
+)

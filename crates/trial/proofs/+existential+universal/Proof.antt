@@ -1,17 +1,17 @@
 -- The proof of the cycle of calls {existential, universal}. With each row read the rows left fall; a turn that hands its row over has one
 -- call more before it than the side that owns the row.
 -- Assumes nothing.
+use mathlib.Core.Bool.{Bool, cond}
 use mathlib.Core.Path.{refl, sym, ap, _∙_}
-use Prim.Native.Nat.{ℕ, _+_, _≤_, _<_}
+use Prim.Native.Nat.{ℕ, _<_}
 use native.Mathlib.Omega.{arith}
 use lib.ListN.{length, length-set}
 use borrow.Author.Tests.{not-true, not-false}
 use borrow.Fn.Kinds.{In}
 use borrow.Fn.PlainCycle.{Measures, is, falls, and}
-use Rattle.formula.specs.Tree.{exists, for-all}
-use Rattle.trial.proofs.Turns.{ready-kept, turned-leaf, Own, restored-one, inside-one, turn-stopped}
-use Rattle.trial.proofs.Turns.{leaves-fit, restored-both, inside-both, turn-went-on}
-use Rattle.trial.proofs.Turns.{existential-calls, universal-calls, existential-falls, universal-falls, to-universal, to-existential}
+use Rattle.formula.specs.Tree.{Quantifier, exists, for-all}
+use Rattle.trial.proofs.Turns.{turned-leaf, Own, own-row, restored-one, inside-one, kept-one, turn-stopped}
+use Rattle.trial.proofs.Turns.{leaves-fit, restored-both, inside-both, turn-went-on, calls, hands-over, next-turn}
 use Rattle.trial.proofs.existential.Reads as existential
 use Rattle.trial.proofs.existential.Kinds as existential-kinds
 use Rattle.trial.proofs.+existential+universal.Lts-existential as existential-lts
@@ -26,11 +26,15 @@ use Rattle.trial.proofs.variable_at.Reads as variable-at-reads
 use Rattle.trial.proofs.+existential+universal.{statement}
 use Rattle.trial.proofs.+existential+universal.Tie.{close}
 
+-- the side of a row, by whether it is existential
+abbrev side : Bool → Quantifier
+side u = cond u exists for-all
+
 abbrev μ-existential : Measures 4 existential-kinds.ps ℕ
-μ-existential κs a = existential-calls (a .1 .0) (a .0 .now) (a .1 .1 .1 .1 .1 .0)
+μ-existential κs a = calls exists (a .1 .0) (a .0 .now) (a .1 .1 .1 .1 .1 .0)
 
 abbrev μ-universal : Measures 4 universal-kinds.ps ℕ
-μ-universal κs a = universal-calls (a .1 .0) (a .0 .now) (a .1 .1 .1 .1 .1 .0)
+μ-universal κs a = calls for-all (a .1 .0) (a .0 .now) (a .1 .1 .1 .1 .1 .0)
 
 -- what an existential turn is given at the measure t, and what a call of it asks below t
 abbrev existential-at : ℕ → In 4 existential-kinds.ps
@@ -105,7 +109,7 @@ existential-universal-requires : (t : ℕ) → existential-lts.Need-universal-re
 existential-universal-requires t c κs =
     let a = c .before .before .before .before .before .before .before .before .before in
     let e = sym (c .before .before .is-existential .ensures) ∙ not-true _ (c .before .if2 .taken) in
-    (omega (arith, to-universal (a .args .s) (a .args .sheet .now) (a .args .i) e, a .pre .0), a .pre .1)
+    (omega (arith, hands-over exists (a .args .s) (a .args .sheet .now) (a .args .i) (ap side e), a .pre .0), a .pre .1)
 
 existential-same-length-2 : (t : ℕ) → existential-lts.Need-same-length-2 (existential-callees t) (existential-at t) existential.Post
 existential-same-length-2 t c = c .before .before .universal .kept .1 .1 .1 .1 .0
@@ -130,25 +134,8 @@ existential-own : (t : ℕ) (c : existential-row t)
     Own exists (a .s) (a .sheet .now) (a .i) (c .variable-at .result) (a .assignment .now)
 existential-own t c =
     let a = existential-start t c in
-    let ready = a .pre .1 .0 in
-    let within : a .args .i < a .args .s .variables = omega (arith, a .pre .1 .1, c .before .before .before .if1 .left) in
-    record {
-      readable = ready .readable;
-      few = ready .few;
-      within = within;
-      owner = rw (sym (c .before .before .is-existential .ensures) ∙ not-false _ (c .before .if2 .left));
-      binds = c .variable-at .ensures;
-      inside = omega (arith, c .variable-at .ensures, ready .numbered (a .args .i) within);
-    }
-
--- the next row's turn has fewer calls before it
-existential-next : (t : ℕ) (c : existential-row t)
-    → let a = existential-start t c .args in
-    (existential-calls (a .s) (a .sheet .now) (a .i + 1) < t) × (a .i + 1 ≤ a .s .variables)
-existential-next t c =
-    let a = existential-start t c in
-    let within = existential-own t c .within in
-    (omega (arith, existential-falls (a .args .s) (a .args .sheet .now) (a .args .i) within, a .pre .0), omega (arith, within))
+    own-row (a .pre .1 .0) (omega (arith, a .pre .1 .1, c .before .before .before .if1 .left))
+    (ap side (sym (c .before .before .is-existential .ensures) ∙ not-false _ (c .before .if2 .left))) (c .variable-at .ensures)
 
 existential-slice-read-old : (t : ℕ) → existential-lts.Need-slice-read-old (existential-callees t) (existential-at t) existential.Post
 existential-slice-read-old t c = existential-own t (c .before) .inside
@@ -165,7 +152,7 @@ existential-existential-requires : (t : ℕ) → existential-lts.Need-existentia
 existential-existential-requires t c κs =
     let v = c .before .before in
     let a = existential-start t v in
-    (existential-next t v .0, (ready-kept (a .pre .1 .0) (length-set (a .args .assignment .now) (v .variable-at .result) _), existential-next t v .1))
+    next-turn (existential-own t v) (a .pre .1 .0) (a .pre .0) (length-set (a .args .assignment .now) (v .variable-at .result) _)
 
 existential-stops-requires : (t : ℕ) → existential-lts.Need-stops-requires (existential-callees t) (existential-at t) existential.Post
 existential-stops-requires t c κs = tt
@@ -201,12 +188,11 @@ existential-add-existential-2 t c =
 
 existential-existential-requires-2 : (t : ℕ) → existential-lts.Need-existential-requires-2 (existential-callees t) (existential-at t) existential.Post
 existential-existential-requires-2 t c κs =
-    let v = c .before .before .before .before .before .before .before .before in
+    let turn = c .before .before .before .before .before in
+    let v = turn .before .before .before in
     let a = existential-start t v in
-    let zero = c .before .before .before .before .before .existential in
-    let x = v .variable-at .result in
-    let kept = length-set (zero .last .1 .1 .1 .1 .0) x _ ∙ ap length (zero .ensures .unchanged) ∙ length-set (a .args .assignment .now) x _ in
-    (existential-next t v .0, (ready-kept (a .pre .1 .0) kept, existential-next t v .1))
+    let own = existential-own t v in
+    next-turn own (a .pre .1 .0) (a .pre .0) (kept-one own (turn .existential .ensures))
 
 existential-slice-write-assignment-4 : (t : ℕ) → existential-lts.Need-slice-write-assignment-4 (existential-callees t) (existential-at t) existential.Post
 existential-slice-write-assignment-4 t c =
@@ -259,7 +245,7 @@ universal-existential-requires : (t : ℕ) → universal-lts.Need-existential-re
 universal-existential-requires t c κs =
     let a = c .before .before .before .before .before .before .before .before .before in
     let e = sym (c .before .before .is-existential .ensures) ∙ (c .before .if2 .taken) in
-    (omega (arith, to-existential (a .args .s) (a .args .sheet .now) (a .args .i) e, a .pre .0), a .pre .1)
+    (omega (arith, hands-over for-all (a .args .s) (a .args .sheet .now) (a .args .i) (ap side e), a .pre .0), a .pre .1)
 
 universal-same-length-2 : (t : ℕ) → universal-lts.Need-same-length-2 (universal-callees t) (universal-at t) universal.Post
 universal-same-length-2 t c = c .before .before .existential .kept .1 .1 .1 .1 .0
@@ -284,25 +270,8 @@ universal-own : (t : ℕ) (c : universal-row t)
     Own for-all (a .s) (a .sheet .now) (a .i) (c .variable-at .result) (a .assignment .now)
 universal-own t c =
     let a = universal-start t c in
-    let ready = a .pre .1 .0 in
-    let within : a .args .i < a .args .s .variables = omega (arith, a .pre .1 .1, c .before .before .before .if1 .left) in
-    record {
-      readable = ready .readable;
-      few = ready .few;
-      within = within;
-      owner = rw (sym (c .before .before .is-existential .ensures) ∙ (c .before .if2 .left));
-      binds = c .variable-at .ensures;
-      inside = omega (arith, c .variable-at .ensures, ready .numbered (a .args .i) within);
-    }
-
--- the next row's turn has fewer calls before it
-universal-next : (t : ℕ) (c : universal-row t)
-    → let a = universal-start t c .args in
-    (universal-calls (a .s) (a .sheet .now) (a .i + 1) < t) × (a .i + 1 ≤ a .s .variables)
-universal-next t c =
-    let a = universal-start t c in
-    let within = universal-own t c .within in
-    (omega (arith, universal-falls (a .args .s) (a .args .sheet .now) (a .args .i) within, a .pre .0), omega (arith, within))
+    own-row (a .pre .1 .0) (omega (arith, a .pre .1 .1, c .before .before .before .if1 .left))
+    (ap side (sym (c .before .before .is-existential .ensures) ∙ c .before .if2 .left)) (c .variable-at .ensures)
 
 universal-slice-read-old : (t : ℕ) → universal-lts.Need-slice-read-old (universal-callees t) (universal-at t) universal.Post
 universal-slice-read-old t c = universal-own t (c .before) .inside
@@ -319,7 +288,7 @@ universal-universal-requires : (t : ℕ) → universal-lts.Need-universal-requir
 universal-universal-requires t c κs =
     let v = c .before .before in
     let a = universal-start t v in
-    (universal-next t v .0, (ready-kept (a .pre .1 .0) (length-set (a .args .assignment .now) (v .variable-at .result) _), universal-next t v .1))
+    next-turn (universal-own t v) (a .pre .1 .0) (a .pre .0) (length-set (a .args .assignment .now) (v .variable-at .result) _)
 
 universal-stops-requires : (t : ℕ) → universal-lts.Need-stops-requires (universal-callees t) (universal-at t) universal.Post
 universal-stops-requires t c κs = tt
@@ -355,12 +324,11 @@ universal-add-universal-2 t c =
 
 universal-universal-requires-2 : (t : ℕ) → universal-lts.Need-universal-requires-2 (universal-callees t) (universal-at t) universal.Post
 universal-universal-requires-2 t c κs =
-    let v = c .before .before .before .before .before .before .before .before in
+    let turn = c .before .before .before .before .before in
+    let v = turn .before .before .before in
     let a = universal-start t v in
-    let zero = c .before .before .before .before .before .universal in
-    let x = v .variable-at .result in
-    let kept = length-set (zero .last .1 .1 .1 .1 .0) x _ ∙ ap length (zero .ensures .unchanged) ∙ length-set (a .args .assignment .now) x _ in
-    (universal-next t v .0, (ready-kept (a .pre .1 .0) kept, universal-next t v .1))
+    let own = universal-own t v in
+    next-turn own (a .pre .1 .0) (a .pre .0) (kept-one own (turn .universal .ensures))
 
 universal-slice-write-assignment-4 : (t : ℕ) → universal-lts.Need-slice-write-assignment-4 (universal-callees t) (universal-at t) universal.Post
 universal-slice-write-assignment-4 t c =
