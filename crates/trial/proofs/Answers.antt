@@ -49,18 +49,18 @@ module _ {F : Format} {b : Bytes} {v n : ℕ} (m : Manageable F) (sheet : Accept
 
   numbered : Numbered layout b 1025
   unfolding prefix-in binding
-  numbered r h =
+  numbered i h =
       let R = rows-in layout b in
       let z = binding (row 0 0) in
       let p = (formula F b) .prefix in
-      let bound = numbered-at F p r z (accepted-within F b (sheet .tests-pass) .is-numbered) (omega (arith, length-prefix b readable, ap length prefix-of)) in
+      let bound = numbered-at F p i z (accepted-within F b (sheet .tests-pass) .is-numbered) (omega (arith, length-prefix b readable, ap length prefix-of)) in
       omega (
         arith,
         bound,
         m .few-variables,
-        ap (λ l. (getD l r z) .variable) prefix-of,
-        ap (λ (y : Binding). y .variable) (List·getD-map binding (take v R) r (row 0 0)),
-        ap (λ (y : Row). y .argument) (getD-take v R r (row 0 0) h),
+        ap (λ l. (getD l i z) .variable) prefix-of,
+        ap (λ (y : Binding). y .variable) (List·getD-map binding (take v R) i (row 0 0)),
+        ap (λ (y : Row). y .argument) (getD-take v R i (row 0 0) h),
       )
 
   pub playable : v ≤ 20 → Playable layout b 1025

@@ -25,54 +25,54 @@ value-operator x ρ k p h = rw (← p, lt-leb k 4 h)
 
 -- next
 
-module _ (R : List Row) (high low : List ℕ) (ρ : Assignment) (r k : ℕ) (kids : k ≡ children (getD R r (row 0 0))) where
-  pub next-child : (k ≡ 0 → ⊥) → r + 1 ≡ next R high low ρ r
+module _ (R : List Row) (high low : List ℕ) (ρ : Assignment) (i k : ℕ) (kids : k ≡ children (getD R i (row 0 0))) where
+  pub next-child : (k ≡ 0 → ⊥) → i + 1 ≡ next R high low ρ i
   unfolding next
   next-child h = rw (← kids, ne-eqb k 0 h)
 
-  module _ (none : k ≡ 0) (v : Bool) (value : v ≡ row-value (getD R r (row 0 0)) ρ) where
-    next-value : cond v (entry high r) (entry low r) ≡ next R high low ρ r
+  module _ (none : k ≡ 0) (v : Bool) (value : v ≡ row-value (getD R i (row 0 0)) ρ) where
+    next-value : cond v (entry high i) (entry low i) ≡ next R high low ρ i
     unfolding next
     next-value = rw (← kids, eq-eqb k 0 none, value)
 
-    pub next-high : (e : ℕ) → v ≡ true → e ≡ entry high r → e ≡ next R high low ρ r
-    next-high e h p = p ∙ ap (λ b. cond b (entry high r) (entry low r)) (sym h) ∙ next-value
+    pub next-high : (e : ℕ) → v ≡ true → e ≡ entry high i → e ≡ next R high low ρ i
+    next-high e h p = p ∙ ap (λ b. cond b (entry high i) (entry low i)) (sym h) ∙ next-value
 
-    pub next-low : (e : ℕ) → v ≡ false → e ≡ entry low r → e ≡ next R high low ρ r
-    next-low e h p = p ∙ ap (λ b. cond b (entry high r) (entry low r)) (sym h) ∙ next-value
+    pub next-low : (e : ℕ) → v ≡ false → e ≡ entry low i → e ≡ next R high low ρ i
+    next-low e h p = p ∙ ap (λ b. cond b (entry high i) (entry low i)) (sym h) ∙ next-value
 
 -- evaluate
 
-next-forward : (R : List Row) (high low : List ℕ) (ρ : Assignment) (r : ℕ) → Jumps R high low → r < length R
-    → (r < next R high low ρ r) × (next R high low ρ r ≤ length R + 1)
+next-forward : (R : List Row) (high low : List ℕ) (ρ : Assignment) (i : ℕ) → Jumps R high low → i < length R
+    → (i < next R high low ρ i) × (next R high low ρ i ≤ length R + 1)
 unfolding next
-next-forward R high low ρ r j h =
-    let x = getD R r (row 0 0) in
-    either (eqb (children x) 0) _ (r + 1)
-    (either (row-value x ρ) (entry high r) (entry low r) (j .high-forward r h) (j .low-forward r h)) (omega arith)
+next-forward R high low ρ i j h =
+    let x = getD R i (row 0 0) in
+    either (eqb (children x) 0) _ (i + 1)
+    (either (row-value x ρ) (entry high i) (entry low i) (j .high-forward i h) (j .low-forward i h)) (omega arith)
   where
-    either : (u : Bool) (a b : ℕ) → (r < a) × (a ≤ length R + 1) → (r < b) × (b ≤ length R + 1)
-        → (r < cond u a b) × (cond u a b ≤ length R + 1)
+    either : (u : Bool) (a b : ℕ) → (i < a) × (a ≤ length R + 1) → (i < b) × (b ≤ length R + 1)
+        → (i < cond u a b) × (cond u a b ≤ length R + 1)
     either true a b p q = p
     either false a b p q = q
 
-pub next-on : (R : List Row) (n : ℕ) → length R ≡ n → (high low : List ℕ) (ρ : Assignment) (x : Bool) (r r′ : ℕ)
-    → Jumps R high low → r < n
-    → Decides (length R) (next R high low ρ) x r → r′ ≡ next R high low ρ r
-    → (r < r′) × (r′ ≤ n + 1) × Decides (length R) (next R high low ρ) x r′
-next-on R n all high low ρ x r r′ j h d e =
-    let f = next-forward R high low ρ r j (omega arith) in
+pub next-on : (R : List Row) (n : ℕ) → length R ≡ n → (high low : List ℕ) (ρ : Assignment) (x : Bool) (i i′ : ℕ)
+    → Jumps R high low → i < n
+    → Decides (length R) (next R high low ρ) x i → i′ ≡ next R high low ρ i
+    → (i < i′) × (i′ ≤ n + 1) × Decides (length R) (next R high low ρ) x i′
+next-on R n all high low ρ x i i′ j h d e =
+    let f = next-forward R high low ρ i j (omega arith) in
     (omega (arith, f, e), omega (arith, f, e), rw e (go x (d .steps) (d .leads)))
   where
-    go : (x : Bool) (k : ℕ) → Leads (length R) (next R high low ρ) x k r → Decides (length R) (next R high low ρ) x (next R high low ρ r)
+    go : (x : Bool) (k : ℕ) → Leads (length R) (next R high low ρ) x k i → Decides (length R) (next R high low ρ) x (next R high low ρ i)
     go true zero l = absurd (omega arith)
     go false zero l = absurd (omega arith)
     go x (suc k) l = record { steps = k; leads = l .1 }
 
-pub verdict-at : (n m : ℕ) (step : ℕ → ℕ) (x : Bool) (r : ℕ) → n ≡ m → m ≤ r → Decides n step x r → eqb r m ≡ x
-verdict-at n m step x r e h d = go x (d .steps) (d .leads)
+pub verdict-at : (n m : ℕ) (step : ℕ → ℕ) (x : Bool) (i : ℕ) → n ≡ m → m ≤ i → Decides n step x i → eqb i m ≡ x
+verdict-at n m step x i e h d = go x (d .steps) (d .leads)
   where
-    go : (x : Bool) (k : ℕ) → Leads n step x k r → eqb r m ≡ x
-    go true zero l = eq-eqb r m (omega arith)
-    go false zero l = ne-eqb r m (λ q. omega arith)
+    go : (x : Bool) (k : ℕ) → Leads n step x k i → eqb i m ≡ x
+    go true zero l = eq-eqb i m (omega arith)
+    go false zero l = ne-eqb i m (λ q. omega arith)
     go x (suc k) l = absurd (omega arith)

@@ -21,51 +21,51 @@ use Rattle.trial.proofs.Span.{end-of, end-bound, end-behind, end-within
 
 -- a list from a row on
 
-at-head : (R : List Row) (r : ℕ) (x : Row) (xs : List Row) → drop r R ≡ x ∷ xs → getD R r (row 0 0) ≡ x
-at-head R r x xs e = ap (λ m. getD R m (row 0 0)) (sym (add-zero r)) ∙ sym (getD-drop r R 0 (row 0 0)) ∙ ap (λ l. getD l 0 (row 0 0)) e
+at-head : (R : List Row) (i : ℕ) (x : Row) (xs : List Row) → drop i R ≡ x ∷ xs → getD R i (row 0 0) ≡ x
+at-head R i x xs e = ap (λ m. getD R m (row 0 0)) (sym (add-zero i)) ∙ sym (getD-drop i R 0 (row 0 0)) ∙ ap (λ l. getD l 0 (row 0 0)) e
 
-head-within : (R : List Row) (r : ℕ) (x : Row) (xs : List Row) → drop r R ≡ x ∷ xs → r < length R
-head-within R r x xs e = omega (arith, length-drop r R, ap length e)
+head-within : (R : List Row) (i : ℕ) (x : Row) (xs : List Row) → drop i R ≡ x ∷ xs → i < length R
+head-within R i x xs e = omega (arith, length-drop i R, ap length e)
 
-at-tail : (R : List Row) (r : ℕ) (x : Row) (xs : List Row) → drop r R ≡ x ∷ xs → drop (r + 1) R ≡ xs
-at-tail R r x xs e = sym (drop-drop 1 r R) ∙ ap (drop 1) e
+at-tail : (R : List Row) (i : ℕ) (x : Row) (xs : List Row) → drop i R ≡ x ∷ xs → drop (i + 1) R ≡ xs
+at-tail R i x xs e = sym (drop-drop 1 i R) ∙ ap (drop 1) e
 
-behind-tree : (R : List Row) (t : Tree) (r : ℕ) (rest : List Row) → drop r R ≡ tree-rows t ++ rest → drop (r + rows t) R ≡ rest
-behind-tree R t r rest e =
-    sym (drop-drop (rows t) r R) ∙ ap (drop (rows t)) e ∙ drop-at (tree-rows t) rest (rows t) (length-tree-rows t)
+behind-tree : (R : List Row) (t : Tree) (i : ℕ) (rest : List Row) → drop i R ≡ tree-rows t ++ rest → drop (i + rows t) R ≡ rest
+behind-tree R t i rest e =
+    sym (drop-drop (rows t) i R) ∙ ap (drop (rows t)) e ∙ drop-at (tree-rows t) rest (rows t) (length-tree-rows t)
 
-tree-within : (R : List Row) (t : Tree) (r : ℕ) (rest : List Row) → drop r R ≡ tree-rows t ++ rest → r + rows t ≤ length R
-tree-within R t r rest e =
-    omega (arith, length-drop r R, ap length e, length-append (tree-rows t) rest, length-tree-rows t, rows-positive t)
+tree-within : (R : List Row) (t : Tree) (i : ℕ) (rest : List Row) → drop i R ≡ tree-rows t ++ rest → i + rows t ≤ length R
+tree-within R t i rest e =
+    omega (arith, length-drop i R, ap length e, length-append (tree-rows t) rest, length-tree-rows t, rows-positive t)
 
 -- the parent is one
 
-parent-unique : (ends : List ℕ) (p q r : ℕ) → Parent ends p r → Parent ends q r → p ≡ q
-parent-unique ends p q r P Q = go (decLt p q) (decLt q p)
+parent-unique : (ends : List ℕ) (p q i : ℕ) → Parent ends p i → Parent ends q i → p ≡ q
+parent-unique ends p q i P Q = go (decLt p q) (decLt q p)
   where
     go : Dec (p < q) → Dec (q < p) → p ≡ q
     go (yes l) d = absurd (omega (arith, P .others-closed q l (Q .before)))
     go (no f) (yes l) = absurd (omega (arith, Q .others-closed p l (P .before)))
     go (no f) (no g) = omega arith
 
-module _ (R : List Row) (ends high low : List ℕ) (entry-end : (r : ℕ) → r < length R → entry ends r ≡ end-of R r) (targets : Targets R ends high low (length R)) where
-  -- the row to go on at, by the value of the subtree at r
+module _ (R : List Row) (ends high low : List ℕ) (entry-end : (i : ℕ) → i < length R → entry ends i ≡ end-of R i) (targets : Targets R ends high low (length R)) where
+  -- the row to go on at, by the value of the subtree at i
   to : Bool → ℕ → ℕ
-  to true r = entry high r
-  to false r = entry low r
+  to true i = entry high i
+  to false i = entry low i
 
   -- a value leaves the parent's undecided if it is the operator's unit
-  wired-to : (b : Bool) (r : ℕ) (W : Wired R ends high low r)
-      → to b r ≡ past (Bool·beq b (is-and R (W .parent))) (entry ends r) (entry ends (W .parent)) (to b (W .parent))
+  wired-to : (b : Bool) (i : ℕ) (W : Wired R ends high low i)
+      → to b i ≡ past (Bool·beq b (is-and R (W .parent))) (entry ends i) (entry ends (W .parent)) (to b (W .parent))
   unfolding to
-  wired-to true r W =
-      W .high-target ∙ ap (λ u. past u (entry ends r) (entry ends (W .parent)) (entry high (W .parent))) (same (is-and R (W .parent)))
+  wired-to true i W =
+      W .high-target ∙ ap (λ u. past u (entry ends i) (entry ends (W .parent)) (entry high (W .parent))) (same (is-and R (W .parent)))
     where
       same : (u : Bool) → u ≡ Bool·beq true u
       same true = refl
       same false = refl
-  wired-to false r W =
-      W .low-target ∙ ap (λ u. past u (entry ends r) (entry ends (W .parent)) (entry low (W .parent))) (same (is-and R (W .parent)))
+  wired-to false i W =
+      W .low-target ∙ ap (λ u. past u (entry ends i) (entry ends (W .parent)) (entry low (W .parent))) (same (is-and R (W .parent)))
     where
       same : (u : Bool) → not u ≡ Bool·beq false u
       same true = refl
@@ -136,25 +136,25 @@ module _ (R : List Row) (ends high low : List ℕ) (entry-end : (r : ℕ) → r 
         within y py yc (yes h) = omega (arith, l .earlier y py h)
         within y py yc (no f) = omega (arith, first-end, end-within R c y (omega arith) (omega (arith, first-end)))
 
-  children-left : (o : Op) (ts : Forest) (r : ℕ) (rest : List Row) → drop r R ≡ tree-rows (node o ts) ++ rest → Left o ts r (r + 1) rest
+  children-left : (o : Op) (ts : Forest) (i : ℕ) (rest : List Row) → drop i R ≡ tree-rows (node o ts) ++ rest → Left o ts i (i + 1) rest
   unfolding tree-rows is-and rows
-  children-left o ts r rest e =
+  children-left o ts i rest e =
       record {
-        kind = rw (at-head R r _ _ e) (kind-unit o);
+        kind = rw (at-head R i _ _ e) (kind-unit o);
         parent-before = omega arith;
-        parent-end = end-tree R (node o ts) r rest e ∙ omega arith;
+        parent-end = end-tree R (node o ts) i rest e ∙ omega arith;
         earlier = λ y ry yr. absurd (omega arith);
-        here = at-tail R r _ _ e;
+        here = at-tail R i _ _ e;
       }
     where
       kind-unit : (o : Op) → eqb (operator-kind o) 5 ≡ unit o
       kind-unit and = refl
       kind-unit or = refl
 
-  by-value : (b : Bool) (r : ℕ) → cond b (entry high r) (entry low r) ≡ to b r
+  by-value : (b : Bool) (i : ℕ) → cond b (entry high i) (entry low i) ≡ to b i
   unfolding to
-  by-value true r = refl
-  by-value false r = refl
+  by-value true i = refl
+  by-value false i = refl
 
   -- behind the last child a value goes where the parent's goes
   past-start : (o : Op) (ts : Forest) (p e : ℕ) (b : Bool)
@@ -172,34 +172,34 @@ module _ (R : List Row) (ends high low : List ℕ) (entry-end : (r : ℕ) → r 
 
   module _ (ρ : Assignment) (x : Bool) where
     Goes : ℕ → Type 0
-    Goes r = Decides (length R) (next R high low ρ) x r
+    Goes i = Decides (length R) (next R high low ρ) x i
 
-    step : (r r′ : ℕ) → r < length R → next R high low ρ r ≡ r′ → Goes r′ → Goes r
+    step : (i i′ : ℕ) → i < length R → next R high low ρ i ≡ i′ → Goes i′ → Goes i
     unfolding Goes
-    step r r′ h e g = record { steps = suc (g .steps); leads = (h, rw e (g .leads)) }
+    step i i′ h e g = record { steps = suc (g .steps); leads = (h, rw e (g .leads)) }
 
-    next-literal : (s : Bool) (v r : ℕ) → getD R r (row 0 0) ≡ row (literal-kind s) v → next R high low ρ r ≡ to (Bool·beq s (ρ v)) r
+    next-literal : (s : Bool) (v i : ℕ) → getD R i (row 0 0) ≡ row (literal-kind s) v → next R high low ρ i ≡ to (Bool·beq s (ρ v)) i
     unfolding next row-value children
-    next-literal true v r e = rw e (by-value (Bool·beq true (ρ v)) r)
-    next-literal false v r e = rw e (by-value (Bool·beq false (ρ v)) r)
+    next-literal true v i e = rw e (by-value (Bool·beq true (ρ v)) i)
+    next-literal false v i e = rw e (by-value (Bool·beq false (ρ v)) i)
 
-    next-operator : (o : Op) (ts : Forest) (r : ℕ) → getD R r (row 0 0) ≡ row (operator-kind o) (count ts)
-        → next R high low ρ r ≡ start o ts r (r + 1)
+    next-operator : (o : Op) (ts : Forest) (i : ℕ) → getD R i (row 0 0) ≡ row (operator-kind o) (count ts)
+        → next R high low ρ i ≡ start o ts i (i + 1)
     unfolding next row-value children start to count
-    next-operator and ∅ r e = rw e
-    next-operator or ∅ r e = rw e
-    next-operator and (t ▸ ts) r e = rw (e, eqb·suc-zero (count ts))
-    next-operator or (t ▸ ts) r e = rw (e, eqb·suc-zero (count ts))
+    next-operator and ∅ i e = rw e
+    next-operator or ∅ i e = rw e
+    next-operator and (t ▸ ts) i e = rw (e, eqb·suc-zero (count ts))
+    next-operator or (t ▸ ts) i e = rw (e, eqb·suc-zero (count ts))
 
     mutual
       unfolding tree-rows rows eval start to
 
       -- a subtree goes where its value's target does
-      goes-tree : (t : Tree) (r : ℕ) (rest : List Row) → drop r R ≡ tree-rows t ++ rest → Goes (to (eval t ρ) r) → Goes r
-      goes-tree (lit s v) r rest e g = step r (to (Bool·beq s (ρ v)) r) (head-within R r _ _ e) (next-literal s v r (at-head R r _ _ e)) g
-      goes-tree (node o ts) r rest e g =
-          step r (start o ts r (r + 1)) (head-within R r _ _ e) (next-operator o ts r (at-head R r _ _ e))
-          (goes-forest ts o r (r + 1) rest (children-left o ts r rest e) g)
+      goes-tree : (t : Tree) (i : ℕ) (rest : List Row) → drop i R ≡ tree-rows t ++ rest → Goes (to (eval t ρ) i) → Goes i
+      goes-tree (lit s v) i rest e g = step i (to (Bool·beq s (ρ v)) i) (head-within R i _ _ e) (next-literal s v i (at-head R i _ _ e)) g
+      goes-tree (node o ts) i rest e g =
+          step i (start o ts i (i + 1)) (head-within R i _ _ e) (next-operator o ts i (at-head R i _ _ e))
+          (goes-forest ts o i (i + 1) rest (children-left o ts i rest e) g)
 
       -- an operator's children go where its value's target does
       goes-forest : (ts : Forest) (o : Op) (p c : ℕ) (rest : List Row) → Left o ts p c rest → Goes (to (eval-all ts o ρ) p)
@@ -219,24 +219,24 @@ module _ (R : List Row) (ends high low : List ℕ) (entry-end : (r : ℕ) → r 
           by or false g k = k g
 
   -- a target stands behind its subtree
-  forward : (m r : ℕ) → r < m → r < length R → (b : Bool) → (end-of R r ≤ to b r) × (to b r ≤ length R + 1)
+  forward : (m i : ℕ) → i < m → i < length R → (b : Bool) → (end-of R i ≤ to b i) × (to b i ≤ length R + 1)
   unfolding to
-  forward zero r h l b = absurd (omega arith)
+  forward zero i h l b = absurd (omega arith)
   forward (suc m) zero h l true = omega (arith, end-bound R 0 (omega arith), targets .root-high)
   forward (suc m) zero h l false = omega (arith, end-bound R 0 (omega arith), targets .root-low)
-  forward (suc m) (suc r) h l b =
-      let W = targets .wired (suc r) (omega arith) l in
+  forward (suc m) (suc i) h l b =
+      let W = targets .wired (suc i) (omega arith) l in
       let p = W .parent in
       let is = W .is-parent in
       let up = forward m p (omega (arith, is .before)) (omega (arith, is .before)) b in
-      let e = entry-end (suc r) (omega arith) in
-      let inside = end-within R p (suc r) (omega (arith, is .before)) (omega (arith, is .still-open, entry-end p (omega (arith, is .before)))) in
-      rw (wired-to b (suc r) W)
-      (either (Bool·beq b (is-and R p) && ltb (entry ends (suc r)) (entry ends p)) (entry ends (suc r)) (to b p)
-      (omega (arith, e), omega (arith, e, end-bound R (suc r) (omega arith))) (omega (arith, inside, up), up .1))
+      let e = entry-end (suc i) (omega arith) in
+      let inside = end-within R p (suc i) (omega (arith, is .before)) (omega (arith, is .still-open, entry-end p (omega (arith, is .before)))) in
+      rw (wired-to b (suc i) W)
+      (either (Bool·beq b (is-and R p) && ltb (entry ends (suc i)) (entry ends p)) (entry ends (suc i)) (to b p)
+      (omega (arith, e), omega (arith, e, end-bound R (suc i) (omega arith))) (omega (arith, inside, up), up .1))
     where
-      either : (u : Bool) (n k : ℕ) → (end-of R (suc r) ≤ n) × (n ≤ length R + 1) → (end-of R (suc r) ≤ k) × (k ≤ length R + 1)
-          → (end-of R (suc r) ≤ cond u n k) × (cond u n k ≤ length R + 1)
+      either : (u : Bool) (n k : ℕ) → (end-of R (suc i) ≤ n) × (n ≤ length R + 1) → (end-of R (suc i) ≤ k) × (k ≤ length R + 1)
+          → (end-of R (suc i) ≤ cond u n k) × (cond u n k ≤ length R + 1)
       either true n k p q = p
       either false n k p q = q
 
@@ -245,17 +245,17 @@ module _ (R : List Row) (ends high low : List ℕ) (entry-end : (r : ℕ) → r 
   unfolding Goes to
   jumps t e =
       record {
-        high-forward = λ r h. behind true r h;
-        low-forward = λ r h. behind false r h;
+        high-forward = λ i h. behind true i h;
+        low-forward = λ i h. behind false i h;
         decides =
             λ ρ. rw (ap (λ l. root (trees l)) e ∙ root-trees t)
             (goes-tree ρ (eval t ρ) t 0 [] (e ∙ sym (append-nil (tree-rows t))) (verdict ρ (eval t ρ)));
       }
     where
-      behind : (b : Bool) (r : ℕ) → r < length R → (r < to b r) × (to b r ≤ length R + 1)
-      behind b r h =
-          let f = forward (suc r) r (omega arith) h b in
-          (omega (arith, f, end-behind R r h), f .1)
+      behind : (b : Bool) (i : ℕ) → i < length R → (i < to b i) × (to b i ≤ length R + 1)
+      behind b i h =
+          let f = forward (suc i) i (omega arith) h b in
+          (omega (arith, f, end-behind R i h), f .1)
 
       verdict : (ρ : Assignment) (x : Bool) → Goes ρ x (to x 0)
       verdict ρ true = record { steps = 0; leads = targets .root-high }

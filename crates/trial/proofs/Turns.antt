@@ -47,18 +47,18 @@ turn-goes-on q t₀ t₁ e = rw e
 
 -- the prefix rows
 
--- the side that owns row r
+-- the side that owns row i
 abbrev pub owner : Layout → Bytes → ℕ → Quantifier
-owner s b r = cond (eqb ((prefix-row s b r) .kind) 1) exists for-all
+owner s b i = cond (eqb ((prefix-row s b i) .kind) 1) exists for-all
 
 module _ (s : Layout) (b : Bytes) (ok : Readable s b) where
-  unread-row : (r : ℕ) → r < s .variables → unread s b r ≡ binding (prefix-row s b r) ∷ unread s b (r + 1)
+  unread-row : (i : ℕ) → i < s .variables → unread s b i ≡ binding (prefix-row s b i) ∷ unread s b (i + 1)
   unfolding unread prefix-in
-  unread-row r h =
+  unread-row i h =
       let R = rows-in s b in
-      rw (add-one, drop-cons (prefix-in s b) r (binding (row 0 0)) (omega (arith, length-prefix b ok)))
-      (ap (λ x. x ∷ drop (suc r) (prefix-in s b))
-      (List·getD-map binding (take (s .variables) R) r (row 0 0) ∙ ap binding (getD-take (s .variables) R r (row 0 0) h)))
+      rw (add-one, drop-cons (prefix-in s b) i (binding (row 0 0)) (omega (arith, length-prefix b ok)))
+      (ap (λ x. x ∷ drop (suc i) (prefix-in s b))
+      (List·getD-map binding (take (s .variables) R) i (row 0 0) ∙ ap binding (getD-take (s .variables) R i (row 0 0) h)))
 
   pub turns-leaf : (table : List Bool) (v : Bool) → v ≡ eval (matrix-in s b) (values table)
       → record { verdict = v; leaves = 1 } ≡ turns s b (s .variables) table
@@ -67,51 +67,51 @@ module _ (s : Layout) (b : Bytes) (ok : Readable s b) where
       rw (drop-of-length-le (prefix-in s b) {i = s .variables} (omega (arith, length-prefix b ok)))
       (ap (λ u. record { verdict = u; leaves = 1 }) e)
 
-  pub turned-leaf : (o : Outcome) (r : ℕ) (table : List Bool) → r ≡ s .variables → tried o ≡ turns s b (s .variables) table
-      → Turned s b r table o table
-  turned-leaf o r table e h = record { outcome = rw e h; unchanged = refl }
+  pub turned-leaf : (o : Outcome) (i : ℕ) (table : List Bool) → i ≡ s .variables → tried o ≡ turns s b (s .variables) table
+      → Turned s b i table o table
+  turned-leaf o i table e h = record { outcome = rw e h; unchanged = refl }
 
-  turns-leaves : (r : ℕ) (table : List Bool) → s .variables ≤ 20 → (turns s b r table) .leaves ≤ 2 ^ 20
+  turns-leaves : (i : ℕ) (table : List Bool) → s .variables ≤ 20 → (turns s b i table) .leaves ≤ 2 ^ 20
   unfolding turns unread
-  turns-leaves r table few =
-      let left : length (unread s b r) ≤ 20 = omega (arith, length-drop r (prefix-in s b), length-prefix b ok) in
-      omega (arith, try-leaves (unread s b r) (eval (matrix-in s b)) (values table), pow-mono left)
+  turns-leaves i table few =
+      let left : length (unread s b i) ≤ 20 = omega (arith, length-drop i (prefix-in s b), length-prefix b ok) in
+      omega (arith, try-leaves (unread s b i) (eval (matrix-in s b)) (values table), pow-mono left)
 
   -- what a row's turn makes of the turns on its two values
-  turns-row : (r x : ℕ) (table : List Bool) → r < s .variables → x ≡ (prefix-row s b r) .argument → x < length table
-      → turns s b r table ≡
-      turn (owner s b r) (turns s b (r + 1) (set table x false)) (turns s b (r + 1) (set table x true))
+  turns-row : (i x : ℕ) (table : List Bool) → i < s .variables → x ≡ (prefix-row s b i) .argument → x < length table
+      → turns s b i table ≡
+      turn (owner s b i) (turns s b (i + 1) (set table x false)) (turns s b (i + 1) (set table x true))
   unfolding turns try binding
-  turns-row r x table h e l = rw (unread-row r h, ← e, put-values table x false l, put-values table x true l)
+  turns-row i x table h e l = rw (unread-row i h, ← e, put-values table x false l, put-values table x true l)
 
--- row r is of the side q and binds x
-pub record Own (q : Quantifier) (s : Layout) (b : Bytes) (r x : ℕ) (table : List Bool) : Type 0 where
+-- row i is of the side q and binds x
+pub record Own (q : Quantifier) (s : Layout) (b : Bytes) (i x : ℕ) (table : List Bool) : Type 0 where
   pub readable : Readable s b
   pub few : s .variables ≤ 20
-  pub within : r < s .variables
-  pub owned : owner s b r ≡ q
-  pub binds : x ≡ (prefix-row s b r) .argument
+  pub within : i < s .variables
+  pub owned : owner s b i ≡ q
+  pub binds : x ≡ (prefix-row s b i) .argument
   pub inside : x < length table
 
-pub own-row : {q : Quantifier} {s : Layout} {b : Bytes} {r x : ℕ} {table : List Bool} {high low : List ℕ}
-    → Ready s b high low (length table) → r < s .variables → owner s b r ≡ q → x ≡ (prefix-row s b r) .argument → Own q s b r x table
-own-row {r = r} ready within owned binds =
+pub own-row : {q : Quantifier} {s : Layout} {b : Bytes} {i x : ℕ} {table : List Bool} {high low : List ℕ}
+    → Ready s b high low (length table) → i < s .variables → owner s b i ≡ q → x ≡ (prefix-row s b i) .argument → Own q s b i x table
+own-row {i = i} ready within owned binds =
     record {
-      readable = ready .readable;
-      few = ready .few;
+      readable = ready .playable .readable;
+      few = ready .playable .few;
       within = within;
       owned = owned;
       binds = binds;
-      inside = omega (arith, binds, ready .numbered r within);
+      inside = omega (arith, binds, ready .playable .numbered i within);
     }
 
 -- 0 was tried first
-module _ {q : Quantifier} {s : Layout} {b : Bytes} {r x : ℕ} {table t₀ : List Bool} {zero : Outcome} (own : Own q s b r x table)
-    (first : Turned s b (r + 1) (set table x false) zero t₀) where
-  row-turn : turns s b r table ≡ turn q (tried zero) (turns s b (r + 1) (set table x true))
+module _ {q : Quantifier} {s : Layout} {b : Bytes} {i x : ℕ} {table t₀ : List Bool} {zero : Outcome} (own : Own q s b i x table)
+    (first : Turned s b (i + 1) (set table x false) zero t₀) where
+  row-turn : turns s b i table ≡ turn q (tried zero) (turns s b (i + 1) (set table x true))
   row-turn =
-      turns-row s b (own .readable) r x table (own .within) (own .binds) (own .inside) ∙
-      ap₂ (λ u t. turn u t (turns s b (r + 1) (set table x true))) (own .owned) (sym (first .outcome))
+      turns-row s b (own .readable) i x table (own .within) (own .binds) (own .inside) ∙
+      ap₂ (λ u t. turn u t (turns s b (i + 1) (set table x true))) (own .owned) (sym (first .outcome))
 
   pub restored-one : set t₀ x (getD table x false) ≡ table
   restored-one = rw (first .unchanged, set-set) (set-getD table x false)
@@ -123,21 +123,21 @@ module _ {q : Quantifier} {s : Layout} {b : Bytes} {r x : ℕ} {table t₀ : Lis
   kept-one = length-set t₀ x true ∙ ap length (first .unchanged) ∙ length-set table x false
 
   pub turn-stopped : {stop : Bool} → stop ≡ Bool·beq (stops-at q) (zero .verdict) → stop ≡ true
-      → Turned s b r table zero (set t₀ x (getD table x false))
+      → Turned s b i table zero (set t₀ x (getD table x false))
   turn-stopped asked v =
       record {
-        outcome = sym (row-turn ∙ turn-stops q (tried zero) (turns s b (r + 1) (set table x true)) (sym asked ∙ v));
+        outcome = sym (row-turn ∙ turn-stops q (tried zero) (turns s b (i + 1) (set table x true)) (sym asked ∙ v));
         unchanged = restored-one;
       }
 
   -- then 1
-  module _ {one : Outcome} {t₁ : List Bool} (second : Turned s b (r + 1) (set t₀ x true) one t₁) where
+  module _ {one : Outcome} {t₁ : List Bool} (second : Turned s b (i + 1) (set t₀ x true) one t₁) where
     pub leaves-fit : zero .leaves + one .leaves < 2 ^ 64
     leaves-fit =
         omega (
           arith,
-          turns-leaves s b (own .readable) (r + 1) (set table x false) (own .few),
-          turns-leaves s b (own .readable) (r + 1) (set t₀ x true) (own .few),
+          turns-leaves s b (own .readable) (i + 1) (set table x false) (own .few),
+          turns-leaves s b (own .readable) (i + 1) (set t₀ x true) (own .few),
           ap (λ (t : Tried). t .leaves) (first .outcome),
           ap (λ (t : Tried). t .leaves) (second .outcome),
         )
@@ -149,14 +149,14 @@ module _ {q : Quantifier} {s : Layout} {b : Bytes} {r x : ℕ} {table t₀ : Lis
     inside-both = rw (second .unchanged, length-set) inside-one
 
     pub turn-went-on : {stop : Bool} → stop ≡ Bool·beq (stops-at q) (zero .verdict) → stop ≡ false → (o : Outcome)
-        → (o .verdict ≡ one .verdict) × (o .leaves ≡ zero .leaves + one .leaves) → Turned s b r table o (set t₁ x (getD table x false))
+        → (o .verdict ≡ one .verdict) × (o .leaves ≡ zero .leaves + one .leaves) → Turned s b i table o (set t₁ x (getD table x false))
     turn-went-on asked v o sum =
         record {
           outcome =
               ap₂ (λ u n. record { verdict = u; leaves = n }) (sum .0) (sum .1) ∙
               sym
               (row-turn ∙
-              ap (λ l. turn q (tried zero) (turns s b (r + 1) l))
+              ap (λ l. turn q (tried zero) (turns s b (i + 1) l))
               (sym (ap (λ t. set t x true) (first .unchanged) ∙ set-set table x false true)) ∙
               ap (turn q (tried zero)) (sym (second .outcome)) ∙
               turn-goes-on q (tried zero) (tried one) (sym asked ∙ v));
@@ -173,29 +173,29 @@ turns-first s b n o e = e ∙ ap (try (prefix-in s b) (eval (matrix-in s b))) (f
     none (suc n) zero = refl
     none (suc n) (suc x) = none n x
 
--- how many calls of turns may follow one of the side q at row r: two for each row left, and one more if the row is the other side's
+-- how many calls of turns may follow one of the side q at row i: two for each row left, and one more if the row is the other side's
 pub calls : Quantifier → Layout → Bytes → ℕ → ℕ
-calls q s b r = 2 * (s .variables - r) + cond (same-op q (owner s b r)) 0 1
+calls q s b i = 2 * (s .variables - i) + cond (same-op q (owner s b i)) 0 1
 
-falls : (q : Quantifier) (s : Layout) (b : Bytes) (r : ℕ) → r < s .variables → calls q s b (r + 1) < calls q s b r
+falls : (q : Quantifier) (s : Layout) (b : Bytes) (i : ℕ) → i < s .variables → calls q s b (i + 1) < calls q s b i
 unfolding calls
-falls q s b r h = omega (arith, one (same-op q (owner s b (r + 1))))
+falls q s b i h = omega (arith, one (same-op q (owner s b (i + 1))))
   where
     one : (u : Bool) → cond u 0 1 ≤ 1
     one true = omega arith
     one false = omega arith
 
 -- the side that owns the row has fewer calls before it
-pub hands-over : (q : Quantifier) (s : Layout) (b : Bytes) (r : ℕ) → owner s b r ≡ dual q → calls (dual q) s b r < calls q s b r
+pub hands-over : (q : Quantifier) (s : Layout) (b : Bytes) (i : ℕ) → owner s b i ≡ dual q → calls (dual q) s b i < calls q s b i
 unfolding calls
-hands-over and s b r e = rw e (omega arith)
-hands-over or s b r e = rw e (omega arith)
+hands-over and s b i e = rw e (omega arith)
+hands-over or s b i e = rw e (omega arith)
 
 -- the next row's turn has fewer calls before it, and finds what this one found
-pub next-turn : {q : Quantifier} {s : Layout} {b : Bytes} {r x t m : ℕ} {table : List Bool} {high low : List ℕ} → Own q s b r x table
-    → Ready s b high low (length table) → calls q s b r ≡ t → m ≡ length table
-    → (calls q s b (r + 1) < t) × (Ready s b high low m × (r + 1 ≤ s .variables))
-next-turn {q} {s} {b} {r} {high = high} {low = low} own ready is same = (
-  omega (arith, falls q s b r (own .within), is),
+pub next-turn : {q : Quantifier} {s : Layout} {b : Bytes} {i x t m : ℕ} {table : List Bool} {high low : List ℕ} → Own q s b i x table
+    → Ready s b high low (length table) → calls q s b i ≡ t → m ≡ length table
+    → (calls q s b (i + 1) < t) × (Ready s b high low m × (i + 1 ≤ s .variables))
+next-turn {q} {s} {b} {i} {high = high} {low = low} own ready is same = (
+  omega (arith, falls q s b i (own .within), is),
   (subst (Ready s b high low) (sym same) ready, omega (arith, own .within)),
 )

@@ -13,36 +13,36 @@ use Rattle.sheet.specs.Sheet.{trees, root}
 
 -- an entry of a table
 abbrev pub entry : List ℕ → ℕ → ℕ
-entry table r = getD table r 0
+entry table i = getD table i 0
 
--- p is the parent of r: of the subtrees that begin before r, the last one that is not yet at its end
-pub record Parent (ends : List ℕ) (p r : ℕ) : Type 0 where
-  pub before : p < r
-  pub still-open : r < entry ends p
-  pub others-closed : (y : ℕ) → p < y → y < r → entry ends y ≤ r
+-- p is the parent of i: of the subtrees that begin before i, the last one that is not yet at its end
+pub record Parent (ends : List ℕ) (p i : ℕ) : Type 0 where
+  pub before : p < i
+  pub still-open : i < entry ends p
+  pub others-closed : (y : ℕ) → p < y → y < i → entry ends y ≤ i
 
 abbrev pub Parents : List ℕ → List ℕ → ℕ → Type 0
-Parents ends parents r = (q : ℕ) → 0 < q → q < r → Parent ends (entry parents q) q
+Parents ends parents i = (q : ℕ) → 0 < q → q < i → Parent ends (entry parents q) q
 
 -- a child's value leads past the child if its parent is not decided by it and has more children, else where the parent's leads
 abbrev pub past : Bool → ℕ → ℕ → ℕ → ℕ
 past undecided end last up = cond (undecided && ltb end last) end up
 
 unfoldable pub is-and : List Row → ℕ → Bool
-is-and R r = eqb ((getD R r (row 0 0)) .kind) 5
+is-and R i = eqb ((getD R i (row 0 0)) .kind) 5
 
--- both targets of row r, by its parent's
-pub record Wired (R : List Row) (ends high low : List ℕ) (r : ℕ) : Type 0 where
+-- both targets of row i, by its parent's
+pub record Wired (R : List Row) (ends high low : List ℕ) (i : ℕ) : Type 0 where
   pub parent : ℕ
-  pub is-parent : Parent ends parent r
-  pub high-target : entry high r ≡ past (is-and R parent) (entry ends r) (entry ends parent) (entry high parent)
-  pub low-target : entry low r ≡ past (not (is-and R parent)) (entry ends r) (entry ends parent) (entry low parent)
+  pub is-parent : Parent ends parent i
+  pub high-target : entry high i ≡ past (is-and R parent) (entry ends i) (entry ends parent) (entry high parent)
+  pub low-target : entry low i ≡ past (not (is-and R parent)) (entry ends i) (entry ends parent) (entry low parent)
 
--- every row before r has its targets; the root's are the verdicts
-pub record Targets (R : List Row) (ends high low : List ℕ) (r : ℕ) : Type 0 where
+-- every row before i has its targets; the root's are the verdicts
+pub record Targets (R : List Row) (ends high low : List ℕ) (i : ℕ) : Type 0 where
   pub root-high : entry high 0 ≡ length R
   pub root-low : entry low 0 ≡ length R + 1
-  pub wired : (q : ℕ) → 0 < q → q < r → Wired R ends high low q
+  pub wired : (q : ℕ) → 0 < q → q < i → Wired R ends high low q
 
 -- n rows have their targets' places in both tables
 pub record Rooms (n : ℕ) (high low : List ℕ) : Type 0 where
@@ -57,27 +57,27 @@ values table x = getD table x false
 unfoldable pub row-value : Row → Assignment → Bool
 row-value x ρ = cond (leb (x .kind) 4) (Bool·beq (eqb (x .kind) 3) (ρ (x .argument))) (eqb (x .kind) 5)
 
--- where evaluation goes on after row r: an operator goes on at its first child, any other row by its value
+-- where evaluation goes on after row i: an operator goes on at its first child, any other row by its value
 unfoldable pub next : List Row → List ℕ → List ℕ → Assignment → ℕ → ℕ
-next R high low ρ r =
-    cond (eqb (children (getD R r (row 0 0))) 0) (cond (row-value (getD R r (row 0 0)) ρ) (entry high r) (entry low r)) (r + 1)
+next R high low ρ i =
+    cond (eqb (children (getD R i (row 0 0))) 0) (cond (row-value (getD R i (row 0 0)) ρ) (entry high i) (entry low i)) (i + 1)
 
 -- the row that says the verdict
 abbrev pub verdict-row : ℕ → Bool → ℕ
 verdict-row n true = n
 verdict-row n false = n + 1
 
--- r leads to a verdict in k steps, or in some number of them
+-- i leads to a verdict in k steps, or in some number of them
 abbrev pub Leads : ℕ → (ℕ → ℕ) → Bool → ℕ → ℕ → Type 0
-Leads n step x zero r = r ≡ verdict-row n x
-Leads n step x (suc k) r = (r < n) × Leads n step x k (step r)
+Leads n step x zero i = i ≡ verdict-row n x
+Leads n step x (suc k) i = (i < n) × Leads n step x k (step i)
 
-pub record Decides (n : ℕ) (step : ℕ → ℕ) (x : Bool) (r : ℕ) : Type 0 where
+pub record Decides (n : ℕ) (step : ℕ → ℕ) (x : Bool) (i : ℕ) : Type 0 where
   pub steps : ℕ
-  pub leads : Leads n step x steps r
+  pub leads : Leads n step x steps i
 
 -- tables that evaluate the matrix: every jump leads forward, and row 0 to the value
 pub record Jumps (R : List Row) (high low : List ℕ) : Type 0 where
-  pub high-forward : (r : ℕ) → r < length R → (r < entry high r) × (entry high r ≤ length R + 1)
-  pub low-forward : (r : ℕ) → r < length R → (r < entry low r) × (entry low r ≤ length R + 1)
+  pub high-forward : (i : ℕ) → i < length R → (i < entry high i) × (entry high i ≤ length R + 1)
+  pub low-forward : (i : ℕ) → i < length R → (i < entry low i) × (entry low i ≤ length R + 1)
   pub decides : (ρ : Assignment) → Decides (length R) (next R high low ρ) (eval (root (trees R)) ρ) 0

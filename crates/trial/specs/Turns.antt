@@ -19,15 +19,15 @@ use Rattle.trial.specs.Jumps.{Rooms, values, Jumps}
 abbrev pub tried : Outcome → Tried
 tried o = record { verdict = o .verdict; leaves = o .leaves }
 
--- prefix row r, and the prefix from it on: the rows not yet read
+-- prefix row i, and the prefix from it on: the rows not yet read
 abbrev pub prefix-row : Layout → Bytes → ℕ → Row
-prefix-row s b r = getD (rows-in s b) r (row 0 0)
+prefix-row s b i = getD (rows-in s b) i (row 0 0)
 
 unfoldable pub unread : Layout → Bytes → ℕ → Prefix
-unread s b r = drop r (prefix-in s b)
+unread s b i = drop i (prefix-in s b)
 
 unfoldable pub turns : Layout → Bytes → ℕ → List Bool → Tried
-turns s b r table = try (unread s b r) (eval (matrix-in s b)) (values table)
+turns s b i table = try (unread s b i) (eval (matrix-in s b)) (values table)
 
 -- the whole semantic tree; every literal is bound, so the first assignment is never read
 unfoldable pub semantic-tree : Layout → Bytes → Tried
@@ -35,7 +35,7 @@ semantic-tree s b = try (prefix-in s b) (eval (matrix-in s b)) (λ _. false)
 
 -- the bound numbers have an entry in the assignment
 abbrev pub Numbered : Layout → Bytes → ℕ → Type 0
-Numbered s b numbers = (r : ℕ) → r < s .variables → (prefix-row s b r) .argument < numbers
+Numbered s b numbers = (i : ℕ) → i < s .variables → (prefix-row s b i) .argument < numbers
 
 -- a sheet that can be tried: of few variables, each in the assignment
 pub record Playable (s : Layout) (b : Bytes) (numbers : ℕ) : Type 0 where
@@ -43,15 +43,13 @@ pub record Playable (s : Layout) (b : Bytes) (numbers : ℕ) : Type 0 where
   pub few : s .variables ≤ 20
   pub numbered : Numbered s b numbers
 
--- what every turn finds: the same, with the matrix in the jump tables
+-- what every turn finds: such a sheet, with its matrix in the jump tables
 pub record Ready (s : Layout) (b : Bytes) (high low : List ℕ) (numbers : ℕ) : Type 0 where
-  pub readable : Readable s b
-  pub few : s .variables ≤ 20
-  pub numbered : Numbered s b numbers
+  pub playable : Playable s b numbers
   pub jumps : Jumps (node-rows-in s b) high low
   pub rooms : Rooms (s .nodes) high low
 
--- what a turn from row r on leaves: its outcome, and the assignment as it was
-pub record Turned (s : Layout) (b : Bytes) (r : ℕ) (table : List Bool) (o : Outcome) (table′ : List Bool) : Type 0 where
-  pub outcome : tried o ≡ turns s b r table
+-- what a turn from row i on leaves: its outcome, and the assignment as it was
+pub record Turned (s : Layout) (b : Bytes) (i : ℕ) (table : List Bool) (o : Outcome) (table′ : List Bool) : Type 0 where
+  pub outcome : tried o ≡ turns s b i table
   pub unchanged : table′ ≡ table

@@ -99,11 +99,11 @@ existential-same-length t c = refl
 existential-returns : (t : ℕ) → existential-lts.Need-returns (existential-callees t) (existential-at t) existential.Post
 existential-returns t c =
     let a = c .before .before .before .before .before .before .before .before in
-    turned-leaf (a .args .s) (a .args .sheet .now) (a .pre .1 .0 .readable) (c .leaf .result) (a .args .i) (a .args .assignment .now)
+    turned-leaf (a .args .s) (a .args .sheet .now) (a .pre .1 .0 .playable .readable) (c .leaf .result) (a .args .i) (a .args .assignment .now)
     (c .before .before .if1 .taken) (c .leaf .ensures)
 
 existential-is-existential-requires : (t : ℕ) → existential-lts.Need-is-existential-requires (existential-callees t) (existential-at t) existential.Post
-existential-is-existential-requires t c κs = (c .before .before .before .before .before .before .pre .1 .0 .readable, omega arith)
+existential-is-existential-requires t c κs = (c .before .before .before .before .before .before .pre .1 .0 .playable .readable, omega arith)
 
 existential-universal-requires : (t : ℕ) → existential-lts.Need-universal-requires (existential-callees t) (existential-at t) existential.Post
 existential-universal-requires t c κs =
@@ -120,7 +120,7 @@ existential-returns-2 t c =
     record { outcome = turned .outcome; unchanged = turned .unchanged }
 
 existential-variable-at-requires : (t : ℕ) → existential-lts.Need-variable-at-requires (existential-callees t) (existential-at t) existential.Post
-existential-variable-at-requires t c κs = (c .before .before .before .before .before .before .before .before .pre .1 .0 .readable, omega arith)
+existential-variable-at-requires t c κs = (c .before .before .before .before .before .before .before .before .pre .1 .0 .playable .readable, omega arith)
 
 -- a row of this side, and the turn that came to it
 abbrev existential-row : ℕ → Type 0
@@ -235,11 +235,11 @@ universal-same-length t c = refl
 universal-returns : (t : ℕ) → universal-lts.Need-returns (universal-callees t) (universal-at t) universal.Post
 universal-returns t c =
     let a = c .before .before .before .before .before .before .before .before in
-    turned-leaf (a .args .s) (a .args .sheet .now) (a .pre .1 .0 .readable) (c .leaf .result) (a .args .i) (a .args .assignment .now)
+    turned-leaf (a .args .s) (a .args .sheet .now) (a .pre .1 .0 .playable .readable) (c .leaf .result) (a .args .i) (a .args .assignment .now)
     (c .before .before .if1 .taken) (c .leaf .ensures)
 
 universal-is-existential-requires : (t : ℕ) → universal-lts.Need-is-existential-requires (universal-callees t) (universal-at t) universal.Post
-universal-is-existential-requires t c κs = (c .before .before .before .before .before .before .pre .1 .0 .readable, omega arith)
+universal-is-existential-requires t c κs = (c .before .before .before .before .before .before .pre .1 .0 .playable .readable, omega arith)
 
 universal-existential-requires : (t : ℕ) → universal-lts.Need-existential-requires (universal-callees t) (universal-at t) universal.Post
 universal-existential-requires t c κs =
@@ -256,7 +256,7 @@ universal-returns-2 t c =
     record { outcome = turned .outcome; unchanged = turned .unchanged }
 
 universal-variable-at-requires : (t : ℕ) → universal-lts.Need-variable-at-requires (universal-callees t) (universal-at t) universal.Post
-universal-variable-at-requires t c κs = (c .before .before .before .before .before .before .before .before .pre .1 .0 .readable, omega arith)
+universal-variable-at-requires t c κs = (c .before .before .before .before .before .before .before .before .pre .1 .0 .playable .readable, omega arith)
 
 -- a row of this side, and the turn that came to it
 abbrev universal-row : ℕ → Type 0

@@ -14,16 +14,16 @@ use Rattle.trial.proofs.Evaluation.{next-on, verdict-at}
 use Rattle.trial.proofs.evaluate.Statement.{statement}
 use Rattle.trial.proofs.evaluate.Tie as tie
 
--- row r leads to the matrix's value
+-- row i leads to the matrix's value
 abbrev Going : List Row → List ℕ → List ℕ → Assignment → ℕ → Type 0
-Going R high low ρ r = Decides (length R) (next R high low ρ) (eval (root (trees R)) ρ) r
+Going R high low ρ i = Decides (length R) (next R high low ρ) (eval (root (trees R)) ρ) i
 
 abbrev Inv-loop : tie.InvT-loop
-Inv-loop sheet s high low assignment n r₀ r =
-    (r ≤ n + 1) × Going (node-rows-in s sheet) high low (values assignment) r
+Inv-loop sheet s high low assignment n r₀ i =
+    (i ≤ n + 1) × Going (node-rows-in s sheet) high low (values assignment) i
 
 abbrev μ-loop : tie.MeasureT-loop
-μ-loop sheet s high low assignment n r₀ r = n + 2 - r
+μ-loop sheet s high low assignment n r₀ i = n + 2 - i
 
 abbrev head : tie.After-next Inv-loop μ-loop → tie.At-loop Inv-loop μ-loop
 head c = c .before .before

@@ -11,7 +11,7 @@ evaluate-requires c κs = search needs
 returns : tie.Need-returns
 returns c =
     let a = c .before .before .before .before .before in
-    turns-leaf (a .args .s) (a .args .sheet .now) (a .pre .readable) (a .args .assignment .now) (c .evaluate .result) (c .evaluate .ensures)
+    turns-leaf (a .args .s) (a .args .sheet .now) (a .pre .playable .readable) (a .args .assignment .now) (c .evaluate .result) (c .evaluate .ensures)
 
 pub leaf-spec : {M : Type 1} → statement M
 leaf-spec = tie.close (tie.spec evaluate-requires returns)

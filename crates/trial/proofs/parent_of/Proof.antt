@@ -1,4 +1,4 @@
--- `trial::parent_of` meets its contract. The loop's invariant: the subtrees between p and r have come to their ends.
+-- `trial::parent_of` meets its contract. The loop's invariant: the subtrees between p and i have come to their ends.
 -- Assumes nothing.
 use Prim.Native.Nat.{_<_}
 use native.Mathlib.Omega.{arith}
@@ -7,10 +7,10 @@ use Rattle.trial.proofs.parent_of.Statement.{statement}
 use Rattle.trial.proofs.parent_of.Tie as tie
 
 abbrev Inv-loop : tie.InvT-loop
-Inv-loop ends parents r p₀ p = (p < r) × Closed ends p r
+Inv-loop ends parents i p₀ p = (p < i) × Closed ends p i
 
 abbrev μ-loop : tie.MeasureT-loop
-μ-loop ends parents r p₀ p = p
+μ-loop ends parents i p₀ p = p
 
 abbrev head : tie.After-to-row2 Inv-loop μ-loop → tie.At-loop Inv-loop μ-loop
 head c = c .before .before .before .before .before

@@ -32,9 +32,7 @@ existential-requires c κs =
     let p = c .before .before .before .before .before .before .before .before .before .pre in
     let built = c .before .before .before .before .before .build in (
       record {
-        readable = p .readable;
-        few = p .few;
-        numbered = p .numbered;
+        playable = p;
         jumps = built .ensures;
         rooms =
             record {

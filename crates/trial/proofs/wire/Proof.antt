@@ -1,4 +1,4 @@
--- `trial::wire` meets its contract. The loop's invariant: the rows before r have their parents and their targets.
+-- `trial::wire` meets its contract. The loop's invariant: the rows before i have their parents and their targets.
 -- Assumes nothing.
 use mathlib.Core.Path.{_≡_, refl, sym, ap, subst, _∙_}
 use mathlib.Core.List.{List}
@@ -16,11 +16,11 @@ use Rattle.trial.proofs.wire.Statement.{statement}
 use Rattle.trial.proofs.wire.Tie as tie
 
 abbrev Inv-loop : tie.InvT-loop
-Inv-loop sheet s ends parents₀ high₀ low₀ n r₀ parents high low r =
-    Wiring (node-rows-in s sheet) ends parents₀ high₀ low₀ n parents high low r
+Inv-loop sheet s ends parents₀ high₀ low₀ n i₀ parents high low i =
+    Wiring (node-rows-in s sheet) ends parents₀ high₀ low₀ n parents high low i
 
 abbrev μ-loop : tie.MeasureT-loop
-μ-loop sheet s ends parents₀ high₀ low₀ n r₀ parents high low r = n - r
+μ-loop sheet s ends parents₀ high₀ low₀ n i₀ parents high low i = n - i
 
 abbrev start : tie.At-loop Inv-loop μ-loop → tie.Start Inv-loop μ-loop
 start c = c .before .before .before .before .before .before
@@ -72,9 +72,9 @@ parent-of-requires : tie.Need-parent-of-requires Inv-loop μ-loop
 parent-of-requires c κs =
     let head = c .before .before in
     let a = start head in
-    let i = head .loop .inv in
+    let inv = head .loop .inv in
     let open-root = root-entry (a .args .sheet .now) (a .args .ends .now) (a .pre .0) in
-    (i .started, omega (arith, a .pre .0 .holds), omega (arith, i .parents-room), omega arith, i .known)
+    (inv .started, omega (arith, a .pre .0 .holds), omega (arith, inv .parents-room), omega arith, inv .known)
 
 cast-parents : tie.Need-cast-parents Inv-loop μ-loop
 cast-parents c = omega arith
@@ -141,25 +141,25 @@ loop-again c =
     let head = c .before .before .before .before .before .before .before .before .before .before in
     let a = start head in
     let ends = a .args .ends .now in
-    let r = head .loop .i in
-    let i = head .loop .inv in
+    let i = head .loop .i in
+    let inv = head .loop .inv in
     let taken = c .before .before .before .before .before .before .before .before .before .loop-test .taken in
     let up = c .before .before .before .before .before .before .before .parent-of in
     let kind = c .before .before .before .before .before .before .kind-at in
     record {
-      parents-length = simp length-set (i .parents-length);
-      high-length = simp length-set (i .high-length ∙ simp length-set);
-      low-length = simp length-set (i .low-length ∙ simp length-set);
-      parents-room = simp length-set (i .parents-room);
-      high-room = simp length-set (i .high-room);
-      low-room = simp length-set (i .low-room);
+      parents-length = simp length-set (inv .parents-length);
+      high-length = simp length-set (inv .high-length ∙ simp length-set);
+      low-length = simp length-set (inv .low-length ∙ simp length-set);
+      parents-room = simp length-set (inv .parents-room);
+      high-room = simp length-set (inv .high-room);
+      low-room = simp length-set (inv .low-room);
       started = omega arith;
       within = omega (arith, taken);
-      known = parents-more ends (head .loop .parents) r (up .result) (omega (arith, i .parents-room)) (up .ensures) (i .known);
+      known = parents-more ends (head .loop .parents) i (up .result) (omega (arith, inv .parents-room)) (up .ensures) (inv .known);
       targets =
-          wire-row (R a) ends (head .loop .high) (head .loop .low) r (up .result) (kind .result) (c .before .before .past .result) (c .past2 .result)
-          (i .started) (omega (arith, i .high-room)) (omega (arith, i .low-room)) (up .ensures) (kind-row (a .args .sheet .now) (a .pre .0 .readable) (up .result) (omega arith) (kind .ensures)) (c .before .before .past .ensures)
-          (c .past2 .ensures) (i .targets);
+          wire-row (R a) ends (head .loop .high) (head .loop .low) i (up .result) (kind .result) (c .before .before .past .result) (c .past2 .result)
+          (inv .started) (omega (arith, inv .high-room)) (omega (arith, inv .low-room)) (up .ensures) (kind-row (a .args .sheet .now) (a .pre .0 .readable) (up .result) (omega arith) (kind .ensures)) (c .before .before .past .ensures)
+          (c .past2 .ensures) (inv .targets);
     }
 
 same-length : tie.Need-same-length Inv-loop μ-loop
