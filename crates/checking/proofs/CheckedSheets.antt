@@ -19,12 +19,15 @@ use Rattle.rows.proofs.Formulas.{formula-read, accepted-readable}
 use Rattle.checking.specs.declared.Checked.{Checked}
 use Rattle.checking.specs.declared.Checked.the-variants.{Accepted, Refused}
 use Rattle.checking.specs.Answers.{checked-answer}
-use Rattle.checking.specs.Limits.{Manageable, Sheet}
+use Rattle.checking.specs.Limits.{Manageable, Countable, Sheet}
 use Rattle.checking.specs.Inner.Stages.{Sized, sizes, size-answer}
 use Rattle.checking.proofs.Tests.{never-both}
 
 pub narrow-manageable : Manageable narrow
 narrow-manageable = record { few-bytes = omega arith; few-variables = omega arith; few-nodes = omega arith }
+
+pub narrow-countable : Countable narrow
+narrow-countable = record { manageable = narrow-manageable; two-bytes = omega arith; few-rows = omega arith }
 
 -- the layout of a format's sheet with these sizes
 abbrev pub layout-with : Format → ℕ → ℕ → Layout

@@ -14,7 +14,7 @@ use Rattle.sheet.specs.Check.{passes, check-tests}
 use Rattle.sheet.proofs.Preorder.{length-tree-rows, root-trees}
 use Rattle.sheet.proofs.CheckTests.{passed, passed-sizes, map-binding-row}
 use Rattle.sheet.proofs.Accepted.{accepted-length, formula-rows-formula}
-use Rattle.rows.specs.Layouts.{rows-in}
+use Rattle.rows.specs.Layouts.{rows-in, Room}
 use Rattle.rows.specs.Formulas.{prefix-in, node-rows-in, matrix-in, formula-in, Readable, layout-of}
 use Rattle.rows.specs.declared.Layout.{Layout}
 use Rattle.rows.proofs.Layouts.{all-rows-in, length-rows-in}
@@ -29,33 +29,43 @@ pub node-row : (s : Layout) (b : Bytes) (i : ℕ) → getD (rows-in s b) (s .var
 unfolding node-rows-in
 node-row s b i = sym (getD-drop (s .variables) (rows-in s b) i (row 0 0))
 
+module _ {s : Layout} (b : Bytes) (room : Room s (length b)) where
+  pub prefix-length : length (prefix-in s b) ≡ s .variables
+  unfolding prefix-in
+  prefix-length =
+      length-map (take (s .variables) (rows-in s b)) binding ∙
+      length-take-le (s .variables) (rows-in s b) (omega (arith, length-rows-in b room))
+
+  length-bound : length (map binding-row (prefix-in s b)) ≡ s .variables
+  length-bound = length-map (prefix-in s b) binding-row ∙ prefix-length
+
+  -- the first rows are quantifiers, and those behind them the nodes of one tree
+  module _ (is : formula-rows (formula-in s b) ≡ rows-in s b) where
+    pub prefix-is : map binding-row (prefix-in s b) ≡ take (s .variables) (rows-in s b)
+    unfolding formula-rows formula-in
+    prefix-is =
+        sym (take-at (map binding-row (prefix-in s b)) (tree-rows (matrix-in s b)) (s .variables) length-bound) ∙
+        ap (take (s .variables)) is
+
+    pub matrix-is : tree-rows (matrix-in s b) ≡ node-rows-in s b
+    unfolding formula-rows formula-in node-rows-in
+    matrix-is =
+        sym (drop-at (map binding-row (prefix-in s b)) (tree-rows (matrix-in s b)) (s .variables) length-bound) ∙
+        ap (drop (s .variables)) is
+
 module _ {s : Layout} (b : Bytes) (ok : Readable s b) where
   pub length-nodes : length (node-rows-in s b) ≡ s .nodes
   unfolding node-rows-in
   length-nodes = omega (arith, length-drop (s .variables) (rows-in s b), length-rows-in b (ok .room))
 
-  prefix-bound : length (take (s .variables) (rows-in s b)) ≡ s .variables
-  prefix-bound = length-take-le (s .variables) (rows-in s b) (omega (arith, length-rows-in b (ok .room)))
-
   pub length-prefix : length (prefix-in s b) ≡ s .variables
-  unfolding prefix-in
-  length-prefix = length-map (take (s .variables) (rows-in s b)) binding ∙ prefix-bound
+  length-prefix = prefix-length b (ok .room)
 
-  length-bound : length (map binding-row (prefix-in s b)) ≡ s .variables
-  length-bound = length-map (prefix-in s b) binding-row ∙ length-prefix
-
-  -- the first rows are quantifiers, and those behind them the nodes of one tree
   pub quantifiers : map binding-row (prefix-in s b) ≡ take (s .variables) (rows-in s b)
-  unfolding formula-rows formula-in
-  quantifiers =
-      sym (take-at (map binding-row (prefix-in s b)) (tree-rows (matrix-in s b)) (s .variables) length-bound) ∙
-      ap (take (s .variables)) (ok .is-formula)
+  quantifiers = prefix-is b (ok .room) (ok .is-formula)
 
   pub one-tree : tree-rows (matrix-in s b) ≡ node-rows-in s b
-  unfolding formula-rows formula-in node-rows-in
-  one-tree =
-      sym (drop-at (map binding-row (prefix-in s b)) (tree-rows (matrix-in s b)) (s .variables) length-bound) ∙
-      ap (drop (s .variables)) (ok .is-formula)
+  one-tree = matrix-is b (ok .room) (ok .is-formula)
 
   pub rows-nodes : rows (matrix-in s b) ≡ s .nodes
   rows-nodes = sym (length-tree-rows (matrix-in s b)) ∙ ap length one-tree ∙ length-nodes

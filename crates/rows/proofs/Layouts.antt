@@ -1,6 +1,7 @@
 -- The rows of a layout: how many there are, and what stands in each.
 -- Assumes nothing.
 use mathlib.Core.Path.{_≡_}
+use mathlib.Core.List.{_++_}
 use Prim.Native.Nat.{ℕ, _+_, _*_, _≤_, _<_}
 use lib.ListN.{length, getD, take, drop}
 use Rattle.sheet.specs.Format.{Bytes, Format, row, number, variables, nodes, all-rows}
@@ -33,3 +34,8 @@ module _ {s : Layout} (b : Bytes) (room : Room s (length b)) where
   -- its argument's bytes are within
   pub argument-within : (r : ℕ) → r < total s → 2 * s .width + total s + s .width * r + s .width ≤ length b
   argument-within r h = flat.argument-within b (room-of room) r h
+
+  -- bytes behind them change no row
+  pub rows-in-++ : (more : Bytes) → rows-in s (b ++ more) ≡ rows-in s b
+  unfolding rows-in rows.rows-in
+  rows-in-++ more = flat.rows-in-++ b (room-of room) more

@@ -1,12 +1,12 @@
 -- The rows of a sheet: how many there are, and what stands in each.
 -- Assumes nothing.
-use mathlib.Core.Path.{_≡_, refl, _∙_}
-use mathlib.Core.List.{[], _∷_}
+use mathlib.Core.Path.{_≡_, refl, ap, ap₂, _∙_}
+use mathlib.Core.List.{[], _∷_, _++_}
 use Prim.Native.Nat.{ℕ, zero, suc, _+_, _*_, _≤_, _<_}
 use native.Mathlib.Nat.{mul-zero, mul-suc, add-mul, one-mul, add-comm, mul-le-mul-left}
 use native.Mathlib.Omega.{arith}
 use lib.ListN.{length, getD, take, drop, length-drop}
-use lib.Seq.{length-take-le, getD-take, getD-drop, drop-drop}
+use lib.Seq.{length-take-le, getD-take, getD-drop, drop-drop, take-append-le, drop-append-le}
 use borrow.Author.Tests.{le-leb, lt-leb}
 use Rattle.sheet.specs.Format.{Bytes, Format, Row, row, number, zip-rows, variables, nodes, kind-bytes, argument-bytes, all-rows, children}
 use Rattle.sheet.proofs.Parts.{length-zip-rows}
@@ -28,6 +28,13 @@ zip-rows-at w [] ds r h = absurd (omega arith)
 zip-rows-at w (k ∷ ks) ds zero h = rw mul-zero
 zip-rows-at w (k ∷ ks) ds (suc r) h =
     rw (zip-rows-at w ks (drop w ds) r (omega arith), drop-drop (w * r) w ds, mul-suc, add-comm (w * r) w)
+
+zip-rows-++ : (w : ℕ) (ks ds more : Bytes) → w * length ks ≤ length ds → zip-rows w ks (ds ++ more) ≡ zip-rows w ks ds
+unfolding zip-rows
+zip-rows-++ w [] ds more l = refl
+zip-rows-++ w (k ∷ ks) ds more l =
+    rw (take-append-le w ds more (omega (arith, mul-suc w (length ks))), drop-append-le w ds more (omega (arith, mul-suc w (length ks))))
+    (ap (λ rs. row k (number (take w ds)) ∷ rs) (zip-rows-++ w ks (drop w ds) more (omega (arith, mul-suc w (length ks), length-drop w ds))))
 
 module _ {w n : ℕ} (b : Bytes) (room : Room w n (length b)) where
   length-kinds : length (take n (drop (2 * w) b)) ≡ n
@@ -51,6 +58,21 @@ module _ {w n : ℕ} (b : Bytes) (room : Room w n (length b)) where
   -- its argument's bytes are within
   pub argument-within : (r : ℕ) → r < n → 2 * w + n + w * r + w ≤ length b
   argument-within r h = omega (arith, room .holds, add-mul 1 w n, one-mul n, next-row w h)
+
+  -- bytes behind them change no row
+  pub rows-in-++ : (more : Bytes) → rows-in w n (b ++ more) ≡ rows-in w n b
+  unfolding rows-in
+  rows-in-++ more =
+      ap₂ (zip-rows w)
+      (ap (take n) (drop-append-le (2 * w) b more (omega (arith, all))) ∙ take-append-le n (drop (2 * w) b) more (omega (arith, all, length-drop (2 * w) b)))
+      (drop-append-le (2 * w + n) b more (omega (arith, all))) ∙
+      zip-rows-++ w (take n (drop (2 * w) b)) (drop (2 * w + n) b) more enough
+    where
+      all : 2 * w + n + w * n ≤ length b
+      all = omega (arith, room .holds, add-mul 1 w n, one-mul n)
+
+      enough : w * length (take n (drop (2 * w) b)) ≤ length (drop (2 * w + n) b)
+      enough = rw length-kinds (omega (arith, all, length-drop (2 * w + n) b))
 
 -- a literal adds no child, an operator as many as its argument says
 pub children-literal : (r : Row) → r .kind ≤ 4 → children r ≡ 0

@@ -40,6 +40,11 @@ count-behind zero ts d e = omega arith
 count-behind (suc n) ∅ d e = omega arith
 count-behind (suc n) (t ▸ ts) d e = count-behind n ts d (omega arith)
 
+pub forest-rows-⧺ : (ts us : Forest) → forest-rows (ts ⧺ us) ≡ forest-rows ts ++ forest-rows us
+unfolding forest-rows _⧺_
+forest-rows-⧺ ∅ us = refl
+forest-rows-⧺ (t ▸ ts) us = ap (λ rs. tree-rows t ++ rs) (forest-rows-⧺ ts us) ∙ sym (append-assoc (tree-rows t) (forest-rows ts) (forest-rows us))
+
 rows-front-behind : (n : ℕ) (ts : Forest) → forest-rows (front n ts) ++ forest-rows (behind n ts) ≡ forest-rows ts
 unfolding front behind forest-rows
 rows-front-behind zero ts = refl

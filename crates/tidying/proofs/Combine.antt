@@ -5,7 +5,6 @@ use mathlib.Core.Bool.{Bool, true, false, not}
 use mathlib.Core.List.{List, [], _∷_, _++_, append-assoc}
 use Prim.Native.Nat.{ℕ, zero, suc, _+_, _-_, _≤_, _<_}
 use native.Mathlib.Omega.{arith}
-use lib.ListN.{getD}
 use lib.Seq.{append-snoc, getD-at}
 use Rattle.formula.specs.Tree.{Op, and, or, dual, Tree, lit, node, Forest, ∅, _▸_, _⧺_, some-child, count}
 use Rattle.formula.specs.Tidy.{splice, decides, firsts, unwrap, combine, tidy, tidy-all}
@@ -14,32 +13,34 @@ use Rattle.formula.proofs.Tidy.Limits.{tidy-is-tidy}
 use Rattle.sheet.specs.Format.{Row, row, children}
 use Rattle.sheet.specs.Sheet.{literal-kind, operator-kind, front, behind, grow}
 use Rattle.sheet.proofs.Preorder.{NodeKind, literal, operator, node-kind}
-use Rattle.tidying.specs.Blocks.{Blocks, _◂_, _⊕_, head, inner, block-rows, grown, live, Laid, Headed, Region, Owed, OperatorKind, Replaced}
-use Rattle.tidying.specs.Blocks as blocks
-use Rattle.tidying.specs.Steps.{Hopped, Reduced, Ready, all-tidy, TidyRegion}
-use Rattle.tidying.proofs.Walk.{live-⊕, rows-⊕, length-⊕, done-laid}
+use Rattle.blocks.specs.Blocks.{Blocks, _◂_, _⊕_, head, inner, block-rows, grown, live, Region, Owed, OperatorKind}
+use Rattle.blocks.specs.Walks.{Hopped, Hops, at-row}
+use Rattle.blocks.specs.Rules.{Reduced, all-tidy, TidyRegion, Reduces}
+use Rattle.blocks.proofs.Blocks.{live-⊕, rows-⊕, length-⊕, done-laid}
+use Rattle.tidying.specs.Inner.Operators.{Headed, Replaced, Ready, Combines, Hollows, Concludes}
+use Rattle.blocks.specs.Blocks as blocks
 use Rattle.tidying.proofs.Conclude.{behind-row}
 
 -- tidying children one by one
 
-pub tidy-front : (n : ℕ) (ts : Forest) → tidy-all (front n ts) ≡ front n (tidy-all ts)
+tidy-front : (n : ℕ) (ts : Forest) → tidy-all (front n ts) ≡ front n (tidy-all ts)
 unfolding tidy-all front
 tidy-front zero ts = refl
 tidy-front (suc n) ∅ = refl
 tidy-front (suc n) (t ▸ ts) = ap (λ us. tidy t ▸ us) (tidy-front n ts)
 
-pub tidy-behind : (n : ℕ) (ts : Forest) → tidy-all (behind n ts) ≡ behind n (tidy-all ts)
+tidy-behind : (n : ℕ) (ts : Forest) → tidy-all (behind n ts) ≡ behind n (tidy-all ts)
 unfolding tidy-all behind
 tidy-behind zero ts = refl
 tidy-behind (suc n) ∅ = refl
 tidy-behind (suc n) (t ▸ ts) = tidy-behind n ts
 
-pub count-tidy : (ts : Forest) → count (tidy-all ts) ≡ count ts
+count-tidy : (ts : Forest) → count (tidy-all ts) ≡ count ts
 unfolding tidy-all count
 count-tidy ∅ = refl
 count-tidy (t ▸ ts) = ap suc (count-tidy ts)
 
-pub all-tidied : (ts : Forest) → all-tidy (tidy-all ts)
+all-tidied : (ts : Forest) → all-tidy (tidy-all ts)
 unfolding tidy-all all-tidy some-child
 all-tidied ∅ = refl
 all-tidied (t ▸ ts) = or-none (ap not (tidy-is-tidy t)) (all-tidied ts)
@@ -70,7 +71,7 @@ literal-kept {bs = bs} ts k a (literal s) l e h =
 literal-kept ts k a (operator and) l e h = absurd (omega arith)
 literal-kept ts k a (operator or) l e h = absurd (omega arith)
 
-pub ready-literal : {R : List Row} {r n : ℕ} {before : List Row} {x : Row} {bs : Blocks} {ts : Forest} → x .kind ≤ 4
+ready-literal : {R : List Row} {r n : ℕ} {before : List Row} {x : Row} {bs : Blocks} {ts : Forest} → x .kind ≤ 4
     → Ready R r n before x bs ts → Replaced R r n before [] (tidy-all (grow x ts))
 ready-literal {x = x} {ts = ts} l h = literal-kept ts (x .kind) (x .argument) (node-kind (x .kind) (h .node .0) (h .node .1)) l (h .reads) (h .headed)
 
@@ -105,38 +106,17 @@ dual-kind : (k : ℕ) (o : Op) → k ≡ operator-kind o → 11 - k ≡ operator
 dual-kind k and e = omega (arith, e)
 dual-kind k or e = omega (arith, e)
 
--- what the functions say that are called at an operator's row
-abbrev HopSays : List Row → ℕ → ℕ → ℕ → ℕ → Type 0
-HopSays R r n a end =
-    (before : List Row) (bs : Blocks) (after : List Row) → Laid R (r + 1) n before bs after → a ≤ count (live bs)
-    → Hopped R (r + 1) end n before after a (live bs)
-
-abbrev ReduceSays : List Row → List Row → ℕ → ℕ → ℕ → Bool → Type 0
-ReduceSays R R₁ from end kind d =
-    (before : List Row) (bs : Blocks) (after : List Row) → Laid R from end before bs after → (o : Op) → kind ≡ operator-kind o
-    → all-tidy (live bs) → Reduced R₁ from end before after o (live bs) d
-
-abbrev HollowSays : List Row → List Row → ℕ → ℕ → ℕ → Type 0
-HollowSays R R₁ r end kind =
-    (before : List Row) (x : Row) (bs : Blocks) (after : List Row) → Headed R r end before x bs after → (o : Op) → kind ≡ operator-kind o
-    → Replaced R₁ r end before after (node o ∅ ▸ ∅)
-
-abbrev ConcludeSays : List Row → List Row → ℕ → ℕ → ℕ → Type 0
-ConcludeSays R R₁ r end kind =
-    (before : List Row) (x : Row) (bs : Blocks) (after : List Row) → Headed R r end before x bs after → (o : Op) → kind ≡ operator-kind o
-    → Replaced R₁ r end before after (unwrap o (live bs) ▸ ∅)
-
 headed-row : {R : List Row} {r to : ℕ} {before after : List Row} {x : Row} {bs : Blocks} → Headed R r to before x bs after
-    → getD R r (row 0 0) ≡ x
+    → at-row R r ≡ x
 headed-row {r = r} {before = before} {after = after} {x = x} {bs = bs} h =
-    ap (λ (l : List Row). getD l r (row 0 0)) (h .whole) ∙ getD-at before x (block-rows bs ++ after) (row 0 0) r (h .starts)
+    ap (λ (l : List Row). at-row l r) (h .whole) ∙ getD-at before x (block-rows bs ++ after) (row 0 0) r (h .starts)
 
-pub ready-literal-at : {R : List Row} {r n k : ℕ} → k ≡ (getD R r (row 0 0)) .kind → k ≤ 4
-    → (before : List Row) (x : Row) (bs : Blocks) (ts : Forest) → Ready R r n before x bs ts → Replaced R r n before [] (tidy-all (grow x ts))
+pub ready-literal-at : {R : List Row} {r n k : ℕ} → k ≡ (at-row R r) .kind → k ≤ 4
+    → Combines R R r n
 ready-literal-at e l before x bs ts h = ready-literal (omega (arith, e, ap (λ (q : Row). q .kind) (headed-row (h .headed)))) h
 
 -- An operator's row: its kind and its number of children as they were read.
-module _ {R : List Row} {r n k a : ℕ} (k-is : k ≡ (getD R r (row 0 0)) .kind) (a-is : a ≡ (getD R r (row 0 0)) .argument) (l : 4 < k)
+module _ {R : List Row} {r n k a : ℕ} (k-is : k ≡ (at-row R r) .kind) (a-is : a ≡ (at-row R r) .argument) (l : 4 < k)
     {before : List Row} {x : Row} {bs : Blocks} {ts : Forest} (h : Ready R r n before x bs ts) where
   kind-is : k ≡ x .kind
   kind-is = k-is ∙ ap (λ (q : Row). q .kind) (headed-row (h .headed))
@@ -161,7 +141,7 @@ module _ {R : List Row} {r n k a : ℕ} (k-is : k ≡ (getD R r (row 0 0)) .kind
   pub ready-owed : Owed R (r + 1) n a
   ready-owed = record { region = record { before = _; blocks = _; after = _; laid = behind-row (h .headed) }; enough = enough }
 
-  module _ {end : ℕ} (hop : HopSays R r n a end) where
+  module _ {end : ℕ} (hop : Hops R (r + 1) n a end) where
     hopped : Hopped R (r + 1) end n (before ++ (x ∷ [])) [] a (live bs)
     hopped = hop (before ++ (x ∷ [])) bs [] (behind-row (h .headed)) enough
 
@@ -209,7 +189,7 @@ module _ {R : List Row} {r n k a : ℕ} (k-is : k ≡ (getD R r (row 0 0)) .kind
               sym (ap (λ y. tidy-all (grow y ts)) row-is ∙ tidy-grow-operator (ready-kind .op) a ts);
         }
 
-    module _ {R₁ : List Row} {d : Bool} (reduce : ReduceSays R R₁ (r + 1) end k d) where
+    module _ {R₁ : List Row} {d : Bool} (reduce : Reduces R R₁ (r + 1) end k d) where
       reduced : Reduced R₁ (r + 1) end (before ++ (x ∷ [])) behind-them (ready-kind .op) kids d
       unfolding behind-them kids
       reduced = reduce (before ++ (x ∷ [])) (hopped .first) behind-them (done-laid (hopped .here)) (ready-kind .op) (ready-kind .is) kids-tidy
@@ -226,12 +206,12 @@ module _ {R : List Row} {r n k a : ℕ} (k-is : k ≡ (getD R r (row 0 0)) .kind
             ends = reduced .laid .ends;
           }
 
-      pub ready-decided : {R₂ : List Row} → d ≡ true → HollowSays R₁ R₂ r end (11 - k) → Replaced R₂ r n before [] (tidy-all (grow x ts))
+      pub ready-decided : {R₂ : List Row} → d ≡ true → Hollows R₁ R₂ r end (11 - k) → Replaced R₂ r n before [] (tidy-all (grow x ts))
       ready-decided e f =
           combined (f before x (reduced .blocks) behind-them headed (dual (ready-kind .op)) (dual-kind k (ready-kind .op) (ready-kind .is)))
           (combine-decided (ready-kind .op) kids (sym e ∙ reduced .decided-is))
 
-      pub ready-undecided : {R₂ : List Row} → d ≡ false → ConcludeSays R₁ R₂ r end k → Replaced R₂ r n before [] (tidy-all (grow x ts))
+      pub ready-undecided : {R₂ : List Row} → d ≡ false → Concludes R₁ R₂ r end k → Replaced R₂ r n before [] (tidy-all (grow x ts))
       ready-undecided e f =
           combined (f before x (reduced .blocks) behind-them headed (ready-kind .op) (ready-kind .is))
           (combine-undecided (ready-kind .op) kids (live (reduced .blocks)) (sym e ∙ reduced .decided-is) (reduced .reads e))

@@ -5,19 +5,20 @@ use mathlib.Core.Bool.{true, false, true≢false, false≢true}
 use mathlib.Core.List.{List, [], _∷_, _++_, append-assoc, append-nil}
 use Prim.Native.Nat.{ℕ, suc, _+_, _-_, _≤_, _<_}
 use native.Mathlib.Omega.{arith}
-use lib.ListN.{length, getD, set, length-append}
+use lib.ListN.{length, set, length-append}
 use lib.Seq.{set-at, append-snoc}
 use borrow.Author.Tests.{eq-eqb, ne-eqb}
 use Rattle.formula.specs.Tree.{Op, Tree, node, Forest, ∅, _▸_, _⧺_}
 use Rattle.formula.specs.Tidy.{unwrap, childless}
 use Rattle.sheet.specs.Format.{Row, row}
 use Rattle.sheet.specs.Sheet.{operator-kind}
-use Rattle.tidying.specs.Blocks.{gone, operator, Blocks, none, _◂_, head, inner, block-rows, extent, grown, live, Laid, Headed, Replaced}
-use Rattle.tidying.specs.Steps.{FirstLive}
-use Rattle.tidying.proofs.Walk.{live-◂, next, rest-laid}
-use Rattle.tidying.proofs.Scan.{here-next}
-use Rattle.tidying.proofs.Rules.{first-live-none}
-use Rattle.tidying.proofs.Hop.{live-one}
+use Rattle.blocks.specs.Blocks.{gone, operator, Blocks, none, _◂_, head, inner, block-rows, grown, live, Laid, Region}
+use Rattle.blocks.specs.Walks.{extent, FirstLive, at-row, Finds}
+use Rattle.blocks.proofs.Blocks.{live-◂, next, rest-laid}
+use Rattle.blocks.proofs.Walks.{here-next}
+use Rattle.blocks.proofs.SiftAt.{first-live-none}
+use Rattle.blocks.proofs.Hop.{live-one}
+use Rattle.tidying.specs.Inner.Operators.{Headed, Replaced, Hollows, Concludes}
 
 module _ {R : List Row} {r end : ℕ} {before after : List Row} {x : Row} {bs : Blocks} (l : Headed R r end before x bs after) where
   -- the blocks behind the row
@@ -46,7 +47,7 @@ module _ {R : List Row} {r end : ℕ} {before after : List Row} {x : Row} {bs : 
   size-is = omega (arith, l .ends)
 
   -- the operator stays
-  pub operator-put : (kind : ℕ) (o : Op) → kind ≡ operator-kind o → Replaced (set R r (row kind (end - r))) r end before after (node o (live bs) ▸ ∅)
+  operator-put : (kind : ℕ) (o : Op) → kind ≡ operator-kind o → Replaced (set R r (row kind (end - r))) r end before after (node o (live bs) ▸ ∅)
   unfolding block-rows head inner live grown
   operator-put kind o k =
       replaced (operator o bs ◂ none)
@@ -54,13 +55,22 @@ module _ {R : List Row} {r end : ℕ} {before after : List Row} {x : Row} {bs : 
       ap (λ rs. before ++ (row (operator-kind o) (suc (length (block-rows bs))) ∷ (rs ++ after))) (sym (append-nil (block-rows bs))))
       (ap (λ rs. suc (length rs)) (append-nil (block-rows bs))) refl
 
+pub replaced-as : {R R′ : List Row} {r to : ℕ} {before after : List Row} {ts us : Forest} → R′ ≡ R → ts ≡ us
+    → Replaced R r to before after ts → Replaced R′ r to before after us
+replaced-as {R} {R′} {r} {to} {before} {after} {ts} {us} e f h =
+    record {
+      blocks = h .blocks;
+      laid = subst (λ rs. Laid rs r to before (h .blocks) after) (sym e) (h .laid);
+      reads = h .reads ∙ f;
+    }
+
 -- the operator is empty: no row behind it, or a dead block
 pub no-rows : (bs : Blocks) → length (block-rows bs) ≡ 0 → live bs ≡ ∅
 unfolding block-rows live
 no-rows none e = refl
 no-rows (x ◂ bs) e = absurd (omega arith)
 
-pub hollow-short : {R : List Row} {r end : ℕ} {before after : List Row} {x : Row} {bs : Blocks} (kind : ℕ) (o : Op) → kind ≡ operator-kind o
+hollow-short : {R : List Row} {r end : ℕ} {before after : List Row} {x : Row} {bs : Blocks} (kind : ℕ) (o : Op) → kind ≡ operator-kind o
     → end ≤ r + 1 → Headed R r end before x bs after → Replaced (set R r (row kind (end - r))) r end before after (node o ∅ ▸ ∅)
 hollow-short {R} {r} {end} {before} {after} {x} {bs} kind o k s l =
     subst (λ ts. Replaced (set R r (row kind (end - r))) r end before after (node o ts ▸ ∅)) (no-rows bs (omega (arith, l .ends)))
@@ -72,7 +82,7 @@ unfolding block-rows head inner
 dead-rows o ys =
     simp append-nil (ap (λ rs. row (operator-kind o) (suc (suc (length rs))) ∷ (row 0 (suc (length ys)) ∷ ys)) (append-nil ys))
 
-pub hollow-long : {R : List Row} {r end : ℕ} {before after : List Row} {x : Row} {bs : Blocks} (kind : ℕ) (o : Op) → kind ≡ operator-kind o
+hollow-long : {R : List Row} {r end : ℕ} {before after : List Row} {x : Row} {bs : Blocks} (kind : ℕ) (o : Op) → kind ≡ operator-kind o
     → r + 1 < end → Headed R r end before x bs after
     → Replaced (set (set R r (row kind (end - r))) (r + 1) (row 0 (end - r - 1))) r end before after (node o ∅ ▸ ∅)
 unfolding live grown
@@ -97,8 +107,16 @@ hollow-long {R} {r} {end} {before} {after} {x} {bs} kind o k s l = go (block-row
         ap (λ rs. before ++ (rs ++ after)) (sym (dead-rows o ys)))
         (ap length (dead-rows o ys) ∙ omega (arith, counted)) refl
 
+pub hollows-short : {R R₁ : List Row} {r end kind : ℕ} → R₁ ≡ set R r (row kind (end - r)) → end ≤ r + 1 → Hollows R R₁ r end kind
+hollows-short e s before x bs after l o k = replaced-as e refl (hollow-short _ o k s l)
+
+pub hollows-long : {R R₁ R₂ : List Row} {r end kind : ℕ} → R₁ ≡ set R r (row kind (end - r)) → R₂ ≡ set R₁ (r + 1) (row 0 (end - r - 1))
+    → r + 1 < end → Hollows R R₂ r end kind
+hollows-long {r = r} {end = end} e e₂ s before x bs after l o k =
+    replaced-as (e₂ ∙ ap (λ (rs : List Row). set rs (r + 1) (row 0 (end - r - 1))) e) refl (hollow-long _ o k s l)
+
 -- a lone child replaces the node
-pub lone-put : {R : List Row} {r first end : ℕ} {before after : List Row} {x : Row} {bs : Blocks} → Headed R r end before x bs after
+lone-put : {R : List Row} {r first end : ℕ} {before after : List Row} {x : Row} {bs : Blocks} → Headed R r end before x bs after
     → FirstLive R (r + 1) first end (before ++ (x ∷ [])) bs after → Replaced (set R r (row 0 (first - r))) r end before after (live bs)
 unfolding block-rows head inner live grown
 lone-put {R} {r} {first} {end} {before} {after} {x} {bs} l f =
@@ -131,13 +149,13 @@ unfolding childless
 childless-none ∅ e = refl
 childless-none (t ▸ ts) e = absurd (false≢true e)
 
-pub unwrap-none : {R : List Row} {from at to : ℕ} {before after : List Row} {bs : Blocks} (o : Op) → FirstLive R from at to before bs after → at ≡ to
+unwrap-none : {R : List Row} {from at to : ℕ} {before after : List Row} {bs : Blocks} (o : Op) → FirstLive R from at to before bs after → at ≡ to
     → node o ∅ ▸ ∅ ≡ unwrap o (live bs) ▸ ∅
 unfolding unwrap
 unwrap-none {bs = bs} o f e = ap (λ ts. unwrap o ts ▸ ∅) (sym (childless-none (live bs) (sym (first-live-none f) ∙ eq-eqb _ _ e)))
 
 -- the blocks behind the first that holds a tree
-pub record Second (R : List Row) (at m to : ℕ) (bs : Blocks) : Type 0 where
+record Second (R : List Row) (at m to : ℕ) (bs : Blocks) : Type 0 where
   pub tree : Tree
   pub before : List Row
   pub others : Blocks
@@ -145,8 +163,8 @@ pub record Second (R : List Row) (at m to : ℕ) (bs : Blocks) : Type 0 where
   pub laid : Laid R (at + m) to before others after
   pub is : live bs ≡ tree ▸ live others
 
-pub second : {R : List Row} {from at m to : ℕ} {before after : List Row} {bs : Blocks} → FirstLive R from at to before bs after → at < to
-    → m ≡ extent (getD R at (row 0 0)) → Second R at m to bs
+second : {R : List Row} {from at m to : ℕ} {before after : List Row} {bs : Blocks} → FirstLive R from at to before bs after → at < to
+    → m ≡ extent (at-row R at) → Second R at m to bs
 unfolding _⧺_
 second {after = after} f l e =
     let m = next (f .here) l in
@@ -161,7 +179,7 @@ second {after = after} f l e =
       is = f .others ∙ ap live (m .is) ∙ live-◂ (m .block) (m .others) ∙ ap (λ ts. ts ⧺ live (m .others)) (t .is);
     }
 
-pub unwrap-one : {R : List Row} {at m p to : ℕ} {bs : Blocks} (o : Op) (s : Second R at m to bs)
+unwrap-one : {R : List Row} {at m p to : ℕ} {bs : Blocks} (o : Op) (s : Second R at m to bs)
     → FirstLive R (at + m) p to (s .before) (s .others) (s .after) → p ≡ to → live bs ≡ unwrap o (live bs) ▸ ∅
 unfolding unwrap
 unwrap-one {bs = bs} o s f e =
@@ -169,7 +187,7 @@ unwrap-one {bs = bs} o s f e =
     let one : live bs ≡ s .tree ▸ ∅ = s .is ∙ ap (λ ts. s .tree ▸ ts) none in
     one ∙ ap (λ ts. unwrap o ts ▸ ∅) (sym one)
 
-pub unwrap-many : {R : List Row} {at m p to : ℕ} {bs : Blocks} (o : Op) (s : Second R at m to bs)
+unwrap-many : {R : List Row} {at m p to : ℕ} {bs : Blocks} (o : Op) (s : Second R at m to bs)
     → FirstLive R (at + m) p to (s .before) (s .others) (s .after) → (p ≡ to → ⊥)
     → node o (live bs) ▸ ∅ ≡ unwrap o (live bs) ▸ ∅
 unfolding unwrap childless
@@ -186,14 +204,30 @@ pub first-within : {R : List Row} {from at to : ℕ} {before after : List Row} {
     → (from ≤ at) × (at ≤ to)
 first-within f = (omega (arith, f .here .place), omega (arith, f .here .ends))
 
-pub replaced-as : {R R′ : List Row} {r to : ℕ} {before after : List Row} {ts us : Forest} → R′ ≡ R → ts ≡ us
-    → Replaced R r to before after ts → Replaced R′ r to before after us
-replaced-as {R} {R′} {r} {to} {before} {after} {ts} {us} e f h =
-    record {
-      blocks = h .blocks;
-      laid = subst (λ rs. Laid rs r to before (h .blocks) after) (sym e) (h .laid);
-      reads = h .reads ∙ f;
-    }
-
 pub not-equal : {m n : ℕ} → m ≤ n → (m ≡ n → ⊥) → m < n
 not-equal l e = omega arith
+
+-- what stands behind the first tree that is found
+module _ {R : List Row} {from first end : ℕ} (f : Finds R from end first) (some : first ≡ end → ⊥) {m : ℕ}
+    (m-is : m ≡ extent (at-row R first)) where
+  second-there : {before after : List Row} {bs : Blocks} → Laid R from end before bs after → Second R first m end bs
+  second-there l = second (f _ _ _ l) (not-equal (first-within (f _ _ _ l) .1) some) m-is
+
+  pub second-region : Region R from end → Region R (first + m) end
+  second-region g = let s = second-there (g .laid) in record { before = _; blocks = _; after = _; laid = s .laid }
+
+-- no tree is found, one is, or another behind it
+module _ {R : List Row} {r first end : ℕ} (f : Finds R (r + 1) end first) where
+  pub concludes-none : {R₁ : List Row} {kind : ℕ} → first ≡ end → Hollows R R₁ r end kind → Concludes R R₁ r end kind
+  concludes-none e h before x bs after l o k = replaced-as refl (unwrap-none o (f _ bs after (behind-row l)) e) (h before x bs after l o k)
+
+  module _ (some : first ≡ end → ⊥) {m p : ℕ} (m-is : m ≡ extent (at-row R first)) (f₂ : Finds R (first + m) end p) where
+    pub concludes-one : {R₁ : List Row} {kind : ℕ} → p ≡ end → R₁ ≡ set R r (row 0 (first - r)) → Concludes R R₁ r end kind
+    concludes-one e stored before x bs after l o k =
+        let s = second-there f some m-is (behind-row l) in
+        replaced-as stored (unwrap-one o s (f₂ _ _ _ (s .laid)) e) (lone-put l (f _ bs after (behind-row l)))
+
+    pub concludes-many : {R₁ : List Row} {kind : ℕ} → (p ≡ end → ⊥) → R₁ ≡ set R r (row kind (end - r)) → Concludes R R₁ r end kind
+    concludes-many e stored before x bs after l o k =
+        let s = second-there f some m-is (behind-row l) in
+        replaced-as stored (unwrap-many o s (f₂ _ _ _ (s .laid)) e) (operator-put l _ o k)

@@ -1,6 +1,3 @@
--- Tidying on rows: the blocks that rows are while they are tidied, and what each step does to them.
-pub mod Blocks
-pub mod Steps
-pub mod InPlace
-pub mod Answers
+-- The rows that are tidied; below `Inner`, what the steps of tidying do to rows, which no caller of an operation must believe.
 pub mod Limits
+pub mod Inner

@@ -1,20 +1,17 @@
--- The formats that code which writes sheets takes.
+-- The rows that are tidied in place.
 -- Assumes nothing.
 use mathlib.Core.Path.{_≡_}
-use mathlib.Core.Bool.{true}
-use Prim.Native.Nat.{ℕ, _+_, _^_, _<_}
-use Rattle.sheet.specs.Format.{Bytes, Format, variables, nodes}
-use Rattle.sheet.specs.Check.{passes, check-tests}
-use Rattle.checking.specs.Limits.{Manageable}
+use Prim.Native.Nat.{_^_, _<_}
+use lib.ListN.{length}
+use Rattle.sheet.specs.Format.{Bytes, Format}
+use Rattle.sheet.specs.Sheet.{formula-rows}
+use Rattle.rows.specs.Layouts.{total, rows-in, Room}
+use Rattle.rows.specs.Formulas.{formula-in}
+use Rattle.rows.specs.declared.Layout.{Layout}
 
--- Check's code takes the format, and how many rows a sheet has is a number of the format: while a sheet is tidied, an operator's
--- argument counts the rows of its subtree
-pub record Countable (F : Format) : Type 0 where
-  pub manageable : Manageable F
-  pub few-rows : F .most-variables + F .most-nodes < 256 ^ F .width
-
--- a sheet that Check accepts, with its sizes
-pub record Sheet (F : Format) (b : Bytes) (v n : ℕ) : Type 0 where
-  pub tests-pass : passes (check-tests F b) ≡ true
-  pub variables-are : v ≡ variables F b
-  pub nodes-are : n ≡ nodes F b
+-- the rows of a formula, in numbers of the format; the sizes before them need not have been written
+pub record Raw (F : Format) (s : Layout) (b : Bytes) : Type 0 where
+  pub width-is : s .width ≡ F .width
+  pub room : Room s (length b)
+  pub few-rows : total s < 256 ^ s .width
+  pub is-formula : formula-rows (formula-in s b) ≡ rows-in s b

@@ -2,44 +2,36 @@
 use crate::operator::tidy_rows;
 use crate::pack::pack;
 use checking::Checked;
+use checking::Written;
 use rows::Format;
-use rows::seal::seal;
+use rows::Layout;
+use rows::write::seal;
 ghost use mathlib.Core.Path.{_≡_};
 ghost use mathlib.Core.List.{_++_};
-ghost use Prim.Native.Nat.{_+_, _^_, _≤_, _<_};
+ghost use Prim.Native.Nat.{_≤_};
 ghost use lib.ListN.{length, drop};
 ghost use Rattle.formula.specs.Tidy.{tidied};
-ghost use Rattle.sheet.specs.Sheet.{formula, formula-rows, sheet};
+ghost use Rattle.sheet.specs.Sheet.{formula, sheet};
 ghost use Rattle.sheet.specs.Format.{narrow};
 ghost use Rattle.sheet.specs.Operations.{padded, tidy-call};
-ghost use Rattle.rows.specs.Rows.{rows-in, Room};
 ghost use Rattle.rows.specs.Formats.{format-of};
-ghost use Rattle.tidying.specs.InPlace.{rows-formula};
-ghost use Rattle.tidying.specs.Limits.{Countable, Sheet};
-ghost use Rattle.tidying.specs.Answers.{written-answer};
+ghost use Rattle.rows.specs.Formulas.{formula-in};
+ghost use Rattle.checking.specs.Answers.{written-answer};
+ghost use Rattle.checking.specs.Limits.{Countable, Sheet};
+ghost use Rattle.tidying.specs.Limits.{Raw};
 
-pub mod blocks;
-pub mod children;
 pub mod operator;
 pub mod pack;
 
-// What an operation that writes a sheet answers: the new sheet's length, or a refusal's number and place.
-pub enum Written {
-    Accepted(usize),
-    Refused(usize, usize),
-}
-
-// Tidies the sheet of `v` variables and `n` nodes whose rows, those of a formula, stand in `b`, and returns the tidied sheet's length.
-// The sizes need not have been written.
-pub fn tidy_in_place(b: &mut [u8], f: Format, v: usize, n: usize) -> usize
-    requires { ⌜ Room (f .width) (v + n) (length (now b)) × (v + n < 256 ^ f .width) × (formula-rows (rows-formula v (rows-in (f .width) (v + n) (now b))) ≡ rows-in (f .width) (v + n) (now b)) ⌝ }
-    ensures { λ _. ⌜ now (b .exit) ≡ padded (length (now (b .entry))) (sheet (format-of f) (tidied (rows-formula v (rows-in (f .width) (v + n) (now (b .entry)))))) ⌝ }
-    ensures { λ r. ⌜ r ≡ length (sheet (format-of f) (tidied (rows-formula v (rows-in (f .width) (v + n) (now (b .entry)))))) ⌝ }
+// Tidies the formula whose rows stand in `b`, and returns the tidied sheet's length. The sizes need not have been written.
+pub fn tidy_in_place(b: &mut [u8], f: Format, s: Layout) -> usize
+    requires { ⌜ Raw (format-of f) s (now b) ⌝ }
+    ensures { λ _. ⌜ now (b .exit) ≡ padded (length (now (b .entry))) (sheet (format-of f) (tidied (formula-in s (now (b .entry))))) ⌝ }
+    ensures { λ r. ⌜ r ≡ length (sheet (format-of f) (tidied (formula-in s (now (b .entry))))) ⌝ }
 {
-    let width = f.width;
-    tidy_rows(b, width, v + n, v);
-    let rows = pack(b, width, v + n, v);
-    seal(b, width, v + n, rows, v)
+    tidy_rows(b, s);
+    let rows = pack(b, s);
+    seal(b, s, rows)
 }
 
 // Copies a sheet to the front of an output.
@@ -54,26 +46,26 @@ pub fn copy_front(sheet: &[u8], out: &mut [u8])
     }
 }
 
-// Tidies a sheet that Check accepts with these sizes into an output that is as long at least, and returns the new sheet's length.
-pub fn tidy_into(source: &[u8], f: Format, v: usize, n: usize, out: &mut [u8]) -> usize
-    requires { ⌜ Countable (format-of f) × Sheet (format-of f) (now source) v n × (length (now source) ≤ length (now out)) ⌝ }
+// Tidies a sheet that Check accepts, of this layout, into an output that is as long at least, and returns the new sheet's length.
+pub fn tidy_into(source: &[u8], f: Format, s: Layout, out: &mut [u8]) -> usize
+    requires { ⌜ Countable (format-of f) × Sheet (format-of f) (now source) s × (length (now source) ≤ length (now out)) ⌝ }
     ensures { λ _. ⌜ now (out .exit) ≡ padded (length (now (out .entry))) (sheet (format-of f) (tidied (formula (format-of f) (now (source .entry))))) ⌝ }
     ensures { λ r. ⌜ r ≡ length (sheet (format-of f) (tidied (formula (format-of f) (now (source .entry))))) ⌝ }
 {
     copy_front(source, out);
-    tidy_in_place(out, f, v, n)
+    tidy_in_place(out, f, s)
 }
 
-// Tidies a sheet that Check accepts with these sizes: 13 output shorter than the sheet.
-fn tidy_checked(sheet: &[u8], f: Format, v: usize, n: usize, out: &mut [u8]) -> Written
-    requires { ⌜ Countable (format-of f) × Sheet (format-of f) (now sheet) v n ⌝ }
+// Tidies a sheet that Check accepts, of this layout: 13 output shorter than the sheet.
+fn tidy_checked(sheet: &[u8], f: Format, s: Layout, out: &mut [u8]) -> Written
+    requires { ⌜ Countable (format-of f) × Sheet (format-of f) (now sheet) s ⌝ }
     ensures { λ r. ⌜ written-answer r ≡ (tidy-call (format-of f) (now (sheet .entry)) (now (out .entry))) .answer ⌝ }
     ensures { λ _. ⌜ now (out .exit) ≡ (tidy-call (format-of f) (now (sheet .entry)) (now (out .entry))) .output ⌝ }
 {
     if out.len() < sheet.len() {
         return Written::Refused(13, 0);
     }
-    let length = tidy_into(sheet, f, v, n, out);
+    let length = tidy_into(sheet, f, s, out);
     Written::Accepted(length)
 }
 
@@ -85,7 +77,14 @@ pub fn tidy_in(sheet: &[u8], f: Format, out: &mut [u8]) -> Written
 {
     let c = checking::check_in(sheet, f);
     match c {
-        Checked::Accepted(v, n) => tidy_checked(sheet, f, v, n, out),
+        Checked::Accepted(v, n) => {
+            let s = Layout {
+                width: f.width,
+                variables: v,
+                nodes: n,
+            };
+            tidy_checked(sheet, f, s, out)
+        }
         Checked::Refused(number, place) => Written::Refused(number, place),
     }
 }

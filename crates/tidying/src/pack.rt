@@ -1,66 +1,67 @@
 // Rows that have gone are left out, and the others stand one behind the other.
-use crate::blocks::count_live;
-use rows::argument_at;
-use rows::edit::set_row;
-use rows::kind_at;
+use blocks::GONE;
+use blocks::walk::count_live;
+use rows::Layout;
+use rows::NEGATIVE;
+use rows::read::argument_at;
+use rows::read::kind_at;
+use rows::write::set_row;
 ghost use mathlib.Core.Path.{_≡_};
-ghost use mathlib.Core.List.{List, _++_};
 ghost use Prim.Native.Nat.{_^_, _≤_, _<_};
-ghost use lib.ListN.{length, getD, take};
-ghost use Rattle.sheet.specs.Format.{Row, row};
-ghost use Rattle.sheet.specs.Sheet.{forest-rows};
-ghost use Rattle.rows.specs.Rows.{rows-in, Room};
-ghost use Rattle.tidying.specs.Blocks.{Block, Blocks, live, Laid, Region, Stands, Standing};
-ghost use Rattle.tidying.specs.Steps.{stride, ArgumentOf, Put};
+ghost use lib.ListN.{length};
+ghost use Rattle.rows.specs.Layouts.{total, rows-in, Room};
+ghost use Rattle.blocks.specs.Blocks.{Region, Standing};
+ghost use Rattle.blocks.specs.Walks.{at-row};
+ghost use Rattle.tidying.specs.Inner.Packed.{stride, ArgumentAt, Puts, Packs};
 
 // How many rows on the next row stands that may be packed: all of a dead block is passed.
-pub fn stride_at(b: &[u8], width: usize, n: usize, r: usize) -> usize
-    requires { ⌜ Room width n (length (now b)) × (r < n) ⌝ }
-    ensures { λ s. ⌜ (s ≡ stride (getD (rows-in width n (now (b .entry))) r (row 0 0))) × (s < 2 ^ 32) ⌝ }
+pub fn stride_at(b: &[u8], s: Layout, r: usize) -> usize
+    requires { ⌜ Room s (length (now b)) × (r < total s) ⌝ }
+    ensures { λ n. ⌜ (n ≡ stride (at-row (rows-in s (now (b .entry))) r)) × (n < 2 ^ 32) ⌝ }
 {
-    if kind_at(b, width, n, r) == 0 {
-        return argument_at(b, width, n, r);
+    if kind_at(b, s, r) == GONE {
+        return argument_at(b, s, r);
     }
     1
 }
 
 // The argument that the row of a live block has in a sheet: an operator's is the number of its children.
-pub fn argument_of(b: &[u8], width: usize, n: usize, r: usize) -> usize
-    requires { ⌜ Room width n (length (now b)) × Standing (rows-in width n (now b)) r ⌝ }
-    ensures { λ a. ⌜ ((before : List Row) (x : Block) (after : List Row) → Stands (rows-in width n (now (b .entry))) r before x after → ArgumentOf x a) ⌝ }
+pub fn argument_of(b: &[u8], s: Layout, r: usize) -> usize
+    requires { ⌜ Room s (length (now b)) × Standing (rows-in s (now b)) r ⌝ }
+    ensures { λ a. ⌜ ArgumentAt (rows-in s (now (b .entry))) r a ⌝ }
 {
-    let argument = argument_at(b, width, n, r);
-    if kind_at(b, width, n, r) <= 4 {
+    let argument = argument_at(b, s, r);
+    if kind_at(b, s, r) <= NEGATIVE {
         return argument;
     }
-    count_live(b, width, n, r + 1, r + argument)
+    count_live(b, s, r + 1, r + argument)
 }
 
 // Puts the row of the block at `at` to row `to`, if it is live, and returns the row behind those packed.
-pub fn put_live(b: &mut [u8], width: usize, n: usize, at: usize, to: usize) -> usize
-    requires { ⌜ Room width n (length (now b)) × (n < 256 ^ width) × Standing (rows-in width n (now b)) at × (to ≤ at) ⌝ }
-    ensures { λ r. ⌜ ((before : List Row) (x : Block) (after : List Row) → Stands (rows-in width n (now (b .entry))) at before x after → Put (rows-in width n (now (b .entry))) (rows-in width n (now (b .exit))) at to x r) ⌝ }
+pub fn put_live(b: &mut [u8], s: Layout, at: usize, to: usize) -> usize
+    requires { ⌜ Room s (length (now b)) × (total s < 256 ^ s .width) × Standing (rows-in s (now b)) at × (to ≤ at) ⌝ }
+    ensures { λ next. ⌜ Puts (rows-in s (now (b .entry))) (rows-in s (now (b .exit))) at to next ⌝ }
 {
-    let kind = kind_at(b, width, n, at);
-    if kind == 0 {
+    let kind = kind_at(b, s, at);
+    if kind == GONE {
         return to;
     }
-    let argument = argument_of(b, width, n, at);
-    set_row(b, width, n, to, kind, argument);
+    let argument = argument_of(b, s, at);
+    set_row(b, s, to, kind, argument);
     to + 1
 }
 
-// Leaves the dead blocks from `v` on out, and returns the row behind the last that is left.
-pub fn pack(b: &mut [u8], width: usize, n: usize, v: usize) -> usize
-    requires { ⌜ Room width n (length (now b)) × (n < 256 ^ width) × Region (rows-in width n (now b)) v n ⌝ }
-    ensures { λ m. ⌜ (m ≤ n) × ((before : List Row) (bs : Blocks) (after : List Row) → Laid (rows-in width n (now (b .entry))) v n before bs after → take m (rows-in width n (now (b .exit))) ≡ before ++ forest-rows (live bs)) ⌝ }
+// Leaves the dead blocks behind the quantifiers out, and returns the row behind the last that is left.
+pub fn pack(b: &mut [u8], s: Layout) -> usize
+    requires { ⌜ Room s (length (now b)) × (total s < 256 ^ s .width) × Region (rows-in s (now b)) (s .variables) (total s) ⌝ }
+    ensures { λ m. ⌜ (m ≤ total s) × Packs (rows-in s (now (b .entry))) (rows-in s (now (b .exit))) (s .variables) (total s) m ⌝ }
 {
-    let mut at = v;
-    let mut to = v;
-    while at < n {
-        let s = stride_at(b, width, n, at);
-        to = put_live(b, width, n, at, to);
-        at += s;
+    let mut at = s.variables;
+    let mut to = s.variables;
+    while at < s.variables + s.nodes {
+        let step = stride_at(b, s, at);
+        to = put_live(b, s, at, to);
+        at += step;
     }
     to
 }

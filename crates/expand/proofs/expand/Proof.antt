@@ -2,7 +2,7 @@
 use mathlib.Core.Path.{ap, _∙_}
 use borrow.Author.Needs.{needs}
 use Rattle.sheet.specs.Operations.{expand-call}
-use Rattle.tidying.proofs.Raw.{narrow-countable}
+use Rattle.checking.proofs.CheckedSheets.{narrow-countable}
 use Rattle.expand.proofs.expand.Statement.{statement}
 use Rattle.expand.proofs.expand.Tie as tie
 

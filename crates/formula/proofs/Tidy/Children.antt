@@ -1,9 +1,11 @@
 -- Tests on lists of children, and what joining, keeping, taking firsts and splicing do to them.
 -- Assumes nothing.
-use mathlib.Core.Path.{_≡_, refl, sym, _∙_, ap}
-use mathlib.Core.Bool.{Bool, true, false, not, _||_, or-assoc}
+use mathlib.Core.Path.{_≡_, refl, sym, _∙_, ap, ap₂}
+use mathlib.Core.Bool.{Bool, true, false, not, _&&_, _||_, cond, or-assoc}
+use Prim.Native.Nat.{suc, _+_}
+use native.Mathlib.Nat.{zero-add, suc-add}
 use borrow.Author.Tests.{not-true}
-use Rattle.formula.specs.Tree.{Op, and, or, same-op, Tree, lit, node, Forest, ∅, _▸_, _⧺_, some-child, some-two, keep}
+use Rattle.formula.specs.Tree.{Op, and, or, same-op, Tree, lit, node, Forest, ∅, _▸_, _⧺_, some-child, some-two, keep, count}
 use Rattle.formula.specs.Tidy.{is-op, equal, spliced, splice, firsts}
 use Rattle.formula.proofs.Booleans.{cond-cases, or-parts, or-none}
 
@@ -35,12 +37,79 @@ pub some-two-less : (P Q : Tree → Tree → Bool) → ((t u : Tree) → P t u �
     → (ts : Forest) → some-two P ts ≡ false → some-two Q ts ≡ false
 some-two-less P Q f ts p = some-two-both P P Q (λ t u e _. f t u e) ts p p
 
+-- equal tests
+
+pub some-child-same : {P Q : Tree → Bool} → ((t : Tree) → P t ≡ Q t) → (ts : Forest) → some-child P ts ≡ some-child Q ts
+unfolding some-child
+some-child-same e ∅ = refl
+some-child-same e (t ▸ ts) = ap₂ _||_ (e t) (some-child-same e ts)
+
+pub keep-same : {P Q : Tree → Bool} → ((t : Tree) → P t ≡ Q t) → (ts : Forest) → keep P ts ≡ keep Q ts
+unfolding keep
+keep-same e ∅ = refl
+keep-same {P} {Q} e (t ▸ ts) = rw (e t) (ap (λ us. cond (Q t) (t ▸ us) us) (keep-same e ts))
+
+pub some-child-or : (P Q : Tree → Bool) (ts : Forest) → some-child (λ t. P t || Q t) ts ≡ (some-child P ts || some-child Q ts)
+unfolding some-child
+some-child-or P Q ∅ = refl
+some-child-or P Q (t ▸ ts) = ap (λ b. (P t || Q t) || b) (some-child-or P Q ts) ∙ mixed (P t) (Q t) (some-child P ts) (some-child Q ts)
+  where
+    mixed : (a b c d : Bool) → ((a || b) || (c || d)) ≡ ((a || c) || (b || d))
+    mixed true b c d = refl
+    mixed false true true d = refl
+    mixed false true false d = refl
+    mixed false false c d = refl
+
 -- joining
+
+pub ⧺-assoc : (ts us ws : Forest) → (ts ⧺ us) ⧺ ws ≡ ts ⧺ (us ⧺ ws)
+unfolding _⧺_
+⧺-assoc ∅ us ws = refl
+⧺-assoc (t ▸ ts) us ws = ap (λ l. t ▸ l) (⧺-assoc ts us ws)
+
+pub ⧺-none : (ts : Forest) → ts ⧺ ∅ ≡ ts
+unfolding _⧺_
+⧺-none ∅ = refl
+⧺-none (t ▸ ts) = ap (λ l. t ▸ l) (⧺-none ts)
+
+pub count-⧺ : (ts us : Forest) → count (ts ⧺ us) ≡ count ts + count us
+unfolding count _⧺_
+count-⧺ ∅ us = sym (zero-add (count us))
+count-⧺ (t ▸ ts) us = ap suc (count-⧺ ts us) ∙ sym (suc-add (count ts) (count us))
 
 pub some-child-⧺ : (P : Tree → Bool) (ts us : Forest) → some-child P (ts ⧺ us) ≡ (some-child P ts || some-child P us)
 unfolding _⧺_ some-child
 some-child-⧺ P ∅ us = refl
 some-child-⧺ P (t ▸ ts) us = ap (λ b. P t || b) (some-child-⧺ P ts us) ∙ sym (or-assoc (P t) _ _)
+
+pub keep-⧺ : (P : Tree → Bool) (ts us : Forest) → keep P (ts ⧺ us) ≡ keep P ts ⧺ keep P us
+unfolding keep _⧺_
+keep-⧺ P ∅ us = refl
+keep-⧺ P (t ▸ ts) us = ap (λ ws. cond (P t) (t ▸ ws) ws) (keep-⧺ P ts us) ∙ out (P t)
+  where
+    out : (b : Bool) → cond b (t ▸ (keep P ts ⧺ keep P us)) (keep P ts ⧺ keep P us) ≡ cond b (t ▸ keep P ts) (keep P ts) ⧺ keep P us
+    out true = refl
+    out false = refl
+
+-- two of the first, one of each, or two of the second
+pub some-two-⧺ : (R : Tree → Tree → Bool) (ts us : Forest)
+    → some-two R (ts ⧺ us) ≡ (some-two R ts || (some-child (λ u. some-child (λ t. R t u) ts) us || some-two R us))
+unfolding some-two some-child _⧺_
+some-two-⧺ R ∅ us = sym (ap (λ b. b || some-two R us) (none us))
+  where
+    none : (us : Forest) → some-child (λ u. false) us ≡ false
+    none ∅ = refl
+    none (u ▸ us) = none us
+some-two-⧺ R (t ▸ ts) us =
+    ap₂ _||_ (some-child-⧺ (R t) ts us) (some-two-⧺ R ts us) ∙
+    mixed (some-child (R t) ts) (some-child (R t) us) (some-two R ts) (some-child (λ u. some-child (λ t′. R t′ u) ts) us) (some-two R us) ∙
+    ap (λ b. (some-child (R t) ts || some-two R ts) || (b || some-two R us)) (sym (some-child-or (R t) (λ u. some-child (λ t′. R t′ u) ts) us))
+  where
+    mixed : (a b c d e : Bool) → ((a || b) || (c || (d || e))) ≡ ((a || c) || ((b || d) || e))
+    mixed true b c d e = refl
+    mixed false true true d e = refl
+    mixed false true false d e = refl
+    mixed false false c d e = refl
 
 -- keeping: what is left passes every test that all passed, and the test that it was kept by
 
@@ -71,6 +140,24 @@ keep-all P ∅ p = refl
 keep-all P (t ▸ ts) p =
     let (at-t, at-ts) = or-parts (P t) _ p in
     rw at-t (ap (λ us. t ▸ us) (keep-all P ts at-ts))
+
+pub keep-every : (P : Tree → Bool) → ((t : Tree) → P t ≡ true) → (ts : Forest) → keep P ts ≡ ts
+unfolding keep
+keep-every P e ∅ = refl
+keep-every P e (t ▸ ts) = rw (e t) (ap (λ us. t ▸ us) (keep-every P e ts))
+
+pub keep-keep : (P Q S : Tree → Bool) → ((t : Tree) → S t ≡ (Q t && P t)) → (ts : Forest) → keep P (keep Q ts) ≡ keep S ts
+unfolding keep
+keep-keep P Q S e ∅ = refl
+keep-keep P Q S e (t ▸ ts) = go (Q t) refl (keep-keep P Q S e ts)
+  where
+    both : (b : Bool) → Q t ≡ b → cond (b && P t) (t ▸ keep S ts) (keep S ts) ≡ cond (S t) (t ▸ keep S ts) (keep S ts)
+    both b q = ap (λ c. cond c (t ▸ keep S ts) (keep S ts)) (sym (e t ∙ ap (λ c. c && P t) q))
+
+    go : (b : Bool) → Q t ≡ b → keep P (keep Q ts) ≡ keep S ts
+        → keep P (cond b (t ▸ keep Q ts) (keep Q ts)) ≡ cond (S t) (t ▸ keep S ts) (keep S ts)
+    go true q ih = ap (λ us. cond (P t) (t ▸ us) us) ih ∙ both true q
+    go false q ih = ih ∙ both false q
 
 -- the first of equal literals: no two are left
 
@@ -136,3 +223,16 @@ splice-none o ∅ p = refl
 splice-none o (t ▸ ts) p =
     let (at-t, at-ts) = or-parts (is-op o t) _ p in
     spliced-other o t (splice o ts) at-t ∙ ap (λ us. t ▸ us) (splice-none o ts at-ts)
+
+spliced-⧺ : (o : Op) (t : Tree) (us ws : Forest) → spliced o t (us ⧺ ws) ≡ spliced o t us ⧺ ws
+unfolding spliced _⧺_
+spliced-⧺ o (lit s v) us ws = refl
+spliced-⧺ and (node and ts) us ws = sym (⧺-assoc ts us ws)
+spliced-⧺ and (node or ts) us ws = refl
+spliced-⧺ or (node and ts) us ws = refl
+spliced-⧺ or (node or ts) us ws = sym (⧺-assoc ts us ws)
+
+pub splice-⧺ : (o : Op) (ts us : Forest) → splice o (ts ⧺ us) ≡ splice o ts ⧺ splice o us
+unfolding splice _⧺_
+splice-⧺ o ∅ us = refl
+splice-⧺ o (t ▸ ts) us = ap (spliced o t) (splice-⧺ o ts us) ∙ spliced-⧺ o t (splice o ts) (splice o us)

@@ -2,7 +2,7 @@
 use mathlib.Core.Path.{ap, _∙_}
 use borrow.Author.Needs.{needs}
 use Rattle.sheet.specs.Operations.{settle-call}
-use Rattle.tidying.proofs.Raw.{narrow-countable}
+use Rattle.checking.proofs.CheckedSheets.{narrow-countable}
 use Rattle.settle.proofs.settle.Statement.{statement}
 use Rattle.settle.proofs.settle.Tie as tie
 

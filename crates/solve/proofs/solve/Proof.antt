@@ -2,7 +2,7 @@
 use mathlib.Core.Path.{ap, _∙_}
 use borrow.Author.Needs.{needs}
 use Rattle.sheet.specs.Operations.{solve-call}
-use Rattle.tidying.proofs.Raw.{narrow-countable}
+use Rattle.checking.proofs.CheckedSheets.{narrow-countable}
 use Rattle.solve.proofs.solve.Statement.{statement}
 use Rattle.solve.proofs.solve.Tie as tie
 

@@ -2,7 +2,7 @@
 use Prim.Native.Nat.{_-_}
 use native.Mathlib.Omega.{arith}
 use lib.ListN.{length}
-use Rattle.tidying.proofs.Call.{Copied, copied-none, copied-byte, copied-all}
+use Rattle.tidying.proofs.CopyFront.{Copied, copied-none, copied-byte, copied-all}
 use Rattle.tidying.proofs.copy_front.Statement.{statement}
 use Rattle.tidying.proofs.copy_front.Tie as tie
 

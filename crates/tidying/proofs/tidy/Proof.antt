@@ -1,7 +1,7 @@
 -- `tidying::tidy` meets its contract. Assumes nothing.
 use mathlib.Core.Path.{ap, _∙_}
 use Rattle.sheet.specs.Operations.{tidy-call}
-use Rattle.tidying.proofs.Raw.{narrow-countable}
+use Rattle.checking.proofs.CheckedSheets.{narrow-countable}
 use borrow.Author.Needs.{needs}
 use Rattle.tidying.proofs.tidy.Statement.{statement}
 use Rattle.tidying.proofs.tidy.Tie as tie

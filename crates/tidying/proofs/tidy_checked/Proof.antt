@@ -1,6 +1,6 @@
 -- `tidying::tidy_checked` meets its contract. Assumes nothing.
 use Rattle.rows.specs.Formats.{format-of}
-use Rattle.tidying.proofs.Call.{short-call, long-call}
+use Rattle.tidying.proofs.TidyChecked.{short-call, long-call}
 use borrow.Author.Needs.{needs}
 use Rattle.tidying.proofs.tidy_checked.Statement.{statement}
 use Rattle.tidying.proofs.tidy_checked.Tie as tie

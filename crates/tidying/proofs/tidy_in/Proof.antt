@@ -2,8 +2,8 @@
 use mathlib.Core.Path.{sym, ap, _∙_}
 use Rattle.rows.specs.Formats.{format-of}
 use Rattle.checking.specs.Answers.{checked-answer}
-use Rattle.checking.proofs.CheckedSheets.{accepted-sheet}
-use Rattle.tidying.proofs.Call.{unchecked-call}
+use Rattle.checking.proofs.CheckedSheets.{sheet-checked}
+use Rattle.tidying.proofs.TidyChecked.{unchecked-call}
 use borrow.Author.Needs.{needs}
 use Rattle.tidying.proofs.tidy_in.Statement.{statement}
 use Rattle.tidying.proofs.tidy_in.Tie as tie
@@ -18,10 +18,7 @@ tidy-checked-requires : tie.Need-tidy-checked-requires
 tidy-checked-requires c κs =
     let told = c .before .before in
     let checked = told .before .before in
-    let s = accepted-sheet (told .c .given .1) (checked .check-in .ensures) in (
-      checked .before .before .before .pre,
-      record { tests-pass = s .tests-pass; variables-are = s .right .variables-are; nodes-are = s .right .nodes-are },
-    )
+    (checked .before .before .before .pre, sheet-checked (told .c .given .1) (checked .check-in .ensures))
 
 enum-known-c-2 : tie.Need-enum-known-c-2
 enum-known-c-2 c = search needs

@@ -1,8 +1,5 @@
 -- `tidying::tidy_into` meets its contract. Assumes nothing.
-use mathlib.Core.Path.{ap, ap₂, _∙_}
-use lib.ListN.{length}
-use Rattle.sheet.specs.Operations.{padded}
-use Rattle.tidying.proofs.Call.{length-copied, call-ready, call-sheet}
+use Rattle.tidying.proofs.Raw.{copied-raw, copied-output, copied-length}
 use borrow.Author.Needs.{needs}
 use Rattle.tidying.proofs.tidy_into.Statement.{statement}
 use Rattle.tidying.proofs.tidy_into.Tie as tie
@@ -13,7 +10,7 @@ copy-front-requires c κs = search needs
 tidy-in-place-requires : tie.Need-tidy-in-place-requires
 tidy-in-place-requires c κs =
     let a = c .before .before .before .before .before .before .before in
-    call-ready (a .pre .0) (a .pre .1) (a .args .out .now) (a .pre .2) (c .before .before .before .copy-front .ensures)
+    copied-raw (a .pre .0) (a .pre .1) (a .args .out .now) (a .pre .2) (c .before .before .before .copy-front .ensures)
 
 same-length : tie.Need-same-length
 same-length c = search needs
@@ -23,10 +20,9 @@ returns c =
     let tidied = c .before .before in
     let copied = tidied .before .before .before .before in
     let a = copied .before .before .before .before in
-    let e = copied .copy-front .ensures in
-    let same = call-sheet (a .pre .0) (a .pre .1) (a .args .out .now) (a .pre .2) e in (
-      tidied .tidy-in-place .ensures .0 ∙ ap₂ padded (length-copied (a .pre .0) (a .pre .1) (a .args .out .now) (a .pre .2) e) same,
-      tidied .tidy-in-place .ensures .1 ∙ ap length same,
+    let e = copied .copy-front .ensures in (
+      copied-output (a .pre .0) (a .pre .1) (a .args .out .now) (a .pre .2) e (tidied .tidy-in-place .ensures .0),
+      copied-length (a .pre .0) (a .pre .1) (a .args .out .now) (a .pre .2) e (tidied .tidy-in-place .ensures .1),
     )
 
 pub tidy-into-spec : {M : Type 1} → statement M

@@ -1,6 +1,6 @@
 -- `tidying::operator::combine` meets its contract. Assumes nothing.
 use native.Mathlib.Omega.{arith}
-use Rattle.tidying.proofs.Walk.{room-as}
+use Rattle.blocks.proofs.Blocks.{room-as}
 use Rattle.tidying.proofs.Combine.{ready-literal-at, ready-few, ready-kind, ready-owed, ready-region, ready-within, reduced-region, ready-decided, ready-undecided}
 use borrow.Author.Needs.{needs}
 use Rattle.tidying.proofs.operator.combine.Statement.{statement}
@@ -23,47 +23,77 @@ argument-at-requires c κs = search needs
 
 hop-requires : tie.Need-hop-requires
 hop-requires c κs =
-    let a = c .before .before .before .before .before .before in
-    (a .pre .0, ready-owed (c .before .before .before .kind-at .ensures) (c .argument-at .ensures .0) (c .before .before .if1 .left) (a .pre .2 .ready))
+    let test = c .before .before in
+    let a = test .before .before .before .before in
+    (a .pre .0, ready-owed (test .before .kind-at .ensures) (c .argument-at .ensures .0) (test .if1 .left) (a .pre .2 .ready))
 
 add-reduce : tie.Need-add-reduce
 add-reduce c = search needs
 
 reduce-requires : tie.Need-reduce-requires
 reduce-requires c κs =
-    let a = c .before .before .before .before .before .before .before .before in
-    let h = a .pre .2 .ready in (
-      a .pre .0,
-      a .pre .1,
-      ready-region (c .before .before .before .before .before .kind-at .ensures) (c .before .before .argument-at .ensures .0) (c .before .before .before .before .if1 .left) h (c .before .hop .ensures),
-      ready-kind (c .before .before .before .before .before .kind-at .ensures) (c .before .before .argument-at .ensures .0) (c .before .before .before .before .if1 .left) h,
-    )
+    let hopped = c .before in
+    let argued = hopped .before in
+    let test = argued .before .before in
+    let k = test .before .kind-at .ensures in
+    let n = argued .argument-at .ensures .0 in
+    let a = test .before .before .before .before in
+    let h = a .pre .2 .ready in
+    (a .pre .0, a .pre .1, ready-region k n (test .if1 .left) h (hopped .hop .ensures), ready-kind k n (test .if1 .left) h)
+
+add-hollow : tie.Need-add-hollow
+add-hollow c = search needs
 
 sub-hollow : tie.Need-sub-hollow
 sub-hollow c =
-    let a = c .before .before .before .before .before .before .before .before .before .before .before .before .before in
-    omega (arith, ready-few (c .before .before .before .before .before .before .before .before .before .before .kind-at .ensures) (c .before .before .before .before .before .before .before .argument-at .ensures .0) (c .before .before .before .before .before .before .before .before .before .if1 .left) (a .pre .2 .ready))
+    let reduced = c .before .before .before .before in
+    let hopped = reduced .before .before in
+    let argued = hopped .before in
+    let test = argued .before .before in
+    let k = test .before .kind-at .ensures in
+    let n = argued .argument-at .ensures .0 in
+    let a = test .before .before .before .before in
+    omega (arith, ready-few k n (test .if1 .left) (a .pre .2 .ready))
 
 hollow-requires : tie.Need-hollow-requires
 hollow-requires c κs =
-    let a = c .before .before .before .before .before .before .before .before .before .before .before .before .before in
-    let w = ready-within (c .before .before .before .before .before .before .before .before .before .before .kind-at .ensures) (c .before .before .before .before .before .before .before .argument-at .ensures .0) (c .before .before .before .before .before .before .before .before .before .if1 .left) (a .pre .2 .ready) (c .before .before .before .before .before .before .hop .ensures) in
-    (room-as (c .before .before .before .before .reduce .kept .0) (a .pre .0), a .pre .1, w .0, w .1)
+    let reduced = c .before .before .before .before in
+    let hopped = reduced .before .before in
+    let argued = hopped .before in
+    let test = argued .before .before in
+    let k = test .before .kind-at .ensures in
+    let n = argued .argument-at .ensures .0 in
+    let a = test .before .before .before .before in
+    let w = ready-within k n (test .if1 .left) (a .pre .2 .ready) (hopped .hop .ensures) in
+    (room-as (reduced .reduce .kept .0) (a .pre .0), a .pre .1, w .0, w .1)
 
 same-length-2 : tie.Need-same-length-2
 same-length-2 c = search needs
 
 returns-2 : tie.Need-returns-2
 returns-2 c =
+    let decision = c .before .before .before .before in
+    let reduced = decision .before .before .before in
+    let hopped = reduced .before .before in
+    let argued = hopped .before in
+    let test = argued .before .before in
+    let k = test .before .kind-at .ensures in
+    let n = argued .argument-at .ensures .0 in
     λ before x bs ts h.
-    ready-decided (c .before .before .before .before .before .before .before .before .before .before .before .before .before .kind-at .ensures) (c .before .before .before .before .before .before .before .before .before .before .argument-at .ensures .0) (c .before .before .before .before .before .before .before .before .before .before .before .before .if1 .left) h (c .before .before .before .before .before .before .before .before .before .hop .ensures) (c .before .before .before .before .before .before .before .reduce .ensures) (c .before .before .before .before .if2 .taken) (c .before .before .hollow .ensures)
+    ready-decided k n (test .if1 .left) h (hopped .hop .ensures) (reduced .reduce .ensures) (decision .if2 .taken) (c .before .before .hollow .ensures)
 
 conclude-requires : tie.Need-conclude-requires
 conclude-requires c κs =
-    let a = c .before .before .before .before .before .before .before .before .before .before .before .before .before in (
-      room-as (c .before .before .before .before .reduce .kept .0) (a .pre .0),
+    let reduced = c .before .before .before .before in
+    let hopped = reduced .before .before in
+    let argued = hopped .before in
+    let test = argued .before .before in
+    let k = test .before .kind-at .ensures in
+    let n = argued .argument-at .ensures .0 in
+    let a = test .before .before .before .before in (
+      room-as (reduced .reduce .kept .0) (a .pre .0),
       a .pre .1,
-      reduced-region (c .before .before .before .before .before .before .before .before .before .before .kind-at .ensures) (c .before .before .before .before .before .before .before .argument-at .ensures .0) (c .before .before .before .before .before .before .before .before .before .if1 .left) (a .pre .2 .ready) (c .before .before .before .before .before .before .hop .ensures) (c .before .before .before .before .reduce .ensures),
+      reduced-region k n (test .if1 .left) (a .pre .2 .ready) (hopped .hop .ensures) (reduced .reduce .ensures),
     )
 
 same-length-3 : tie.Need-same-length-3
@@ -71,8 +101,15 @@ same-length-3 c = search needs
 
 returns-3 : tie.Need-returns-3
 returns-3 c =
+    let decision = c .before .before .before .before in
+    let reduced = decision .before .before .before in
+    let hopped = reduced .before .before in
+    let argued = hopped .before in
+    let test = argued .before .before in
+    let k = test .before .kind-at .ensures in
+    let n = argued .argument-at .ensures .0 in
     λ before x bs ts h.
-    ready-undecided (c .before .before .before .before .before .before .before .before .before .before .before .before .before .kind-at .ensures) (c .before .before .before .before .before .before .before .before .before .before .argument-at .ensures .0) (c .before .before .before .before .before .before .before .before .before .before .before .before .if1 .left) h (c .before .before .before .before .before .before .before .before .before .hop .ensures) (c .before .before .before .before .before .before .before .reduce .ensures) (c .before .before .before .before .if2 .left) (c .before .before .conclude .ensures)
+    ready-undecided k n (test .if1 .left) h (hopped .hop .ensures) (reduced .reduce .ensures) (decision .if2 .left) (c .before .before .conclude .ensures)
 
 pub combine-spec : {M : Type 1} → statement M
 combine-spec =
@@ -86,6 +123,7 @@ combine-spec =
     hop-requires
     add-reduce
     reduce-requires
+    add-hollow
     sub-hollow
     hollow-requires
     same-length-2

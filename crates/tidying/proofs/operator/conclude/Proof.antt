@@ -1,9 +1,9 @@
 -- `tidying::operator::conclude` meets its contract. Assumes nothing.
-use mathlib.Core.Path.{refl}
 use native.Mathlib.Omega.{arith}
-use Rattle.rows.proofs.Rows.{length-rows-in}
-use Rattle.tidying.proofs.Walk.{laid-within}
-use Rattle.tidying.proofs.Conclude.{behind-row, operator-put, lone-put, unwrap-none, second, unwrap-one, unwrap-many, first-within, not-equal, replaced-as}
+use Rattle.rows.proofs.Layouts.{length-rows-in}
+use Rattle.blocks.specs.Walks.{extent}
+use Rattle.blocks.proofs.Blocks.{laid-within}
+use Rattle.tidying.proofs.Conclude.{first-within, not-equal, concludes-none, second-region, concludes-one, concludes-many}
 use borrow.Author.Needs.{needs}
 use Rattle.tidying.proofs.operator.conclude.Statement.{statement}
 use Rattle.tidying.proofs.operator.conclude.Tie as tie
@@ -26,9 +26,8 @@ same-length c = search needs
 
 returns : tie.Need-returns
 returns c =
-    λ before x bs after l o k.
-    replaced-as refl (unwrap-none o (c .before .before .before .before .before .first-live .ensures _ bs after (behind-row l)) (c .before .before .before .before .if1 .taken))
-    (c .before .before .hollow .ensures before x bs after l o k)
+    let test = c .before .before .before .before in
+    concludes-none (test .before .first-live .ensures) (test .if1 .taken) (c .before .before .hollow .ensures)
 
 extent-at-requires : tie.Need-extent-at-requires
 extent-at-requires c κs =
@@ -52,14 +51,10 @@ add-next c =
 
 first-live-requires-2 : tie.Need-first-live-requires-2
 first-live-requires-2 c κs =
-    let a = c .before .before .before .before .before .before .before in
-    let g = a .pre .2 in
-    let i = laid-within (g .laid) in
-    let counted = length-rows-in (a .args .b .now) (a .pre .0) in
-    let f = c .before .before .before .before .first-live .ensures (g .before) (g .blocks) (g .after) (g .laid) in
-    let w = first-within f in
-    let s = second f (not-equal (w .1) (c .before .before .before .if1 .left)) (c .before .extent-at .ensures .0) in
-    (a .pre .0, record { before = _; blocks = _; after = _; laid = s .laid })
+    let extent = c .before in
+    let test = extent .before .before in
+    let a = test .before .before .before .before in
+    (a .pre .0, second-region (test .before .first-live .ensures) (test .if1 .left) (extent .extent-at .ensures .0) (a .pre .2))
 
 sub-set-row : tie.Need-sub-set-row
 sub-set-row c =
@@ -86,11 +81,11 @@ same-length-2 c = search needs
 
 returns-2 : tie.Need-returns-2
 returns-2 c =
-    λ before x bs after l o k.
-    let f = c .before .before .before .before .before .before .before .before .before .before .first-live .ensures _ bs after (behind-row l) in
-    let s = second f (not-equal (first-within f .1) (c .before .before .before .before .before .before .before .before .before .if1 .left)) (c .before .before .before .before .before .before .before .extent-at .ensures .0) in
-    replaced-as (c .before .before .set-row .ensures .0)
-    (unwrap-one o s (c .before .before .before .before .before .first-live2 .ensures (s .before) (s .others) (s .after) (s .laid)) (c .before .before .before .before .if2 .taken)) (lone-put l f)
+    let test = c .before .before .before .before in
+    let extent = test .before .before .before in
+    let found = extent .before .before in
+    concludes-one (found .before .first-live .ensures) (found .if1 .left) (extent .extent-at .ensures .0) (test .before .first-live2 .ensures)
+    (test .if2 .taken) (c .before .before .set-row .ensures .0)
 
 sub-set-row-2 : tie.Need-sub-set-row-2
 sub-set-row-2 c = search needs
@@ -110,11 +105,11 @@ same-length-3 c = search needs
 
 returns-3 : tie.Need-returns-3
 returns-3 c =
-    λ before x bs after l o k.
-    let f = c .before .before .before .before .before .before .before .before .before .before .first-live .ensures _ bs after (behind-row l) in
-    let s = second f (not-equal (first-within f .1) (c .before .before .before .before .before .before .before .before .before .if1 .left)) (c .before .before .before .before .before .before .before .extent-at .ensures .0) in
-    replaced-as (c .before .before .set-row2 .ensures .0)
-    (unwrap-many o s (c .before .before .before .before .before .first-live2 .ensures (s .before) (s .others) (s .after) (s .laid)) (c .before .before .before .before .if2 .left)) (operator-put l _ o k)
+    let test = c .before .before .before .before in
+    let extent = test .before .before .before in
+    let found = extent .before .before in
+    concludes-many (found .before .first-live .ensures) (found .if1 .left) (extent .extent-at .ensures .0) (test .before .first-live2 .ensures)
+    (test .if2 .left) (c .before .before .set-row2 .ensures .0)
 
 pub conclude-spec : {M : Type 1} → statement M
 conclude-spec =

@@ -1,9 +1,5 @@
 -- `tidying::operator::hollow` meets its contract. Assumes nothing.
-use mathlib.Core.Path.{refl, ap, _∙_}
-use Prim.Native.Nat.{_+_, _-_}
-use lib.ListN.{set}
-use Rattle.sheet.specs.Format.{row}
-use Rattle.tidying.proofs.Conclude.{hollow-short, hollow-long, replaced-as}
+use Rattle.tidying.proofs.Conclude.{hollows-short, hollows-long}
 use borrow.Author.Needs.{needs}
 use Rattle.tidying.proofs.operator.hollow.Statement.{statement}
 use Rattle.tidying.proofs.operator.hollow.Tie as tie
@@ -34,17 +30,15 @@ same-length c = search needs
 
 returns : tie.Need-returns
 returns c =
-    let a = c .before .before .before .before .before .before .before .before .before .before .args in
-    λ before x bs after l o k.
-    replaced-as (c .before .before .set-row2 .ensures .0 ∙ ap (λ rs. set rs (a .r + 1) (row 0 (a .end - a .r - 1))) (c .before .before .before .before .before .before .before .set-row .ensures .0)) refl
-    (hollow-long _ o k (c .before .before .before .before .if1 .taken) l)
+    let second = c .before .before in
+    let test = second .before .before in
+    hollows-long (test .before .before .before .set-row .ensures .0) (second .set-row2 .ensures .0) (test .if1 .taken)
 
 same-length-2 : tie.Need-same-length-2
 same-length-2 c = search needs
 
 returns-2 : tie.Need-returns-2
-returns-2 c =
-    λ before x bs after l o k. replaced-as (c .before .before .before .set-row .ensures .0) refl (hollow-short _ o k (c .if1 .left) l)
+returns-2 c = hollows-short (c .before .before .before .set-row .ensures .0) (c .if1 .left)
 
 pub hollow-spec : {M : Type 1} → statement M
 hollow-spec =

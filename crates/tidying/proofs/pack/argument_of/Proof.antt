@@ -3,12 +3,12 @@ use mathlib.Core.Path.{ap, _∙_}
 use Prim.Native.Nat.{_+_, _≤_}
 use native.Mathlib.Omega.{arith}
 use Rattle.sheet.specs.Format.{Row}
-use Rattle.rows.specs.Rows.{rows-in}
-use Rattle.rows.proofs.Rows.{length-rows-in}
-use Rattle.tidying.specs.Blocks.{Region}
-use Rattle.tidying.proofs.Walk.{stands-row, stands-within, laid-within}
-use Rattle.tidying.proofs.Rules.{inner-region}
-use Rattle.tidying.proofs.Packing.{argument-literal, argument-operator}
+use Rattle.rows.specs.Layouts.{rows-in, total}
+use Rattle.rows.proofs.Layouts.{length-rows-in}
+use Rattle.blocks.specs.Blocks.{Region}
+use Rattle.blocks.proofs.Blocks.{stands-row, stands-within, laid-within}
+use Rattle.blocks.proofs.SiftAt.{inner-region}
+use Rattle.tidying.proofs.Packed.{argument-literal, argument-operator}
 use Rattle.tidying.proofs.pack.argument_of.Statement.{statement}
 use Rattle.tidying.proofs.pack.argument_of.Tie as tie
 
@@ -31,7 +31,7 @@ abbrev start-of : tie.Else1 → tie.Start
 start-of c = c .before .before .before .before
 
 children : (c : tie.Else1)
-    → Region (rows-in (start-of c .args .width) (start-of c .args .n) (start-of c .args .b .now)) (start-of c .args .r + 1)
+    → Region (rows-in (start-of c .args .s) (start-of c .args .b .now)) (start-of c .args .r + 1)
     (start-of c .args .r + c .before .before .argument-at .result)
 children c =
     let g = start-of c .pre .1 in
@@ -41,7 +41,7 @@ children c =
 
 children-within : (c : tie.Else1)
     → (start-of c .args .r + 1 ≤ start-of c .args .r + c .before .before .argument-at .result)
-    × (start-of c .args .r + c .before .before .argument-at .result ≤ start-of c .args .n)
+    × (start-of c .args .r + c .before .before .argument-at .result ≤ total (start-of c .args .s))
 children-within c =
     let i = laid-within (children c .laid) in
     (i .0, omega (arith, i .1, length-rows-in (start-of c .args .b .now) (start-of c .pre .0)))

@@ -1,70 +1,83 @@
 -- `tidying::pack::pack` meets its contract: the rows packed and those of the trees ahead are those of all trees. Assumes nothing.
 use mathlib.Core.Path.{_≡_, refl, _∙_}
-use Prim.Native.Nat.{_-_}
+use Prim.Native.Nat.{_-_, _≤_}
 use native.Mathlib.Omega.{arith}
 use lib.ListN.{length}
-use Rattle.rows.specs.Rows.{rows-in}
-use Rattle.rows.proofs.Rows.{length-rows-in}
-use Rattle.tidying.proofs.Walk.{room-as}
-use Rattle.tidying.proofs.Packing.{Pack, pack-none, pack-standing, pack-safe, pack-more, pack-end}
+use Rattle.rows.specs.Layouts.{total, rows-in}
+use Rattle.rows.proofs.Layouts.{length-rows-in}
+use Rattle.blocks.proofs.Blocks.{room-as}
+use Rattle.tidying.proofs.Packed.{Pack, pack-none, pack-standing, pack-safe, pack-more, pack-end}
+use borrow.Author.Needs.{needs}
 use Rattle.tidying.proofs.pack.pack.Statement.{statement}
 use Rattle.tidying.proofs.pack.pack.Tie as tie
 
 abbrev Inv-loop : tie.InvT-loop
-Inv-loop b₀ width n v at₀ to₀ b at to = Pack (rows-in width n b₀) (rows-in width n b) v n at to × (length b ≡ length b₀)
+Inv-loop b₀ s at₀ to₀ b at to = Pack (rows-in s b₀) (rows-in s b) (s .variables) (total s) at to × (length b ≡ length b₀)
 
 abbrev μ-loop : tie.MeasureT-loop
-μ-loop b₀ width n v at₀ to₀ b at to = n - at
+μ-loop b₀ s at₀ to₀ b at to = total s - at
 
 loop-holds : tie.Need-loop-holds Inv-loop μ-loop
 loop-holds c = (pack-none (c .before .pre .2), refl)
 
+add-if1 : tie.Need-add-if1 Inv-loop μ-loop
+add-if1 c = search needs
+
+-- the rows at a turn are as many as at first
+counted : (c : tie.Then1 Inv-loop μ-loop)
+    → total (c .before .before .before .before .args .s) ≤ length (rows-in (c .before .before .before .before .args .s) (c .before .before .loop .b))
+counted c =
+    let l = c .before .before in
+    omega (arith, length-rows-in (l .loop .b) (room-as (l .loop .inv .1) (l .before .before .pre .0)))
+
 stride-at-requires : tie.Need-stride-at-requires Inv-loop μ-loop
 stride-at-requires c κs =
-    let a = c .before .before .before .before in
-    (room-as (c .before .before .loop .inv .1) (a .pre .0), c .before .loop-test .taken)
+    let l = c .before .before .before in
+    (room-as (l .loop .inv .1) (l .before .before .pre .0), c .before .if1 .taken)
 
 put-live-requires : tie.Need-put-live-requires Inv-loop μ-loop
 put-live-requires c κs =
-    let a = c .before .before .before .before .before .before in
-    let i = c .before .before .before .before .loop .inv in
-    let counted = length-rows-in (c .before .before .before .before .loop .b) (room-as (i .1) (a .pre .0)) in
-    let l = c .before .before .before .loop-test .taken in
-    (room-as (i .1) (a .pre .0), a .pre .1, pack-standing (i .0) (a .pre .2) l (omega (arith, counted)), i .0 .behind)
+    let t = c .before .before .before in
+    let l = t .before .before in
+    let i = l .loop .inv in
+    let a = l .before .before in (
+      room-as (i .1) (a .pre .0),
+      a .pre .1,
+      pack-standing (i .0) (a .pre .2) (t .if1 .taken) (counted t),
+      i .0 .behind,
+    )
 
 add-at : tie.Need-add-at Inv-loop μ-loop
 add-at c =
-    let a = c .before .before .before .before .before .before .before .before .before in
-    let i = c .before .before .before .before .before .before .before .loop .inv in
-    let counted = length-rows-in (c .before .before .before .before .before .before .before .loop .b) (room-as (i .1) (a .pre .0)) in
-    let l = c .before .before .before .before .before .before .loop-test .taken in
-    omega (arith, l, c .before .before .before .before .stride-at .ensures .1)
+    let stepped = c .before .before .before .before in
+    omega (arith, stepped .before .before .if1 .taken, stepped .stride-at .ensures .1)
 
 loop-less : tie.Need-loop-less Inv-loop μ-loop
 loop-less c =
-    let a = c .before .before .before .before .before .before .before .before .before in
-    let i = c .before .before .before .before .before .before .before .loop .inv in
-    let counted = length-rows-in (c .before .before .before .before .before .before .before .loop .b) (room-as (i .1) (a .pre .0)) in
-    let l = c .before .before .before .before .before .before .loop-test .taken in
-    omega (arith, l, c .before .before .before .before .stride-at .ensures .0, pack-safe (i .0) (a .pre .2) l (omega (arith, counted)) .0)
+    let stepped = c .before .before .before .before in
+    let t = stepped .before .before in
+    let l = t .before .before in
+    let safe = pack-safe (l .loop .inv .0) (l .before .before .pre .2) (t .if1 .taken) (counted t) in
+    omega (arith, t .if1 .taken, stepped .stride-at .ensures .0, safe .0)
 
 loop-again : tie.Need-loop-again Inv-loop μ-loop
 loop-again c =
-    let a = c .before .before .before .before .before .before .before .before .before in
-    let i = c .before .before .before .before .before .before .before .loop .inv in
-    let counted = length-rows-in (c .before .before .before .before .before .before .before .loop .b) (room-as (i .1) (a .pre .0)) in
-    let l = c .before .before .before .before .before .before .loop-test .taken in (
-      pack-more (i .0) (a .pre .2) l (omega (arith, counted)) (c .before .before .before .before .stride-at .ensures .0) (c .before .before .put-live .ensures),
-      c .before .before .put-live .kept .0 ∙ i .1,
+    let put = c .before .before in
+    let stepped = put .before .before in
+    let t = stepped .before .before in
+    let l = t .before .before in
+    let i = l .loop .inv in (
+      pack-more (i .0) (l .before .before .pre .2) (t .if1 .taken) (counted t) (stepped .stride-at .ensures .0) (put .put-live .ensures),
+      put .put-live .kept .0 ∙ i .1,
     )
 
 same-length : tie.Need-same-length Inv-loop μ-loop
-same-length c = c .before .loop .inv .1
+same-length c = c .before .before .loop .inv .1
 
 returns : tie.Need-returns Inv-loop μ-loop
 returns c =
-    let p = c .before .loop .inv .0 in
-    (omega (arith, p .behind, p .within), pack-end p (c .loop-test .left))
+    let p = c .before .before .loop .inv .0 in
+    (omega (arith, p .behind, p .within), pack-end p (c .if1 .left))
 
 pub pack-spec : {M : Type 1} → statement M
 pack-spec =
@@ -73,6 +86,7 @@ pack-spec =
     Inv-loop
     μ-loop
     loop-holds
+    add-if1
     stride-at-requires
     put-live-requires
     add-at

@@ -2,10 +2,10 @@
 use mathlib.Core.Path.{ap, sym, _∙_}
 use native.Mathlib.Omega.{arith}
 use Rattle.sheet.specs.Format.{Row}
-use Rattle.rows.proofs.Rows.{length-rows-in}
+use Rattle.rows.proofs.Layouts.{length-rows-in}
 use Rattle.rows.proofs.Sealing.{all-bytes}
-use Rattle.tidying.proofs.Walk.{stands-row, stands-within}
-use Rattle.tidying.proofs.Packing.{argument-fits, put-fits, put-dead, put-row}
+use Rattle.blocks.proofs.Blocks.{stands-row, stands-within}
+use Rattle.tidying.proofs.Packed.{argument-fits, put-fits, put-dead, put-row}
 use borrow.Author.Needs.{needs}
 use Rattle.tidying.proofs.pack.put_live.Statement.{statement}
 use Rattle.tidying.proofs.pack.put_live.Tie as tie

@@ -1,7 +1,7 @@
 -- `tidying::pack::stride_at` meets its contract. Assumes nothing.
 use mathlib.Core.Path.{sym, _∙_}
 use native.Mathlib.Omega.{arith}
-use Rattle.tidying.proofs.Packing.{stride-dead, stride-live}
+use Rattle.tidying.proofs.Packed.{stride-dead, stride-live}
 use borrow.Author.Needs.{needs}
 use Rattle.tidying.proofs.pack.stride_at.Statement.{statement}
 use Rattle.tidying.proofs.pack.stride_at.Tie as tie

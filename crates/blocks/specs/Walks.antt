@@ -1,0 +1,83 @@
+-- What the walks over blocks find, and what joining dead ones leaves.
+-- Assumes nothing.
+use mathlib.Core.Path.{_≡_}
+use mathlib.Core.Bool.{Bool, _&&_, _||_, cond}
+use mathlib.Core.List.{List}
+use mathlib.Core.Logic.{_⊎_}
+use Prim.Native.Nat.{ℕ, _-_, _≤_, _<_}
+use lib.Dec.{eqb}
+use lib.ListN.{getD, set}
+use Rattle.formula.specs.Tree.{lit, Forest, ∅, some-child, count}
+use Rattle.formula.specs.Tidy.{equal}
+use Rattle.sheet.specs.Format.{Row, row}
+use Rattle.sheet.specs.Sheet.{literal-kind, front, behind}
+use Rattle.blocks.specs.Blocks.{Blocks, live, Laid, Here}
+
+-- a row by its number
+abbrev pub at-row : List Row → ℕ → Row
+at-row R r = getD R r (row 0 0)
+
+-- how many rows the block of a row covers
+unfoldable pub extent : Row → ℕ
+extent r = cond (eqb (r .kind) 3 || eqb (r .kind) 4) 1 (r .argument)
+
+-- whether a row is this one
+abbrev pub row-test : Row → ℕ → ℕ → Bool
+row-test r kind argument = eqb (r .kind) kind && eqb (r .argument) argument
+
+-- one for a row whose block holds a tree, none for a dead one's
+abbrev pub Alive : Row → ℕ → Type 0
+Alive r one = ((r .kind ≡ 0) × (one ≡ 0)) ⊎ ((r .kind ≡ 0 → ⊥) × (one ≡ 1))
+
+-- every block before a row is dead, and the block at that row is not
+pub record FirstLive (R : List Row) (from at to : ℕ) (before : List Row) (bs : Blocks) (after : List Row) : Type 0 where
+  pub done : Blocks
+  pub rest : Blocks
+  pub here : Here R from at to before done rest after
+  pub hidden : live done ≡ ∅
+  pub others : live bs ≡ live rest
+  pub found : at < to → (at-row R at) .kind ≡ 0 → ⊥
+
+abbrev pub Finds : List Row → ℕ → ℕ → ℕ → Type 0
+Finds R from to at = (before : List Row) (bs : Blocks) (after : List Row) → Laid R from to before bs after → FirstLive R from at to before bs after
+
+-- how many trees blocks hold
+abbrev pub Counts : List Row → ℕ → ℕ → ℕ → Type 0
+Counts R from to c = (before : List Row) (bs : Blocks) (after : List Row) → Laid R from to before bs after → c ≡ count (live bs)
+
+-- whether one of the trees is the literal of this kind and variable
+abbrev pub Holds : List Row → ℕ → ℕ → ℕ → ℕ → Bool → Type 0
+Holds R from to kind v found =
+    (before : List Row) (bs : Blocks) (after : List Row) → Laid R from to before bs after
+    → (s : Bool) → kind ≡ literal-kind s → found ≡ some-child (λ t. equal t (lit s v)) (live bs)
+
+-- the first trees of a region, and those behind them
+pub record Hopped (R : List Row) (from at to : ℕ) (before after : List Row) (owed : ℕ) (ts : Forest) : Type 0 where
+  pub first : Blocks
+  pub others : Blocks
+  pub here : Here R from at to before first others after
+  pub owned : live first ≡ front owed ts
+  pub left : live others ≡ behind owed ts
+
+abbrev pub Hops : List Row → ℕ → ℕ → ℕ → ℕ → Type 0
+Hops R from to owed at =
+    (before : List Row) (bs : Blocks) (after : List Row) → Laid R from to before bs after → owed ≤ count (live bs)
+    → Hopped R from at to before after owed (live bs)
+
+-- a dead block joins the dead rows from a row on, which are then a block up to its end; behind a live one no row is dead yet
+abbrev pub JoinsAt : List Row → List Row → ℕ → ℕ → ℕ → ℕ → Type 0
+JoinsAt R R′ run at next run′ =
+    (((at-row R at) .kind ≡ 0) × (R′ ≡ set R run (row 0 (next - run))) × (run′ ≡ run)) ⊎
+    (((at-row R at) .kind ≡ 0 → ⊥) × (R′ ≡ R) × (run′ ≡ next))
+
+-- the rows from one number up to another have become blocks that hold these trees, and those from a row on are dead
+pub record Joined (R : List Row) (from run to : ℕ) (before after : List Row) (ts : Forest) : Type 0 where
+  pub early : Blocks
+  pub dead : Blocks
+  pub here : Here R from run to before early dead after
+  pub hidden : live dead ≡ ∅
+  pub reads : live early ≡ ts
+
+abbrev pub Joins : List Row → List Row → ℕ → ℕ → ℕ → Type 0
+Joins R R′ from to run =
+    (before : List Row) (bs : Blocks) (after : List Row) → Laid R from to before bs after → Joined R′ from run to before after (live bs)

@@ -1,0 +1,128 @@
+-- From the rows of a formula to its tidied sheet.
+-- Assumes nothing.
+use mathlib.Core.Path.{_≡_, sym, ap, ap₂, _∙_, subst}
+use mathlib.Core.Bool.{Bool, true, false}
+use mathlib.Core.List.{List, [], _++_, map, append-assoc, append-nil}
+use Prim.Native.Nat.{ℕ, _+_, _*_, _-_, _≤_}
+use native.Mathlib.Omega.{arith}
+use lib.ListN.{length, take, drop, replicate}
+use lib.Seq.{length-take-le}
+use Rattle.formula.specs.Tree.{Op, and, or, Tree, lit, node, Forest, ∅, _▸_, Formula, rows, count}
+use Rattle.formula.specs.Tidy.{tidy, tidy-all, tidied}
+use Rattle.formula.proofs.Tidy.Children.{count-⧺}
+use Rattle.sheet.specs.Format.{Bytes, Format, Row, row, digits, header, children}
+use Rattle.sheet.specs.Sheet.{literal-kind, operator-kind, binding-row, trees, tree-rows, forest-rows, formula-rows, row-kinds, row-arguments, sheet}
+use Rattle.sheet.specs.Operations.{padded}
+use Rattle.sheet.proofs.Preorder.{trees-tree, trees-forest}
+use Rattle.sheet.proofs.Parts.{sheet-length-rows}
+use Rattle.sheet.proofs.RoundTrip.{length-formula-rows, length-sheet}
+use Rattle.rows.specs.Layouts.{total, rows-in, Room, sealed}
+use Rattle.rows.specs.Formulas.{node-rows-in, formula-in}
+use Rattle.rows.specs.declared.Layout.{Layout}
+use Rattle.rows.proofs.Layouts.{length-rows-in}
+use Rattle.rows.proofs.Formulas.{prefix-length, prefix-is, matrix-is}
+use Rattle.tidying.specs.Inner.Operators.{Preorder, Tidies}
+use Rattle.tidying.specs.Inner.Packed.{Packs}
+use Rattle.tidying.specs.Limits.{Raw}
+
+-- the rows of a tree are nodes with their children behind them
+
+literal-node : (s : Bool) (v : ℕ) (ts : Forest) → ((3 ≤ literal-kind s) × (literal-kind s ≤ 6)) × (children (row (literal-kind s) v) ≤ count ts)
+unfolding children
+literal-node true v ts = ((omega arith, omega arith), omega arith)
+literal-node false v ts = ((omega arith, omega arith), omega arith)
+
+operator-node : (o : Op) (n : ℕ) (ts : Forest) → n ≤ count ts
+    → ((3 ≤ operator-kind o) × (operator-kind o ≤ 6)) × (children (row (operator-kind o) n) ≤ count ts)
+unfolding children
+operator-node and n ts l = ((omega arith, omega arith), l)
+operator-node or n ts l = ((omega arith, omega arith), l)
+
+mutual
+  unfolding Preorder tree-rows
+
+  preorder-tree : (t : Tree) (rs : List Row) → Preorder rs → Preorder (tree-rows t ++ rs)
+  preorder-tree (lit s v) rs h = let c = literal-node s v (trees rs) in (c .0, c .1, h)
+  preorder-tree (node o ts) rs h =
+      let c = operator-node o (count ts) (trees (forest-rows ts ++ rs)) (omega (arith, ap count (trees-forest ts rs), count-⧺ ts (trees rs))) in
+      (c .0, c .1, preorder-forest ts rs h)
+
+  preorder-forest : (ts : Forest) (rs : List Row) → Preorder rs → Preorder (forest-rows ts ++ rs)
+  preorder-forest ∅ rs h = h
+  preorder-forest (t ▸ ts) rs h =
+      subst Preorder (sym (append-assoc (tree-rows t) (forest-rows ts) rs)) (preorder-tree t (forest-rows ts ++ rs) (preorder-forest ts rs h))
+
+-- a sheet's bytes and zeros behind them
+abbrev laid-out : ℕ → ℕ → ℕ → List Row → ℕ → Bytes
+laid-out w v n rs zeros = digits w v ++ digits w n ++ row-kinds rs ++ row-arguments w rs ++ replicate zeros 0
+
+module _ {F : Format} {s : Layout} (b : Bytes) (raw : Raw F s b) where
+  abbrev g : Formula
+  g = formula-in s b
+
+  length-prefix : length (g .prefix) ≡ s .variables
+  unfolding formula-in
+  length-prefix = prefix-length b (raw .room)
+
+  bound : List Row
+  bound = map binding-row (g .prefix)
+
+  bound-is : take (s .variables) (rows-in s b) ≡ bound
+  unfolding bound formula-in
+  bound-is = sym (prefix-is b (raw .room) (raw .is-formula))
+
+  nodes-are : drop (s .variables) (rows-in s b) ≡ tree-rows (g .matrix) ++ []
+  unfolding formula-in node-rows-in
+  nodes-are = sym (matrix-is b (raw .room) (raw .is-formula)) ∙ sym (append-nil (tree-rows (g .matrix)))
+
+  pub raw-preorder : Preorder (drop (s .variables) (rows-in s b))
+  unfolding Preorder
+  raw-preorder = subst Preorder (sym nodes-are) (preorder-tree (g .matrix) [] tt)
+
+  one-tree : tidy-all (trees (drop (s .variables) (rows-in s b))) ≡ tidy (g .matrix) ▸ ∅
+  unfolding tidy-all trees
+  one-tree = ap (λ rs. tidy-all (trees rs)) nodes-are ∙ ap tidy-all (trees-tree (g .matrix) [])
+
+  -- the rows that are left, as a sheet
+  module _ {R : List Row} (b′ : Bytes) {m : ℕ} (tidies : Tidies (rows-in s b) R (s .variables) (total s))
+      (packs : Packs R (rows-in s b′) (s .variables) (total s) m) (l : m ≤ total s) (same : length b′ ≡ length b) where
+    left : take m (rows-in s b′) ≡ formula-rows (tidied g)
+    unfolding formula-rows tidied forest-rows bound
+    left =
+        packs (take (s .variables) (rows-in s b)) (tidies .blocks) [] (tidies .laid) ∙
+        ap₂ (λ p ts. p ++ forest-rows ts) bound-is (tidies .reads ∙ one-tree) ∙
+        ap (λ rs. bound ++ rs) (append-nil (tree-rows (tidy (g .matrix))))
+
+    room : Room s (length b′)
+    room = record { few-bytes = raw .room .few-bytes; holds = omega (arith, raw .room .holds, same) }
+
+    rows-left : m ≡ s .variables + rows ((tidied g) .matrix)
+    unfolding tidied formula-in
+    rows-left =
+        sym (length-take-le m (rows-in s b′) (omega (arith, length-rows-in b′ room))) ∙ ap length left ∙ length-formula-rows (tidied g) ∙
+        ap (λ k. k + rows ((tidied g) .matrix)) length-prefix
+
+    pub prefix-left : s .variables ≤ m
+    prefix-left = omega (arith, rows-left)
+
+    pub sheet-end : 2 * s .width + m + s .width * m ≡ length (sheet F (tidied g))
+    unfolding tidied formula-in
+    sheet-end =
+        sym
+        (length-sheet F (tidied g) ∙ sheet-length-rows F (length (g .prefix)) (rows ((tidied g) .matrix)) ∙
+        ap (λ k. header F + (k + rows ((tidied g) .matrix) + F .width * (k + rows ((tidied g) .matrix)))) length-prefix ∙
+        ap (λ k. header F + (k + F .width * k)) (sym rows-left) ∙ regroup (F .width) ∙ ap (λ w. 2 * w + m + w * m) (sym (raw .width-is)))
+      where
+        regroup : (w : ℕ) → 2 * w + (m + w * m) ≡ 2 * w + m + w * m
+        regroup w = omega arith
+
+    pub sheet-is : sealed s m b′ ≡ padded (length b) (sheet F (tidied g))
+    unfolding sealed padded sheet tidied formula-in
+    sheet-is =
+        ap (λ len. laid-out (s .width) (s .variables) (m - s .variables) (take m (rows-in s b′)) (len - (2 * s .width + m + s .width * m))) same ∙
+        ap₂ (λ rs k. laid-out (s .width) (s .variables) (m - s .variables) rs (length b - k)) left sheet-end ∙
+        ap₂ (λ v n. laid-out (s .width) v n (formula-rows (tidied g)) (length b - length (sheet F (tidied g)))) (sym length-prefix) nodes-left ∙
+        ap (λ w. laid-out w (length (g .prefix)) (rows ((tidied g) .matrix)) (formula-rows (tidied g)) (length b - length (sheet F (tidied g)))) (raw .width-is)
+      where
+        nodes-left : m - s .variables ≡ rows ((tidied g) .matrix)
+        nodes-left = omega (arith, rows-left)
