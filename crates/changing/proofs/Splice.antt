@@ -212,6 +212,16 @@ module _ (t : Layout) (d : Bytes) (room : Room t (length d)) (at : ℕ) (new : L
       split : 2 * w + (1 + w) * m ≡ 2 * w + m + w * m
       split = omega (arith, add-mul 1 w m, one-mul m)
 
+-- after a write there is as much room
+pub ready-on : {s t : Layout} {b old new : Bytes} → Ready s b t old → length new ≡ length old → Ready s b t new
+ready-on {t = t} r e =
+    record {
+      source = r .source;
+      room = record { few-bytes = r .room .few-bytes; holds = omega (arith, e, r .room .holds) };
+      same-width = r .same-width;
+      two-bytes = r .two-bytes;
+    }
+
 -- the arguments of k rows have their place, by either layout's width
 pub arguments-room : {s t : Layout} {b out : Bytes} → Ready s b t out → (at k : ℕ) → at + k ≤ total t
     → 2 * s .width + total t + s .width * at + s .width * k ≤ length out

@@ -1,0 +1,6 @@
+mod Cuts
+mod Around
+mod Source
+mod Copies
+mod Turn
+mod Raws

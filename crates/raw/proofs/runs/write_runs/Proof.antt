@@ -1,0 +1,134 @@
+-- `raw::runs::write_runs` meets its contract: a run a turn. Assumes nothing.
+use Prim.Native.Nat.{_+_, _-_, _≤_}
+use native.Mathlib.Omega.{arith}
+use lib.ListN.{length, getD}
+use Rattle.changing.specs.Output.{Within}
+use Rattle.changing.proofs.Splice.{ready-on}
+use Rattle.raw.proofs.Turn.{Running, running-none, running-all, run-within, run-room, running-next}
+use Rattle.raw.proofs.runs.write_runs.Statement.{statement}
+use Rattle.raw.proofs.runs.write_runs.Tie as tie
+
+abbrev Inv-loop : tie.InvT-loop
+Inv-loop b s table cuts out₀ t v at₀ j₀ out at j = Running s b table cuts t out₀ at₀ out at j
+
+abbrev μ-loop : tie.MeasureT-loop
+μ-loop b s table cuts out₀ t v at₀ j₀ out at j = length cuts - j
+
+-- the run at hand
+here : (c : tie.In-loop Inv-loop μ-loop)
+    → let a = c .before .before .before .before .before .before .before in
+    let j = c .before .loop .j in
+    Within (record { from = a .args .s .variables + getD (a .args .cuts .now) j 0; to = a .args .s .variables + getD (a .args .cuts .now) (j + 1) 0 }) (a .args .s)
+here c =
+    let a = c .before .before .before .before .before .before .before in
+    run-within (a .args .s) (a .args .b .now) (a .pre .0) (a .args .table .now) (a .args .cuts .now) (a .args .to .layout) (a .args .out .now)
+    (a .args .to .at)
+    (a .pre .3) (c .loop-test .taken) (c .before .loop .inv)
+
+small : (c : tie.In-loop Inv-loop μ-loop)
+    → let a = c .before .before .before .before .before .before .before in
+    let j = c .before .loop .j in
+    (a .args .s .variables + getD (a .args .cuts .now) j 0 ≤ 9216) × (a .args .s .variables + getD (a .args .cuts .now) (j + 1) 0 ≤ 9216)
+small c =
+    let a = c .before .before .before .before .before .before .before in
+    let w = here c in
+    let few = a .pre .0 .few-variables in
+    let some = a .pre .0 .few-nodes in
+    (omega (arith, w .ordered, w .inside), omega (arith, w .inside))
+
+loop-holds : tie.Need-loop-holds Inv-loop μ-loop
+loop-holds c =
+    let a = c .before .before .before .before .before in
+    running-none (a .args .s) (a .args .b .now) (a .pre .0) (a .args .table .now) (a .args .cuts .now) (a .args .to .layout) (a .args .out .now)
+    (a .args .to .at)
+    (a .pre .2)
+
+add-loop : tie.Need-add-loop Inv-loop μ-loop
+add-loop c = omega (arith, c .loop .inv .within)
+
+mul-t13 : tie.Need-mul-t13 Inv-loop μ-loop
+mul-t13 c = omega arith
+
+shared-slice-read-t17 : tie.Need-shared-slice-read-t17 Inv-loop μ-loop
+shared-slice-read-t17 c = omega arith
+
+cast-t14 : tie.Need-cast-t14 Inv-loop μ-loop
+cast-t14 c = omega (arith, small (c .before))
+
+add-t18 : tie.Need-add-t18 Inv-loop μ-loop
+add-t18 c = omega (arith, small (c .before))
+
+add-t19 : tie.Need-add-t19 Inv-loop μ-loop
+add-t19 c = omega arith
+
+mul-t20 : tie.Need-mul-t20 Inv-loop μ-loop
+mul-t20 c = omega arith
+
+shared-slice-read-t22 : tie.Need-shared-slice-read-t22 Inv-loop μ-loop
+shared-slice-read-t22 c = omega arith
+
+cast-t23 : tie.Need-cast-t23 Inv-loop μ-loop
+cast-t23 c = omega (arith, small (c .before .before))
+
+add-t24 : tie.Need-add-t24 Inv-loop μ-loop
+add-t24 c = omega (arith, small (c .before .before))
+
+write-copy-requires : tie.Need-write-copy-requires Inv-loop μ-loop
+write-copy-requires c κs =
+    let turn = c .before .before .before in
+    let a = turn .before .before .before .before .before .before .before in (
+      ready-on (a .pre .1) (turn .before .loop .inv .same-length),
+      here turn,
+      run-room (a .args .s) (a .args .b .now) (a .pre .0) (a .args .table .now) (a .args .cuts .now) (a .args .to .layout) (a .args .out .now)
+          (a .args .to .at)
+          (a .pre .3) (turn .loop-test .taken) (turn .before .loop .inv),
+    )
+
+add-j : tie.Need-add-j Inv-loop μ-loop
+add-j c = omega arith
+
+loop-less : tie.Need-loop-less Inv-loop μ-loop
+loop-less c = omega arith
+
+loop-again : tie.Need-loop-again Inv-loop μ-loop
+loop-again c =
+    let turn = c .before .before .before .before .before .before in
+    let a = turn .before .before .before .before .before .before .before in
+    running-next (a .args .s) (a .args .b .now) (a .pre .0) (a .args .table .now) (a .args .cuts .now) (a .args .to .layout) (a .args .out .now)
+    (a .args .to .at)
+    (a .pre .3) (turn .loop-test .taken) (turn .before .loop .inv) (c .before .before .write-copy .ensures .0)
+    (c .before .before .write-copy .kept .1 .1 .1 .1 .0)
+
+same-length : tie.Need-same-length Inv-loop μ-loop
+same-length c = c .before .loop .inv .same-length
+
+returns : tie.Need-returns Inv-loop μ-loop
+returns c =
+    let a = c .before .before .before .before .before .before .before in
+    running-all (a .args .s) (a .args .b .now) (a .pre .0) (a .args .table .now) (a .args .cuts .now) (a .args .to .layout) (a .args .out .now)
+    (a .args .to .at)
+    (c .loop-test .left) (c .before .loop .inv)
+
+pub write-runs-spec : {M : Type 1} → statement M
+write-runs-spec =
+    tie.close
+    (tie.spec
+    Inv-loop
+    μ-loop
+    loop-holds
+    add-loop
+    mul-t13
+    shared-slice-read-t17
+    cast-t14
+    add-t18
+    add-t19
+    mul-t20
+    shared-slice-read-t22
+    cast-t23
+    add-t24
+    write-copy-requires
+    add-j
+    loop-less
+    loop-again
+    same-length
+    returns)

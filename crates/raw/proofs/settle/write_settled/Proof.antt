@@ -1,0 +1,35 @@
+-- `raw::settle::write_settled` meets its contract. Assumes nothing.
+use Rattle.changing.proofs.Splice.{laid-on}
+use Rattle.raw.proofs.Raws.{raw-laid, settled-rows}
+use native.Mathlib.Omega.{arith}
+use borrow.Author.Needs.{needs}
+use Rattle.raw.proofs.settle.write_settled.Statement.{statement}
+use Rattle.raw.proofs.settle.write_settled.Tie as tie
+
+sub-t10 : tie.Need-sub-t10
+sub-t10 c = search needs
+
+add-t10 : tie.Need-add-t10
+add-t10 c = search needs
+
+write-prefix-requires : tie.Need-write-prefix-requires
+write-prefix-requires c κs = search needs
+
+write-copy-requires : tie.Need-write-copy-requires
+write-copy-requires c κs = search needs
+
+same-length : tie.Need-same-length
+same-length c = search needs
+
+returns : tie.Need-returns
+returns c =
+    let first = c .before .before .before .before .before .before in
+    let a = first .before .before .before .before .before .before .before in
+    raw-laid (omega (arith, first .write-prefix .ensures .1, c .before .before .write-copy .ensures .1, a .pre .2))
+    (laid-on (first .write-prefix .ensures .0) (c .before .before .write-copy .ensures .0)) (search needs)
+    (settled-rows (a .args .s) (a .args .b .now) (a .pre .0) (a .args .table .now) (a .args .i))
+
+pub write-settled-spec : {M : Type 1} → statement M
+write-settled-spec =
+    tie.close
+    (tie.spec sub-t10 add-t10 write-prefix-requires write-copy-requires same-length returns)

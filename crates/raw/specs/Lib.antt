@@ -1,0 +1,3 @@
+-- The raw sheets of Settle and Expand.
+pub mod Formulas
+pub mod Expansions
