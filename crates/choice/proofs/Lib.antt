@@ -1,0 +1,3 @@
+-- Laws for callers.
+pub mod Rows
+pub mod Settling

@@ -1,0 +1,44 @@
+-- The next variable to settle, as code holds it ("Solve").
+-- Assumes nothing.
+use mathlib.Core.Path.{_≡_}
+use mathlib.Core.Bool.{Bool, cond}
+use mathlib.Core.Option.{Option, none, some}
+use Prim.Native.Nat.{ℕ, _<_}
+use lib.Dec.{ltb}
+use lib.ListN.{drop}
+use Rattle.formula.specs.Tree.{Formula}
+use Rattle.formula.specs.Settle.{may-settle}
+use Rattle.formula.specs.Solve.{those, least, is-some, lowest}
+use Rattle.sheet.specs.Format.{Bytes}
+use Rattle.rows.specs.Formulas.{prefix-in, formula-in}
+use Rattle.rows.specs.declared.Layout.{Layout}
+use Rattle.prefixes.specs.Places.{place}
+use Rattle.choice.specs.declared.settle.SettleChoice.{SettleChoice}
+use Rattle.choice.specs.declared.settle.SettleChoice.the-variants.{Settle, Nothing}
+
+-- the chosen variable is x, of row i, and it takes the value c
+pub record SettleHere (s : Layout) (b : Bytes) (chosen : Option ℕ) (i x : ℕ) (c : Bool) : Type 0 where
+  pub is-lowest : chosen ≡ some x
+  pub inside : i < s .variables
+  pub at-row : i ≡ place x (prefix-in s b)
+  pub value-is : may-settle x (formula-in s b) ≡ some c
+
+-- the code's choice is the chosen variable, or there is none
+abbrev pub SettleOf : Layout → Bytes → Option ℕ → SettleChoice → Type 0
+SettleOf s b chosen (Settle i x c) = SettleHere s b chosen i x c
+SettleOf s b chosen Nothing = chosen ≡ none
+
+abbrev pub ToSettle : Layout → Bytes → SettleChoice → Type 0
+ToSettle s b r = SettleOf s b (lowest (formula-in s b)) r
+
+-- the lowest-numbered variable that may be settled, of those from prefix row i on, and the code's choice among them
+unfoldable pub lowest-from : ℕ → Formula → Option ℕ
+lowest-from i f = least ltb (those (λ x. is-some (may-settle x f)) (drop i (f .prefix)))
+
+abbrev pub SettlesFrom : ℕ → Layout → Bytes → SettleChoice → Type 0
+SettlesFrom i s b r = SettleOf s b (lowest-from i (formula-in s b)) r
+
+-- the lower-numbered of a choice and the variable x of row i, which takes the value c
+abbrev pub lower-of : SettleChoice → ℕ → ℕ → Bool → SettleChoice
+lower-of Nothing i x c = Settle i x c
+lower-of (Settle j y d) i x c = cond (ltb y x) (Settle j y d) (Settle i x c)

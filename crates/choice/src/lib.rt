@@ -1,0 +1,2 @@
+// What Solve takes next ("Solve"): the variable to settle, and if there is none the variable to expand.
+pub mod settle;
