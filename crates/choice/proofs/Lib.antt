@@ -1,3 +1,4 @@
 -- Laws for callers.
 pub mod Rows
 pub mod Settling
+pub mod Expanding

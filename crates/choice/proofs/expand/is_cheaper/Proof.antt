@@ -1,0 +1,13 @@
+-- `choice::expand::is_cheaper` meets its contract. Assumes nothing.
+use Rattle.choice.proofs.Expanding.{beats-tie, beats-else}
+use Rattle.choice.proofs.expand.is_cheaper.Statement.{statement}
+use Rattle.choice.proofs.expand.is_cheaper.Tie as tie
+
+returns : tie.Need-returns
+returns c = let a = c .before .before .before .before .before .args in beats-tie (a .best) (a .own) (c .before .before .if1 .taken)
+
+returns-2 : tie.Need-returns-2
+returns-2 c = let a = c .before .before .before .before .before .args in beats-else (a .best) (a .own) (c .before .before .if1 .left)
+
+pub is-cheaper-spec : {M : Type 1} → statement M
+is-cheaper-spec = tie.close (tie.spec returns returns-2)

@@ -1,0 +1,31 @@
+-- `choice::expand::price_row` meets its contract: the row's number, its part and its raw rows. Assumes nothing.
+use borrow.Author.Needs.{needs}
+use native.Mathlib.Omega.{arith}
+use Rattle.choice.proofs.Expanding.{copied-within, priced-as}
+use Rattle.choice.proofs.expand.price_row.Statement.{statement}
+use Rattle.choice.proofs.expand.price_row.Tie as tie
+
+variable-at-requires : tie.Need-variable-at-requires
+variable-at-requires c κs = search needs
+
+part-of-requires : tie.Need-part-of-requires
+part-of-requires c κs =
+    let a = c .before .before .before .before .before in
+    (a .pre .0, a .pre .2, omega (arith, c .variable-at .ensures .0, a .pre .1 .numbered .few-numbers (a .args .i) (a .pre .3)))
+
+raw-rows-of-requires : tie.Need-raw-rows-of-requires
+raw-rows-of-requires c κs =
+    let a = c .before .before .before .before .before .before in
+    let ok = a .pre .0 .readable in
+    (ok .few-nodes, copied-within (a .args .b .now) ok (c .before .variable-at .result) (c .part-of .ensures))
+
+returns : tie.Need-returns
+returns c =
+    let read = c .before .before in
+    let a = read .before .before .before .before .before in
+    priced-as (a .args .b .now) (a .pre .0 .readable) (a .args .i) (read .variable-at .ensures .0) (c .before .part-of .ensures)
+    (c .raw-rows-of .ensures)
+
+pub price-row-spec : {M : Type 1} → statement M
+price-row-spec =
+    tie.close (tie.spec variable-at-requires part-of-requires raw-rows-of-requires returns)

@@ -1,0 +1,86 @@
+// The variable that Solve expands next: the innermost-block one with the fewest raw rows, ties to the lower number. The caller has filled
+// the tables of occurrences, from which it also takes the chosen variable's literals.
+use prefixes::block_start;
+use prefixes::variable_at;
+use relevance::variable::Presence;
+use relevance::variable::part_of;
+use relevance::variable::raw_rows_of;
+use rows::Layout;
+ghost use mathlib.Core.Path.{_≡_};
+ghost use Prim.Native.Nat.{_<_};
+ghost use Rattle.subtrees.specs.Ends.{Indexed};
+ghost use Rattle.relevance.specs.Occurrences.{Occurrences};
+ghost use Rattle.choice.specs.Choosing.{Bound};
+ghost use Rattle.choice.specs.Expanding.{ToExpand, beats, cheaper-of, priced-in};
+
+// The variable to expand: its prefix row, its number, its relevant part if it has a literal, and the raw sheet's node rows.
+pub struct ExpandChoice {
+    pub row: usize,
+    pub variable: usize,
+    pub part: Presence,
+    pub raw: usize,
+}
+
+// The variable of prefix row `i` with its relevant part and its raw sheet's node rows.
+fn price_row(
+    b: &[u8],
+    s: Layout,
+    ends: &[u16],
+    ranges: &[u16],
+    next: &[u16],
+    i: usize,
+) -> ExpandChoice
+    requires { ⌜ Indexed s (now b) (now ends) × Bound s (now b) × Occurrences s (now b) (now ranges) (now next) × (i < s .variables) ⌝ }
+    ensures { λ r. ⌜ r ≡ priced-in s (now (b .entry)) i ⌝ }
+{
+    let x = variable_at(b, s, i);
+    let part = part_of(b, s, ends, ranges, next, x);
+    let raw = raw_rows_of(s.nodes, part);
+    ExpandChoice {
+        row: i,
+        variable: x,
+        part: part,
+        raw: raw,
+    }
+}
+
+// Whether `best` has fewer raw rows than `own`, or as many and the lower number.
+fn is_cheaper(best: ExpandChoice, own: ExpandChoice) -> bool
+    ensures { λ r. ⌜ r ≡ beats best own ⌝ }
+{
+    if best.raw == own.raw {
+        return best.variable < own.variable;
+    }
+    best.raw < own.raw
+}
+
+// The cheaper of the two.
+fn cheaper_of(best: ExpandChoice, own: ExpandChoice) -> ExpandChoice
+    ensures { λ r. ⌜ r ≡ cheaper-of best own ⌝ }
+{
+    if is_cheaper(best, own) {
+        return best;
+    }
+    own
+}
+
+// The innermost-block variable with the fewest raw rows: from the last prefix row back to the block's first.
+pub fn choose_expand(
+    b: &[u8],
+    s: Layout,
+    ends: &[u16],
+    ranges: &[u16],
+    next: &[u16],
+) -> ExpandChoice
+    requires { ⌜ Indexed s (now b) (now ends) × Bound s (now b) × Occurrences s (now b) (now ranges) (now next) × (0 < s .variables) ⌝ }
+    ensures { λ r. ⌜ ToExpand s (now (b .entry)) r ⌝ }
+{
+    let from = block_start(b, s);
+    let mut i = s.variables - 1;
+    let mut best = price_row(b, s, ends, ranges, next, i);
+    while from < i {
+        i -= 1;
+        best = cheaper_of(best, price_row(b, s, ends, ranges, next, i));
+    }
+    best
+}
