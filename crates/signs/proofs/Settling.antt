@@ -3,13 +3,13 @@
 use mathlib.Core.Path.{_≡_, refl, sym, ap, ap₂, _∙_}
 use mathlib.Core.Bool.{Bool, true, false, not, _||_, or-false, true≢false}
 use mathlib.Core.List.{List, [], _∷_}
-use mathlib.Core.Option.{Option, none, some}
+use mathlib.Core.Option.{none, some}
 use Prim.Native.Nat.{ℕ, zero, suc, _≤_, _<_}
 use native.Mathlib.Omega.{arith}
 use lib.Dec.{eqb}
 use lib.ListN.{getD}
 use Rattle.formula.specs.Tree.{and, or, Quantifier, exists, for-all, same-op, Tree, lit, node, Forest, ∅, _▸_, of, of-sign, has, has-any}
-use Rattle.formula.specs.Settle.{at-root, may-take, value, settling}
+use Rattle.formula.specs.Settle.{may-take, value, settling}
 use Rattle.sheet.specs.Format.{Bytes}
 use Rattle.rows.specs.Formulas.{matrix-in}
 use Rattle.rows.specs.declared.Layout.{Layout}
