@@ -21,7 +21,7 @@ use Rattle.subtrees.specs.Subtrees.{top, kids, forest-in, subtree-in, siblings-
 use Rattle.subtrees.proofs.Forest.{rest, has-⧺, stepped-at}
 use Rattle.subtrees.proofs.Matrix.{trees-nodes, sound-nodes}
 use Rattle.subtrees.proofs.Siblings.{Walked, siblings-none, Children, subtree-root, below-row}
-use Rattle.signs.specs.Table.{entry-of, no-signs, Marked, Signed}
+use Rattle.signs.specs.Table.{entry-of, entries, no-signs, Marked, Signed}
 
 -- entry-of
 
@@ -73,7 +73,7 @@ module _ (table : List Bool) (u : Bool) where
       other false x k = refl
   mark-past (node o ts) e past = mark-none (λ p x _. refl)
 
-  mark-literal : (q : Bool) (v : ℕ) → v ≤ 1024 → length table ≡ 4100
+  mark-literal : (q : Bool) (v : ℕ) → v ≤ 1024 → length table ≡ entries
       → Marked u table (set table (entry-of u q v) true) (λ p x. of-sign p x q v)
   mark-literal q v low size =
       record {
@@ -102,7 +102,7 @@ module _ (table : List Bool) (u : Bool) where
           getD-set-other table (entry-of u true v) (entry-of u false x) true false (λ k. absurd (omega (arith, k))) ∙
           sym (or-false (getD table (entry-of u false x) false))
 
-  pub mark-one : (t : Tree) {k y e : ℕ} → k ≡ (top t) .kind → k ≤ 4 → y ≡ (top t) .argument → y ≤ 1024 → length table ≡ 4100
+  pub mark-one : (t : Tree) {k y e : ℕ} → k ≡ (top t) .kind → k ≤ 4 → y ≡ (top t) .argument → y ≤ 1024 → length table ≡ entries
       → e ≡ entry-of u (eqb k 3) y → Marked u table (set table e true) (λ p x. is-lit (of-sign p x) t)
   unfolding is-lit
   mark-one (lit true v) is low arg small size e = rw (e, is, arg) (mark-literal true v (omega (arith, arg)) size)
@@ -212,8 +212,8 @@ no-sign zero e = refl
 no-sign (suc n) zero = refl
 no-sign (suc n) (suc e) = no-sign n e
 
-pub no-signs-length : {signs : List Bool} → signs ≡ no-signs → length signs ≡ 4100
-no-signs-length e = ap length e ∙ length-replicate 4100 false
+pub no-signs-length : {signs : List Bool} → signs ≡ no-signs → length signs ≡ entries
+no-signs-length e = ap length e ∙ length-replicate entries false
 
 pub signs-filled : {s : Layout} {b : Bytes} {before table after : List Bool} → before ≡ no-signs
     → Marked false before table (λ p x. has (of-sign p x) (matrix-in s b)) → Marked true table after (λ p x. at-root (of-sign p x) (matrix-in s b))
@@ -228,4 +228,4 @@ signs-filled {s} {b} {before} {table} {after} none literals units =
     }
   where
     empty : (e : ℕ) → getD before e false ≡ false
-    empty e = ap (λ l. getD l e false) none ∙ no-sign 4100 e
+    empty e = ap (λ l. getD l e false) none ∙ no-sign entries e

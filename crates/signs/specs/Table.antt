@@ -15,11 +15,15 @@ use Rattle.rows.specs.declared.Layout.{Layout}
 abbrev pub entry-of : Bool → Bool → ℕ → ℕ
 entry-of unit sign x = 4 * x + 2 * cond unit 1 0 + cond sign 0 1
 
+-- how many there are: four for each number up to 1,024, the wider format's most
+abbrev pub entries : ℕ
+entries = 4100
+
 -- where no sign is marked
 abbrev pub no-signs : List Bool
-no-signs = replicate 4100 false
+no-signs = replicate entries false
 
--- of the numbers up to 1,024, the wider format's most, those that pass the test of a sign are marked too, as unit literals or as literals
+-- of the numbers up to 1,024, those that pass the test of a sign are marked too, as unit literals or as literals
 -- anywhere, and no other
 pub record Marked (unit : Bool) (before after : List Bool) (P : Bool → ℕ → Bool) : Type 0 where
   pub same-length : length after ≡ length before
@@ -29,6 +33,6 @@ pub record Marked (unit : Bool) (before after : List Bool) (P : Bool → ℕ →
 
 -- the table of a sheet: whether x has a literal of a sign, and a unit literal
 pub record Signed (s : Layout) (b : Bytes) (signs : List Bool) : Type 0 where
-  pub size : length signs ≡ 4100
+  pub size : length signs ≡ entries
   pub anywhere : (sign : Bool) (x : ℕ) → x ≤ 1024 → getD signs (entry-of false sign x) false ≡ has (of-sign sign x) (matrix-in s b)
   pub units : (sign : Bool) (x : ℕ) → x ≤ 1024 → getD signs (entry-of true sign x) false ≡ at-root (of-sign sign x) (matrix-in s b)

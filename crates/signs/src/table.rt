@@ -15,7 +15,7 @@ ghost use Rattle.formula.specs.Settle.{is-lit, at-root};
 ghost use Rattle.rows.specs.Formulas.{Readable, matrix-in};
 ghost use Rattle.subtrees.specs.Ends.{Indexed};
 ghost use Rattle.subtrees.specs.Subtrees.{subtree-in};
-ghost use Rattle.signs.specs.Table.{entry-of, no-signs, Marked, Signed};
+ghost use Rattle.signs.specs.Table.{entry-of, entries, no-signs, Marked, Signed};
 
 // Entries of the table.
 pub const SIGNS: usize = 4 * NUMBERS;
@@ -23,7 +23,7 @@ pub const SIGNS: usize = 4 * NUMBERS;
 // The entry of the variable `x` for its literals of one sign: for unit literals, or for literals anywhere.
 pub fn entry(x: usize, unit: bool, positive: bool) -> usize
     requires { ⌜ x ≤ 1024 ⌝ }
-    ensures { λ r. ⌜ (r ≡ entry-of unit positive x) × (r < 4100) ⌝ }
+    ensures { λ r. ⌜ (r ≡ entry-of unit positive x) × (r < entries) ⌝ }
 {
     let negative = !positive;
     4 * x + 2 * (unit as usize) + negative as usize
@@ -31,7 +31,7 @@ pub fn entry(x: usize, unit: bool, positive: bool) -> usize
 
 // Marks the literal of node row `i`, if one stands there and its number is in the table: as a unit literal, or as one anywhere.
 fn mark_row(b: &[u8], s: Layout, i: usize, unit: bool, signs: &mut [bool])
-    requires { ⌜ Readable s (now b) × (i < s .nodes) × (length (now signs) ≡ 4100) ⌝ }
+    requires { ⌜ Readable s (now b) × (i < s .nodes) × (length (now signs) ≡ entries) ⌝ }
     ensures { λ _. ⌜ Marked unit (now (signs .entry)) (now (signs .exit)) (λ p x. is-lit (of-sign p x) (subtree-in s (now (b .entry)) i)) ⌝ }
 {
     let kind = kind_at(b, s, i);
@@ -47,7 +47,7 @@ fn mark_row(b: &[u8], s: Layout, i: usize, unit: bool, signs: &mut [bool])
 
 // Marks all literals.
 fn mark_literals(b: &[u8], s: Layout, signs: &mut [bool])
-    requires { ⌜ Readable s (now b) × (length (now signs) ≡ 4100) ⌝ }
+    requires { ⌜ Readable s (now b) × (length (now signs) ≡ entries) ⌝ }
     ensures { λ _. ⌜ Marked false (now (signs .entry)) (now (signs .exit)) (λ p x. has (of-sign p x) (matrix-in s (now (b .entry)))) ⌝ }
 {
     let n = s.nodes;
@@ -60,7 +60,7 @@ fn mark_literals(b: &[u8], s: Layout, signs: &mut [bool])
 
 // Marks the unit literals: the root, or the root's children.
 fn mark_units(b: &[u8], s: Layout, ends: &[u16], signs: &mut [bool])
-    requires { ⌜ Indexed s (now b) (now ends) × (length (now signs) ≡ 4100) ⌝ }
+    requires { ⌜ Indexed s (now b) (now ends) × (length (now signs) ≡ entries) ⌝ }
     ensures { λ _. ⌜ Marked true (now (signs .entry)) (now (signs .exit)) (λ p x. at-root (of-sign p x) (matrix-in s (now (b .entry)))) ⌝ }
 {
     mark_row(b, s, 0, true, signs);

@@ -9,7 +9,7 @@ ghost use lib.ListN.{length};
 ghost use Rattle.formula.specs.Settle.{value};
 ghost use Rattle.rows.specs.Formulas.{Readable};
 ghost use Rattle.prefixes.specs.Places.{binding-in};
-ghost use Rattle.signs.specs.Table.{Signed};
+ghost use Rattle.signs.specs.Table.{entries, Signed};
 ghost use Rattle.signs.specs.Value.{Numbered, quantifier-at, sign-at, value-of, signs-in, settling-by, settling-in};
 
 // The value put in, by quantifier (exists, for all) and sign (positive, negative).
@@ -56,7 +56,7 @@ pub fn settling_by(quantifier: usize, signs: Signs) -> Settling
 
 // The signs of the variable `x`.
 fn signs_at(signs: &[bool], x: usize) -> Signs
-    requires { ⌜ (length (now signs) ≡ 4100) × (x ≤ 1024) ⌝ }
+    requires { ⌜ (length (now signs) ≡ entries) × (x ≤ 1024) ⌝ }
     ensures { λ r. ⌜ r ≡ signs-in (now (signs .entry)) x ⌝ }
 {
     Signs {
