@@ -20,14 +20,14 @@ use Rattle.subtrees.specs.Subtrees.{top, kids, forest-in, subtree-in}
 use Rattle.subtrees.proofs.Forest.{rest, some-row, siblings, has-⧺}
 use Rattle.subtrees.proofs.Matrix.{sound-nodes}
 use Rattle.subtrees.proofs.Siblings.{below-row, subtree-root, root-end, subtree-within}
-use Rattle.relevance.specs.Chains.{first-from, Last, Bounds}
+use Rattle.occurrences.specs.Chains.{first-from, Last, Bounds}
 use Rattle.relevance.specs.Parts.{literal-part, relevant-part, part-below, operator-part}
 use Rattle.relevance.specs.Walks.{child-span, narrower}
 use Rattle.relevance.specs.declared.Range.{Range}
 use Rattle.relevance.specs.declared.Relevant.{Relevant}
 use Rattle.relevance.specs.declared.part.Span.{Span}
-use Rattle.relevance.proofs.Hits.{has-root, has-row, no-rows}
-use Rattle.relevance.proofs.Chains.{first-after, first-here, first-later, pending, held}
+use Rattle.occurrences.proofs.Hits.{has-root, has-row, no-rows}
+use Rattle.occurrences.proofs.Chains.{first-after, first-here, first-later, pending, held}
 
 -- one-relevant
 

@@ -8,12 +8,17 @@ use lib.Dec.{eqb}
 use borrow.Author.Tests.{eq-eqb, ne-eqb, eqb-true, eqb-false}
 use Rattle.formula.specs.Tree.{Tree, lit, node, Forest, ∅, _▸_, Literals, rows, rows-all, has, has-any, count, some-child, keep}
 use Rattle.formula.specs.Expand.{relevant, one-relevant, all-relevant, growth, growth-below, raw-rows}
+use Rattle.sheet.specs.Format.{Bytes}
 use Rattle.sheet.proofs.Preorder.{rows-positive}
+use Rattle.rows.specs.Formulas.{matrix-in, Readable}
+use Rattle.rows.specs.declared.Layout.{Layout}
+use Rattle.rows.proofs.Formulas.{rows-nodes}
 use Rattle.subtrees.specs.Subtrees.{kids}
 use Rattle.subtrees.proofs.Forest.{rows-kids}
 use Rattle.relevance.specs.Parts.{relevant-part, part-below, operator-part}
-use Rattle.relevance.specs.Raw.{added, presence, grown-by, copied}
+use Rattle.relevance.specs.Raw.{added, grown, presence, grown-by, copied}
 use Rattle.relevance.specs.declared.Relevant.{Relevant}
+use Rattle.relevance.specs.declared.variable.Presence.{Presence}
 use Rattle.relevance.specs.declared.variable.Presence.the-variants.{Absent, Present}
 
 -- relevant
@@ -72,7 +77,7 @@ mutual
   unfolding growth relevant-part part-below has has-any operator-part
 
   -- E + 1 or E + 2
-  pub growth-part : (t : Tree) (L : Literals) (i : ℕ) → has L t ≡ true → growth L t ≡ added (relevant-part L i t)
+  growth-part : (t : Tree) (L : Literals) (i : ℕ) → has L t ≡ true → growth L t ≡ added (relevant-part L i t)
   growth-part (lit s v) L i h = refl
   growth-part (node o ts) L i h = go (one-relevant L ts) (all-relevant L ts) (growth-part-below ts L (suc i) h)
     where
@@ -104,7 +109,7 @@ mutual
   unfolding rows relevant-part part-below operator-part
 
   -- E is within the rows
-  pub part-most : (t : Tree) (L : Literals) (i : ℕ) → (relevant-part L i t) .rows ≤ rows t
+  part-most : (t : Tree) (L : Literals) (i : ℕ) → (relevant-part L i t) .rows ≤ rows t
   part-most (lit s v) L i = omega arith
   part-most (node o ts) L i = go (one-relevant L ts) (part-below-most ts L (suc i))
     where
@@ -124,6 +129,16 @@ mutual
       go true h k = omega arith
       go false h k = omega arith
 
+-- raw-rows
+
+raw-present : (L : Literals) (t : Tree) → has L t ≡ true → raw-rows L t ≡ grown (rows t) (relevant-part L 0 t)
+unfolding raw-rows
+raw-present L t h = rw h (ap (λ m. rows t + m) (growth-part t L 0 h))
+
+raw-absent : (L : Literals) (t : Tree) → has L t ≡ false → raw-rows L t ≡ rows t
+unfolding raw-rows
+raw-absent L t h = rw h
+
 -- presence
 
 pub absent : (L : Literals) (t : Tree) → has L t ≡ false → Absent ≡ presence L t
@@ -134,20 +149,33 @@ pub present : (L : Literals) (t : Tree) {p : Relevant} → has L t ≡ true → 
 unfolding presence
 present L t {p} h e = ap Present e ∙ rw h
 
--- the raw rows of a set are those that its part tells, and E is within the rows
-pub raw-grown : (L : Literals) (t : Tree) → grown-by (rows t) (presence L t) ≡ raw-rows L t
-unfolding presence raw-rows
-raw-grown L t = go (has L t) (λ h. growth-part t L 0 h)
+raw-grown : (L : Literals) (t : Tree) → grown-by (rows t) (presence L t) ≡ raw-rows L t
+raw-grown L t = go (has L t) refl
   where
-    go : (c : Bool) → (c ≡ true → growth L t ≡ added (relevant-part L 0 t))
-        → grown-by (rows t) (cond c (Present (relevant-part L 0 t)) Absent) ≡ cond c (rows t + growth L t) (rows t)
-    go true h = ap (λ m. rows t + m) (sym (h refl))
-    go false h = refl
+    go : (c : Bool) → has L t ≡ c → grown-by (rows t) (presence L t) ≡ raw-rows L t
+    go true h = ap (grown-by (rows t)) (sym (present L t h refl)) ∙ sym (raw-present L t h)
+    go false h = ap (grown-by (rows t)) (sym (absent L t h)) ∙ sym (raw-absent L t h)
 
-pub copied-most : (L : Literals) (t : Tree) → copied (presence L t) ≤ rows t
+copied-most : (L : Literals) (t : Tree) → copied (presence L t) ≤ rows t
 unfolding presence
 copied-most L t = go (has L t)
   where
     go : (c : Bool) → copied (cond c (Present (relevant-part L 0 t)) Absent) ≤ rows t
     go true = part-most t L 0
     go false = omega arith
+
+-- in a sheet: the raw rows are those that the part tells, and E is within the rows
+module _ (L : Literals) {s : Layout} (b : Bytes) (ok : Readable s b) where
+  pub raw-rows-in : {p : Relevant} → has L (matrix-in s b) ≡ true → p ≡ relevant-part L 0 (matrix-in s b)
+      → (grown (s .nodes) p ≡ raw-rows L (matrix-in s b)) × (p .rows ≤ s .nodes)
+  raw-rows-in {p} h e = (
+    ap₂ grown (sym (rows-nodes b ok)) e ∙ sym (raw-present L (matrix-in s b) h),
+    omega (arith, ap (λ (q : Relevant). q .rows) e, part-most (matrix-in s b) L 0, rows-nodes b ok),
+  )
+
+  pub raw-rows-by : {p : Presence} → p ≡ presence L (matrix-in s b)
+      → (grown-by (s .nodes) p ≡ raw-rows L (matrix-in s b)) × (copied p ≤ s .nodes)
+  raw-rows-by {p} e = (
+    ap₂ grown-by (sym (rows-nodes b ok)) e ∙ raw-grown L (matrix-in s b),
+    omega (arith, ap copied e, copied-most L (matrix-in s b), rows-nodes b ok),
+  )

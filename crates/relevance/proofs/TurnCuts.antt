@@ -3,13 +3,13 @@
 use mathlib.Core.Path.{_≡_, refl, sym, ap, ap₂, _∙_}
 use mathlib.Core.Bool.{Bool, true, false, not, cond, Bool·beq, true≢false}
 use mathlib.Core.List.{List, [], _∷_, _++_, append-nil, append-assoc}
-use Prim.Native.Nat.{ℕ, suc, _+_, _-_, _≤_, _<_}
+use Prim.Native.Nat.{ℕ, _+_, _-_, _≤_, _<_}
 use native.Mathlib.Numerals.{add-one}
 use native.Mathlib.Omega.{arith}
 use lib.Dec.{ltb}
-use lib.ListN.{length, getD, take, drop, set, length-set}
-use lib.Seq.{drop-drop, drop-set-lt, take-suc-set}
-use Rattle.formula.specs.Tree.{Tree, Forest, _▸_, Literals, rows, has}
+use lib.ListN.{length, getD, take, drop, set, length-set, take-append-drop}
+use lib.Seq.{drop-drop, drop-set-lt, take-suc-set, length-take-le}
+use Rattle.formula.specs.Tree.{Forest, Literals, has}
 use Rattle.sheet.specs.Format.{Bytes}
 use Rattle.rows.specs.declared.Layout.{Layout}
 use Rattle.subtrees.specs.Subtrees.{subtree-in, siblings-in}
@@ -125,18 +125,30 @@ module _ (L : Literals) {s : Layout} {b : Bytes} {ends next : List ℕ} {from k 
           })
 
 -- the end is the last cut
-pub cut-none : (L : Literals) {s : Layout} {b : Bytes} {ts : Forest} {from at left row : ℕ} {runs : Runs} {table : List ℕ} → left ≤ 0
+cut-none : (L : Literals) {s : Layout} {b : Bytes} {ts : Forest} {from at left row : ℕ} {runs : Runs} {table : List ℕ} → left ≤ 0
     → runs .cuts < length table → Cutting L s b ts from at left row runs table
     → take (runs .cuts + 1) (set table (runs .cuts) at) ≡ cuts L from ts
 unfolding turns
 cut-none L {s} {b} {ts} {from} {at} {left} {row} {runs} {table} h room p =
-    sym (p .same ∙ ap (λ us. take (runs .cuts) table ++ turns L (runs .holding) at us) (siblings-none s b at h) ∙
+    sym
+    (p .same ∙ ap (λ us. take (runs .cuts) table ++ turns L (runs .holding) at us) (siblings-none s b at h) ∙
     cut-put table (runs .cuts) at [] room ∙ append-nil (take (runs .cuts + 1) (set table (runs .cuts) at)))
 
-pub kept-last : (before : List ℕ) (from at : ℕ) {table : List ℕ} {runs : Runs} → Kept (set before 0 from) runs table
-    → (length (set table (runs .cuts) at) ≡ length before)
-    × (drop (runs .cuts + 1) (set table (runs .cuts) at) ≡ drop (runs .cuts + 1) before)
-kept-last before from at {table} {runs} k = (
-  length-set table (runs .cuts) at ∙ k .same-length ∙ length-set before 0 from,
-  kept-put (set before 0 from) table (runs .cuts) at (k .behind) ∙ drop-set-lt (runs .cuts + 1) before 0 from (omega arith),
-)
+-- with what the table held before its first entry was set
+module _ (before : List ℕ) (first : ℕ) {table : List ℕ} {runs : Runs} (k : Kept (set before 0 first) runs table) (at : ℕ) where
+  pub length-kept : length (set table (runs .cuts) at) ≡ length before
+  length-kept = length-set table (runs .cuts) at ∙ k .same-length ∙ length-set before 0 first
+
+  pub cuts-done : (L : Literals) {s : Layout} {b : Bytes} {ts : Forest} {from left row : ℕ} → left ≤ 0 → runs .cuts < length table
+      → Cutting L s b ts from at left row runs table
+      → (runs .cuts + 1 ≡ length (cuts L from ts))
+      × (set table (runs .cuts) at ≡ cuts L from ts ++ drop (runs .cuts + 1) before)
+  cuts-done L {s} {b} {ts} {from} h room p =
+      let all = cut-none L h room p in
+      let after = set table (runs .cuts) at in (
+        sym (length-take-le (runs .cuts + 1) after (omega (arith, length-set table (runs .cuts) at))) ∙ ap length all,
+        sym (take-append-drop (runs .cuts + 1) after) ∙
+            ap₂ _++_ all
+            (kept-put (set before 0 first) table (runs .cuts) at (k .behind) ∙
+            drop-set-lt (runs .cuts + 1) before 0 first (omega arith)),
+      )

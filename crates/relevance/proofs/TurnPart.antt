@@ -19,12 +19,12 @@ use Rattle.subtrees.specs.Ends.{Indexed, Hops}
 use Rattle.subtrees.proofs.Forest.{rows-kids}
 use Rattle.subtrees.proofs.Table.{hop-on}
 use Rattle.subtrees.proofs.Siblings.{Walked, Children, siblings-none, subtree-within, walk-on}
-use Rattle.relevance.specs.Chains.{first-from, Links, Chain, Pending}
+use Rattle.occurrences.specs.Chains.{first-from, Links, Chain, Pending}
 use Rattle.relevance.specs.Walks.{span-by, child-span, Way, there, on, Leads, with-child}
 use Rattle.relevance.specs.declared.part.Span.{Span}
 use Rattle.relevance.specs.declared.part.Share.{Share}
 use Rattle.relevance.proofs.Growth.{relevant-most}
-use Rattle.relevance.proofs.Chains.{pending, held, first-below, pass-on, pass-less}
+use Rattle.occurrences.proofs.Chains.{pending, held, first-below, pass-on, pass-less}
 
 -- span-by
 

@@ -2,10 +2,10 @@
 -- Assumes nothing.
 use mathlib.Core.Path.{_≡_}
 use mathlib.Core.Bool.{Bool, cond, Bool·beq}
-use mathlib.Core.List.{List}
+use mathlib.Core.List.{List, _++_}
 use Prim.Native.Nat.{ℕ, zero, suc, _+_, _-_, _≤_, _<_}
 use lib.Dec.{eqb, ltb}
-use lib.ListN.{length, getD, take, drop, set}
+use lib.ListN.{length, getD, drop, set}
 use Rattle.formula.specs.Tree.{Tree, Forest, ∅, _▸_, Literals, rows, rows-all, count}
 use Rattle.formula.specs.Expand.{relevant}
 use Rattle.sheet.specs.Format.{Bytes}
@@ -13,7 +13,7 @@ use Rattle.rows.specs.Formulas.{matrix-in}
 use Rattle.rows.specs.declared.Layout.{Layout}
 use Rattle.subtrees.specs.Subtrees.{kids, subtree-in}
 use Rattle.subtrees.specs.Ends.{Indexed}
-use Rattle.relevance.specs.Chains.{Bounds, Chain, Chained}
+use Rattle.occurrences.specs.Chains.{Bounds, Chain, Chained}
 use Rattle.relevance.specs.Cuts.{cuts}
 use Rattle.relevance.specs.Parts.{relevant-part, operator-part}
 use Rattle.relevance.specs.declared.Relevant.{Relevant}
@@ -94,9 +94,9 @@ run-cut holds r = cond (Bool·beq holds (r .holding)) r (record { cuts = r .cuts
 unfoldable pub table-cut : Bool → Runs → ℕ → List ℕ → List ℕ
 table-cut holds r at table = cond (Bool·beq holds (r .holding)) table (set table (r .cuts) at)
 
--- a table with the cuts of the operator's children at its front
+-- a table with the k cuts of the operator's children at its front, and behind them what it held before
 abbrev pub IsCuts : Layout → Bytes → List ℕ → Site → List ℕ → ℕ → List ℕ → Type 0
 IsCuts s b next o before k table =
-    (drop k table ≡ drop k before) ×
-    ((L : Literals) (last : ℕ) → Chain L s b next (o .first) last
-    → take k table ≡ cuts L (suc (o .operator)) (kids (subtree-in s b (o .operator))))
+    (L : Literals) (last : ℕ) → Chain L s b next (o .first) last
+    → (k ≡ length (cuts L (suc (o .operator)) (kids (subtree-in s b (o .operator)))))
+    × (table ≡ cuts L (suc (o .operator)) (kids (subtree-in s b (o .operator))) ++ drop k before)

@@ -2,7 +2,6 @@
 // The set is given by a chain: the rows of its first and its last literal, and a table that leads from each literal to the next. Tables
 // for the chains of all variables are filled in a few passes; then a part costs its literals and the path to them, not a pass.
 pub mod cuts;
-pub mod occurrences;
 pub mod part;
 pub mod variable;
 

@@ -8,7 +8,7 @@ ghost use Prim.Native.Nat.{_≤_};
 ghost use Rattle.formula.specs.Tree.{of};
 ghost use Rattle.rows.specs.Formulas.{matrix-in};
 ghost use Rattle.subtrees.specs.Ends.{Indexed};
-ghost use Rattle.relevance.specs.Occurrences.{Occurrences};
+ghost use Rattle.occurrences.specs.Occurrences.{Occurrences};
 ghost use Rattle.relevance.specs.Raw.{grown, presence, grown-by, copied};
 
 // Whether a literal stands in the matrix, and if so the relevant part.

@@ -1,5 +1,5 @@
 -- `relevance::cuts::fill_cuts` meets its contract: the cuts in the table and those to come are the cuts of all. Assumes nothing.
-use mathlib.Core.Path.{_≡_, refl, ap₂, _∙_}
+use mathlib.Core.Path.{refl}
 use Prim.Native.Nat.{ℕ, _+_, _≤_, _<_}
 use native.Mathlib.Numerals.{add-one}
 use native.Mathlib.Omega.{arith}
@@ -9,10 +9,10 @@ use Rattle.formula.specs.Tree.{Literals}
 use Rattle.rows.specs.declared.Layout.{Layout}
 use Rattle.subtrees.specs.Subtrees.{siblings-in}
 use Rattle.subtrees.proofs.Siblings.{Children, Walked, children-read}
-use Rattle.relevance.specs.Chains.{Chain}
+use Rattle.occurrences.specs.Chains.{Chain}
 use Rattle.relevance.specs.Cuts.{cuts}
 use Rattle.relevance.proofs.TurnPart.{Begun, begin, walked, leads}
-use Rattle.relevance.proofs.TurnCuts.{Cutting, Kept, cut-start, cut-on, cut-none, kept-turn, kept-last}
+use Rattle.relevance.proofs.TurnCuts.{Cutting, Kept, cut-start, cut-on, kept-turn, length-kept, cuts-done}
 use Rattle.relevance.proofs.cuts.fill_cuts.Statement.{statement}
 use Rattle.relevance.proofs.cuts.fill_cuts.Tie as tie
 
@@ -141,16 +141,18 @@ add-result : tie.Need-add-result Inv-loop μ-loop
 add-result c = omega (arith, room (c .before) .2)
 
 same-length : tie.Need-same-length Inv-loop μ-loop
-same-length c = let a = c .before .before .before .before .before .before .before .before .args in kept-last (a .cuts .now) (a .site .operator + 1) (c .before .loop .at) (c .before .loop .inv .1) .0
+same-length c =
+    let a = c .before .before .before .before .before .before .before .before .args in
+    length-kept (a .cuts .now) (a .site .operator + 1) (c .before .loop .inv .1) (c .before .loop .at)
 
 returns : tie.Need-returns Inv-loop μ-loop
 returns c =
     let a = c .before .before .before .before .before .before .before .before .args in
-    let head = c .before in (
-      kept-last (a .cuts .now) (a .site .operator + 1) (head .loop .at) (head .loop .inv .1) .1,
-      λ L last k. cut-none L (c .loop-test .left) (room head .0) (head .loop .inv .0 (a .s) L (begun (c .before .before) L last k)) ∙
-          ap₂ (cuts L) (add-one (a .site .operator)) (children (c .before .before) .are),
-    )
+    let head = c .before in
+    λ L last k.
+    rw (← children (c .before .before) .are, ← add-one (a .site .operator))
+    (cuts-done (a .cuts .now) (a .site .operator + 1) (head .loop .inv .1) (head .loop .at) L (c .loop-test .left) (room head .0)
+    (head .loop .inv .0 (a .s) L (begun (c .before .before) L last k)))
 
 pub fill-cuts-spec : {M : Type 1} → statement M
 fill-cuts-spec =

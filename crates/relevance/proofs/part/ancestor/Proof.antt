@@ -4,7 +4,7 @@ use Prim.Native.Nat.{_-_, _<_}
 use native.Mathlib.Omega.{arith}
 use Rattle.formula.specs.Tree.{Literals}
 use Rattle.subtrees.specs.Subtrees.{subtree-in}
-use Rattle.relevance.specs.Chains.{Bounds}
+use Rattle.occurrences.specs.Chains.{Bounds}
 use Rattle.relevance.specs.Walks.{narrower}
 use Rattle.relevance.proofs.Descent.{Narrowing, narrow-start, narrow-next, narrow-done}
 use Rattle.relevance.proofs.part.ancestor.Statement.{statement}

@@ -1,5 +1,4 @@
 -- `relevance::part::first_behind` meets its contract: from the row at hand the way leads to the same row. Assumes nothing.
-use mathlib.Core.Path.{sym}
 use Prim.Native.Nat.{ℕ, _-_}
 use native.Mathlib.Omega.{arith}
 use Rattle.relevance.specs.Walks.{Way}

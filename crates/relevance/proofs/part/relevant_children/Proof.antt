@@ -7,7 +7,7 @@ use Rattle.formula.specs.Expand.{relevant}
 use Rattle.rows.specs.declared.Layout.{Layout}
 use Rattle.subtrees.specs.Subtrees.{siblings-in}
 use Rattle.subtrees.proofs.Siblings.{Children, Walked, children-read}
-use Rattle.relevance.specs.Chains.{Chain}
+use Rattle.occurrences.specs.Chains.{Chain}
 use Rattle.relevance.proofs.TurnPart.{Begun, begin, Sharing, share-start, walked, end-later, leads, share-on, share-none}
 use Rattle.relevance.proofs.part.relevant_children.Statement.{statement}
 use Rattle.relevance.proofs.part.relevant_children.Tie as tie

@@ -1,9 +1,6 @@
 -- `relevance::part::relevant_part` meets its contract: the part of the deepest operator above all literals. Assumes nothing.
-use mathlib.Core.Path.{_≡_, _∙_}
+use mathlib.Core.Path.{_∙_}
 use Prim.Native.Nat.{_<_}
-use Rattle.formula.specs.Tree.{Literals}
-use Rattle.rows.specs.Formulas.{matrix-in}
-use Rattle.relevance.specs.Chains.{Chain}
 use Rattle.relevance.proofs.Descent.{found-literal, found-before, found-operator}
 use Rattle.relevance.proofs.part.relevant_part.Statement.{statement}
 use Rattle.relevance.proofs.part.relevant_part.Tie as tie

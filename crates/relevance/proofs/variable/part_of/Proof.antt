@@ -8,7 +8,7 @@ use lib.ListN.{getD}
 use borrow.Author.Tests.{lt-ltb, le-ltb}
 use Rattle.formula.specs.Tree.{of, has}
 use Rattle.rows.specs.Formulas.{matrix-in}
-use Rattle.relevance.specs.Chains.{Chain}
+use Rattle.occurrences.specs.Chains.{Chain}
 use Rattle.relevance.proofs.Growth.{absent, present}
 use Rattle.relevance.proofs.variable.part_of.Statement.{statement}
 use Rattle.relevance.proofs.variable.part_of.Tie as tie

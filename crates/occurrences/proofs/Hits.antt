@@ -1,7 +1,7 @@
 -- Which rows are literals of a set, row by row.
 -- Assumes nothing.
 use mathlib.Core.Path.{_≡_, refl, sym, ap, ap₂, _∙_}
-use mathlib.Core.Bool.{Bool, true, false, _||_, or-assoc, or-false}
+use mathlib.Core.Bool.{Bool, false, _||_, or-assoc, or-false}
 use mathlib.Core.List.{List, [], _∷_, _++_, append-nil, append-assoc}
 use Prim.Native.Nat.{ℕ, suc, _+_, _<_}
 use native.Mathlib.Omega.{arith}
@@ -19,7 +19,7 @@ use Rattle.subtrees.specs.Subtrees.{kids, forest-in, subtree-in}
 use Rattle.subtrees.proofs.Forest.{rest, stepped-at, siblings, all-⧺}
 use Rattle.subtrees.proofs.Matrix.{trees-nodes, sound-nodes}
 use Rattle.subtrees.proofs.Siblings.{below-row}
-use Rattle.relevance.specs.Chains.{hits, hits-all}
+use Rattle.occurrences.specs.Chains.{hits, hits-all}
 
 -- any
 

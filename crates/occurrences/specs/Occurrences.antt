@@ -13,12 +13,13 @@ use Rattle.sheet.specs.Format.{Bytes}
 use Rattle.rows.specs.Formulas.{matrix-in}
 use Rattle.rows.specs.declared.Layout.{Layout}
 use Rattle.subtrees.specs.Subtrees.{forest-in, subtree-in}
-use Rattle.relevance.specs.Chains.{first-from, Last, Chain}
+use Rattle.occurrences.specs.Chains.{first-from, Last, Chain}
 
 -- by variable number: whether a literal of it stands in the matrix, and if so their chain
 pub record Occurrences (s : Layout) (b : Bytes) (ranges next : List ℕ) : Type 0 where
   pub holds : length ranges ≡ 2050
   pub tells : (x : ℕ) → x ≤ 1024 → ltb (getD ranges (2 * x) 0) (s .nodes) ≡ has (of x) (matrix-in s b)
+  pub absent : (x : ℕ) → x ≤ 1024 → has (of x) (matrix-in s b) ≡ false → getD ranges (2 * x) 0 ≡ s .nodes
   pub chained : (x : ℕ) → x ≤ 1024 → has (of x) (matrix-in s b) ≡ true
       → Chain (of x) s b next (getD ranges (2 * x) 0) (getD ranges (2 * x + 1) 0)
 

@@ -1,12 +1,12 @@
--- `relevance::occurrences::link` meets its contract: of the rows from i on, the literals are in the tables. Assumes nothing.
+-- `occurrences::link` meets its contract: of the rows from i on, the literals are in the tables. Assumes nothing.
 use mathlib.Core.Path.{_≡_, refl, sym, _∙_}
 use Prim.Native.Nat.{_-_, _≤_, _<_}
 use native.Mathlib.Omega.{arith}
 use lib.ListN.{length, length-set}
-use Rattle.relevance.specs.Occurrences.{Firsts, Nexts}
-use Rattle.relevance.proofs.TurnOccurrences.{first-none-left, next-none-left, first-turn, next-turn}
-use Rattle.relevance.proofs.occurrences.link.Statement.{statement}
-use Rattle.relevance.proofs.occurrences.link.Tie as tie
+use Rattle.occurrences.specs.Occurrences.{Firsts, Nexts}
+use Rattle.occurrences.proofs.Turn.{first-none-left, next-none-left, first-turn, next-turn}
+use Rattle.occurrences.proofs.link.Statement.{statement}
+use Rattle.occurrences.proofs.link.Tie as tie
 
 abbrev Inv-loop : tie.InvT-loop
 Inv-loop b s ranges₀ next₀ i₀ ranges next i =

@@ -1,11 +1,11 @@
--- `relevance::occurrences::mark` meets its contract: of the rows passed, each variable's last literal is in the table. Assumes nothing.
+-- `occurrences::mark` meets its contract: of the rows passed, each variable's last literal is in the table. Assumes nothing.
 use mathlib.Core.Path.{_≡_, refl, sym, _∙_}
 use Prim.Native.Nat.{_-_, _≤_}
 use native.Mathlib.Omega.{arith}
-use Rattle.relevance.specs.Occurrences.{Lasts, FirstsKept}
-use Rattle.relevance.proofs.TurnOccurrences.{mark-none, mark-turn, kept-turn}
-use Rattle.relevance.proofs.occurrences.mark.Statement.{statement}
-use Rattle.relevance.proofs.occurrences.mark.Tie as tie
+use Rattle.occurrences.specs.Occurrences.{Lasts, FirstsKept}
+use Rattle.occurrences.proofs.Turn.{mark-none, mark-turn, kept-turn}
+use Rattle.occurrences.proofs.mark.Statement.{statement}
+use Rattle.occurrences.proofs.mark.Tie as tie
 
 abbrev Inv-loop : tie.InvT-loop
 Inv-loop b s ranges₀ i₀ ranges i = Lasts s b i ranges × FirstsKept ranges₀ ranges × (i ≤ s .nodes)

@@ -15,10 +15,10 @@ use Rattle.sheet.specs.Format.{Bytes}
 use Rattle.rows.specs.Formulas.{matrix-in, Readable}
 use Rattle.rows.specs.declared.Layout.{Layout}
 use Rattle.subtrees.specs.Subtrees.{top, forest-in, subtree-in}
-use Rattle.relevance.specs.Chains.{first-from, Last, Links, Chain}
-use Rattle.relevance.specs.Occurrences.{Occurrences, variable-of, Firsts, Nexts, Lasts, FirstsKept}
-use Rattle.relevance.proofs.Hits.{has-root, has-row, no-rows}
-use Rattle.relevance.proofs.Chains.{first-here, first-later, first-none, occurs}
+use Rattle.occurrences.specs.Chains.{first-from, Last}
+use Rattle.occurrences.specs.Occurrences.{Occurrences, variable-of, Firsts, Nexts, Lasts, FirstsKept}
+use Rattle.occurrences.proofs.Hits.{has-root, has-row, no-rows}
+use Rattle.occurrences.proofs.Chains.{first-here, first-later, first-none, occurs, first-absent}
 
 -- variable-of
 
@@ -168,6 +168,7 @@ module _ {s : Layout} (b : Bytes) (ok : Readable s b) where
       record {
         holds = m .holds;
         tells = tells;
+        absent = λ x h none. first-absent (of x) b ok (kept x ∙ f .is x h) none;
         chained =
             λ x h some. record {
               bounds =

@@ -1,10 +1,10 @@
--- `relevance::occurrences::fill` meets its contract: the entries before the one at hand are set. Assumes nothing.
+-- `occurrences::fill` meets its contract: the entries before the one at hand are set. Assumes nothing.
 use Prim.Native.Nat.{_-_}
 use native.Mathlib.Omega.{arith}
 use lib.ListN.{length}
-use Rattle.relevance.proofs.TurnOccurrences.{Filling, fill-none, fill-turn, fill-all}
-use Rattle.relevance.proofs.occurrences.fill.Statement.{statement}
-use Rattle.relevance.proofs.occurrences.fill.Tie as tie
+use Rattle.occurrences.proofs.Turn.{Filling, fill-none, fill-turn, fill-all}
+use Rattle.occurrences.proofs.fill.Statement.{statement}
+use Rattle.occurrences.proofs.fill.Tie as tie
 
 abbrev Inv-loop : tie.InvT-loop
 Inv-loop table₀ value i₀ table i = Filling table₀ value table i

@@ -1,13 +1,13 @@
 -- Along the literals of a set: the first from a row on, and the way by a table from each to the next.
 -- Assumes nothing.
-use mathlib.Core.Path.{_≡_, refl, sym, ap, ap₂, _∙_}
+use mathlib.Core.Path.{_≡_, refl, sym, ap, _∙_}
 use mathlib.Core.Bool.{Bool, true, false, cond, true≢false, false≢true}
 use mathlib.Core.List.{List, [], _∷_, _++_}
 use Prim.Native.Nat.{ℕ, zero, suc, _+_, _-_, _≤_, _<_}
 use native.Mathlib.Omega.{arith}
 use lib.Dec.{ltb}
 use lib.ListN.{length, getD}
-use borrow.Author.Tests.{lt-ltb, le-ltb}
+use borrow.Author.Tests.{lt-ltb, le-ltb, ltb-false}
 use Rattle.formula.specs.Tree.{Literals, rows, has}
 use Rattle.formula.specs.Tidy.{any, first-true}
 use Rattle.formula.specs.Settle.{is-lit}
@@ -16,8 +16,8 @@ use Rattle.rows.specs.Formulas.{matrix-in, Readable}
 use Rattle.rows.specs.declared.Layout.{Layout}
 use Rattle.subtrees.specs.Subtrees.{forest-in, subtree-in}
 use Rattle.subtrees.proofs.Siblings.{subtree-root, root-end}
-use Rattle.relevance.specs.Chains.{hits, hits-all, first-from, Links, Pending}
-use Rattle.relevance.proofs.Hits.{has-hits, length-hits, hits-row, hits-subtree, no-rows}
+use Rattle.occurrences.specs.Chains.{hits, hits-all, first-from, Links, Pending}
+use Rattle.occurrences.proofs.Hits.{has-hits, length-hits, hits-row, hits-subtree, no-rows}
 
 -- first-true
 
@@ -116,6 +116,11 @@ module _ (L : Literals) {s : Layout} (b : Bytes) (ok : Readable s b) where
   occurs {first} e =
       ap (λ m. ltb m (s .nodes)) e ∙ ap (ltb (first-from L s b 0)) (root-end b ok) ∙ held 0 (ok .some-nodes) ∙
       ap (has L) (subtree-root b ok)
+
+  pub first-absent : {first : ℕ} → first ≡ first-from L s b 0 → has L (matrix-in s b) ≡ false → first ≡ s .nodes
+  first-absent {first} e none =
+      pending 0 {end = s .nodes} e (omega arith) (omega arith) .behind (ltb-false first (s .nodes) (occurs e ∙ none)) ∙
+      first-none L b ok
 
   -- the first literal is the first one behind each row before it
   pub first-below : {first at : ℕ} → first ≡ first-from L s b 0 → first < s .nodes → at < first → first ≡ first-from L s b (suc at)

@@ -1,9 +1,9 @@
--- `relevance::occurrences::store` meets its contract. Assumes nothing.
+-- `occurrences::store` meets its contract. Assumes nothing.
 use mathlib.Core.Path.{sym}
 use borrow.Author.Needs.{needs}
 use lib.Seq.{set-out}
-use Rattle.relevance.proofs.occurrences.store.Statement.{statement}
-use Rattle.relevance.proofs.occurrences.store.Tie as tie
+use Rattle.occurrences.proofs.store.Statement.{statement}
+use Rattle.occurrences.proofs.store.Tie as tie
 
 returns : tie.Need-returns
 returns c = sym (set-out (c .before .args .table .now) (c .before .args .i) (c .before .args .value) (c .if1 .taken))

@@ -1,11 +1,11 @@
--- `relevance::occurrences::variable_at` meets its contract: by the row's kind and argument. Assumes nothing.
+-- `occurrences::variable_at` meets its contract: by the row's kind and argument. Assumes nothing.
 use borrow.Author.Needs.{needs}
 use mathlib.Core.Path.{_∙_}
 use native.Mathlib.Omega.{arith}
 use Rattle.subtrees.specs.Subtrees.{subtree-in}
-use Rattle.relevance.proofs.TurnOccurrences.{variable-literal, variable-operator}
-use Rattle.relevance.proofs.occurrences.variable_at.Statement.{statement}
-use Rattle.relevance.proofs.occurrences.variable_at.Tie as tie
+use Rattle.occurrences.proofs.Turn.{variable-literal, variable-operator}
+use Rattle.occurrences.proofs.variable_at.Statement.{statement}
+use Rattle.occurrences.proofs.variable_at.Tie as tie
 
 kind-at-requires : tie.Need-kind-at-requires
 kind-at-requires c κs = search needs

@@ -1,9 +1,9 @@
--- `relevance::occurrences::look` meets its contract. Assumes nothing.
+-- `occurrences::look` meets its contract. Assumes nothing.
 use mathlib.Core.Path.{sym}
 use borrow.Author.Needs.{needs}
 use lib.ListN.{List·getD-eq-default}
-use Rattle.relevance.proofs.occurrences.look.Statement.{statement}
-use Rattle.relevance.proofs.occurrences.look.Tie as tie
+use Rattle.occurrences.proofs.look.Statement.{statement}
+use Rattle.occurrences.proofs.look.Tie as tie
 
 returns : tie.Need-returns
 returns c = sym (List·getD-eq-default (c .before .args .table .now) 0 (c .if1 .taken))

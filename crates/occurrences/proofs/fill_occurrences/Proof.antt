@@ -1,8 +1,8 @@
--- `relevance::occurrences::fill_occurrences` meets its contract. Assumes nothing.
+-- `occurrences::fill_occurrences` meets its contract. Assumes nothing.
 use borrow.Author.Needs.{needs}
-use Rattle.relevance.proofs.TurnOccurrences.{occurrences-filled}
-use Rattle.relevance.proofs.occurrences.fill_occurrences.Statement.{statement}
-use Rattle.relevance.proofs.occurrences.fill_occurrences.Tie as tie
+use Rattle.occurrences.proofs.Turn.{occurrences-filled}
+use Rattle.occurrences.proofs.fill_occurrences.Statement.{statement}
+use Rattle.occurrences.proofs.fill_occurrences.Tie as tie
 
 link-requires : tie.Need-link-requires
 link-requires c κs = search needs

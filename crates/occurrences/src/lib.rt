@@ -9,7 +9,7 @@ ghost use Prim.Native.Nat.{_^_, _≤_, _<_};
 ghost use lib.ListN.{length, getD, set, replicate};
 ghost use Rattle.rows.specs.Formulas.{Readable};
 ghost use Rattle.subtrees.specs.Subtrees.{subtree-in};
-ghost use Rattle.relevance.specs.Occurrences.{Occurrences, variable-of, Firsts, Nexts, Lasts, FirstsKept};
+ghost use Rattle.occurrences.specs.Occurrences.{Occurrences, variable-of, Firsts, Nexts, Lasts, FirstsKept};
 
 // The variable of the literal at node row `i`; a number that no table has if an operator stands there.
 fn variable_at(b: &[u8], s: Layout, i: usize) -> usize
