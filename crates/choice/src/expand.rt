@@ -9,7 +9,7 @@ use rows::Layout;
 ghost use mathlib.Core.Path.{_≡_};
 ghost use Prim.Native.Nat.{_<_};
 ghost use Rattle.subtrees.specs.Ends.{Indexed};
-ghost use Rattle.relevance.specs.Occurrences.{Occurrences};
+ghost use Rattle.occurrences.specs.Occurrences.{Occurrences};
 ghost use Rattle.choice.specs.Choosing.{Bound};
 ghost use Rattle.choice.specs.Expanding.{ToExpand, beats, cheaper-of, priced-in};
 
