@@ -1,6 +1,6 @@
 -- The turns of the walk for the next variable to expand, through the innermost block from the last row on.
 -- Assumes nothing.
-use mathlib.Core.Path.{_≡_, refl, sym, ap, ap₂, _∙_, subst}
+use mathlib.Core.Path.{_≡_, refl, sym, ap, _∙_, subst}
 use mathlib.Core.Bool.{Bool, true, false, _&&_, _||_, cond, or-false}
 use mathlib.Core.Option.{Option, some}
 use Prim.Native.Nat.{ℕ, suc, _≤_, _<_}
@@ -13,12 +13,12 @@ use Rattle.formula.specs.Solve.{those, earlier, least, cheaper, cheapest}
 use Rattle.sheet.specs.Format.{Bytes}
 use Rattle.rows.specs.Formulas.{prefix-in, matrix-in, formula-in, Readable}
 use Rattle.rows.specs.declared.Layout.{Layout}
-use Rattle.rows.proofs.Formulas.{length-prefix, rows-nodes}
+use Rattle.rows.proofs.Formulas.{length-prefix}
 use Rattle.prefixes.specs.Places.{binding-in, block-start}
 use Rattle.prefixes.proofs.Places.{prefix-row, no-rows}
-use Rattle.relevance.specs.Raw.{presence, grown-by, copied}
+use Rattle.relevance.specs.Raw.{presence, grown-by}
 use Rattle.relevance.specs.declared.variable.Presence.{Presence}
-use Rattle.relevance.proofs.Growth.{raw-grown, copied-most}
+use Rattle.relevance.proofs.Growth.{raw-rows-by}
 use Rattle.choice.specs.Choosing.{Bound}
 use Rattle.choice.specs.Expanding.{ExpandHere, ToExpand, cheapest-from, priced-in, beats, cheaper-of}
 use Rattle.choice.specs.declared.expand.ExpandChoice.{ExpandChoice}
@@ -39,17 +39,13 @@ pub record Pricing (s : Layout) (b : Bytes) (i : ℕ) (best : ExpandChoice) : Ty
   pub chosen : ExpandHere s b (cheapest-from i (formula-in s b)) best
 
 module _ {s : Layout} (b : Bytes) (ok : Readable s b) where
-  -- the part and the raw rows of a variable
-  pub copied-within : (x : ℕ) {part : Presence} → part ≡ presence (of x) (matrix-in s b) → copied part ≤ s .nodes
-  copied-within x is = omega (arith, ap copied is, copied-most (of x) (matrix-in s b), rows-nodes b ok)
-
+  -- the part and the raw rows of a row's variable
   pub priced-as : (i : ℕ) {x : ℕ} {part : Presence} {raw : ℕ} → x ≡ (binding-in s b i) .variable
       → part ≡ presence (of x) (matrix-in s b) → raw ≡ grown-by (s .nodes) part
       → _≡_ {A = ExpandChoice} (record { row = i; variable = x; part = part; raw = raw }) (priced-in s b i)
   priced-as i {x} here is e =
-      let z = (binding-in s b i) .variable in
       let parted = is ∙ ap (λ v. presence (of v) (matrix-in s b)) here in
-      rw (e ∙ ap₂ grown-by (sym (rows-nodes b ok)) parted ∙ raw-grown (of z) (matrix-in s b), parted, here)
+      rw (e ∙ raw-rows-by (of ((binding-in s b i) .variable)) b ok parted .0, parted, here)
 
   module _ (bound : Bound s b) where
     priced : (i : ℕ) {o : Option ℕ} → i < s .variables → o ≡ some ((binding-in s b i) .variable) → ExpandHere s b o (priced-in s b i)

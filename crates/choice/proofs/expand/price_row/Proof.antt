@@ -1,7 +1,9 @@
 -- `choice::expand::price_row` meets its contract: the row's number, its part and its raw rows. Assumes nothing.
 use borrow.Author.Needs.{needs}
 use native.Mathlib.Omega.{arith}
-use Rattle.choice.proofs.Expanding.{copied-within, priced-as}
+use Rattle.formula.specs.Tree.{of}
+use Rattle.relevance.proofs.Growth.{raw-rows-by}
+use Rattle.choice.proofs.Expanding.{priced-as}
 use Rattle.choice.proofs.expand.price_row.Statement.{statement}
 use Rattle.choice.proofs.expand.price_row.Tie as tie
 
@@ -17,7 +19,7 @@ raw-rows-of-requires : tie.Need-raw-rows-of-requires
 raw-rows-of-requires c κs =
     let a = c .before .before .before .before .before .before in
     let ok = a .pre .0 .readable in
-    (ok .few-nodes, copied-within (a .args .b .now) ok (c .before .variable-at .result) (c .part-of .ensures))
+    (ok .few-nodes, raw-rows-by (of (c .before .variable-at .result)) (a .args .b .now) ok (c .part-of .ensures) .1)
 
 returns : tie.Need-returns
 returns c =
