@@ -16,7 +16,7 @@ use Rattle.rows.specs.Formulas.{matrix-in, Readable}
 use Rattle.rows.specs.declared.Layout.{Layout}
 use Rattle.subtrees.specs.Subtrees.{forest-in, subtree-in}
 use Rattle.subtrees.proofs.Siblings.{subtree-root, root-end}
-use Rattle.occurrences.specs.Chains.{hits, hits-all, first-from, Links, Pending}
+use Rattle.occurrences.specs.Chains.{hits, hits-all, first-from, Links}
 use Rattle.occurrences.proofs.Hits.{has-hits, length-hits, hits-row, hits-subtree, no-rows}
 
 -- first-true
@@ -52,6 +52,11 @@ module _ (L : Literals) {s : Layout} (b : Bytes) (ok : Readable s b) where
   pub first-none : first-from L s b (s .nodes) ≡ s .nodes
   unfolding first-from hits-all first-true
   first-none = omega (arith, ap (λ ts. first-true (hits-all L ts)) (no-rows b ok (s .nodes) refl))
+
+-- The row at hand on the way along the literals of a set to row `end`: one before it, or the first from it on.
+pub record Pending (L : Literals) (s : Layout) (b : Bytes) (row end : ℕ) : Type 0 where
+  pub before : row < end → is-lit L (subtree-in s b row) ≡ true
+  pub behind : end ≤ row → row ≡ first-from L s b end
 
 module _ (L : Literals) {s : Layout} (b : Bytes) (ok : Readable s b) where
   pub first-after : (i : ℕ) → i ≤ first-from L s b i

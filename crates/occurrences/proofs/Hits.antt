@@ -2,7 +2,7 @@
 -- Assumes nothing.
 use mathlib.Core.Path.{_≡_, refl, sym, ap, ap₂, _∙_}
 use mathlib.Core.Bool.{Bool, false, _||_, or-assoc, or-false}
-use mathlib.Core.List.{List, [], _∷_, _++_, append-nil, append-assoc}
+use mathlib.Core.List.{List, [], _∷_, _++_, append-assoc}
 use Prim.Native.Nat.{ℕ, suc, _+_, _<_}
 use native.Mathlib.Omega.{arith}
 use lib.ListN.{length, drop, length-append}
@@ -35,7 +35,7 @@ mutual
   has-hits L (lit s v) = sym (or-false (L s v))
   has-hits L (node o ts) = has-hits-all L ts
 
-  pub has-hits-all : (L : Literals) (ts : Forest) → has-any L ts ≡ any (hits-all L ts)
+  has-hits-all : (L : Literals) (ts : Forest) → has-any L ts ≡ any (hits-all L ts)
   has-hits-all L ∅ = refl
   has-hits-all L (t ▸ ts) = ap₂ _||_ (has-hits L t) (has-hits-all L ts) ∙ sym (any-++ (hits L t) (hits-all L ts))
 
@@ -76,7 +76,7 @@ module _ (L : Literals) {s : Layout} (b : Bytes) (ok : Readable s b) (i : ℕ) (
 
 -- all rows, none, and one before others
 module _ {s : Layout} (b : Bytes) (ok : Readable s b) where
-  pub forest-root : forest-in s b 0 ≡ matrix-in s b ▸ ∅
+  forest-root : forest-in s b 0 ≡ matrix-in s b ▸ ∅
   unfolding forest-in
   forest-root = trees-nodes b ok
 
@@ -86,10 +86,6 @@ module _ {s : Layout} (b : Bytes) (ok : Readable s b) where
       ap (λ m. trees (drop m (node-rows-in s b))) (e ∙ sym (length-nodes b ok)) ∙ ap trees (drop-length (node-rows-in s b))
 
 module _ (L : Literals) {s : Layout} (b : Bytes) (ok : Readable s b) where
-  pub hits-root : hits-all L (forest-in s b 0) ≡ hits L (matrix-in s b)
-  unfolding hits-all
-  hits-root = ap (hits-all L) (forest-root b ok) ∙ append-nil (hits L (matrix-in s b))
-
   pub has-root : has-any L (forest-in s b 0) ≡ has L (matrix-in s b)
   unfolding has-any
   has-root = ap (has-any L) (forest-root b ok) ∙ or-false (has L (matrix-in s b))

@@ -37,10 +37,10 @@ unfolding is-lit
 literal-variable x (lit s v) h = refl
 literal-variable x (node o ts) h = sym (ne-eqb 1025 x (λ e. omega arith))
 
-pub is-variable : (x : ℕ) (t : Tree) → x ≤ 1024 → is-lit (of x) t ≡ true → variable-of t ≡ x
+is-variable : (x : ℕ) (t : Tree) → x ≤ 1024 → is-lit (of x) t ≡ true → variable-of t ≡ x
 is-variable x t h e = eqb-true (variable-of t) x (sym (literal-variable x t h) ∙ e)
 
-pub other-variable : (x : ℕ) (t : Tree) → x ≤ 1024 → is-lit (of x) t ≡ false → variable-of t ≡ x → ⊥
+other-variable : (x : ℕ) (t : Tree) → x ≤ 1024 → is-lit (of x) t ≡ false → variable-of t ≡ x → ⊥
 other-variable x t h e = eqb-false (variable-of t) x (sym (literal-variable x t h) ∙ e)
 
 -- fill

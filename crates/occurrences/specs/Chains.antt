@@ -11,7 +11,6 @@ use Rattle.formula.specs.Settle.{is-lit}
 use Rattle.sheet.specs.Format.{Bytes}
 use Rattle.rows.specs.declared.Layout.{Layout}
 use Rattle.subtrees.specs.Subtrees.{forest-in, subtree-in}
-use Rattle.subtrees.specs.Ends.{Indexed}
 
 -- row by row in preorder: is the row a literal of the set?
 unfoldable mutual
@@ -48,14 +47,3 @@ pub record Bounds (L : Literals) (s : Layout) (b : Bytes) (first last : ℕ) : T
 pub record Chain (L : Literals) (s : Layout) (b : Bytes) (next : List ℕ) (first last : ℕ) : Type 0 where
   pub bounds : Bounds L s b first last
   pub links : Links L s b next
-
--- what code along a chain takes: a sheet with its ends, and the chain of some set
-pub record Chained (s : Layout) (b : Bytes) (ends next : List ℕ) (first last : ℕ) : Type 0 where
-  pub indexed : Indexed s b ends
-  pub chosen : Literals
-  pub chain : Chain chosen s b next first last
-
--- The row at hand on the way along the literals of a set to row `end`: one before it, or the first from it on.
-pub record Pending (L : Literals) (s : Layout) (b : Bytes) (row end : ℕ) : Type 0 where
-  pub before : row < end → is-lit L (subtree-in s b row) ≡ true
-  pub behind : end ≤ row → row ≡ first-from L s b end

@@ -1,4 +1,5 @@
-// The tables of occurrences of all variables, filled in a few passes. Entries of `ranges`: 2x the first literal of x, 2x + 1 the last.
+// Where the literals of each variable stand: tables for all variables, filled in a few passes. Entries of `ranges`: 2x the first literal
+// of x, 2x + 1 the last one.
 use rows::Layout;
 use rows::NEGATIVE;
 use rows::NUMBERS;

@@ -205,7 +205,7 @@ module _ (L : Literals) {s : Layout} (b : Bytes) (ok : Readable s b) where
       }
 
   module _ {first at : ℕ} (n : Narrowing L s b first at) where
-    pub at-first : at ≤ first
+    at-first : at ≤ first
     at-first = omega (arith, n .first-is, first-after L b ok at)
 
     -- at the first literal's own row it is the one literal

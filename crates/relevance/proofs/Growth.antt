@@ -54,7 +54,7 @@ all-rows L (t ▸ ts) = go (has L t) (relevant-most L ts) (all-rows L ts)
     go false h same = ne-eqb (rows-all (keep (has L) ts)) (rows t + rows-all ts) (λ e. omega (arith, rows-positive t))
 
 -- so for the children of the tree at row `at`, which ends at row `end`
-pub all-read : (L : Literals) (at : ℕ) (t : Tree) {kept end : ℕ} → kept ≡ rows-all (relevant L (kids t)) → end ≡ at + rows t
+all-read : (L : Literals) (at : ℕ) (t : Tree) {kept end : ℕ} → kept ≡ rows-all (relevant L (kids t)) → end ≡ at + rows t
     → eqb (at + (1 + kept)) end ≡ all-relevant L (kids t)
 all-read L at t {kept} {end} k e =
     ap₂ eqb (ap (λ m. at + (1 + m)) k ∙ shape (rows-all (relevant L (kids t)))) (e ∙ omega (arith, rows-kids t)) ∙

@@ -19,12 +19,12 @@ use Rattle.subtrees.specs.Ends.{Indexed, Hops}
 use Rattle.subtrees.proofs.Forest.{rows-kids}
 use Rattle.subtrees.proofs.Table.{hop-on}
 use Rattle.subtrees.proofs.Siblings.{Walked, Children, siblings-none, subtree-within, walk-on}
-use Rattle.occurrences.specs.Chains.{first-from, Links, Chain, Pending}
+use Rattle.occurrences.specs.Chains.{first-from, Links, Chain}
 use Rattle.relevance.specs.Walks.{span-by, child-span, Way, there, on, Leads, with-child}
 use Rattle.relevance.specs.declared.part.Span.{Span}
 use Rattle.relevance.specs.declared.part.Share.{Share}
 use Rattle.relevance.proofs.Growth.{relevant-most}
-use Rattle.occurrences.proofs.Chains.{pending, held, first-below, pass-on, pass-less}
+use Rattle.occurrences.proofs.Chains.{Pending, pending, held, first-below, pass-on, pass-less}
 
 -- span-by
 
@@ -62,11 +62,11 @@ span-none {left = zero} h p = sym (p .same)
 span-none {left = suc k} h p = absurd (omega arith)
 
 -- the subtrees of a sheet by the table of their ends
-module _ {s : Layout} (b : Bytes) (ok : Readable s b) {ends : List ℕ} (i : Indexed s b ends) where
+module _ {s : Layout} (b : Bytes) {ends : List ℕ} (i : Indexed s b ends) where
   pub hops-beside : (k at : ℕ) → Beside s b at k → Hops ends at k
   hops-beside zero at few = tt
   hops-beside (suc k) at few =
-      let w = walk-on b ok ends i at {left = suc k} (omega arith) few in
+      let w = walk-on b (i .readable) ends i at {left = suc k} (omega arith) few in
       let back : suc k - 1 ≡ k = omega arith in
       (omega (arith, w .inside, i .holds), hops-beside k (getD ends at 0) (rw back at (w .few)))
 
@@ -74,7 +74,7 @@ module _ {s : Layout} (b : Bytes) (ok : Readable s b) {ends : List ℕ} (i : Ind
   unfolding span-by child-span
   spans row zero at few = sym (ap (child-span row at) (siblings-none s b at (omega arith)))
   spans row (suc k) at few =
-      let w = walk-on b ok ends i at {left = suc k} (omega arith) few in
+      let w = walk-on b (i .readable) ends i at {left = suc k} (omega arith) few in
       let back : suc k - 1 ≡ k = omega arith in
       ap (λ sp. cond (ltb row (getD ends at 0)) (record { from = at; to = getD ends at 0 }) sp)
       (spans row k (getD ends at 0) (rw back at (w .few))) ∙

@@ -13,7 +13,7 @@ use Rattle.rows.specs.Formulas.{matrix-in}
 use Rattle.rows.specs.declared.Layout.{Layout}
 use Rattle.subtrees.specs.Subtrees.{kids, subtree-in}
 use Rattle.subtrees.specs.Ends.{Indexed}
-use Rattle.occurrences.specs.Chains.{Bounds, Chain, Chained}
+use Rattle.occurrences.specs.Chains.{Bounds, Chain}
 use Rattle.relevance.specs.Cuts.{cuts}
 use Rattle.relevance.specs.Parts.{relevant-part, operator-part}
 use Rattle.relevance.specs.declared.Relevant.{Relevant}
@@ -40,11 +40,17 @@ narrower c i t =
     cond (eqb i (c .first)) i
     (cond (ltb (c .last) ((child-span (c .first) (suc i) (kids t)) .to)) ((child-span (c .first) (suc i) (kids t)) .from) i)
 
--- the way down to the literals of some set: its first and its last literal
+-- a sheet with its ends, and the first and the last literal of some set
 pub record Bounded (s : Layout) (b : Bytes) (ends : List ℕ) (c : Range) : Type 0 where
   pub indexed : Indexed s b ends
   pub chosen : Literals
   pub bounds : Bounds chosen s b (c .first) (c .last)
+
+-- or the chain of some set
+pub record Chained (s : Layout) (b : Bytes) (ends next : List ℕ) (first last : ℕ) : Type 0 where
+  pub indexed : Indexed s b ends
+  pub chosen : Literals
+  pub chain : Chain chosen s b next first last
 
 -- the row of the relevant part's operator, or of the one literal
 abbrev pub IsAncestor : Layout → Bytes → Range → ℕ → Type 0

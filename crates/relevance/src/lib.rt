@@ -1,6 +1,6 @@
 // Where an expansion takes place: the relevant part of a matrix for a set of literals, and the rows that the expansion adds ("Expand x").
-// The set is given by a chain: the rows of its first and its last literal, and a table that leads from each literal to the next. Tables
-// for the chains of all variables are filled in a few passes; then a part costs its literals and the path to them, not a pass.
+// The set is given by a chain: the rows of its first and its last literal, and a table that leads from each literal to the next, as
+// crate `occurrences` fills it for all variables. A part costs its literals, the path to them and the children hopped over, not a pass.
 pub mod cuts;
 pub mod part;
 pub mod variable;

@@ -10,9 +10,8 @@ ghost use Prim.Native.Nat.{_≤_, _<_};
 ghost use lib.Dec.{ltb};
 ghost use Rattle.subtrees.specs.Ends.{Indexed, Hops};
 ghost use Rattle.subtrees.specs.Subtrees.{subtree-in};
-ghost use Rattle.occurrences.specs.Chains.{Chained};
 ghost use Rattle.relevance.specs.Walks.{span-by, narrower, Bounded, IsAncestor, Way, Leads, with-child};
-ghost use Rattle.relevance.specs.Walks.{Sited, IsShare, IsOperatorPart, IsPart};
+ghost use Rattle.relevance.specs.Walks.{Chained, Sited, IsShare, IsOperatorPart, IsPart};
 
 // The node rows of a subtree: its own row, and the row behind it.
 struct Span {

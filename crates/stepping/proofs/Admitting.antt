@@ -10,8 +10,11 @@ use borrow.Author.Tests.{lt-ltb, le-ltb}
 use Rattle.formula.specs.Tree.{Tree, Formula, binds}
 use Rattle.formula.specs.Tidy.{is-tidy, first-fault}
 use Rattle.sheet.specs.Format.{Bytes, Format, variables}
+use Rattle.sheet.specs.Sheet.{formula}
 use Rattle.sheet.specs.Check.{refused, Test, test, answer, passes, check-tests}
 use Rattle.sheet.specs.Operations.{tidy-and-bound-tests}
+use Rattle.sheet.proofs.Limits.{binds-numbered}
+use Rattle.sheet.proofs.Accepted.{accepted-within}
 use Rattle.sheet.proofs.Tests.{passes-++, answer-++}
 use Rattle.rows.specs.Formulas.{prefix-in, matrix-in, formula-in}
 use Rattle.rows.specs.declared.Layout.{Layout}
@@ -53,6 +56,19 @@ module _ {F : Format} {b : Bytes} {s : Layout} (m : Manageable F) (h : Sheet F b
   size : length (prefix-in s b) ≡ s .variables
   size = length-prefix b (sheet-readable h m)
 
+  -- every bound number is within the tables
+  few : {i : ℕ} → i ≡ place x (prefix-in s b) → i < s .variables → x ≤ 1024
+  unfolding formula-in
+  few {i} at l =
+      let bound : binds (prefix-in s b) x ≡ true =
+      binds-place x (prefix-in s b) ∙ lt-ltb (place x (prefix-in s b)) (length (prefix-in s b)) (omega (arith, size)) in
+      let same = ap (λ (f : Formula). f .prefix) (sheet-formula-in h) in
+      omega (
+        arith,
+        m .few-variables,
+        binds-numbered F ((formula F b) .prefix) x (accepted-within F b (h .tests-pass) .is-numbered) (ap (λ p. binds p x) (sym same) ∙ bound),
+      )
+
   -- 9 not tidy, at the row of the first operator at fault
   pub not-tidy : {fault : ℕ} → fault ≡ cond (is-tidy t) (s .nodes) (first-fault t) → fault < s .nodes
       → refused 9 (s .variables + fault) ≡ answer (admission-tests F b x) x
@@ -89,6 +105,5 @@ module _ {F : Format} {b : Bytes} {s : Layout} (m : Manageable F) (h : Sheet F b
                 lt-ltb (place x (prefix-in s b)) (length (prefix-in s b)) (omega (arith, size)),
               );
           indexed = e;
-          row-is = at;
-          inside = l;
+          named = record { inside = l; row-is = at; few = few at l };
         }

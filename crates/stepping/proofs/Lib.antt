@@ -1,2 +1,3 @@
 -- Laws for callers.
 pub mod Admitting
+pub mod RawSheets

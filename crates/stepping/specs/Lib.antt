@@ -1,2 +1,3 @@
--- What the operations on one variable share; no entry point cites these.
+-- What the operations on one variable and Solve's steps share; no entry point cites these.
+pub mod Steps
 pub mod Admission

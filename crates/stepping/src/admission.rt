@@ -11,10 +11,16 @@ ghost use Rattle.rows.specs.Formats.{format-of};
 ghost use Rattle.checking.specs.Limits.{Manageable, Sheet};
 ghost use Rattle.stepping.specs.Admission.{Admits};
 
-// A refusal's number and place; or the sheet's layout and the prefix row of the variable.
+// A variable and its prefix row.
+pub struct Binding {
+    pub row: usize,
+    pub variable: usize,
+}
+
+// A refusal's number and place; or the sheet's layout and the variable with its row.
 pub enum Admission {
     Refused(usize, usize),
-    Admitted(Layout, usize),
+    Admitted(Layout, Binding),
 }
 
 // Decides on a sheet that Check accepts.
@@ -31,7 +37,11 @@ fn admit_checked(sheet: &[u8], f: Format, s: Layout, x: usize, ends: &mut [u16])
     if s.variables <= i {
         return Admission::Refused(10, 0);
     }
-    Admission::Admitted(s, i)
+    let z = Binding {
+        row: i,
+        variable: x,
+    };
+    Admission::Admitted(s, z)
 }
 
 // Decides tests 1 to 10 for the variable `x` of a sheet, and fills the table of ends of one that passes.

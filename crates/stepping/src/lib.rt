@@ -1,2 +1,3 @@
-// What the operations on one variable share: the tests that come first, and the raw sheet written and tidied.
+// What the operations on one variable and Solve's steps share: the tests that come first, and a raw sheet written and tidied.
 pub mod admission;
+pub mod settling;

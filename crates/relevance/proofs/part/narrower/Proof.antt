@@ -29,14 +29,14 @@ children c =
 child-with-requires : tie.Need-child-with-requires
 child-with-requires c κs =
     let a = c .before .before .before .before .before in
-    hops-beside (a .args .b .now) (a .pre .0 .readable) (a .pre .0) _ _ (children c .few)
+    hops-beside (a .args .b .now) (a .pre .0) _ _ (children c .few)
 
 child : (c : tie.After-child-with) →
     let a = c .before .before .before .before .before .before .args in
     c .child-with .result ≡ child-span (a .range .first) (suc (a .at)) (kids (subtree-in (a .s) (a .b .now) (a .at)))
 child c =
     let a = c .before .before .before .before .before .before in
-    span-read (a .args .b .now) (a .pre .0 .readable) (a .pre .0) (a .args .range .first) (children (c .before)) (omega arith)
+    span-read (a .args .b .now) (a .pre .0) (a .args .range .first) (children (c .before)) (omega arith)
     (c .child-with .ensures)
 
 returns-2 : tie.Need-returns-2

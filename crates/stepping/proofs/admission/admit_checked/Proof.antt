@@ -1,4 +1,5 @@
 -- `stepping::admission::admit_checked` meets its contract. Assumes nothing.
+use mathlib.Core.Path.{refl}
 use borrow.Author.Needs.{needs}
 use native.Mathlib.Omega.{arith}
 use Rattle.checking.proofs.CheckedSheets.{sheet-readable}
@@ -15,8 +16,8 @@ fill-ends-requires c κs =
 first-fault-requires : tie.Need-first-fault-requires
 first-fault-requires c κs = search needs
 
-add-t14 : tie.Need-add-t14
-add-t14 c = search needs
+add-t15 : tie.Need-add-t15
+add-t15 c = search needs
 
 same-length : tie.Need-same-length
 same-length c = search needs
@@ -48,9 +49,11 @@ returns-3 : tie.Need-returns-3
 returns-3 c =
     let found = c .before .before in
     let fault = found .before .before .before in
-    let a = fault .before .before .before .before .before .before .before .before in
-    admitted (a .pre .0) (a .pre .1) (a .args .x) (fault .first-fault .ensures) (found .before .if1 .left) (found .find-variable .ensures)
-    (c .if2 .left) (fault .before .before .before .before .fill-ends .ensures .0)
+    let a = fault .before .before .before .before .before .before .before .before in (
+      refl,
+      admitted (a .pre .0) (a .pre .1) (a .args .x) (fault .first-fault .ensures) (found .before .if1 .left) (found .find-variable .ensures)
+          (c .if2 .left) (fault .before .before .before .before .fill-ends .ensures .0),
+    )
 
 pub admit-checked-spec : {M : Type 1} → statement M
 admit-checked-spec =
@@ -58,7 +61,7 @@ admit-checked-spec =
     (tie.spec
     fill-ends-requires
     first-fault-requires
-    add-t14
+    add-t15
     same-length
     returns
     find-variable-requires

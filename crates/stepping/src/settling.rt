@@ -1,0 +1,40 @@
+// A variable settled: the raw sheet is written to an output and tidied there ("Settle x").
+use changing::table::keep_all;
+use changing::table::put;
+use raw::settle::write_settled;
+use rows::Format;
+use rows::Layout;
+use rows::NUMBERS;
+use tidying::tidy_in_place;
+ghost use mathlib.Core.Path.{_≡_};
+ghost use lib.ListN.{length};
+ghost use Rattle.sheet.specs.Sheet.{sheet};
+ghost use Rattle.sheet.specs.Operations.{padded};
+ghost use Rattle.rows.specs.Formats.{format-of};
+ghost use Rattle.rows.specs.Formulas.{formula-in};
+ghost use Rattle.stepping.specs.Steps.{Puts, settled-by};
+
+// A variable with its prefix row and the value that is put in for it.
+pub struct Put {
+    pub row: usize,
+    pub variable: usize,
+    pub value: bool,
+}
+
+// Writes the settled sheet to the front of `out`, with zeros behind it, and returns its length.
+pub fn settle_into(b: &[u8], f: Format, s: Layout, p: Put, out: &mut [u8]) -> usize
+    requires { ⌜ Puts (format-of f) s (now b) p (length (now out)) ⌝ }
+    ensures { λ _. ⌜ now (out .exit) ≡ padded (length (now (out .entry))) (sheet (format-of f) (settled-by p (formula-in s (now (b .entry))))) ⌝ }
+    ensures { λ r. ⌜ r ≡ length (sheet (format-of f) (settled-by p (formula-in s (now (b .entry))))) ⌝ }
+{
+    let mut table = [0u16; NUMBERS];
+    keep_all(&mut table);
+    put(&mut table, p.variable, p.value);
+    write_settled(b, s, &table, p.row, out);
+    let t = Layout {
+        width: s.width,
+        variables: s.variables - 1,
+        nodes: s.nodes,
+    };
+    tidy_in_place(out, f, t)
+}
