@@ -1,4 +1,1 @@
-pub mod Accepted
-mod Decision
-mod Chosen
-mod Settled
+mod Deciding

@@ -1,2 +1,2 @@
--- What Settle decides.
+-- What Settle decides; no entry point cites it.
 pub mod Plan

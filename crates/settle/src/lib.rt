@@ -1,20 +1,20 @@
 // Settle: a variable is put in by a pure or a unit literal, its row goes, and the tree is tidied ("Settle x").
 use crate::plan::Plan;
 use crate::plan::plan_settle;
-use copying::settle::write_settled;
-use tidying::Written;
-use tidying::tidy_in_place;
+use checking::Written;
+use rows::Format;
+use stepping::settling::settle_into;
 ghost use mathlib.Core.Path.{_≡_};
 ghost use Rattle.sheet.specs.Format.{narrow};
 ghost use Rattle.sheet.specs.Operations.{settle-call};
 ghost use Rattle.rows.specs.Formats.{format-of};
-ghost use Rattle.tidying.specs.Answers.{written-answer};
-ghost use Rattle.tidying.specs.Limits.{Countable};
+ghost use Rattle.checking.specs.Answers.{written-answer};
+ghost use Rattle.checking.specs.Limits.{Countable};
 
 pub mod plan;
 
 // Settles `x` in a sheet of any format whose rows this code can count. The raw sheet is written to `out` and tidied there.
-pub fn settle_in(sheet: &[u8], f: rows::Format, x: usize, out: &mut [u8]) -> Written
+pub fn settle_in(sheet: &[u8], f: Format, x: usize, out: &mut [u8]) -> Written
     requires { ⌜ Countable (format-of f) ⌝ }
     ensures { λ r. ⌜ written-answer r ≡ (settle-call (format-of f) (now (sheet .entry)) x (now (out .entry))) .answer ⌝ }
     ensures { λ _. ⌜ now (out .exit) ≡ (settle-call (format-of f) (now (sheet .entry)) x (now (out .entry))) .output ⌝ }
@@ -22,11 +22,7 @@ pub fn settle_in(sheet: &[u8], f: rows::Format, x: usize, out: &mut [u8]) -> Wri
     let p = plan_settle(sheet, f, x, out.len());
     match p {
         Plan::Refused(number, place) => Written::Refused(number, place),
-        Plan::Put(v, n, i, value) => {
-            write_settled(sheet, f.width, v, n, i, x, value, out);
-            let length = tidy_in_place(out, f, v - 1, n);
-            Written::Accepted(length)
-        }
+        Plan::Settles(s, put) => Written::Accepted(settle_into(sheet, f, s, put, out)),
     }
 }
 

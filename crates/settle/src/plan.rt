@@ -1,59 +1,58 @@
-// What Settle decides before it writes: its refusals, in the paper's order, or the prefix row and the value of the variable.
-use checking::Checked;
-use reading::ends::fill_ends;
-use reading::faults::first_fault;
-use reading::prefix::find_variable;
-use reading::signs::Settling;
-use reading::signs::settling_value;
-ghost use mathlib.Core.Path.{_≡_};
-ghost use Rattle.sheet.specs.Check.{answer};
+// What Settle decides before it writes: its refusals, in the paper's order, or what is put in.
+use rows::Format;
+use rows::Layout;
+use rows::ROWS;
+use rows::fit::sheet_length;
+use signs::table::SIGNS;
+use signs::table::fill_signs;
+use signs::value::Settling;
+use signs::value::value_at;
+use stepping::admission::Admission;
+use stepping::admission::Binding;
+use stepping::admission::admit;
+use stepping::settling::Put;
 ghost use Rattle.rows.specs.Formats.{format-of};
-ghost use Rattle.checking.specs.Limits.{Manageable};
-ghost use Rattle.reading.specs.Reading.{Readable};
-ghost use Rattle.settle.specs.Plan.{plan-answer, choice-in, later-tests, settle-plan};
+ghost use Rattle.checking.specs.Limits.{Countable};
+ghost use Rattle.stepping.specs.Admission.{Admitted};
+ghost use Rattle.settle.specs.Plan.{Plans};
 
-// The most node rows of a sheet of the wider format.
-const ROWS: usize = 8192;
-
-// A refusal's number and place; or V, N, the prefix row of the variable, and the value that goes in.
+// A refusal's number and place; or the sheet's layout and what is put in.
 pub enum Plan {
     Refused(usize, usize),
-    Put(usize, usize, usize, bool),
+    Settles(Layout, Put),
 }
 
-// Decides on a sheet that Check accepts: 9 not tidy, 10 not in the prefix, 12 may not be settled, 13 no room for the raw sheet.
-fn plan_checked(b: &[u8], width: usize, v: usize, n: usize, x: usize, room: usize) -> Plan
-    requires { ⌜ Readable width v n (now b) ⌝ }
-    ensures { λ r. ⌜ plan-answer r ≡ answer (later-tests width v n (now (b .entry)) x room) (choice-in width v n (now (b .entry)) x) ⌝ }
+// Decides on a variable that tests 1 to 10 admit: 12 may not be settled, 13 no room for the raw sheet.
+fn plan_admitted(sheet: &[u8], f: Format, s: Layout, ends: &[u16], z: Binding, room: usize) -> Plan
+    requires { ⌜ Countable (format-of f) × Admitted (format-of f) (now sheet) (z .variable) s (z .row) (now ends) ⌝ }
+    ensures { λ r. ⌜ Plans (format-of f) (now (sheet .entry)) (z .variable) room r ⌝ }
 {
-    let mut ends = [0u16; ROWS];
-    fill_ends(b, width, v, n, &mut ends);
-    let fault = first_fault(b, width, v, n, &ends);
-    if fault < n {
-        return Plan::Refused(9, v + fault);
-    }
-    let i = find_variable(b, width, v, n, x);
-    if v <= i {
-        return Plan::Refused(10, 0);
-    }
-    let s = settling_value(b, width, v, n, &ends, i);
-    let Settling::Take(value) = s else {
+    let mut table = [false; SIGNS];
+    fill_signs(sheet, s, ends, &mut table);
+    let v = value_at(sheet, s, z.row, &table);
+    let Settling::Take(value) = v else {
         return Plan::Refused(12, 0);
     };
-    if room < 2 * width + (1 + width) * (v - 1 + n) {
+    if room < sheet_length(f, s.variables - 1, s.nodes) {
         return Plan::Refused(13, 0);
     }
-    Plan::Put(v, n, i, value)
+    let put = Put {
+        row: z.row,
+        variable: z.variable,
+        value: value,
+    };
+    Plan::Settles(s, put)
 }
 
-// Decides what Settle of `x` does with a sheet of any format within the limits of Check's code and an output of `room` bytes.
-pub fn plan_settle(sheet: &[u8], f: rows::Format, x: usize, room: usize) -> Plan
-    requires { ⌜ Manageable (format-of f) ⌝ }
-    ensures { λ r. ⌜ plan-answer r ≡ settle-plan (format-of f) (now (sheet .entry)) x room ⌝ }
+// Decides what Settle of `x` does with a sheet and an output of `room` bytes.
+pub fn plan_settle(sheet: &[u8], f: Format, x: usize, room: usize) -> Plan
+    requires { ⌜ Countable (format-of f) ⌝ }
+    ensures { λ r. ⌜ Plans (format-of f) (now (sheet .entry)) x room r ⌝ }
 {
-    let c = checking::check_in(sheet, f);
-    match c {
-        Checked::Refused(number, place) => Plan::Refused(number, place),
-        Checked::Accepted(v, n) => plan_checked(sheet, f.width, v, n, x, room),
+    let mut ends = [0u16; ROWS];
+    let a = admit(sheet, f, x, &mut ends);
+    match a {
+        Admission::Refused(number, place) => Plan::Refused(number, place),
+        Admission::Admitted(s, z) => plan_admitted(sheet, f, s, &ends, z, room),
     }
 }

@@ -1,0 +1,74 @@
+-- `settle::plan::plan_admitted` meets its contract: 12 and 13 in this order. Assumes nothing.
+use borrow.Author.Needs.{needs}
+use native.Mathlib.Omega.{arith}
+use Rattle.checking.proofs.CheckedSheets.{sheet-readable}
+use Rattle.settle.proofs.Deciding.{sheet-numbered, not-settled, no-room, planned}
+use Rattle.settle.proofs.plan.plan_admitted.Statement.{statement}
+use Rattle.settle.proofs.plan.plan_admitted.Tie as tie
+
+slice-aggregate-fill-signs : tie.Need-slice-aggregate-fill-signs
+slice-aggregate-fill-signs c = search needs
+
+fill-signs-requires : tie.Need-fill-signs-requires
+fill-signs-requires c κs = search needs
+
+slice-aggregate-value-at : tie.Need-slice-aggregate-value-at
+slice-aggregate-value-at c = search needs
+
+value-at-requires : tie.Need-value-at-requires
+value-at-requires c κs =
+    let a = c .before .before .before .before .before .before in
+    let k = a .pre .0 .manageable in (
+      sheet-readable (a .pre .1 .sheet) k,
+      sheet-numbered k (a .pre .1 .sheet),
+      a .pre .1 .named .inside,
+      c .before .before .fill-signs .ensures,
+    )
+
+enum-known-v : tie.Need-enum-known-v
+enum-known-v c = search needs
+
+enum-told : tie.Need-enum-told
+enum-told c = search needs
+
+returns : tie.Need-returns
+returns c =
+    let value = c .before .before in
+    let a = value .before .before .before .before .before .before .before in
+    not-settled (a .pre .0) (a .pre .1) (a .args .room) (value .value-at .result) (value .value-at .ensures) (c .enum-told .given .1)
+
+sub-sheet-length : tie.Need-sub-sheet-length
+sub-sheet-length c = search needs
+
+sheet-length-requires : tie.Need-sheet-length-requires
+sheet-length-requires c κs = search needs
+
+returns-2 : tie.Need-returns-2
+returns-2 c =
+    let value = c .before .before .before .before .before .before in
+    let a = value .before .before .before .before .before .before .before in
+    no-room (a .pre .0) (a .pre .1) (a .args .room) (value .value-at .result) (value .value-at .ensures) (c .before .before .before .before .v .given .1)
+    (omega (arith, c .before .sheet-length .ensures, c .if1 .taken))
+
+returns-3 : tie.Need-returns-3
+returns-3 c =
+    let value = c .before .before .before .before .before .before in
+    let a = value .before .before .before .before .before .before .before in
+    planned (a .pre .0) (a .pre .1) (a .args .room) (value .value-at .result) (value .value-at .ensures) _ (c .before .before .before .before .v .given .1)
+    (omega (arith, c .before .sheet-length .ensures, c .if1 .left))
+
+pub plan-admitted-spec : {M : Type 1} → statement M
+plan-admitted-spec =
+    tie.close
+    (tie.spec
+    slice-aggregate-fill-signs
+    fill-signs-requires
+    slice-aggregate-value-at
+    value-at-requires
+    enum-known-v
+    enum-told
+    returns
+    sub-sheet-length
+    sheet-length-requires
+    returns-2
+    returns-3)
