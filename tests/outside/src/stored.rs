@@ -36,25 +36,35 @@ pub enum Letter {
 }
 
 /// A letter, a number (the node of Part, the variable of Settle and Expand, the
-/// length of Solve's second buffer) and the length of the output (of Solve: its
-/// first buffer).
-#[derive(Clone, Copy, PartialEq, Eq)]
+/// length of Solve's second buffer), the length of the output (of Solve: its
+/// first buffer) and a list, for operations that take values, a second sheet or
+/// further numbers.
+#[derive(Clone, PartialEq, Eq)]
 pub struct Call {
     pub letter: Letter,
     pub number: usize,
     pub room: usize,
+    pub list: Vec<u8>,
 }
 
 impl Call {
-    /// Solve with buffers of these lengths.
-    pub fn solve(first: usize, second: usize) -> Call {
-        Call { letter: Letter::Solve, number: second, room: first }
+    /// A call of an operation that takes no list.
+    pub const fn new(letter: Letter, number: usize, room: usize) -> Call {
+        Call { letter, number, room, list: Vec::new() }
     }
 
+    /// Solve with buffers of these lengths.
+    pub fn solve(first: usize, second: usize) -> Call {
+        Call::new(Letter::Solve, second, first)
+    }
+
+    /// The letter, the number, the output's length, the list's length, the list.
     fn encode(&self, bytes: &mut Vec<u8>) {
         bytes.push(self.letter as u8);
         push_number(self.number, bytes);
         push_number(self.room, bytes);
+        push_number(self.list.len(), bytes);
+        bytes.extend(&self.list);
     }
 }
 
@@ -68,9 +78,9 @@ impl Case {
     }
 }
 
-/// Two bytes, low byte first, in whatever format the sheets are.
+/// Four bytes, low byte first, in whatever format the sheets are.
 fn push_number(number: usize, bytes: &mut Vec<u8>) {
-    bytes.extend(u16::try_from(number).expect("a number of two bytes").to_le_bytes());
+    bytes.extend(u32::try_from(number).expect("a number of four bytes").to_le_bytes());
 }
 
 /// What the test program reads.

@@ -14,7 +14,7 @@ pub fn lines(cases: &[Case]) -> String {
 }
 
 fn line(sheet: &[u8], call: &Call) -> String {
-    let Call { letter, number, room } = *call;
+    let Call { letter, number, room, .. } = *call;
     match letter {
         Letter::Check => {
             told("check", FORMAT.check(sheet).into(), |(v, n)| format!("accepted {v} {n}"))

@@ -9,11 +9,11 @@ use Quantifier::{Exists, ForAll};
 /// The program's buffers.
 const LONGEST: usize = FORMAT.longest_sheet();
 
-const CHECK: Call = Call { letter: Letter::Check, number: 0, room: 0 };
-const TRIAL: Call = Call { letter: Letter::Trial, number: 0, room: 0 };
+const CHECK: Call = Call::new(Letter::Check, 0, 0);
+const TRIAL: Call = Call::new(Letter::Trial, 0, 0);
 
 fn part_call(node: usize) -> Call {
-    Call { letter: Letter::Part, number: node, room: 0 }
+    Call::new(Letter::Part, node, 0)
 }
 
 /// Solve with the program's buffers, with buffers of the sheet's length, and
@@ -30,7 +30,7 @@ fn solve_calls(formula: &Formula) -> Vec<Call> {
 
 /// A call with an output of the length that is asked for, and with one byte less.
 fn at_limit(letter: Letter, number: usize, room: usize) -> [Call; 2] {
-    [room, room - 1].map(|room| Call { letter, number, room })
+    [room, room - 1].map(|room| Call::new(letter, number, room))
 }
 
 fn tidy_calls(formula: &Formula) -> Vec<Call> {
@@ -68,7 +68,7 @@ fn solving_calls(formula: &Formula) -> Vec<Case> {
             Move::Settle(x, value) => (Letter::Settle, x, rules.settle_formula(&held, x, value)),
             Move::Expand(x) => (Letter::Expand, x, rules.expand_formula(&held, x)),
         };
-        let calls = vec![Call { letter, number, room: LONGEST }];
+        let calls = vec![Call::new(letter, number, LONGEST)];
         cases.push(Case { sheet: FORMAT.encode(&held), calls });
         held = next;
     }
@@ -79,13 +79,13 @@ pub fn cases() -> Vec<Case> {
     for sheet in refused_sheets() {
         let mut calls = vec![CHECK, TRIAL, part_call(0)];
         let writing = [Letter::Tidy, Letter::Settle, Letter::Expand];
-        calls.extend(writing.map(|letter| Call { letter, number: 1, room: SHORT }));
+        calls.extend(writing.map(|letter| Call::new(letter, 1, SHORT)));
         calls.extend([Call::solve(SHORT, SHORT), Call::solve(0, 0)]);
         cases.push(Case { sheet, calls });
     }
     for limit in limit_sheets(FORMAT) {
         let room = limit.sheet.len().min(LONGEST);
-        let tidy = Call { letter: Letter::Tidy, number: 0, room };
+        let tidy = Call::new(Letter::Tidy, 0, room);
         let calls = vec![CHECK, tidy, Call::solve(room, LONGEST)];
         cases.push(Case { sheet: limit.sheet, calls });
     }

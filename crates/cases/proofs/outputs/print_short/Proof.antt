@@ -1,11 +1,11 @@
--- `cases::print_short` is safe: the sheet is the front of the output.
+-- `cases::outputs::print_short` is safe: the sheet is the front of the output.
 -- Assumes nothing.
 use mathlib.Core.Path.{sym}
 use native.Mathlib.Omega.{arith}
 use lib.Seq.{length-take-le}
 use borrow.Author.Needs.{needs}
-use Rattle.cases.proofs.print_short.Statement.{statement}
-use Rattle.cases.proofs.print_short.Tie as tie
+use Rattle.cases.proofs.outputs.print_short.Statement.{statement}
+use Rattle.cases.proofs.outputs.print_short.Tie as tie
 
 slice-aggregate-print-hexadecimal : tie.Need-slice-aggregate-print-hexadecimal
 slice-aggregate-print-hexadecimal c = sym (length-take-le _ _ (omega arith))

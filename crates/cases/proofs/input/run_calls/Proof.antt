@@ -1,10 +1,10 @@
--- `cases::run_calls` is safe and ends: the measure is the calls left.
+-- `cases::input::run_calls` is safe and ends: the measure is the calls left.
 -- Assumes nothing.
 use mathlib.Core.Path.{_≡_}
 use lib.ListN.{length}
 use borrow.Author.Needs.{needs}
-use Rattle.cases.proofs.run_calls.Statement.{statement}
-use Rattle.cases.proofs.run_calls.Tie as tie
+use Rattle.cases.proofs.input.run_calls.Statement.{statement}
+use Rattle.cases.proofs.input.run_calls.Tie as tie
 
 abbrev Inv-loop : tie.InvT-loop
 Inv-loop sheet calls space₀ left₀ space left = length space ≡ 13060

@@ -1,11 +1,11 @@
--- `cases::fill` is safe and ends: the measure is what is left of the output.
+-- `cases::outputs::fill` is safe and ends: the measure is what is left of the output.
 -- Assumes nothing.
 use mathlib.Core.Path.{_≡_}
 use Prim.Native.Nat.{_≤_, _-_}
 use lib.ListN.{length}
 use borrow.Author.Needs.{needs}
-use Rattle.cases.proofs.fill.Statement.{statement}
-use Rattle.cases.proofs.fill.Tie as tie
+use Rattle.cases.proofs.outputs.fill.Statement.{statement}
+use Rattle.cases.proofs.outputs.fill.Tie as tie
 
 abbrev Inv-loop : tie.InvT-loop
 Inv-loop out₀ i₀ out i = (i ≤ length out₀) × (length out ≡ length out₀)

@@ -1,11 +1,11 @@
--- `cases::run_all` is safe and ends: at most 4,096 sheets are left.
+-- `cases::input::run_all` is safe and ends: at most 4,096 sheets are left.
 -- Assumes nothing.
 use mathlib.Core.Path.{_≡_}
 use Prim.Native.Nat.{_≤_, _-_}
 use lib.ListN.{length}
 use borrow.Author.Needs.{needs}
-use Rattle.cases.proofs.run_all.Statement.{statement}
-use Rattle.cases.proofs.run_all.Tie as tie
+use Rattle.cases.proofs.input.run_all.Statement.{statement}
+use Rattle.cases.proofs.input.run_all.Tie as tie
 
 abbrev Inv-loop : tie.InvT-loop
 Inv-loop space₀ sheets₀ space sheets = (sheets ≤ 4096) × (length space ≡ length space₀)

@@ -1,11 +1,11 @@
--- `cases::run_solve` is safe: the second buffer is the front of the space.
+-- `cases::operations::run_solve` is safe: the second buffer is the front of the space.
 -- Assumes nothing.
 use mathlib.Core.Path.{sym}
 use native.Mathlib.Omega.{arith}
 use lib.Seq.{length-take-le}
 use borrow.Author.Needs.{needs}
-use Rattle.cases.proofs.run_solve.Statement.{statement}
-use Rattle.cases.proofs.run_solve.Tie as tie
+use Rattle.cases.proofs.operations.run_solve.Statement.{statement}
+use Rattle.cases.proofs.operations.run_solve.Tie as tie
 
 returns : tie.Need-returns
 returns c = search needs

@@ -1,11 +1,11 @@
--- `cases::next_sheet` is safe: the sheet is the front of the space.
+-- `cases::input::next_sheet` is safe: the sheet is the front of the space.
 -- Assumes nothing.
 use mathlib.Core.Path.{sym}
 use native.Mathlib.Omega.{arith}
 use lib.Seq.{length-take-le}
 use borrow.Author.Needs.{needs}
-use Rattle.cases.proofs.next_sheet.Statement.{statement}
-use Rattle.cases.proofs.next_sheet.Tie as tie
+use Rattle.cases.proofs.input.next_sheet.Statement.{statement}
+use Rattle.cases.proofs.input.next_sheet.Tie as tie
 
 slice-aggregate-read-full : tie.Need-slice-aggregate-read-full
 slice-aggregate-read-full c = search needs

@@ -1,10 +1,10 @@
--- `cases::sum` is safe and ends: the sum so far stays below 65,521.
+-- `cases::outputs::sum` is safe and ends: the sum so far stays below 65,521.
 -- Assumes nothing.
 use Prim.Native.Nat.{_≤_, _<_, _-_}
 use lib.ListN.{length}
 use borrow.Author.Needs.{needs}
-use Rattle.cases.proofs.sum.Statement.{statement}
-use Rattle.cases.proofs.sum.Tie as tie
+use Rattle.cases.proofs.outputs.sum.Statement.{statement}
+use Rattle.cases.proofs.outputs.sum.Tie as tie
 
 abbrev Inv-loop : tie.InvT-loop
 Inv-loop bytes so-far₀ i₀ so-far i = (i ≤ length bytes) × (so-far < 65521)

@@ -1,25 +1,16 @@
--- `cases::run_part` is safe and ends: the measure is what is left of the part.
+-- `cases::answers::print_kinds` is safe and ends: the measure is what is left of the part.
 -- Assumes nothing.
 use Prim.Native.Nat.{_≤_, _-_}
 use lib.ListN.{length}
 use borrow.Author.Needs.{needs}
-use Rattle.cases.proofs.run_part.Statement.{statement}
-use Rattle.cases.proofs.run_part.Tie as tie
+use Rattle.cases.proofs.answers.print_kinds.Statement.{statement}
+use Rattle.cases.proofs.answers.print_kinds.Tie as tie
 
 abbrev Inv-loop : tie.InvT-loop
-Inv-loop sheet node kinds i₀ i = i ≤ length kinds
+Inv-loop kinds i₀ i = i ≤ length kinds
 
 abbrev μ-loop : tie.MeasureT-loop
-μ-loop sheet node kinds i₀ i = length kinds - i
-
-slice-aggregate-write-all : tie.Need-slice-aggregate-write-all Inv-loop μ-loop
-slice-aggregate-write-all c = search needs
-
-write-all-requires : tie.Need-write-all-requires Inv-loop μ-loop
-write-all-requires c κs = search needs
-
-part-requires : tie.Need-part-requires Inv-loop μ-loop
-part-requires c κs = search needs
+μ-loop kinds i₀ i = length kinds - i
 
 loop-holds : tie.Need-loop-holds Inv-loop μ-loop
 loop-holds c = search needs
@@ -45,15 +36,12 @@ loop-again c = search needs
 returns : tie.Need-returns Inv-loop μ-loop
 returns c = search needs
 
-pub run-part-spec : {M : Type 1} → statement M
-run-part-spec =
+pub print-kinds-spec : {M : Type 1} → statement M
+print-kinds-spec =
     tie.close
     (tie.spec
     Inv-loop
     μ-loop
-    slice-aggregate-write-all
-    write-all-requires
-    part-requires
     loop-holds
     shared-slice-read-wide
     wide-requires

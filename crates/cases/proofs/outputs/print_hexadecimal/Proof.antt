@@ -1,10 +1,10 @@
--- `cases::print_hexadecimal` is safe and ends: the measure is what is left of the bytes.
+-- `cases::outputs::print_hexadecimal` is safe and ends: the measure is what is left of the bytes.
 -- Assumes nothing.
 use Prim.Native.Nat.{_≤_, _-_}
 use lib.ListN.{length}
 use borrow.Author.Needs.{needs}
-use Rattle.cases.proofs.print_hexadecimal.Statement.{statement}
-use Rattle.cases.proofs.print_hexadecimal.Tie as tie
+use Rattle.cases.proofs.outputs.print_hexadecimal.Statement.{statement}
+use Rattle.cases.proofs.outputs.print_hexadecimal.Tie as tie
 
 abbrev Inv-loop : tie.InvT-loop
 Inv-loop bytes i₀ t4 i = i ≤ length bytes

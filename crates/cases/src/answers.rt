@@ -1,0 +1,77 @@
+// What a line tells of each kind of answer.
+use crate::outputs::print_reached;
+use crate::outputs::print_short;
+use crate::outputs::print_sum;
+use checking::Checked;
+use printing::print_count;
+use printing::print_number;
+use solve::Solved;
+use tidying::Written;
+use trial::Tried;
+
+fn print_refused(number: usize, place: usize) {
+    io::write_all(1, b" refused");
+    print_number(number);
+    print_number(place);
+}
+
+pub fn print_checked(answer: Checked) {
+    match answer {
+        Checked::Accepted(v, n) => {
+            io::write_all(1, b" accepted");
+            print_number(v);
+            print_number(n);
+        }
+        Checked::Refused(number, place) => print_refused(number, place),
+    }
+}
+
+fn print_verdict(verdict: bool) {
+    if verdict {
+        io::write_all(1, b" true");
+    } else {
+        io::write_all(1, b" false");
+    }
+}
+
+pub fn print_tried(answer: Tried) {
+    match answer {
+        Tried::Answered(verdict, leaves) => {
+            print_verdict(verdict);
+            print_count(leaves);
+        }
+        Tried::Refused(number, place) => print_refused(number, place),
+    }
+}
+
+// Writes the kinds of Part's rows.
+pub fn print_kinds(kinds: &[u8]) {
+    let mut i = 0;
+    while i < kinds.len() {
+        print_number(rows::wide(kinds[i]));
+        i += 1;
+    }
+}
+
+pub fn print_written(answer: Written, out: &[u8]) {
+    match answer {
+        Written::Accepted(length) => {
+            io::write_all(1, b" accepted");
+            print_number(length);
+            print_sum(out);
+            print_short(out, length);
+        }
+        Written::Refused(number, place) => {
+            print_refused(number, place);
+            print_sum(out);
+        }
+    }
+}
+
+pub fn print_solved(answer: Solved, first: &[u8], second: &[u8]) {
+    io::write_all(1, b" ");
+    printing::print_line(solve::line::line_for(answer));
+    print_sum(first);
+    print_sum(second);
+    print_reached(first);
+}

@@ -1,0 +1,96 @@
+// The operations: each is called and its line written, but for the line's end.
+use crate::ROOM;
+use crate::answers::print_checked;
+use crate::answers::print_kinds;
+use crate::answers::print_solved;
+use crate::answers::print_tried;
+use crate::answers::print_written;
+use crate::outputs::fill;
+use printing::print_number;
+
+fn run_check(sheet: &[u8]) {
+    io::write_all(1, b"check");
+    print_checked(checking::check(sheet));
+}
+
+fn run_trial(sheet: &[u8]) {
+    io::write_all(1, b"trial");
+    print_tried(trial::trial(sheet));
+}
+
+fn run_part(sheet: &[u8], node: usize) {
+    io::write_all(1, b"part");
+    print_kinds(part::part(sheet, node));
+}
+
+fn run_tidy(sheet: &[u8], out: &mut [u8]) {
+    io::write_all(1, b"tidy");
+    let answer = tidying::tidy(sheet, out);
+    print_written(answer, out);
+}
+
+fn run_settle(sheet: &[u8], x: usize, out: &mut [u8]) {
+    io::write_all(1, b"settle");
+    print_number(x);
+    let answer = settle::settle(sheet, x, out);
+    print_written(answer, out);
+}
+
+fn run_expand(sheet: &[u8], x: usize, out: &mut [u8]) {
+    io::write_all(1, b"expand");
+    print_number(x);
+    let answer = expand::expand(sheet, x, out);
+    print_written(answer, out);
+}
+
+fn run_writing(operation: u8, number: usize, sheet: &[u8], out: &mut [u8]) {
+    fill(out);
+    if operation == b'd' {
+        run_tidy(sheet, out);
+        return;
+    }
+    if operation == b's' {
+        run_settle(sheet, number, out);
+        return;
+    }
+    run_expand(sheet, number, out);
+}
+
+fn solve_in_buffers(sheet: &[u8], first: &mut [u8], second: &mut [u8]) {
+    fill(first);
+    fill(second);
+    io::write_all(1, b"solve");
+    let answer = solve::solve(sheet, first, second);
+    print_solved(answer, first, second);
+}
+
+// Solves with a second buffer of `length` bytes.
+fn run_solve(sheet: &[u8], first: &mut [u8], length: usize) {
+    let mut space = [0u8; ROOM];
+    if ROOM < length {
+        return;
+    }
+    let second = &mut space[..length];
+    solve_in_buffers(sheet, first, second);
+}
+
+// Calls the operation of this letter. None of these takes a list.
+pub fn run(operation: u8, number: usize, sheet: &[u8], list: &[u8], out: &mut [u8]) {
+    if operation == b'c' {
+        run_check(sheet);
+        return;
+    }
+    if operation == b't' {
+        run_trial(sheet);
+        return;
+    }
+    if operation == b'p' {
+        run_part(sheet, number);
+        return;
+    }
+    if operation == b'o' {
+        run_solve(sheet, out, number);
+        return;
+    }
+    run_writing(operation, number, sheet, out);
+}
