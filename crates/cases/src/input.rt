@@ -1,4 +1,5 @@
-// The cases on standard input, read one after another, and their calls made as they are read.
+// The cases on standard input, read one after another, and their calls made as they are read. An input that ends within a case, or asks
+// for more bytes than there is room for, ends the run.
 use crate::ROOM;
 use crate::operations::run;
 
@@ -10,6 +11,7 @@ struct Call {
     list_length: usize,
 }
 
+// Reads the next call as far as its list; where the input has ended, its letter is 0.
 fn read_call() -> Call {
     let mut head = [0u8; 13];
     io::read_full(0, &mut head);
@@ -21,41 +23,49 @@ fn read_call() -> Call {
     }
 }
 
-// Reads the call's list and makes the call.
-fn make_call(call: Call, sheet: &[u8], out: &mut [u8]) {
+// Reads the call's list and makes the call, or answers that the list is too long.
+fn make_call(call: Call, sheet: &[u8], out: &mut [u8]) -> bool {
     let mut space = [0u8; ROOM];
     let length = call.list_length;
     if ROOM < length {
-        return;
+        return false;
     }
     let list = &mut space[..length];
     io::read_full(0, list);
     run(call.operation, call.number, sheet, list, out);
+    printing::end_line();
+    true
 }
 
-// Reads the next call on `sheet` and makes it, with a part of `space` as its output.
-fn next_call(sheet: &[u8], space: &mut [u8]) {
+// Reads the next call on `sheet` and makes it, with a part of `space` as its output, or answers that it could not.
+fn next_call(sheet: &[u8], space: &mut [u8]) -> bool {
     let call = read_call();
+    if call.operation == 0 {
+        return false;
+    }
     let room = call.room;
     if space.len() < room {
-        return;
+        return false;
     }
     let out = &mut space[..room];
-    make_call(call, sheet, out);
-    printing::end_line();
+    make_call(call, sheet, out)
 }
 
-fn run_calls(sheet: &[u8], calls: usize) {
+// Makes so many calls on `sheet`, or answers that one could not be made.
+fn run_calls(sheet: &[u8], calls: usize) -> bool {
     let mut space = [0u8; ROOM];
     let mut left = calls;
     while 0 < left {
-        next_call(sheet, &mut space);
+        if !next_call(sheet, &mut space) {
+            return false;
+        }
         left -= 1;
     }
+    true
 }
 
-// Reads the next sheet and makes its calls, or answers that there is none.
-fn next_sheet(space: &mut [u8]) -> bool {
+// Reads the next sheet and makes its calls, or answers that there is none or that a call could not be made.
+fn next_case(space: &mut [u8]) -> bool {
     let mut head = [0u8; 8];
     let got = io::read_full(0, &mut head);
     if got < 8 {
@@ -68,17 +78,16 @@ fn next_sheet(space: &mut [u8]) -> bool {
     }
     let sheet = &mut space[..length];
     io::read_full(0, sheet);
-    run_calls(sheet, calls);
-    true
+    run_calls(sheet, calls)
 }
 
-// Goes through the sheets until there is none, 4,096 at most.
-pub fn run_all(space: &mut [u8]) {
-    let mut sheets: usize = 0;
-    while sheets < 4096 {
-        if !next_sheet(space) {
+// Goes through the cases, 4,096 at most.
+pub fn run_cases(space: &mut [u8]) {
+    let mut cases: usize = 0;
+    while cases < 4096 {
+        if !next_case(space) {
             return;
         }
-        sheets += 1;
+        cases += 1;
     }
 }

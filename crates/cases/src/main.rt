@@ -19,5 +19,5 @@ const SHEET_ROOM: usize = 65535;
 
 fn main() {
     let mut space = [0u8; SHEET_ROOM];
-    input::run_all(&mut space);
+    input::run_cases(&mut space);
 }

@@ -22,6 +22,9 @@ read-full-requires c κs = search needs
 run-requires : tie.Need-run-requires
 run-requires c κs = search needs
 
+end-line-requires : tie.Need-end-line-requires
+end-line-requires c κs = search needs
+
 same-length : tie.Need-same-length
 same-length c = search needs
 
@@ -37,5 +40,6 @@ make-call-spec =
     slice-aggregate-list
     read-full-requires
     run-requires
+    end-line-requires
     same-length
     returns-2)

@@ -13,6 +13,9 @@ read-call-requires c κs = search needs
 returns : tie.Need-returns
 returns c = search needs
 
+returns-2 : tie.Need-returns-2
+returns-2 c = search needs
+
 slice-relend-prefix-out : tie.Need-slice-relend-prefix-out
 slice-relend-prefix-out c = search needs
 
@@ -22,14 +25,11 @@ slice-aggregate-out c = sym (length-take-le _ _ (omega arith))
 make-call-requires : tie.Need-make-call-requires
 make-call-requires c κs = search needs
 
-end-line-requires : tie.Need-end-line-requires
-end-line-requires c κs = search needs
-
 same-length : tie.Need-same-length
 same-length c = search needs
 
-returns-2 : tie.Need-returns-2
-returns-2 c = search needs
+returns-3 : tie.Need-returns-3
+returns-3 c = search needs
 
 pub next-call-spec : {M : Type 1} → statement M
 next-call-spec =
@@ -37,9 +37,9 @@ next-call-spec =
     (tie.spec
     read-call-requires
     returns
+    returns-2
     slice-relend-prefix-out
     slice-aggregate-out
     make-call-requires
-    end-line-requires
     same-length
-    returns-2)
+    returns-3)

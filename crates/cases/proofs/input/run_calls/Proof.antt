@@ -21,6 +21,9 @@ slice-aggregate-next-call c = search needs
 next-call-requires : tie.Need-next-call-requires Inv-loop μ-loop
 next-call-requires c κs = search needs
 
+returns : tie.Need-returns Inv-loop μ-loop
+returns c = search needs
+
 sub-left : tie.Need-sub-left Inv-loop μ-loop
 sub-left c = search needs
 
@@ -30,8 +33,8 @@ loop-less c = search needs
 loop-again : tie.Need-loop-again Inv-loop μ-loop
 loop-again c = search needs
 
-returns : tie.Need-returns Inv-loop μ-loop
-returns c = search needs
+returns-2 : tie.Need-returns-2 Inv-loop μ-loop
+returns-2 c = search needs
 
 pub run-calls-spec : {M : Type 1} → statement M
 run-calls-spec =
@@ -42,7 +45,8 @@ run-calls-spec =
     loop-holds
     slice-aggregate-next-call
     next-call-requires
+    returns
     sub-left
     loop-less
     loop-again
-    returns)
+    returns-2)

@@ -1,23 +1,23 @@
--- `cases::input::run_all` is safe and ends: at most 4,096 sheets are left.
+-- `cases::input::run_cases` is safe and ends: at most 4,096 cases are left.
 -- Assumes nothing.
 use mathlib.Core.Path.{_≡_}
 use Prim.Native.Nat.{_≤_, _-_}
 use lib.ListN.{length}
 use borrow.Author.Needs.{needs}
-use Rattle.cases.proofs.input.run_all.Statement.{statement}
-use Rattle.cases.proofs.input.run_all.Tie as tie
+use Rattle.cases.proofs.input.run_cases.Statement.{statement}
+use Rattle.cases.proofs.input.run_cases.Tie as tie
 
 abbrev Inv-loop : tie.InvT-loop
-Inv-loop space₀ sheets₀ space sheets = (sheets ≤ 4096) × (length space ≡ length space₀)
+Inv-loop space₀ cases₀ space cases = (cases ≤ 4096) × (length space ≡ length space₀)
 
 abbrev μ-loop : tie.MeasureT-loop
-μ-loop space₀ sheets₀ space sheets = 4096 - sheets
+μ-loop space₀ cases₀ space cases = 4096 - cases
 
 loop-holds : tie.Need-loop-holds Inv-loop μ-loop
 loop-holds c = search needs
 
-next-sheet-requires : tie.Need-next-sheet-requires Inv-loop μ-loop
-next-sheet-requires c κs = search needs
+next-case-requires : tie.Need-next-case-requires Inv-loop μ-loop
+next-case-requires c κs = search needs
 
 same-length : tie.Need-same-length Inv-loop μ-loop
 same-length c = search needs
@@ -25,8 +25,8 @@ same-length c = search needs
 returns : tie.Need-returns Inv-loop μ-loop
 returns c = search needs
 
-add-sheets : tie.Need-add-sheets Inv-loop μ-loop
-add-sheets c = search needs
+add-cases : tie.Need-add-cases Inv-loop μ-loop
+add-cases c = search needs
 
 loop-less : tie.Need-loop-less Inv-loop μ-loop
 loop-less c = search needs
@@ -40,17 +40,17 @@ same-length-2 c = search needs
 returns-2 : tie.Need-returns-2 Inv-loop μ-loop
 returns-2 c = search needs
 
-pub run-all-spec : {M : Type 1} → statement M
-run-all-spec =
+pub run-cases-spec : {M : Type 1} → statement M
+run-cases-spec =
     tie.close
     (tie.spec
     Inv-loop
     μ-loop
     loop-holds
-    next-sheet-requires
+    next-case-requires
     same-length
     returns
-    add-sheets
+    add-cases
     loop-less
     loop-again
     same-length-2

@@ -1,11 +1,11 @@
--- `cases::input::next_sheet` is safe: the sheet is the front of the space.
+-- `cases::input::next_case` is safe: the sheet is the front of the space.
 -- Assumes nothing.
 use mathlib.Core.Path.{sym}
 use native.Mathlib.Omega.{arith}
 use lib.Seq.{length-take-le}
 use borrow.Author.Needs.{needs}
-use Rattle.cases.proofs.input.next_sheet.Statement.{statement}
-use Rattle.cases.proofs.input.next_sheet.Tie as tie
+use Rattle.cases.proofs.input.next_case.Statement.{statement}
+use Rattle.cases.proofs.input.next_case.Tie as tie
 
 slice-aggregate-read-full : tie.Need-slice-aggregate-read-full
 slice-aggregate-read-full c = search needs
@@ -49,8 +49,8 @@ same-length c = search needs
 returns-3 : tie.Need-returns-3
 returns-3 c = search needs
 
-pub next-sheet-spec : {M : Type 1} → statement M
-next-sheet-spec =
+pub next-case-spec : {M : Type 1} → statement M
+next-case-spec =
     tie.close
     (tie.spec
     slice-aggregate-read-full
