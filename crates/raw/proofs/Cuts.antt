@@ -59,6 +59,12 @@ module _ {N : List Row} {i : ℕ} {t : Tree} {ts : Forest} (s : Stands N i (t �
   only-tree : slice i (i + rows t) N ≡ tree-rows t
   only-tree = slice-tree i (omega arith) ∙ ap (λ l. l ++ tree-rows t) (slice-empty i N)
 
+-- Climbs
+
+pub climbs-from : (lo lo′ n : ℕ) → lo ≤ lo′ → (cs : List ℕ) → Climbs lo′ cs n → Climbs lo cs n
+climbs-from lo lo′ n h [] c = omega arith
+climbs-from lo lo′ n h (x ∷ cs) c = (omega (arith, c .0), c .1)
+
 -- keep
 
 keep-same : (P Q : Tree → Bool) → ((t : Tree) → P t ≡ Q t) → (ts : Forest) → keep P ts ≡ keep Q ts
@@ -95,12 +101,6 @@ module _ (L : Literals) where
       by true e rest = rest
       by false e rest = ap₂ _||_ e rest
 
-  -- Climbs
-
-  climbs-from : {lo lo′ : ℕ} (n : ℕ) → lo ≤ lo′ → (cs : List ℕ) → Climbs lo′ cs n → Climbs lo cs n
-  climbs-from n h [] c = omega arith
-  climbs-from n h (x ∷ cs) c = (omega (arith, c .0), c .1)
-
   climbs-turns : (ts : Forest) (h : Bool) (i n : ℕ) → i + rows-all ts ≤ n → Climbs i (turns L h i ts) n
   unfolding turns rows-all
   climbs-turns ∅ h i n l = (omega arith, omega arith)
@@ -109,8 +109,8 @@ module _ (L : Literals) where
     where
       by : (m : Bool) → Climbs (i + rows t) (turns L h (i + rows t) ts) n → Climbs (i + rows t) (turns L (not h) (i + rows t) ts) n
           → Climbs i (cond m (turns L h (i + rows t) ts) (i ∷ turns L (not h) (i + rows t) ts)) n
-      by true same other = climbs-from n (omega arith) (turns L h (i + rows t) ts) same
-      by false same other = (omega arith, climbs-from n (omega arith) (turns L (not h) (i + rows t) ts) other)
+      by true same other = climbs-from i (i + rows t) n (omega arith) (turns L h (i + rows t) ts) same
+      by false same other = (omega arith, climbs-from i (i + rows t) n (omega arith) (turns L (not h) (i + rows t) ts) other)
 
   -- there is an end
   some-turn : (ts : Forest) (h : Bool) (i : ℕ) → 1 ≤ length (turns L h i ts)

@@ -4,3 +4,5 @@ mod Source
 mod Copies
 mod Turn
 mod Raws
+mod Sited
+mod Plans

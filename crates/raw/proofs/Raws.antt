@@ -1,20 +1,40 @@
 -- The rows of raw formulas.
 -- Assumes nothing.
 use mathlib.Core.Path.{_≡_, refl, sym, ap, _∙_}
+use mathlib.Core.Bool.{Bool, true, false, cond}
 use mathlib.Core.List.{List, _++_, map}
-use Prim.Native.Nat.{ℕ}
-use lib.ListN.{length}
-use Rattle.formula.specs.Tree.{Formula}
+use Prim.Native.Nat.{ℕ, _+_}
+use native.Mathlib.Omega.{arith}
+use lib.ListN.{length, take}
+use Rattle.formula.specs.Tree.{Tree, Formula, rows, has}
+use Rattle.formula.specs.Expand.{expand-tree, raw-tree, growth, raw-rows}
+use Rattle.formula.proofs.Expand.{rows-expand}
 use Rattle.sheet.specs.Format.{Bytes, Row}
 use Rattle.sheet.specs.Sheet.{binding-row, formula-rows}
 use Rattle.rows.specs.Layouts.{total, rows-in, Room}
-use Rattle.rows.specs.Formulas.{prefix-in, formula-in, Readable}
+use Rattle.rows.specs.Formulas.{prefix-in, matrix-in, formula-in, Readable}
 use Rattle.rows.specs.declared.Layout.{Layout}
+use Rattle.rows.proofs.Formulas.{rows-nodes}
 use Rattle.changing.specs.Changes.{copied}
 use Rattle.changing.specs.Output.{Laid}
+use Rattle.changing.proofs.Changed.{one-row, replace-kept}
 use Rattle.changing.proofs.Splice.{laid-all}
-use Rattle.raw.specs.Formulas.{without-row, settled-raw, Raw}
+use Rattle.raw.specs.Formulas.{without-row, settled-raw, first-table, second-table, chosen-by, copying-by, expanded-raw, Raw}
 use Rattle.raw.proofs.Source.{matrix-copied}
+
+-- after a write there is as much room
+pub room-on : {t : Layout} {m n : ℕ} → Room t m → n ≡ m → Room t n
+room-on r e = record { few-bytes = r .few-bytes; holds = omega (arith, e, r .holds) }
+
+-- the row behind, by another name
+pub laid-to : {t : Layout} {old new : Bytes} {at next last : ℕ} {rs : List Row} → next ≡ last → Laid t old new at next rs
+    → Laid t old new at last rs
+laid-to {t} {new = new} e l =
+    record {
+      next-row = sym e ∙ l .next-row;
+      so-far = ap (λ n. take n (rows-in t new)) (sym e) ∙ l .so-far;
+      around = l .around;
+    }
 
 -- all rows are written, and they are those of a formula
 pub raw-laid : {t : Layout} {old new : Bytes} {last : ℕ} {rs : List Row} {g : Formula} → last ≡ total t → Laid t old new 0 last rs
@@ -26,3 +46,27 @@ pub settled-rows : (s : Layout) (b : Bytes) → Readable s b → (t : List ℕ) 
     formula-rows (settled-raw i t (formula-in s b))
 unfolding formula-rows settled-raw formula-in
 settled-rows s b ok t i = ap (λ l. map binding-row (without-row i (prefix-in s b)) ++ l) (matrix-copied s b ok t)
+
+-- as many rows as are counted
+pub rows-raw : (tables : List ℕ) (k : ℕ) (u : Tree) → rows (raw-tree (copying-by tables k) u) ≡ raw-rows (chosen-by tables) u
+unfolding raw-tree raw-rows
+rows-raw tables k u = by (has (chosen-by tables) u) refl
+  where
+    by : (m : Bool) → has (chosen-by tables) u ≡ m
+        → rows (cond m (expand-tree (copying-by tables k) u) u) ≡ cond m (rows u + growth (chosen-by tables) u) (rows u)
+    by true e = rows-expand (copying-by tables k) (one-row (first-table tables)) (one-row (second-table tables)) u e
+    by false e = refl
+
+-- with no literal chosen the raw sheet is that of settling by the table that chooses
+
+module _ (s : Layout) (b : Bytes) (ok : Readable s b) (tables : List ℕ) (absent : has (chosen-by tables) (matrix-in s b) ≡ false) where
+  pub rows-absent : raw-rows (chosen-by tables) (matrix-in s b) ≡ s .nodes
+  unfolding raw-rows
+  rows-absent = rw absent (rows-nodes b ok)
+
+  pub raw-absent : (i k : ℕ) → settled-raw i (second-table tables) (formula-in s b) ≡ expanded-raw i (copying-by tables k) (formula-in s b)
+  unfolding settled-raw expanded-raw formula-in raw-tree
+  raw-absent i k =
+      ap (λ (u : Tree). record { prefix = without-row i (prefix-in s b); matrix = u })
+      (replace-kept (second-table tables) (matrix-in s b) absent ∙
+      sym (ap (λ m. cond m (expand-tree (copying-by tables k) (matrix-in s b)) (matrix-in s b)) absent))

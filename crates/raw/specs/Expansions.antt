@@ -3,19 +3,20 @@
 use mathlib.Core.Path.{_≡_}
 use mathlib.Core.Bool.{true, false}
 use mathlib.Core.List.{List, [], _∷_, _++_, map}
-use Prim.Native.Nat.{ℕ, suc, _+_, _≤_, _<_}
-use lib.ListN.{length}
+use Prim.Native.Nat.{ℕ, suc, _+_, _-_, _≤_, _<_}
+use lib.ListN.{length, getD, drop}
 use Rattle.formula.specs.Tree.{Tree, rows, has}
-use Rattle.formula.specs.Expand.{raw-rows}
+use Rattle.formula.specs.Expand.{expand-tree, raw-rows}
 use Rattle.sheet.specs.Format.{Bytes, Row, row}
-use Rattle.sheet.specs.Sheet.{operator-kind}
+use Rattle.sheet.specs.Sheet.{operator-kind, tree-rows}
+use Rattle.rows.specs.Layouts.{Room}
 use Rattle.rows.specs.Formulas.{node-rows-in, matrix-in, Readable}
 use Rattle.rows.specs.declared.Layout.{Layout}
-use Rattle.subtrees.specs.Subtrees.{kids, subtree-in}
+use Rattle.subtrees.specs.Subtrees.{top, kids, subtree-in}
 use Rattle.changing.specs.Changes.{changed-row}
 use Rattle.relevance.specs.Cuts.{cuts, every-other}
 use Rattle.relevance.specs.Parts.{relevant-part}
-use Rattle.raw.specs.Formulas.{chosen-by, operator-of}
+use Rattle.raw.specs.Formulas.{first-table, second-table, chosen-by, operator-of, copying-by, raw-layout}
 use Rattle.raw.specs.declared.expand.Expansion.{Expansion}
 
 -- rows at which runs begin, in their order, from row lo on, the last at most n
@@ -31,22 +32,45 @@ runs-in s b cs = every-other cs (node-rows-in s b)
 unfoldable pub joined : ℕ → Row → List ℕ → List ℕ → List Row → List Row
 joined k head first second rs = row k 2 ∷ ((head ∷ map (changed-row first) rs) ++ (head ∷ map (changed-row second) rs))
 
--- a sheet, two tables, the prefix row that goes, the joint's kind and the raw rows of the matrix
-pub record Expandable (s : Layout) (b : Bytes) (tables : List ℕ) (e : Expansion) : Type 0 where
+-- a sheet, two tables, the prefix row that goes, the joint's kind, the raw sheet's layout, and room for it
+pub record Expandable (s : Layout) (b : Bytes) (tables : List ℕ) (e : Expansion) (out : Bytes) : Type 0 where
   pub readable : Readable s b
   pub two-bytes : 2 ≤ s .width
   pub two-tables : length tables ≡ 2050
   pub in-prefix : e .row < s .variables
   pub joins : e .joint ≡ operator-kind (operator-of (e .joint))
-  pub nodes-are : e .nodes ≡ raw-rows (chosen-by tables) (matrix-in s b)
+  pub layout-is : e .layout ≡ raw-layout s (raw-rows (chosen-by tables) (matrix-in s b))
+  pub room : Room (e .layout) (length out)
 
--- the subtree that an expansion replaces, whole or in part
+-- the subtree that an expansion replaces, whole or in part, and its children's cuts
 abbrev pub part-in : Layout → Bytes → Expansion → Tree
 part-in s b e = subtree-in s b (e .part .operator)
 
--- A chosen literal occurs: the relevant part, where its subtree ends, and where not every child is relevant, the runs of its children.
-pub record Located (s : Layout) (b : Bytes) (tables runs : List ℕ) (e : Expansion) : Type 0 where
-  pub occurs : has (chosen-by tables) (matrix-in s b) ≡ true
+abbrev pub cuts-in : Layout → Bytes → List ℕ → Expansion → List ℕ
+cuts-in s b tables e = cuts (chosen-by tables) (suc (e .part .operator)) (kids (part-in s b e))
+
+-- a chosen literal occurs: the relevant part, and where its subtree ends
+pub record Located (s : Layout) (b : Bytes) (tables : List ℕ) (e : Expansion) : Type 0 where
+  pub present : has (chosen-by tables) (matrix-in s b) ≡ true
   pub part-is : e .part ≡ relevant-part (chosen-by tables) 0 (matrix-in s b)
   pub end-is : e .end ≡ e .part .operator + rows (part-in s b e)
-  pub runs-are : e .part .all ≡ false → runs ≡ cuts (chosen-by tables) (suc (e .part .operator)) (kids (part-in s b e))
+
+-- and where not every child is relevant, the cuts of its children
+abbrev pub Found : Layout → Bytes → List ℕ → List ℕ → Expansion → Type 0
+Found s b tables cs e = Located s b tables e × (e .part .all ≡ false → cs ≡ cuts-in s b tables e)
+
+-- what replaces the subtree, and the row from which it is written
+abbrev pub new-rows : Layout → Bytes → List ℕ → Expansion → List Row
+new-rows s b tables e = tree-rows (expand-tree (copying-by tables (e .joint)) (part-in s b e))
+
+abbrev pub new-at : Layout → Expansion → ℕ
+new-at s e = s .variables - 1 + e .part .operator
+
+-- where not every child is relevant: the joint over the copies, and the row from which they are written
+abbrev pub joined-in : Layout → Bytes → List ℕ → List ℕ → Expansion → List Row
+joined-in s b tables cs e =
+    joined (e .joint) (row ((top (part-in s b e)) .kind) (e .part .children)) (first-table tables) (second-table tables)
+    (runs-in s b (drop 1 cs))
+
+abbrev pub joined-at : Layout → List ℕ → ℕ
+joined-at s cs = s .variables - 1 + getD cs 1 0

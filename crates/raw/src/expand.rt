@@ -1,13 +1,189 @@
 // The raw sheet of Expand: the relevant subtree gives way to two copies, each literal of which becomes what that copy's table says.
+// Rows outside the copies hold no chosen literal, so that the second table, which chooses, leaves them as they are.
+use crate::runs::Head;
+use crate::runs::write_below;
+use crate::runs::write_runs;
+use crate::settle::write_prefix;
+use crate::settle::write_settled;
+use changing::Span;
+use changing::Target;
+use changing::write::write_copy;
+use changing::write::write_row;
 use relevance::Relevant;
+use rows::Layout;
+use rows::NUMBERS;
+use subtrees::nodes::children_at;
+use subtrees::nodes::kind_at;
+ghost use mathlib.Core.Path.{_≡_};
+ghost use mathlib.Core.Bool.{true, false};
+ghost use Rattle.formula.specs.Tree.{has};
+ghost use Rattle.rows.specs.Formulas.{matrix-in, formula-in};
+ghost use Rattle.changing.specs.Output.{Laid};
+ghost use Rattle.raw.specs.Formulas.{chosen-by, copying-by, expanded-raw, Raw};
+ghost use Rattle.raw.specs.Expansions.{Expandable, Located, Found, cuts-in, new-rows, new-at, joined-in, joined-at};
 
 // An expansion: whether a chosen literal occurs, the relevant part, the node row at which its subtree ends, the prefix row that goes,
-// the kind of the operator that joins the copies, and the raw rows of the matrix.
+// the kind of the operator that joins the copies, and the raw sheet's layout.
 pub struct Expansion {
     pub occurs: bool,
     pub part: Relevant,
     pub end: usize,
     pub row: usize,
     pub joint: u8,
-    pub nodes: usize,
+    pub layout: Layout,
+}
+
+// Every child is relevant, or a literal is alone: writes the joint and below it the subtree twice, by the first table and by the second.
+fn write_whole(b: &[u8], s: Layout, tables: &[u16], e: Expansion, out: &mut [u8]) -> usize
+    requires { ⌜ Expandable s (now b) (now tables) e (now out) × Located s (now b) (now tables) e × (e .part .all ≡ true) ⌝ }
+    ensures { λ next. ⌜ Laid (e .layout) (now (out .entry)) (now (out .exit)) (new-at s e) next (new-rows s (now (b .entry)) (now (tables .entry)) e) ⌝ }
+{
+    let t = e.layout;
+    let v = s.variables;
+    let operator = e.part.operator;
+    let subtree = Span {
+        from: v + operator,
+        to: v + e.end,
+    };
+    let start = Target {
+        layout: t,
+        at: v - 1 + operator,
+    };
+    let at = write_row(out, start, e.joint, 2);
+    let first = Target { layout: t, at: at };
+    let end = write_copy(b, s, &tables[..NUMBERS], subtree, out, first);
+    let second = Target { layout: t, at: end };
+    write_copy(b, s, &tables[NUMBERS..], subtree, out, second)
+}
+
+// Not every child is relevant: writes the joint and below it the operator over the relevant children twice, by the first table and by
+// the second.
+fn write_copies(
+    b: &[u8],
+    s: Layout,
+    tables: &[u16],
+    cuts: &[u16],
+    e: Expansion,
+    out: &mut [u8],
+) -> usize
+    requires { ⌜ Expandable s (now b) (now tables) e (now out) × Located s (now b) (now tables) e × (e .part .all ≡ false) × (now cuts ≡ cuts-in s (now b) (now tables) e) ⌝ }
+    ensures { λ next. ⌜ Laid (e .layout) (now (out .entry)) (now (out .exit)) (joined-at s (now (cuts .entry))) next (joined-in s (now (b .entry)) (now (tables .entry)) (now (cuts .entry)) e) ⌝ }
+{
+    let t = e.layout;
+    let children = e.part.children;
+    let kind = kind_at(b, s, e.part.operator);
+    let start = Target {
+        layout: t,
+        at: s.variables - 1 + cuts[1] as usize,
+    };
+    let at = write_row(out, start, e.joint, 2);
+    let first = Head {
+        kind: kind,
+        children: children,
+        layout: t,
+        at: at,
+    };
+    let end = write_below(b, s, &tables[..NUMBERS], &cuts[1..], out, first);
+    let second = Head {
+        kind: kind,
+        children: children,
+        layout: t,
+        at: end,
+    };
+    write_below(b, s, &tables[NUMBERS..], &cuts[1..], out, second)
+}
+
+// Not every child is relevant: writes the operator, its children before the first relevant one, the copies at that one's spot, and the
+// other children.
+fn write_some(
+    b: &[u8],
+    s: Layout,
+    tables: &[u16],
+    cuts: &[u16],
+    e: Expansion,
+    out: &mut [u8],
+) -> usize
+    requires { ⌜ Expandable s (now b) (now tables) e (now out) × Located s (now b) (now tables) e × (e .part .all ≡ false) × (now cuts ≡ cuts-in s (now b) (now tables) e) ⌝ }
+    ensures { λ next. ⌜ Laid (e .layout) (now (out .entry)) (now (out .exit)) (new-at s e) next (new-rows s (now (b .entry)) (now (tables .entry)) e) ⌝ }
+{
+    let t = e.layout;
+    let operator = e.part.operator;
+    let kind = kind_at(b, s, operator);
+    let children = children_at(b, s, operator);
+    let before = Span {
+        from: s.variables + cuts[0] as usize,
+        to: s.variables + cuts[1] as usize,
+    };
+    let start = Target {
+        layout: t,
+        at: s.variables - 1 + operator,
+    };
+    let at = write_row(out, start, kind, children - e.part.children + 1);
+    let below = Target { layout: t, at: at };
+    write_copy(b, s, &tables[NUMBERS..], before, out, below);
+    let end = write_copies(b, s, tables, cuts, e, out);
+    let rest = Target { layout: t, at: end };
+    write_runs(b, s, &tables[NUMBERS..], &cuts[2..], out, rest)
+}
+
+// Writes what replaces the subtree.
+fn write_subtree(
+    b: &[u8],
+    s: Layout,
+    tables: &[u16],
+    cuts: &[u16],
+    e: Expansion,
+    out: &mut [u8],
+) -> usize
+    requires { ⌜ Expandable s (now b) (now tables) e (now out) × Found s (now b) (now tables) (now cuts) e ⌝ }
+    ensures { λ next. ⌜ Laid (e .layout) (now (out .entry)) (now (out .exit)) (new-at s e) next (new-rows s (now (b .entry)) (now (tables .entry)) e) ⌝ }
+{
+    if e.part.all {
+        return write_whole(b, s, tables, e, out);
+    }
+    write_some(b, s, tables, cuts, e, out)
+}
+
+// A chosen literal occurs: writes the prefix without its row that goes, and the matrix with the relevant subtree expanded.
+pub fn write_expanded(
+    b: &[u8],
+    s: Layout,
+    tables: &[u16],
+    cuts: &[u16],
+    e: Expansion,
+    out: &mut [u8],
+)
+    requires { ⌜ Expandable s (now b) (now tables) e (now out) × Found s (now b) (now tables) (now cuts) e ⌝ }
+    ensures { λ _. ⌜ Raw (e .layout) (now (out .entry)) (now (out .exit)) (expanded-raw (e .row) (copying-by (now (tables .entry)) (e .joint)) (formula-in s (now (b .entry)))) ⌝ }
+{
+    let t = e.layout;
+    let above = Span {
+        from: s.variables,
+        to: s.variables + e.part.operator,
+    };
+    let behind = Span {
+        from: s.variables + e.end,
+        to: s.variables + s.nodes,
+    };
+    let matrix = write_prefix(b, s, &tables[NUMBERS..], e.row, out, t);
+    let front = Target {
+        layout: t,
+        at: matrix,
+    };
+    write_copy(b, s, &tables[NUMBERS..], above, out, front);
+    let end = write_subtree(b, s, tables, cuts, e, out);
+    let back = Target { layout: t, at: end };
+    write_copy(b, s, &tables[NUMBERS..], behind, out, back);
+}
+
+// Writes the raw sheet of an expansion; with no literal chosen only the prefix row goes.
+pub fn write_raw(b: &[u8], s: Layout, tables: &[u16], cuts: &[u16], e: Expansion, out: &mut [u8])
+    requires { ⌜ Expandable s (now b) (now tables) e (now out) × (e .occurs ≡ has (chosen-by (now tables)) (matrix-in s (now b))) × (e .occurs ≡ true → Found s (now b) (now tables) (now cuts) e) ⌝ }
+    ensures { λ _. ⌜ Raw (e .layout) (now (out .entry)) (now (out .exit)) (expanded-raw (e .row) (copying-by (now (tables .entry)) (e .joint)) (formula-in s (now (b .entry)))) ⌝ }
+{
+    if !e.occurs {
+        write_settled(b, s, &tables[NUMBERS..], e.row, out);
+        return;
+    }
+    write_expanded(b, s, tables, cuts, e, out);
 }

@@ -1,0 +1,155 @@
+-- `raw::expand::write_copies` meets its contract. Assumes nothing.
+use mathlib.Core.Path.{sym, ap, _∙_, subst}
+use Prim.Native.Nat.{_-_}
+use native.Mathlib.Omega.{arith}
+use lib.ListN.{length, take, drop, length-map}
+use lib.Seq.{length-take-le}
+use Rattle.changing.specs.Changes.{changed-row}
+use Rattle.changing.specs.Output.{Laid}
+use Rattle.changing.proofs.Splice.{ready-on, laid-on}
+use Rattle.raw.specs.Formulas.{first-table}
+use Rattle.raw.specs.Expansions.{Climbs, runs-in, joined-at}
+use Rattle.raw.proofs.Plans.{ready-raw, rest-of, some, joined-parts}
+use borrow.Author.Needs.{needs}
+use Rattle.raw.proofs.expand.write_copies.Statement.{statement}
+use Rattle.raw.proofs.expand.write_copies.Tie as tie
+
+kind-at-requires : tie.Need-kind-at-requires
+kind-at-requires c κs =
+    let a = c .before .before .before .before .before in
+    (a .pre .0 .readable, some (a .pre .0) (a .pre .1) (a .pre .2) (a .pre .3) .operator-in)
+
+sub-write-below : tie.Need-sub-write-below
+sub-write-below c = search needs
+
+shared-slice-read-write-below : tie.Need-shared-slice-read-write-below
+shared-slice-read-write-below c =
+    let a = c .before .before .before .before .before .before .before .before in
+    omega (arith, some (a .pre .0) (a .pre .1) (a .pre .2) (a .pre .3) .two)
+
+cast-write-below : tie.Need-cast-write-below
+cast-write-below c =
+    let a = c .before .before .before .before .before .before .before .before in
+    omega (arith, some (a .pre .0) (a .pre .1) (a .pre .2) (a .pre .3) .within, a .pre .0 .readable .few-variables, a .pre .0 .readable .few-nodes)
+
+add-write-below : tie.Need-add-write-below
+add-write-below c =
+    let a = c .before .before .before .before .before .before .before .before in
+    omega (arith, some (a .pre .0) (a .pre .1) (a .pre .2) (a .pre .3) .within, a .pre .0 .readable .few-variables, a .pre .0 .readable .few-nodes)
+
+write-row-requires : tie.Need-write-row-requires
+write-row-requires c κs =
+    let a = c .before .before .before .before .before .before .before .before .before in
+    let p = some (a .pre .0) (a .pre .1) (a .pre .2) (a .pre .3) in
+    (a .pre .0 .room, omega (arith, p .room, p .joined-length, p .begins, p .ordered), p .fits-two)
+
+slice-aggregate-write-below : tie.Need-slice-aggregate-write-below
+slice-aggregate-write-below c =
+    let a = c .before .before .before .before .before .before .before .before .before .before .before .before .before in
+    sym (length-take-le 1025 (a .args .tables .now) (omega (arith, a .pre .0 .two-tables)))
+
+sub-write-below-2 : tie.Need-sub-write-below-2
+sub-write-below-2 c =
+    let a = c .before .before .before .before .before .before .before .before .before .before .before .before .before in
+    omega (arith, some (a .pre .0) (a .pre .1) (a .pre .2) (a .pre .3) .two)
+
+part-write-below-start : tie.Need-part-write-below-start
+part-write-below-start c =
+    let a = c .before .before .before .before .before .before .before .before .before .before .before .before .before in
+    omega (arith, some (a .pre .0) (a .pre .1) (a .pre .2) (a .pre .3) .two)
+
+part-write-below-end : tie.Need-part-write-below-end
+part-write-below-end c = search needs
+
+write-below-requires : tie.Need-write-below-requires
+write-below-requires c κs =
+    let a = c .before .before .before .before .before .before .before .before .before .before .before .before .before .before .before in
+    let p = some (a .pre .0) (a .pre .1) (a .pre .2) (a .pre .3) in
+    let first = c .before .before .before .before .before in (
+      a .pre .0 .readable,
+      ready-on (ready-raw (a .pre .0)) (first .write-row .kept .0),
+      subst (λ l. Climbs 0 l (a .args .s .nodes)) (sym (rest-of 1 (a .args .cuts .now))) (p .climbs-relevant),
+      p .fits-relevant,
+      omega (arith, p .room, p .joined-length, p .begins, p .ordered, first .write-row .ensures .next-row, ap (λ l. length (runs-in (a .args .s) (a .args .b .now) l)) (rest-of 1 (a .args .cuts .now))),
+    )
+
+sub-write-below-3 : tie.Need-sub-write-below-3
+sub-write-below-3 c = search needs
+
+part-write-below-start-2 : tie.Need-part-write-below-start-2
+part-write-below-start-2 c = search needs
+
+part-write-below-end-2 : tie.Need-part-write-below-end-2
+part-write-below-end-2 c = search needs
+
+sub-write-below-4 : tie.Need-sub-write-below-4
+sub-write-below-4 c =
+    let a = c .before .before .before .before .before .before .before .before .before .before .before .before .before .before .before .before .before .before .before in
+    omega (arith, some (a .pre .0) (a .pre .1) (a .pre .2) (a .pre .3) .two)
+
+part-write-below-start-3 : tie.Need-part-write-below-start-3
+part-write-below-start-3 c =
+    let a = c .before .before .before .before .before .before .before .before .before .before .before .before .before .before .before .before .before .before .before in
+    omega (arith, some (a .pre .0) (a .pre .1) (a .pre .2) (a .pre .3) .two)
+
+part-write-below-end-3 : tie.Need-part-write-below-end-3
+part-write-below-end-3 c = search needs
+
+write-below-requires-2 : tie.Need-write-below-requires-2
+write-below-requires-2 c κs =
+    let a = c .before .before .before .before .before .before .before .before .before .before .before .before .before .before .before .before .before .before .before .before .before in
+    let p = some (a .pre .0) (a .pre .1) (a .pre .2) (a .pre .3) in
+    let first = c .before .before .before .before .before .before .before .before .before .before .before in
+    let second = c .before .before .before .before .before in (
+      a .pre .0 .readable,
+      ready-on (ready-raw (a .pre .0)) (second .write-below .kept .1 .1 .1 .1 .0 ∙ first .write-row .kept .0),
+      subst (λ l. Climbs 0 l (a .args .s .nodes)) (sym (rest-of 1 (a .args .cuts .now))) (p .climbs-relevant),
+      p .fits-relevant,
+      omega (
+        arith,
+        p .room,
+        p .joined-length,
+        p .begins,
+        p .ordered,
+        first .write-row .ensures .next-row,
+        second .write-below .ensures .next-row,
+        length-map (runs-in (a .args .s) (a .args .b .now) (take (length (a .args .cuts .now) - 1) (drop 1 (a .args .cuts .now))))
+            (changed-row (first-table (a .args .tables .now))),
+        ap (λ l. length (runs-in (a .args .s) (a .args .b .now) l)) (rest-of 1 (a .args .cuts .now)),
+      ),
+    )
+
+same-length : tie.Need-same-length
+same-length c = search needs
+
+returns : tie.Need-returns
+returns c =
+    let a = c .before .before .before .before .before .before .before .before .before .before .before .before .before .before .before .before .before .before .before .before .before .before .before .before in
+    subst (Laid (a .args .e .layout) (a .args .out .now) _ (joined-at (a .args .s) (a .args .cuts .now)) _)
+    (joined-parts (a .args .s) (a .args .b .now) (a .args .tables .now) (a .args .cuts .now) (a .args .e) (c .before .before .before .before .before .before .before .before .before .before .before .before .before .before .before .before .before .before .kind-at .ensures))
+    (laid-on (c .before .before .before .before .before .before .before .before .before .before .before .before .before .before .write-row .ensures) (laid-on (c .before .before .before .before .before .before .before .before .write-below .ensures) (c .before .before .write-below2 .ensures)))
+
+pub write-copies-spec : {M : Type 1} → statement M
+write-copies-spec =
+    tie.close
+    (tie.spec
+    kind-at-requires
+    sub-write-below
+    shared-slice-read-write-below
+    cast-write-below
+    add-write-below
+    write-row-requires
+    slice-aggregate-write-below
+    sub-write-below-2
+    part-write-below-start
+    part-write-below-end
+    write-below-requires
+    sub-write-below-3
+    part-write-below-start-2
+    part-write-below-end-2
+    sub-write-below-4
+    part-write-below-start-3
+    part-write-below-end-3
+    write-below-requires-2
+    same-length
+    returns)

@@ -1,0 +1,197 @@
+-- `raw::expand::write_some` meets its contract. Assumes nothing.
+use mathlib.Core.Path.{_≡_, sym, ap, _∙_, subst}
+use native.Mathlib.Omega.{arith}
+use lib.ListN.{length}
+use Rattle.changing.specs.Output.{Laid}
+use Rattle.changing.proofs.Splice.{ready-on, laid-on}
+use Rattle.raw.specs.Expansions.{Climbs, runs-in, new-at, joined-at}
+use Rattle.raw.proofs.Raws.{laid-to}
+use Rattle.raw.proofs.Plans.{ready-raw, expandable-on, rest-of, some, some-parts}
+use borrow.Author.Needs.{needs}
+use Rattle.raw.proofs.expand.write_some.Statement.{statement}
+use Rattle.raw.proofs.expand.write_some.Tie as tie
+
+kind-at-requires : tie.Need-kind-at-requires
+kind-at-requires c κs =
+    let a = c .before .before .before .before .before in
+    (a .pre .0 .readable, some (a .pre .0) (a .pre .1) (a .pre .2) (a .pre .3) .operator-in)
+
+children-at-requires : tie.Need-children-at-requires
+children-at-requires c κs =
+    let a = c .before .before .before .before .before .before in
+    (a .pre .0 .readable, some (a .pre .0) (a .pre .1) (a .pre .2) (a .pre .3) .operator-in)
+
+shared-slice-read-t18 : tie.Need-shared-slice-read-t18
+shared-slice-read-t18 c =
+    let a = c .before .before .before .before .before .before .before .before in
+    omega (arith, some (a .pre .0) (a .pre .1) (a .pre .2) (a .pre .3) .two)
+
+cast-t19 : tie.Need-cast-t19
+cast-t19 c =
+    let a = c .before .before .before .before .before .before .before .before in
+    let p = some (a .pre .0) (a .pre .1) (a .pre .2) (a .pre .3) in
+    omega (arith, p .ordered, p .within, p .operator-in, a .pre .0 .readable .few-variables, a .pre .0 .readable .few-nodes)
+
+add-t20 : tie.Need-add-t20
+add-t20 c =
+    let a = c .before .before .before .before .before .before .before .before .before in
+    let p = some (a .pre .0) (a .pre .1) (a .pre .2) (a .pre .3) in
+    omega (arith, p .ordered, p .within, p .operator-in, a .pre .0 .readable .few-variables, a .pre .0 .readable .few-nodes)
+
+shared-slice-read-write-row : tie.Need-shared-slice-read-write-row
+shared-slice-read-write-row c =
+    let a = c .before .before .before .before .before .before .before .before .before .before in
+    omega (arith, some (a .pre .0) (a .pre .1) (a .pre .2) (a .pre .3) .two)
+
+cast-write-row : tie.Need-cast-write-row
+cast-write-row c =
+    let a = c .before .before .before .before .before .before .before .before .before .before in
+    let p = some (a .pre .0) (a .pre .1) (a .pre .2) (a .pre .3) in
+    omega (arith, p .ordered, p .within, p .operator-in, a .pre .0 .readable .few-variables, a .pre .0 .readable .few-nodes)
+
+add-write-row : tie.Need-add-write-row
+add-write-row c =
+    let a = c .before .before .before .before .before .before .before .before .before .before .before in
+    let p = some (a .pre .0) (a .pre .1) (a .pre .2) (a .pre .3) in
+    omega (arith, p .ordered, p .within, p .operator-in, a .pre .0 .readable .few-variables, a .pre .0 .readable .few-nodes)
+
+sub-write-row : tie.Need-sub-write-row
+sub-write-row c = search needs
+
+add-write-row-2 : tie.Need-add-write-row-2
+add-write-row-2 c =
+    let a = c .before .before .before .before .before .before .before .before .before .before .before .before in
+    let p = some (a .pre .0) (a .pre .1) (a .pre .2) (a .pre .3) in
+    omega (arith, p .ordered, p .within, p .operator-in, a .pre .0 .readable .few-variables, a .pre .0 .readable .few-nodes)
+
+sub-write-row-2 : tie.Need-sub-write-row-2
+sub-write-row-2 c =
+    let a = c .before .before .before .before .before .before .before .before .before .before .before .before .before .before in
+    omega (arith, some (a .pre .0) (a .pre .1) (a .pre .2) (a .pre .3) .few, c .before .before .before .before .before .before .before .children-at .ensures .0)
+
+add-write-row-3 : tie.Need-add-write-row-3
+add-write-row-3 c = search needs
+
+write-row-requires : tie.Need-write-row-requires
+write-row-requires c κs =
+    let a = c .before .before .before .before .before .before .before .before .before .before .before .before .before .before in
+    let p = some (a .pre .0) (a .pre .1) (a .pre .2) (a .pre .3) in
+    (a .pre .0 .room, omega (arith, p .room), omega (arith, p .fits-children, c .before .before .before .before .before .before .before .children-at .ensures .0))
+
+sub-write-copy : tie.Need-sub-write-copy
+sub-write-copy c = search needs
+
+part-write-copy-start : tie.Need-part-write-copy-start
+part-write-copy-start c = search needs
+
+part-write-copy-end : tie.Need-part-write-copy-end
+part-write-copy-end c = search needs
+
+write-copy-requires : tie.Need-write-copy-requires
+write-copy-requires c κs =
+    let a = c .before .before .before .before .before .before .before .before .before .before .before .before .before .before .before .before .before .before .before in
+    let p = some (a .pre .0) (a .pre .1) (a .pre .2) (a .pre .3) in
+    let first = c .before .before .before .before in (
+      ready-on (ready-raw (a .pre .0)) (first .write-row .kept .0),
+      record { ordered = omega (arith, p .ordered); inside = omega (arith, p .within) },
+      omega (arith, p .room, first .write-row .ensures .next-row),
+    )
+
+write-copies-requires : tie.Need-write-copies-requires
+write-copies-requires c κs =
+    let a = c .before .before .before .before .before .before .before .before .before .before .before .before .before .before .before .before .before .before .before .before .before .before .before in
+    (expandable-on (a .pre .0) (c .before .before .before .write-copy .kept .1 .1 .1 .1 .0 ∙ c .before .before .before .before .before .before .before .before .write-row .kept .0), a .pre .1, a .pre .2, a .pre .3)
+
+sub-write-runs : tie.Need-sub-write-runs
+sub-write-runs c =
+    let a = c .before .before .before .before .before .before .before .before .before .before .before .before .before .before .before .before .before .before .before .before .before .before .before .before .before .before in
+    omega (arith, a .pre .0 .two-tables)
+
+part-write-runs-start : tie.Need-part-write-runs-start
+part-write-runs-start c =
+    let a = c .before .before .before .before .before .before .before .before .before .before .before .before .before .before .before .before .before .before .before .before .before .before .before .before .before .before in
+    omega (arith, a .pre .0 .two-tables)
+
+part-write-runs-end : tie.Need-part-write-runs-end
+part-write-runs-end c = search needs
+
+sub-write-runs-2 : tie.Need-sub-write-runs-2
+sub-write-runs-2 c =
+    let a = c .before .before .before .before .before .before .before .before .before .before .before .before .before .before .before .before .before .before .before .before .before .before .before .before .before .before .before in
+    omega (arith, some (a .pre .0) (a .pre .1) (a .pre .2) (a .pre .3) .two)
+
+part-write-runs-start-2 : tie.Need-part-write-runs-start-2
+part-write-runs-start-2 c =
+    let a = c .before .before .before .before .before .before .before .before .before .before .before .before .before .before .before .before .before .before .before .before .before .before .before .before .before .before .before in
+    omega (arith, some (a .pre .0) (a .pre .1) (a .pre .2) (a .pre .3) .two)
+
+part-write-runs-end-2 : tie.Need-part-write-runs-end-2
+part-write-runs-end-2 c = search needs
+
+write-runs-requires : tie.Need-write-runs-requires
+write-runs-requires c κs =
+    let a = c .before .before .before .before .before .before .before .before .before .before .before .before .before .before .before .before .before .before .before .before .before .before .before .before .before .before .before .before .before in
+    let p = some (a .pre .0) (a .pre .1) (a .pre .2) (a .pre .3) in
+    let copies = c .before .before .before .before .before in (
+      a .pre .0 .readable,
+      ready-on (ready-raw (a .pre .0)) (copies .write-copies .kept .1 .1 .1 .1 .1 .0 ∙ c .before .before .before .before .before .before .before .before .before .write-copy .kept .1 .1 .1 .1 .0 ∙ c .before .before .before .before .before .before .before .before .before .before .before .before .before .before .write-row .kept .0),
+      subst (λ l. Climbs 0 l (a .args .s .nodes)) (sym (rest-of 2 (a .args .cuts .now))) (p .climbs-others),
+      omega (
+        arith,
+        p .room,
+        p .begins,
+        p .ordered,
+        copies .write-copies .ensures .next-row,
+        ap (λ l. length (runs-in (a .args .s) (a .args .b .now) l)) (rest-of 2 (a .args .cuts .now)),
+      ),
+    )
+
+same-length : tie.Need-same-length
+same-length c = search needs
+
+returns : tie.Need-returns
+returns c =
+    let a = c .before .before .before .before .before .before .before .before .before .before .before .before .before .before .before .before .before .before .before .before .before .before .before .before .before .before .before .before .before .before .before .before in
+    let p = some (a .pre .0) (a .pre .1) (a .pre .2) (a .pre .3) in
+    let first = c .before .before .before .before .before .before .before .before .before .before .before .before .before .before .before .before .before in
+    let lead = c .before .before .before .before .before .before .before .before .before .before .before .before in
+    let at : lead .write-copy .result ≡ joined-at (a .args .s) (a .args .cuts .now)
+    = omega (arith, first .write-row .ensures .next-row, lead .write-copy .ensures .1, p .begins, p .ordered) in
+    subst (Laid (a .args .e .layout) (a .args .out .now) _ (new-at (a .args .s) (a .args .e)) _)
+    (some-parts (a .args .s) (a .args .b .now) (a .args .tables .now) (a .args .cuts .now) (a .args .e) p (c .before .before .before .before .before .before .before .before .before .before .before .before .before .before .before .before .before .before .before .before .before .before .before .before .before .before .kind-at .ensures)
+    (c .before .before .before .before .before .before .before .before .before .before .before .before .before .before .before .before .before .before .before .before .before .before .before .before .before .children-at .ensures .0))
+    (laid-on (first .write-row .ensures)
+    (laid-on (laid-to at (lead .write-copy .ensures .0))
+    (laid-on (c .before .before .before .before .before .before .before .before .write-copies .ensures) (c .before .before .write-runs .ensures))))
+
+pub write-some-spec : {M : Type 1} → statement M
+write-some-spec =
+    tie.close
+    (tie.spec
+    kind-at-requires
+    children-at-requires
+    shared-slice-read-t18
+    cast-t19
+    add-t20
+    shared-slice-read-write-row
+    cast-write-row
+    add-write-row
+    sub-write-row
+    add-write-row-2
+    sub-write-row-2
+    add-write-row-3
+    write-row-requires
+    sub-write-copy
+    part-write-copy-start
+    part-write-copy-end
+    write-copy-requires
+    write-copies-requires
+    sub-write-runs
+    part-write-runs-start
+    part-write-runs-end
+    sub-write-runs-2
+    part-write-runs-start-2
+    part-write-runs-end-2
+    write-runs-requires
+    same-length
+    returns)

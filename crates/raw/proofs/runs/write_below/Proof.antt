@@ -1,0 +1,26 @@
+-- `raw::runs::write_below` meets its contract. Assumes nothing.
+use native.Mathlib.Omega.{arith}
+use Rattle.changing.proofs.Splice.{ready-on, laid-on}
+use borrow.Author.Needs.{needs}
+use Rattle.raw.proofs.runs.write_below.Statement.{statement}
+use Rattle.raw.proofs.runs.write_below.Tie as tie
+
+write-row-requires : tie.Need-write-row-requires
+write-row-requires c κs =
+    let a = c .before .before .before .before .before .before in
+    (a .pre .1 .room, omega (arith, a .pre .4), rw (a .pre .1 .same-width) (a .pre .3))
+
+write-runs-requires : tie.Need-write-runs-requires
+write-runs-requires c κs =
+    let first = c .before .before .before in
+    let a = first .before .before .before .before .before .before .before in
+    (a .pre .0, ready-on (a .pre .1) (first .write-row .kept .0), a .pre .2, omega (arith, a .pre .4, first .write-row .ensures .next-row))
+
+same-length : tie.Need-same-length
+same-length c = search needs
+
+returns : tie.Need-returns
+returns c = laid-on (c .before .before .before .before .before .before .write-row .ensures) (c .before .before .write-runs .ensures)
+
+pub write-below-spec : {M : Type 1} → statement M
+write-below-spec = tie.close (tie.spec write-row-requires write-runs-requires same-length returns)
