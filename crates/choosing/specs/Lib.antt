@@ -1,3 +1,0 @@
--- Which variable Solve takes next.
-pub mod Choosing
-pub mod Marks

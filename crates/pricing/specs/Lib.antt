@@ -1,2 +1,0 @@
--- Where the literals of each variable stand.
-pub mod Occurrences
