@@ -63,6 +63,11 @@ pub length-one : (x : Block) → length (block-rows (x ◂ none)) ≡ size x
 unfolding block-rows
 length-one x = ap (λ l. suc (length l)) (append-nil (inner x))
 
+pub no-rows : (bs : Blocks) → length (block-rows bs) ≡ 0 → bs ≡ none
+unfolding block-rows
+no-rows none e = refl
+no-rows (x ◂ bs) e = absurd (omega arith)
+
 pub extent-head : (x : Block) → extent (head x) ≡ size x
 unfolding extent head
 extent-head (gone rs) = refl

@@ -14,7 +14,7 @@ use Rattle.rows.specs.Layouts.{rows-in, Room}
 use Rattle.rows.specs.declared.Layout.{Layout}
 use Rattle.blocks.specs.Blocks.{Block, gone, Blocks, none, _◂_, _⊕_, head, inner, block-rows, size, grown, live, Laid, Here, Region}
 use Rattle.blocks.specs.Walks.{extent, JoinsAt, Joins, at-row}
-use Rattle.blocks.proofs.Blocks.{⧺-◂, live-⊕, live-snoc, length-◂, extent-head, done-laid, next, onward, part-done}
+use Rattle.blocks.proofs.Blocks.{⧺-◂, live-⊕, live-snoc, length-◂, extent-head, done-laid, next, onward, part-done, no-rows}
 use Rattle.blocks.proofs.Walks.{Turn, dead-holds, turn-at}
 
 pub record Joining (R : List Row) (from run at to : ℕ) (before : List Row) (bs : Blocks) (after : List Row) : Type 0 where
@@ -192,7 +192,7 @@ pub join-end : {R₀ R : List Row} {from run at to : ℕ} → Join R₀ R from r
 unfolding block-rows live
 join-end {R₀} {R} {from} {run} {at} {to} w l before bs after laid =
     let st = w before bs after laid in
-    let none-left = all (st .rest) (st .ends) in
+    let none-left = no-rows (st .rest) (omega (arith, l, st .ends)) in
     record {
       early = st .early;
       dead = st .dead;
@@ -202,7 +202,3 @@ join-end {R₀} {R} {from} {run} {at} {to} w l before bs after laid =
       hidden = st .hidden;
       reads = sym (st .reads ∙ ap (λ cs. live (st .early) ⧺ live cs) none-left ∙ ⧺-none (live (st .early)));
     }
-  where
-    all : (rest : Blocks) → at + length (block-rows rest) ≡ to → rest ≡ none
-    all none e = refl
-    all (x ◂ rest) e = absurd (omega arith)

@@ -1,4 +1,4 @@
--- Walks over an operator's children that change them: rules 2 to 4 at a group, rules 1 to 4 at all.
+-- A walk over a child's group: rules 2 to 4, behind the children before it.
 -- Assumes nothing.
 use mathlib.Core.Path.{_≡_, refl, sym, ap, _∙_, subst}
 use mathlib.Core.Bool.{true, false, _||_, true≢false}

@@ -20,7 +20,7 @@ use Rattle.rows.specs.declared.Layout.{Layout}
 use Rattle.rows.proofs.Layouts.{length-rows-in}
 use Rattle.blocks.specs.Blocks.{Block, gone, literal, operator, Blocks, none, _◂_, _⊕_, head, block-rows, grown, live, Laid, Here, Region}
 use Rattle.blocks.specs.Walks.{extent, Alive, Finds, Holds, at-row, row-test}
-use Rattle.blocks.proofs.Blocks.{live-snoc, live-◂, ⧺-◂, length-◂, extent-head, within, start, next, onward}
+use Rattle.blocks.proofs.Blocks.{live-snoc, live-◂, ⧺-◂, length-◂, extent-head, within, start, next, onward, no-rows}
 
 pub record Walked (R : List Row) (from at to : ℕ) (before : List Row) (bs : Blocks) (after : List Row) (Q : Forest → Type 0) : Type 0 where
   pub done : Blocks
@@ -85,9 +85,8 @@ scan-more Q′ w l b f before bs after laid =
 
 pub rest-none : {R : List Row} {from at to : ℕ} {before after : List Row} {done rest : Blocks}
     → Here R from at to before done rest after → to ≤ at → live rest ≡ ∅
-unfolding block-rows live
-rest-none {rest = none} h l = refl
-rest-none {rest = x ◂ others} h l = absurd (omega (arith, h .ends))
+unfolding live
+rest-none {rest = rest} h l = ap live (no-rows rest (omega (arith, h .ends)))
 
 pub scan-end : {R : List Row} {from at to : ℕ} {Q : Forest → Type 0} → Scan R from at to Q → to ≤ at
     → {before after : List Row} {bs : Blocks} → Laid R from to before bs after → Q (live bs)

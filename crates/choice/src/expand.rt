@@ -22,7 +22,7 @@ pub struct ExpandChoice {
 }
 
 // The variable of prefix row `i` with its relevant part and its raw sheet's node rows.
-fn price_row(
+pub fn price_row(
     b: &[u8],
     s: Layout,
     ends: &[u16],

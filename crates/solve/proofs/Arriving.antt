@@ -1,198 +1,276 @@
--- From the raw sheet of a step to the sheet that the next one starts from.
+-- From the sheet that a step wrote to the second buffer to the state that the next one starts from.
 -- Assumes nothing.
 use mathlib.Core.Path.{_≡_, sym, ap, ap₂, _∙_, subst}
-use mathlib.Core.Bool.{Bool, true}
-use mathlib.Core.List.{List, _++_, map}
+use mathlib.Core.Bool.{Bool, true, false, _&&_, cond}
+use mathlib.Core.List.{List}
 use mathlib.Core.Option.{none, some}
-use Prim.Native.Nat.{ℕ, _+_, _*_, _-_, _≤_, _<_, _^_}
+use Prim.Native.Nat.{ℕ, suc, _+_, _*_, _-_, _≤_, _<_, _^_}
 use native.Mathlib.Nat.{mul-le-mul-left}
 use native.Mathlib.Numerals.{add-one}
 use native.Mathlib.Omega.{arith}
-use lib.ListN.{length}
-use Rattle.formula.specs.Tree.{Formula, of, rows, without, assign}
-use Rattle.formula.specs.Tidy.{tidied, is-tidy, verdict}
+use lib.ListN.{length, take, drop}
+use lib.Dec.{leb}
+use borrow.Author.Tests.{leb-true, le-leb}
+use Rattle.formula.specs.Tree.{Formula, of, rows, without}
+use Rattle.formula.specs.Tidy.{is-tidy, verdict}
 use Rattle.formula.specs.Settle.{settled}
 use Rattle.formula.specs.Expand.{raw-rows, expanded, raw}
-use Rattle.formula.specs.Solve.{halt, next, ended, stopped, lowest, step}
+use Rattle.formula.specs.Solve.{halt, next, ended, stopped, lowest, fits-raw, step}
+use Rattle.formula.proofs.Booleans.{and-parts}
 use Rattle.formula.proofs.Closed.{length-without}
 use Rattle.formula.proofs.Choice.{lowest-chosen, cheapest-chosen}
-use Rattle.formula.proofs.Steps.{proper-settled, proper-expanded}
-use Rattle.sheet.specs.Format.{Bytes, Format, Row, sheet-length, fits}
-use Rattle.sheet.specs.Sheet.{binding-row, tree-rows, formula-rows, sheet}
+use Rattle.formula.proofs.Steps.{proper-settled, rows-settled, proper-expanded, rows-expanded}
+use Rattle.sheet.specs.Format.{Bytes, Format, sheet-length, number, fits}
+use Rattle.sheet.specs.Sheet.{sheet}
 use Rattle.sheet.specs.Operations.{padded}
 use Rattle.sheet.specs.Limits.{Within}
 use Rattle.sheet.proofs.RoundTrip.{length-sheet}
-use Rattle.rows.specs.Rows.{rows-in, Room}
-use Rattle.reading.specs.Reading.{prefix-in, matrix-in, formula-in}
-use Rattle.choosing.specs.Choosing.{SettleHere, ToExpand}
-use Rattle.tidying.specs.InPlace.{rows-formula}
-use Rattle.tidying.specs.Limits.{Countable}
-use Rattle.tidying.proofs.Raw.{raw-formula, raw-sound}
-use Rattle.choosing.specs.declared.expand.ExpandChoice.{ExpandChoice}
+use Rattle.sheet.proofs.Limits.{binds-numbered}
+use Rattle.rows.specs.Formulas.{matrix-in, formula-in}
+use Rattle.rows.specs.declared.Layout.{Layout}
+use Rattle.checking.specs.Limits.{Countable}
+use Rattle.relevance.specs.Raw.{grown-by, copied}
+use Rattle.relevance.specs.declared.variable.Presence.{Presence}
+use Rattle.relevance.specs.declared.variable.Presence.the-variants.{Absent, Present}
+use Rattle.relevance.proofs.Growth.{raw-rows-by}
+use Rattle.choice.specs.Expanding.{ToExpand}
+use Rattle.choice.specs.declared.expand.ExpandChoice.{ExpandChoice}
+use Rattle.stepping.specs.Steps.{Named, Puts}
+use Rattle.stepping.specs.Expanding.{Prepared, Expands}
+use Rattle.stepping.specs.declared.expanding.Expanding.{Expanding}
+use Rattle.stepping.specs.declared.settling.Put.{Put}
 use Rattle.solve.specs.declared.State.{State}
-use Rattle.solve.specs.Running.{Held, HeldBy, reached}
-use Rattle.solve.proofs.Holding.{padded-formula, hold, proper}
-use Rattle.solve.proofs.Carrying.{tidied-length}
-use Rattle.solve.proofs.Stepping.{step-ends, step-settles, step-expands, step-stops, variables-left, within-settled, within-expanded, too-many, too-long, fitting}
+use Rattle.solve.specs.Running.{layout-for, Held, Ready, begun, Open, Settles, Unsettled, Fetchable, reached}
+use Rattle.solve.proofs.Holding.{hold, readable, proper, steppable, variables-are, nodes-are}
+use Rattle.solve.proofs.Carrying.{front-part, header-within, nodes-read}
+use Rattle.solve.proofs.Stepping.{step-ends, step-settles, step-expands, step-stops, variables-left, within-settled, within-expanded, fits-tested}
 
--- The raw sheet, of v variables and n nodes, has the rows R of a formula whose tidied one is g.
-pub record Leads (F : Format) (room v n : ℕ) (R : List Row) (g : Formula) : Type 0 where
-  pub sound-rows : formula-rows (rows-formula v R) ≡ R
-  pub becomes : tidied (rows-formula v R) ≡ g
-  pub few-rows : v + n < 256 ^ F .width
-  pub has-room : 2 * F .width + (1 + F .width) * (v + n) ≤ room
-  pub variables-are : v ≡ length (g .prefix)
+-- fewer variables and nodes make a shorter sheet
+shorter-sheet : (F : Format) {v n v′ n′ : ℕ} → v ≤ v′ → n ≤ n′ → sheet-length F v n ≤ sheet-length F v′ n′
+unfolding sheet-length
+shorter-sheet F {v} {n} {v′} {n′} h l = omega (arith, mul-le-mul-left {m = v + n} {n = v′ + n′} (1 + F .width) (omega arith))
+
+-- a formula that a step leads to, whose sheet has its place
+pub record Arrives (F : Format) (most : ℕ) (v : ℕ) (g : Formula) : Type 0 where
+  pub variables-left : v ≡ length (g .prefix)
   pub within : Within F g
   pub is-neat : is-tidy (g .matrix) ≡ true
+  pub short : length (sheet F g) ≤ most
 
-module _ {F : Format} (k : Countable F) {room v n : ℕ} (b : Bytes) {g : Formula} (l : Leads F room v n (rows-in (F .width) (v + n) b) g) where
-  pub raw-room : {len : ℕ} → room ≤ len → Room (F .width) (v + n) len
-  raw-room h = record { few-bytes = k .manageable .few-bytes; holds = omega (arith, l .has-room) }
+module _ {F : Format} (k : Countable F) {most v : ℕ} {g : Formula} (a : Arrives F most v g) (len : ℕ) {bytes : ℕ} {c : Bytes}
+    (in-second : c ≡ padded len (sheet F g)) (as-long : bytes ≡ length (sheet F g)) where
+  pub fetchable : {d : Bytes} → most ≤ len → length c ≡ len → most ≤ length d → Fetchable F bytes d c
+  fetchable room same l =
+      record {
+        few-bytes = k .manageable .few-bytes;
+        header = omega (arith, header-within F g, as-long);
+        in-first = omega (arith, as-long, a .short);
+        in-second = omega (arith, as-long, a .short, same);
+      }
 
-  pub raw-within : Within F (tidied (rows-formula v (rows-in (F .width) (v + n) b)))
-  raw-within = subst (Within F) (sym (l .becomes)) (l .within)
+  module _ (old : ℕ) {t : Layout} {b : Bytes} (room : most ≤ old) (in-first : b ≡ padded old (take bytes c))
+      (at : t ≡ record { width = F .width; variables = v; nodes = number (take (F .width) (drop (F .width) c)) }) where
+    arrived : (formula-in t b ≡ g) × Held F most t b
+    arrived =
+        hold k g (a .within) old (a .is-neat) (a .short) room
+        (at ∙
+        ap₂ (λ (x n : ℕ). record { width = F .width; variables = x; nodes = n }) (a .variables-left) (nodes-read F g k (a .within) len in-second))
+        (in-first ∙ ap (padded old) (front-part F g len in-second as-long))
 
-  module _ (held : room ≤ length b) {len : ℕ} (other : room ≤ len) {m : ℕ} {new : Bytes}
-      (new-is : new ≡ padded len (sheet F (tidied (rows-formula v (rows-in (F .width) (v + n) b)))))
-      (m-is : m ≡ rows ((tidied (rows-formula v (rows-in (F .width) (v + n) b))) .matrix)) where
-    new-sheet : new ≡ padded len (sheet F g)
-    new-sheet = new-is ∙ ap (λ (f : Formula). padded len (sheet F f)) (l .becomes)
+    pub arrived-formula : formula-in t b ≡ g
+    arrived-formula = arrived .0
 
-    new-nodes : m ≡ rows (g .matrix)
-    new-nodes = m-is ∙ ap (λ (f : Formula). rows (f .matrix)) (l .becomes)
+    pub arrived-held : Held F most t b
+    arrived-held = arrived .1
 
-    short : length (sheet F g) ≤ room
-    short =
-        subst (λ (f : Formula). length (sheet F f) ≤ room) (l .becomes)
-        (omega (arith, tidied-length F v n b (raw-room held) (l .sound-rows), l .has-room))
+    pub arrived-second : c ≡ padded len (sheet F (formula-in t b))
+    arrived-second = in-second ∙ ap (λ (f : Formula). padded len (sheet F f)) (sym arrived-formula)
 
-    pub arrived : Held F room v m new
-    arrived = hold k g (l .within) len (l .variables-are) new-nodes (l .is-neat) short other new-sheet
+-- a raw sheet has at most twice the rows and two
+grown-small : (n : ℕ) (p : Presence) → copied p ≤ n → grown-by n p ≤ n + n + 2
+grown-small n Absent h = omega arith
+grown-small n (Present p) h = by (p .all)
+  where
+    by : (c : Bool) → n + (p .rows + cond c 1 2) ≤ n + n + 2
+    by true = omega arith
+    by false = omega arith
 
-    pub arrived-formula : formula-in (F .width) v m new ≡ g
-    arrived-formula = ap (formula-in (F .width) v m) new-sheet ∙ padded-formula k g (l .within) len (l .variables-are) new-nodes
+module _ {F : Format} {most : ℕ} {s : State} {first second : Bytes} (r : Ready F most s first second) where
+  abbrev k : Countable F
+  k = r .countable
 
--- a sheet with one variable less has its place where this one has
-one-less : {F : Format} {room v n : ℕ} {b : Bytes} → Held F room v n b → 2 * F .width + (1 + F .width) * (v - 1 + n) ≤ room
-unfolding sheet-length
-one-less {F} {room} {v} {n} {b} h =
-    omega (
-      arith,
-      h .has-room,
-      length-sheet F (formula-in (F .width) v n b) ∙ ap₂ (sheet-length F) (sym (h .variables-are)) (sym (h .nodes-are)),
-      mul-le-mul-left {m = v - 1 + n} {n = v + n} (1 + F .width) (omega arith),
-    )
-
-module _ {F : Format} (k : Countable F) {room : ℕ} (s : State) (b : Bytes) (h : HeldBy F room s b) where
-  abbrev w : ℕ
-  w = F .width
-
-  abbrev v : ℕ
-  v = s .variables
-
-  abbrev n : ℕ
-  n = s .nodes
+  abbrev t : Layout
+  t = s .sheet
 
   abbrev f : Formula
-  f = formula-in w v n b
+  f = formula-in t first
 
-  pub decided-end : {c : Bool} → verdict (matrix-in w v n b) ≡ some c → step (fits F room) (reached F s b) ≡ halt (ended c)
+  sheet-room : sheet-length F (t .variables) (t .nodes) ≤ most
+  sheet-room = omega (arith, r .held .has-room, length-sheet F f ∙ ap₂ (sheet-length F) (sym (variables-are k (r .held))) (sym (nodes-are k (r .held))))
+
+  pub decided-end : {c : Bool} → verdict (matrix-in t first) ≡ some c → step (fits F most) (reached s first) ≡ halt (ended c)
   unfolding formula-in
-  decided-end {c} e = step-ends (fits F room) f (s .settled) (s .expanded) c e
+  decided-end {c} e = step-ends (fits F most) f (s .settled) (s .expanded) c e
 
-  module _ (undecided : verdict (matrix-in w v n b) ≡ none) where
+  module _ (undecided : Open s first) where
     still-undecided : verdict (f .matrix) ≡ none
     unfolding formula-in
     still-undecided = undecided
 
+    pub some-left : 0 < t .variables
+    some-left = omega (arith, variables-left f (proper k (r .held)) still-undecided, variables-are k (r .held))
+
+    one-less : (g : Formula) → length (f .prefix) ≡ suc (length (g .prefix)) → t .variables - 1 ≡ length (g .prefix)
+    one-less g e = omega (arith, variables-are k (r .held), e)
+
     -- Settle
 
-    module _ {i x : ℕ} {c : Bool} (here : SettleHere w v n b (lowest f) i x c) where
-      pub settle-room : {len : ℕ} → room ≤ len → Room w (v - 1 + n) len
-      settle-room l = record { few-bytes = k .manageable .few-bytes; holds = omega (arith, one-less h) }
+    module _ {p : Put} (here : Settles s first p) where
+      abbrev x : ℕ
+      x = p .variable
 
-      put-in : Formula
-      put-in = record { prefix = without x (f .prefix); matrix = assign x c (f .matrix) }
+      less : length (f .prefix) ≡ suc (length ((settled x (p .value) f) .prefix))
+      unfolding settled
+      less = length-without x (f .prefix) (lowest-chosen f x (here .is-lowest) .1)
 
-      prefix-less : v - 1 ≡ length (without x (f .prefix))
-      prefix-less = omega (arith, length-without x (f .prefix) (lowest-chosen f x (here .is-lowest) .1), h .variables-are)
-
-      pub settle-leads : {R : List Row} → R ≡ map binding-row (without x (prefix-in w v n b)) ++ tree-rows (assign x c (matrix-in w v n b))
-          → Leads F room (v - 1) n R (settled x c f)
-      unfolding formula-in formula-rows put-in settled tidied
-      settle-leads {R} e =
+      pub settle-puts : {len : ℕ} → most ≤ len → Puts F t first p len
+      unfolding formula-in
+      settle-puts l =
           record {
-            sound-rows = raw-sound put-in (v - 1) prefix-less e;
-            becomes = ap tidied (raw-formula put-in (v - 1) prefix-less e);
-            few-rows = omega (arith, k .few-rows, h .variables-are, h .nodes-are, h .within .few-variables, h .within .few-nodes);
-            has-room = one-less h;
-            variables-are = prefix-less;
-            within = within-settled F f x c (proper k h) (h .within) (here .is-lowest);
-            is-neat = proper-settled x c f (proper k h) .is-neat;
+            from = steppable k (r .held);
+            named =
+                record {
+                  inside = here .inside;
+                  row-is = here .at-row;
+                  few =
+                      omega (
+                        arith,
+                        k .manageable .few-variables,
+                        binds-numbered F (f .prefix) x (r .held .within .is-numbered) (lowest-chosen f x (here .is-lowest) .1),
+                      );
+                };
+            room = omega (arith, sheet-room, shorter-sheet F {v = t .variables - 1} {n = t .nodes} {v′ = t .variables} {n′ = t .nodes} (omega arith) (omega arith));
           }
 
-      pub settle-next : (m : ℕ) (new : Bytes) → formula-in w (v - 1) m new ≡ settled x c f
-          → step (fits F room) (reached F s b) ≡ next (reached F (record { variables = v - 1; nodes = m; settled = s .settled + 1; expanded = s .expanded }) new)
-      settle-next m new e =
-          step-settles (fits F room) f (s .settled) (s .expanded) still-undecided x c (here .is-lowest) (here .value-is) ∙
+      pub settle-arrives : Arrives F most (t .variables - 1) (settled x (p .value) f)
+      settle-arrives =
+          let g = settled x (p .value) f in
+          record {
+            variables-left = one-less g less;
+            within = within-settled F f x (p .value) (proper k (r .held)) (r .held .within) (here .is-lowest);
+            is-neat = proper-settled x (p .value) f (proper k (r .held)) .is-neat;
+            short =
+                omega (
+                  arith,
+                  length-sheet F g,
+                  sheet-room,
+                  shorter-sheet F {v = length (g .prefix)} {n = rows (g .matrix)} {v′ = t .variables} {n′ = t .nodes}
+                      (omega (arith, less, variables-are k (r .held))) (omega (arith, rows-settled x (p .value) f, nodes-are k (r .held))),
+                );
+          }
+
+      pub settle-next : (u : Layout) (new : Bytes) → formula-in u new ≡ settled x (p .value) f
+          → step (fits F most) (reached s first) ≡ next (reached (record { sheet = u; settled = s .settled + 1; expanded = s .expanded }) new)
+      settle-next u new e =
+          step-settles (fits F most) f (s .settled) (s .expanded) still-undecided x (p .value) (here .is-lowest) (here .value-is) ∙
           ap₂ (λ (g : Formula) (a : ℕ). next (record { formula = g; settles = a; expands = s .expanded })) (sym e) (sym (add-one (s .settled)))
 
     -- Expand
 
-    pub some-left : 0 < v
-    some-left = omega (arith, variables-left f (proper k h) still-undecided, h .variables-are)
+    module _ (nothing : Unsettled s first) {c : ExpandChoice} (here : ToExpand t first c) where
+      abbrev y : ℕ
+      y = c .variable
 
-    module _ (nothing : lowest f ≡ none) {r : ExpandChoice} (here : ToExpand w v n b r) where
-      abbrev x : ℕ
-      x = r .variable
-
-      raw-is : r .raw ≡ raw-rows (of x) (f .matrix)
+      raw-is : c .raw ≡ raw-rows (of y) (f .matrix)
       unfolding formula-in
       raw-is = here .raw-is
 
-      -- the raw sheet has too many rows, or is too long
-      pub many-stop : F .most-nodes < r .raw → step (fits F room) (reached F s b) ≡ halt (stopped x)
-      many-stop m =
-          step-stops (fits F room) f (s .settled) (s .expanded) still-undecided nothing x (here .is-cheapest)
-          (too-many F room f x (h .variables-are) raw-is m)
+      pub raw-small : c .raw ≤ 16386
+      raw-small =
+          let ok = readable k (r .held) in
+          let raw = raw-rows-by (of y) first ok {p = c .part} (here .part-is) in
+          omega (arith, grown-small (t .nodes) (c .part) (raw .1), raw .0, here .raw-is, ok .few-nodes)
 
-      module _ (few : r .raw ≤ F .most-nodes) where
-        pub long-stop : room < 2 * w + (1 + w) * (v - 1 + r .raw) → step (fits F room) (reached F s b) ≡ halt (stopped x)
-        long-stop l =
-            step-stops (fits F room) f (s .settled) (s .expanded) still-undecided nothing x (here .is-cheapest)
-            (too-long F room f x (h .variables-are) raw-is few l)
+      tested : fits-raw (fits F most) y f ≡ fits F most (t .variables - 1) (c .raw)
+      tested = fits-tested F most f y (variables-are k (r .held)) raw-is
 
-        -- a raw sheet of no more than the most rows has a length that is no matter
-        pub raw-small : (1 + w) * (v - 1 + r .raw) ≤ 5 * 9216
-        raw-small =
-            omega (
-              arith,
-              mul-le-mul-left {m = v - 1 + r .raw} {n = 9216} (1 + w)
-                  (omega (arith, k .manageable .few-variables, k .manageable .few-nodes, h .variables-are, h .within .few-variables)),
-              k .manageable .few-bytes,
-            )
+      pub expand-stops : fits F most (t .variables - 1) (c .raw) ≡ false → step (fits F most) (reached s first) ≡ halt (stopped y)
+      expand-stops m =
+          step-stops (fits F most) f (s .settled) (s .expanded) still-undecided nothing y (here .is-cheapest) (tested ∙ m)
 
-        module _ (long : 2 * w + (1 + w) * (v - 1 + r .raw) ≤ room) where
-          prefix-expanded : v - 1 ≡ length (without x (f .prefix))
-          prefix-expanded = omega (arith, length-without x (f .prefix) (cheapest-chosen f x (here .is-cheapest) .1), h .variables-are)
+      pub expand-named : Named t first y (c .row)
+      unfolding formula-in
+      expand-named =
+          record {
+            inside = here .inside;
+            row-is = here .at-row;
+            few =
+                omega (
+                  arith,
+                  k .manageable .few-variables,
+                  binds-numbered F (f .prefix) y (r .held .within .is-numbered) (cheapest-chosen f y (here .is-cheapest) .1),
+                );
+          }
 
-          pub expand-leads : {R : List Row} → R ≡ formula-rows (raw x f) → Leads F room (v - 1) (r .raw) R (expanded x f)
-          unfolding raw expanded tidied
-          expand-leads {R} e =
+      module _ (m : fits F most (t .variables - 1) (c .raw) ≡ true) where
+        few-and-short : (c .raw ≤ F .most-nodes) × (sheet-length F (t .variables - 1) (c .raw) ≤ most)
+        unfolding fits
+        few-and-short =
+            let parts = and-parts (leb (c .raw) (F .most-nodes)) (leb (sheet-length F (t .variables - 1) (c .raw)) most) m in
+            (leb-true (c .raw) (F .most-nodes) (parts .0), leb-true (sheet-length F (t .variables - 1) (c .raw)) most (parts .1))
+
+        fewer : length (f .prefix) ≡ suc (length ((expanded y f) .prefix))
+        unfolding expanded raw
+        fewer = length-without y (f .prefix) (cheapest-chosen f y (here .is-cheapest) .1)
+
+        pub expand-arrives : Arrives F most (t .variables - 1) (expanded y f)
+        expand-arrives =
+            let g = expanded y f in
+            record {
+              variables-left = one-less g fewer;
+              within = within-expanded F f y (proper k (r .held)) (r .held .within) (here .is-cheapest) (omega (arith, raw-is, few-and-short .0));
+              is-neat = proper-expanded y f (proper k (r .held)) .is-neat;
+              short =
+                  omega (
+                    arith,
+                    length-sheet F g,
+                    few-and-short .1,
+                    shorter-sheet F {v = length (g .prefix)} {n = rows (g .matrix)} {v′ = t .variables - 1} {n′ = c .raw}
+                        (omega (arith, fewer, variables-are k (r .held))) (omega (arith, rows-expanded y f, raw-is)),
+                  );
+            }
+
+        pub expand-next : (u : Layout) (new : Bytes) → formula-in u new ≡ expanded y f
+            → step (fits F most) (reached s first) ≡
+            next (reached (record { sheet = u; settled = s .settled; expanded = s .expanded + 1 }) new)
+        expand-next u new e =
+            step-expands (fits F most) f (s .settled) (s .expanded) still-undecided nothing y (here .is-cheapest) (tested ∙ m) ∙
+            ap₂ (λ (g : Formula) (a : ℕ). next (record { formula = g; settles = s .settled; expands = a })) (sym e) (sym (add-one (s .expanded)))
+
+        -- with what is found for it beforehand
+        module _ {table : List ℕ} {w : Expanding} (pr : Prepared t first y (c .row) table w) where
+          nodes-are-raw : w .to .layout .nodes ≡ c .raw
+          nodes-are-raw = ap (λ (l : Layout). l .nodes) (pr .layout-is) ∙ sym (here .raw-is)
+
+          pub expand-expands : {len : ℕ} → most ≤ len → Expands F t first table w len
+          unfolding fits
+          expand-expands {len} l =
               record {
-                sound-rows = raw-sound (raw x f) (v - 1) prefix-expanded e;
-                becomes = ap tidied (raw-formula (raw x f) (v - 1) prefix-expanded e);
-                few-rows = omega (arith, k .few-rows, h .variables-are, h .within .few-variables);
-                has-room = long;
-                variables-are = prefix-expanded;
-                within = within-expanded F f x (proper k h) (h .within) (here .is-cheapest) (omega (arith, raw-is));
-                is-neat = proper-expanded x f (proper k h) .is-neat;
+                from = steppable k (r .held);
+                named = rw (pr .variable-is, pr .row-is) expand-named;
+                prepared =
+                    subst (λ (x : ℕ). Prepared t first x (w .to .row) table w) (sym (pr .variable-is))
+                    (subst (λ (i : ℕ). Prepared t first y i table w) (sym (pr .row-is)) pr);
+                has-room =
+                    rw nodes-are-raw
+                    (ap₂ _&&_ (le-leb (c .raw) (F .most-nodes) (few-and-short .0))
+                    (le-leb (sheet-length F (t .variables - 1) (c .raw)) len (omega (arith, few-and-short .1))));
               }
 
-          pub expand-next : (m : ℕ) (new : Bytes) → formula-in w (v - 1) m new ≡ expanded x f
-              → step (fits F room) (reached F s b) ≡
-              next (reached F (record { variables = v - 1; nodes = m; settled = s .settled; expanded = s .expanded + 1 }) new)
-          expand-next m new e =
-              step-expands (fits F room) f (s .settled) (s .expanded) still-undecided nothing x (here .is-cheapest)
-              (fitting F room f x (h .variables-are) raw-is few long) ∙
-              ap₂ (λ (g : Formula) (a : ℕ). next (record { formula = g; settles = s .settled; expands = a })) (sym e) (sym (add-one (s .expanded)))
+          pub prepared-arrives : Arrives F most (t .variables - 1) (expanded (w .variable) f)
+          prepared-arrives = rw (pr .variable-is) expand-arrives
+
+          pub prepared-next : (u : Layout) (new : Bytes) → formula-in u new ≡ expanded (w .variable) f
+              → step (fits F most) (reached s first) ≡
+              next (reached (record { sheet = u; settled = s .settled; expanded = s .expanded + 1 }) new)
+          prepared-next u new e = expand-next u new (e ∙ ap (λ (x : ℕ). expanded x f) (pr .variable-is))

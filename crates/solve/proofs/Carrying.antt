@@ -1,56 +1,37 @@
--- A tidied sheet, brought from the second buffer to the first.
+-- A sheet brought from the second buffer to the first.
 -- Assumes nothing.
 use mathlib.Core.Path.{_≡_, sym, ap, ap₂, _∙_}
 use mathlib.Core.List.{_++_}
 use Prim.Native.Nat.{ℕ, _+_, _*_, _-_, _≤_}
-use native.Mathlib.Nat.{mul-le-mul-left}
 use native.Mathlib.Omega.{arith}
 use lib.ListN.{length, take, drop, replicate, length-append, length-drop}
-use lib.Seq.{take-append-seam, take-append-le, drop-append-le}
+use lib.Seq.{length-take-le, take-append-seam, take-append-le, drop-append-le}
 use Rattle.formula.specs.Tree.{Formula, rows}
-use Rattle.formula.specs.Tidy.{tidied}
-use Rattle.formula.proofs.Tidy.Growth.{rows-tidy}
 use Rattle.sheet.specs.Format.{Bytes, Format, sheet-length, number, nodes}
-use Rattle.sheet.specs.Sheet.{formula-rows, sheet}
+use Rattle.sheet.specs.Sheet.{sheet}
 use Rattle.sheet.specs.Operations.{padded}
 use Rattle.sheet.specs.Limits.{Within}
-use Rattle.sheet.proofs.RoundTrip.{length-formula-rows, length-sheet, nodes-sheet}
-use Rattle.rows.specs.Rows.{rows-in, Room}
-use Rattle.rows.proofs.Rows.{length-rows-in}
-use Rattle.tidying.specs.InPlace.{rows-formula}
-use Rattle.tidying.specs.Limits.{Countable}
+use Rattle.sheet.proofs.RoundTrip.{length-sheet, nodes-sheet}
+use Rattle.checking.specs.Limits.{Countable}
 use Rattle.solve.proofs.Holding.{sound}
 
--- the tidied sheet is no longer than the raw one
-pub tidied-length : (F : Format) (v n : ℕ) (b : Bytes) → Room (F .width) (v + n) (length b)
-    → formula-rows (rows-formula v (rows-in (F .width) (v + n) b)) ≡ rows-in (F .width) (v + n) b
-    → length (sheet F (tidied (rows-formula v (rows-in (F .width) (v + n) b)))) ≤ 2 * F .width + (1 + F .width) * (v + n)
-unfolding tidied sheet-length
-tidied-length F v n b room sound =
-    let f = rows-formula v (rows-in (F .width) (v + n) b) in
-    let size = sym (length-formula-rows f) ∙ ap length sound ∙ length-rows-in b room in
-    omega (
-      arith,
-      length-sheet F (tidied f),
-      mul-le-mul-left {m = length (f .prefix) + rows ((tidied f) .matrix)} {n = v + n} (1 + F .width) (omega (arith, size, rows-tidy (f .matrix))),
-    )
+-- the first bytes of one buffer copied to another, and the rest cleared
+pub cleared : (c d : Bytes) (n : ℕ) {mid new : Bytes} → n ≤ length c → n ≤ length d → mid ≡ take n c ++ drop (length (take n c)) d
+    → new ≡ take n mid ++ replicate (length mid - n) 0 → new ≡ padded (length d) (take n c)
+unfolding padded
+cleared c d n {mid} {new} in-c in-d m e =
+    let s = take n c in
+    let long : length s ≡ n = length-take-le n c in-c in
+    let size : length mid ≡ length d = ap length m ∙ length-append s (drop (length s) d) ∙ omega (arith, length-drop (length s) d, long) in
+    e ∙
+    ap₂ (λ (p : Bytes) k. p ++ replicate k 0) (ap₂ take (sym long) m ∙ take-append-seam s (drop (length s) d))
+    (ap₂ (λ a b. a - b) size (sym long))
 
 module _ (F : Format) (f : Formula) where
-  -- its length at the front of a padded buffer
+  -- a sheet at the front of a padded buffer
   pub front-part : (len : ℕ) {b : Bytes} {end : ℕ} → b ≡ padded len (sheet F f) → end ≡ length (sheet F f) → take end b ≡ sheet F f
   unfolding padded
   front-part len e l = ap₂ take l e ∙ take-append-seam (sheet F f) (replicate (len - length (sheet F f)) 0)
-
-  -- copied to the front of another, and the rest cleared
-  pub cleared : (d : Bytes) {mid new : Bytes} {end : ℕ} → end ≡ length (sheet F f) → length (sheet F f) ≤ length d
-      → mid ≡ sheet F f ++ drop (length (sheet F f)) d → new ≡ take end mid ++ replicate (length mid - end) 0
-      → new ≡ padded (length d) (sheet F f)
-  unfolding padded
-  cleared d {mid} {new} {end} l fits m e =
-      let s = sheet F f in
-      let size : length mid ≡ length d = ap length m ∙ length-append s (drop (length s) d) ∙ omega (arith, length-drop (length s) d) in
-      e ∙
-      ap₂ (λ (p : Bytes) k. p ++ replicate k 0) (ap₂ take l m ∙ take-append-seam s (drop (length s) d)) (ap₂ (λ a b. a - b) size l)
 
   -- the sizes stand in it
   pub header-within : 2 * F .width ≤ length (sheet F f)

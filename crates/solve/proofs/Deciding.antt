@@ -7,7 +7,7 @@ use Prim.Native.Nat.{_≤_, _<_}
 use native.Mathlib.Omega.{arith}
 use Rattle.formula.specs.Tree.{and, or, Tree, lit, node, ∅, _▸_, count}
 use Rattle.formula.specs.Tidy.{verdict}
-use Rattle.reading.proofs.Forest.{top}
+use Rattle.subtrees.specs.Subtrees.{top}
 
 pub open-literal : (t : Tree) → (top t) .kind ≤ 4 → none ≡ verdict t
 unfolding verdict

@@ -4,10 +4,9 @@ use mathlib.Core.Path.{_≡_, refl}
 use mathlib.Core.Bool.{Bool, true, false}
 use mathlib.Core.List.{[], _∷_}
 use mathlib.Core.Option.{none, some}
-use Prim.Native.Nat.{ℕ, suc, _+_, _*_, _-_, _≤_, _<_}
+use Prim.Native.Nat.{ℕ, suc, _-_, _≤_, _<_}
 use native.Mathlib.Omega.{arith}
 use lib.ListN.{length}
-use borrow.Author.Tests.{lt-leb, le-leb}
 use Rattle.formula.specs.Tree.{Prefix, Formula, of}
 use Rattle.formula.specs.Tidy.{verdict}
 use Rattle.formula.specs.Settle.{may-settle, settled}
@@ -15,7 +14,7 @@ use Rattle.formula.specs.Expand.{raw-rows, expanded, raw}
 use Rattle.formula.specs.Solve.{lowest, cheapest, State, halt, next, stopped, ended, Fits, fits-raw, settle-step, expand-step, undecided-step, step-by, step}
 use Rattle.formula.proofs.Choice.{lowest-chosen, cheapest-chosen}
 use Rattle.formula.proofs.Steps.{Proper, proper-settled, rows-settled, proper-expanded, rows-expanded, decided-without-variables}
-use Rattle.sheet.specs.Format.{Format, sheet-length, fits}
+use Rattle.sheet.specs.Format.{Format, fits}
 use Rattle.sheet.specs.Limits.{Within}
 use Rattle.sheet.proofs.Limits.{within-step}
 
@@ -68,19 +67,7 @@ within-expanded F f x p w l few =
     within-step F f (expanded x f) x w (cheapest-chosen f x l .1) refl (proper-expanded x f p) (omega (arith, rows-expanded x f, few))
 
 -- whether the raw sheet fits, as it is tested
-module _ (F : Format) (room : ℕ) (f : Formula) (x : ℕ) {v m : ℕ} (v-is : v ≡ length (f .prefix)) (m-is : m ≡ raw-rows (of x) (f .matrix)) where
-  fits-tested : fits-raw (fits F room) x f ≡ fits F room (v - 1) m
-  unfolding fits-raw
-  fits-tested = rw (v-is, m-is)
-
-  pub too-many : F .most-nodes < m → fits-raw (fits F room) x f ≡ false
-  unfolding fits
-  too-many h = rw (fits-tested, lt-leb m (F .most-nodes) h)
-
-  pub too-long : m ≤ F .most-nodes → room < 2 * F .width + (1 + F .width) * (v - 1 + m) → fits-raw (fits F room) x f ≡ false
-  unfolding fits sheet-length
-  too-long few h = rw (fits-tested, le-leb m (F .most-nodes) few, lt-leb (2 * F .width + (1 + F .width) * (v - 1 + m)) room h)
-
-  pub fitting : m ≤ F .most-nodes → 2 * F .width + (1 + F .width) * (v - 1 + m) ≤ room → fits-raw (fits F room) x f ≡ true
-  unfolding fits sheet-length
-  fitting few h = rw (fits-tested, le-leb m (F .most-nodes) few, le-leb (2 * F .width + (1 + F .width) * (v - 1 + m)) room h)
+pub fits-tested : (F : Format) (room : ℕ) (f : Formula) (x : ℕ) {v m : ℕ} → v ≡ length (f .prefix) → m ≡ raw-rows (of x) (f .matrix)
+    → fits-raw (fits F room) x f ≡ fits F room (v - 1) m
+unfolding fits-raw
+fits-tested F room f x v-is m-is = rw (v-is, m-is)

@@ -13,7 +13,7 @@ use Rattle.solve.specs.declared.Verdict.{Verdict}
 use Rattle.solve.specs.declared.Solved.the-variants.{Stopped, Ended}
 use Rattle.solve.specs.declared.step.Step.the-variants as taken
 use Rattle.solve.specs.Answers.{verdict-of, solved-answer}
-use Rattle.solve.specs.Running.{HeldBy, reached, begun, Stepped}
+use Rattle.solve.specs.Running.{Held, reached, begun, Stepped, run-from, answered, shown}
 
 run-halt : (fits : Fits) (n : ℕ) (s : Reached) (e : End) → step fits s ≡ halt e → run fits (suc n) s ≡ record { end = e; state = s }
 unfolding run go-on
@@ -23,51 +23,45 @@ run-next : (fits : Fits) (n : ℕ) (s t : Reached) → step fits s ≡ next t �
 unfolding run go-on
 run-next fits n s t h = rw h
 
--- the run from state s, its sheet in b
-abbrev pub run-from : Format → ℕ → State → Bytes → Run
-run-from F room s b = run (fits F room) (suc (s .variables)) (reached F s b)
-
 -- begun in state s₀ with the sheet in b₀, it stands in state s with the sheet in b
 pub record Turn (F : Format) (room : ℕ) (s₀ s : State) (b₀ b : Bytes) : Type 0 where
-  pub held : HeldBy F room s b
+  pub held : Held F room (s .sheet) b
   pub same-run : run-from F room s₀ b₀ ≡ run-from F room s b
   pub few : begun s < 2 ^ 32
   pub same-length : length b ≡ length b₀
 
-pub turn-first : {F : Format} {room : ℕ} {s : State} {b : Bytes} → HeldBy F room s b → begun s < 2 ^ 32 → Turn F room s s b b
+pub turn-first : {F : Format} {room : ℕ} {s : State} {b : Bytes} → Held F room (s .sheet) b → begun s < 2 ^ 32 → Turn F room s s b b
 turn-first h l = record { held = h; same-run = refl; few = l; same-length = refl }
 
 module _ {F : Format} {room : ℕ} {s₀ s : State} {b₀ b : Bytes} (u : Turn F room s₀ s b₀ b) where
-  pub turn-next : {t : State} {new : Bytes} → Stepped F room s b new (taken.Next t) → length new ≡ length b → Turn F room s₀ t b₀ new
-  turn-next {t} {new} k l =
+  pub turn-next : {t : State} (c : Bytes) {new other : Bytes} → Stepped F room s b c new other (taken.Next t) → length new ≡ length b → Turn F room s₀ t b₀ new
+  turn-next {t} c {new} {other} k l =
       record {
         held = k .1;
         same-run =
             u .same-run ∙
-            run-next (fits F room) (s .variables) (reached F s b) (reached F t new) (k .0) ∙
-            ap (λ n. run (fits F room) n (reached F t new)) (k .2);
+            run-next (fits F room) (s .sheet .variables) (reached s b) (reached t new) (k .0) ∙
+            ap (λ n. run (fits F room) n (reached t new)) (k .2);
         few = omega (arith, k .3, u .few);
         same-length = l ∙ u .same-length;
       }
 
-  halted : (e : End) → step (fits F room) (reached F s b) ≡ halt e → run-from F room s₀ b₀ ≡ record { end = e; state = reached F s b }
-  halted e h = u .same-run ∙ run-halt (fits F room) (s .variables) (reached F s b) e h
+  halted : (e : End) → step (fits F room) (reached s b) ≡ halt e → run-from F room s₀ b₀ ≡ record { end = e; state = reached s b }
+  halted e h = u .same-run ∙ run-halt (fits F room) (s .sheet .variables) (reached s b) e h
 
   -- the buffer shows the formula reached
-  shown : {new : Bytes} (e : End) → step (fits F room) (reached F s b) ≡ halt e → new ≡ b
-      → new ≡ padded (length b₀) (sheet F (((run-from F room s₀ b₀) .state) .formula))
-  shown e h same =
-      same ∙ u .held .bytes-are ∙ ap (λ k. padded k (sheet F ((reached F s b) .formula))) (u .same-length) ∙
-      ap (λ (r : Run). padded (length b₀) (sheet F ((r .state) .formula))) (sym (halted e h))
+  still-shown : {new : Bytes} (e : End) → step (fits F room) (reached s b) ≡ halt e → new ≡ b
+      → new ≡ shown F (length b₀) (run-from F room s₀ b₀)
+  still-shown e h same =
+      same ∙ u .held .bytes-are ∙ ap (λ k. padded k (sheet F ((reached s b) .formula))) (u .same-length) ∙
+      ap (shown F (length b₀)) (sym (halted e h))
 
-  pub turn-ended : (c : Verdict) {new : Bytes} → Stepped F room s b new (taken.Ended c)
-      → (solved-answer (Ended c (s .settled) (s .expanded)) ≡ solved ((run-from F room s₀ b₀) .end) ((run-from F room s₀ b₀) .state)) ×
-      (new ≡ padded (length b₀) (sheet F (((run-from F room s₀ b₀) .state) .formula)))
+  pub turn-ended : (v : Verdict) {c new other : Bytes} → Stepped F room s b c new other (taken.Ended v)
+      → (solved-answer (Ended v (s .settled) (s .expanded)) ≡ answered (run-from F room s₀ b₀)) × (new ≡ shown F (length b₀) (run-from F room s₀ b₀))
   unfolding solved
-  turn-ended c k = (ap (λ (r : Run). solved (r .end) (r .state)) (sym (halted (ended (verdict-of c)) (k .0))), shown (ended (verdict-of c)) (k .0) (k .1))
+  turn-ended v k = (ap answered (sym (halted (ended (verdict-of v)) (k .0))), still-shown (ended (verdict-of v)) (k .0) (k .1))
 
-  pub turn-stopped : (x : ℕ) {new : Bytes} → Stepped F room s b new (taken.Stopped x)
-      → (solved-answer (Stopped x (s .settled) (s .expanded)) ≡ solved ((run-from F room s₀ b₀) .end) ((run-from F room s₀ b₀) .state)) ×
-      (new ≡ padded (length b₀) (sheet F (((run-from F room s₀ b₀) .state) .formula)))
+  pub turn-stopped : (x : ℕ) {c new other : Bytes} → Stepped F room s b c new other (taken.Stopped x)
+      → (solved-answer (Stopped x (s .settled) (s .expanded)) ≡ answered (run-from F room s₀ b₀)) × (new ≡ shown F (length b₀) (run-from F room s₀ b₀))
   unfolding solved
-  turn-stopped x k = (ap (λ (r : Run). solved (r .end) (r .state)) (sym (halted (stopped x) (k .0))), shown (stopped x) (k .0) (k .1))
+  turn-stopped x k = (ap answered (sym (halted (stopped x) (k .0))), still-shown (stopped x) (k .0) (k .1))

@@ -2,54 +2,103 @@
 -- Assumes nothing.
 use mathlib.Core.Path.{_≡_}
 use mathlib.Core.Bool.{true}
-use Prim.Native.Nat.{ℕ, suc, _+_, _^_, _≤_, _<_}
+use mathlib.Core.List.{List}
+use mathlib.Core.Option.{none}
+use Prim.Native.Nat.{ℕ, suc, _+_, _*_, _^_, _≤_, _<_}
 use lib.ListN.{length}
-use Rattle.formula.specs.Tree.{rows}
-use Rattle.formula.specs.Tidy.{is-tidy}
-use Rattle.formula.specs.Solve.{State as Reached, halt, next, ended, stopped, step}
+use Rattle.formula.specs.Tree.{Formula, rows}
+use Rattle.formula.specs.Tidy.{is-tidy, verdict}
+use Rattle.formula.specs.Solve.{lowest, State as Reached, halt, next, ended, stopped, step, Run, run, solve}
 use Rattle.sheet.specs.Format.{Bytes, Format, fits}
 use Rattle.sheet.specs.Sheet.{sheet}
-use Rattle.sheet.specs.Operations.{padded}
+use Rattle.sheet.specs.Operations.{padded, Solved, solved}
 use Rattle.sheet.specs.Limits.{Within}
-use Rattle.reading.specs.Reading.{formula-in}
-use Rattle.tidying.specs.Limits.{Countable}
+use Rattle.sheet.specs.Trace.{room}
+use Rattle.rows.specs.Layouts.{size}
+use Rattle.rows.specs.Formulas.{matrix-in, formula-in}
+use Rattle.rows.specs.declared.Layout.{Layout}
+use Rattle.checking.specs.Limits.{Countable}
+use Rattle.choice.specs.Settling.{SettleHere}
+use Rattle.tidying.specs.Limits.{Raw}
+use Rattle.stepping.specs.declared.settling.Put.{Put}
 use Rattle.solve.specs.declared.State.{State}
 use Rattle.solve.specs.declared.step.Step.{Step}
 use Rattle.solve.specs.declared.step.Step.the-variants.{Ended, Stopped, Next}
 use Rattle.solve.specs.Answers.{verdict-of}
 
--- a buffer with a tidy formula's sheet of at most `room` bytes at its front, v variables and n nodes, and zeros behind it
-pub record Held (F : Format) (room v n : ℕ) (b : Bytes) : Type 0 where
-  pub variables-are : v ≡ length ((formula-in (F .width) v n b) .prefix)
-  pub nodes-are : n ≡ rows ((formula-in (F .width) v n b) .matrix)
-  pub bytes-are : b ≡ padded (length b) (sheet F (formula-in (F .width) v n b))
-  pub has-room : length (sheet F (formula-in (F .width) v n b)) ≤ room
-  pub within : Within F (formula-in (F .width) v n b)
-  pub is-neat : is-tidy ((formula-in (F .width) v n b) .matrix) ≡ true
+-- the layout of a formula's sheet
+abbrev pub layout-for : Format → Formula → Layout
+layout-for F f = record { width = F .width; variables = length (f .prefix); nodes = rows (f .matrix) }
 
-abbrev pub HeldBy : Format → ℕ → State → Bytes → Type 0
-HeldBy F room s b = Held F room (s .variables) (s .nodes) b
+-- a buffer with a tidy formula's sheet of at most `most` bytes at its front, of layout s, and zeros behind it
+pub record Held (F : Format) (most : ℕ) (s : Layout) (b : Bytes) : Type 0 where
+  pub layout-is : s ≡ layout-for F (formula-in s b)
+  pub bytes-are : b ≡ padded (length b) (sheet F (formula-in s b))
+  pub has-room : length (sheet F (formula-in s b)) ≤ most
+  pub within : Within F (formula-in s b)
+  pub is-neat : is-tidy ((formula-in s b) .matrix) ≡ true
 
 -- how many variables a run began with
 abbrev pub begun : State → ℕ
-begun s = s .settled + s .expanded + s .variables
+begun s = s .settled + s .expanded + s .sheet .variables
 
 -- a state with its sheet in the first of two buffers that both have room, in a format that the code can count
-pub record Ready (F : Format) (room : ℕ) (s : State) (first second : Bytes) : Type 0 where
+pub record Ready (F : Format) (most : ℕ) (s : State) (first second : Bytes) : Type 0 where
   pub countable : Countable F
-  pub held : HeldBy F room s first
-  pub first-room : room ≤ length first
-  pub second-room : room ≤ length second
+  pub held : Held F most (s .sheet) first
+  pub first-room : most ≤ length first
+  pub second-room : most ≤ length second
   pub few : begun s < 2 ^ 32
 
--- the state of the definition: the formula held, the number settled and the number expanded
-abbrev pub reached : Format → State → Bytes → Reached
-reached F s b = record { formula = formula-in (F .width) (s .variables) (s .nodes) b; settles = s .settled; expands = s .expanded }
+-- the sheet isn't decided
+abbrev pub Open : State → Bytes → Type 0
+Open s b = verdict (matrix-in (s .sheet) b) ≡ none
 
--- a step from state s, its sheet in b, leaves new in the buffer
-abbrev pub Stepped : Format → ℕ → State → Bytes → Bytes → Step → Type 0
-Stepped F room s b new (Ended v) = (step (fits F room) (reached F s b) ≡ halt (ended (verdict-of v))) × (new ≡ b)
-Stepped F room s b new (Stopped x) = (step (fits F room) (reached F s b) ≡ halt (stopped x)) × (new ≡ b)
-Stepped F room s b new (Next t) =
-    (step (fits F room) (reached F s b) ≡ next (reached F t new)) × HeldBy F room t new × (s .variables ≡ suc (t .variables)) ×
-    (begun t ≡ begun s)
+-- a variable is settled next, or none may be
+abbrev pub Settles : State → Bytes → Put → Type 0
+Settles s b p = SettleHere (s .sheet) b (lowest (formula-in (s .sheet) b)) (p .row) (p .variable) (p .value)
+
+abbrev pub Unsettled : State → Bytes → Type 0
+Unsettled s b = lowest (formula-in (s .sheet) b) ≡ none
+
+-- a sheet of so many bytes at the front of the second buffer has its place in the first
+pub record Fetchable (F : Format) (bytes : ℕ) (first second : Bytes) : Type 0 where
+  pub few-bytes : F .width ≤ 4
+  pub header : 2 * F .width ≤ bytes
+  pub in-first : bytes ≤ length first
+  pub in-second : bytes ≤ length second
+
+-- the state of the definition: the formula held, the number settled and the number expanded
+abbrev pub reached : State → Bytes → Reached
+reached s b = record { formula = formula-in (s .sheet) b; settles = s .settled; expands = s .expanded }
+
+-- a step from state s, its sheet in the first buffer, leaves these buffers
+abbrev pub Stepped : Format → ℕ → State → Bytes → Bytes → Bytes → Bytes → Step → Type 0
+Stepped F most s first second first′ second′ (Ended v) =
+    (step (fits F most) (reached s first) ≡ halt (ended (verdict-of v))) × (first′ ≡ first) × (second′ ≡ second)
+Stepped F most s first second first′ second′ (Stopped x) =
+    (step (fits F most) (reached s first) ≡ halt (stopped x)) × (first′ ≡ first) × (second′ ≡ second)
+Stepped F most s first second first′ second′ (Next t) =
+    (step (fits F most) (reached s first) ≡ next (reached t first′)) × Held F most (t .sheet) first′ ×
+    (s .sheet .variables ≡ suc (t .sheet .variables)) × (begun t ≡ begun s) ×
+    (second′ ≡ padded (length second) (sheet F (formula-in (t .sheet) first′)))
+
+-- the run from a state, what it answers, and what it leaves in a buffer of so many bytes
+abbrev pub run-from : Format → ℕ → State → Bytes → Run
+run-from F most s b = run (fits F most) (suc (s .sheet .variables)) (reached s b)
+
+abbrev pub answered : Run → Solved
+answered r = solved (r .end) (r .state)
+
+abbrev pub shown : Format → ℕ → Run → Bytes
+shown F len r = padded len (sheet F ((r .state) .formula))
+
+-- the rows of a formula within the limits in the first of two buffers that both have room for its sheet
+pub record RawReady (F : Format) (s : Layout) (first second : Bytes) : Type 0 where
+  pub countable : Countable F
+  pub raw : Raw F s first
+  pub within : Within F (formula-in s first)
+  pub has-room : size s ≤ room first second
+
+abbrev pub solution : Format → Layout → Bytes → Bytes → Run
+solution F s first second = solve (fits F (room first second)) (formula-in s first)

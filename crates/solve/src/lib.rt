@@ -1,23 +1,26 @@
 // Solve: tidy, then settle or expand until the sheet is decided or the next raw sheet doesn't fit ("Solve"). The two lent buffers
-// hold all sheets: the first the one reached, the second the raw one of the step at hand.
+// hold all sheets: the first the one reached, the second the one that the step at hand writes.
 use crate::step::Step;
 use crate::step::take_step;
 use checking::Checked;
 use rows::Format;
+use rows::Layout;
 use rows::number_at;
 use rows::seal::clear;
-use tidying::tidy_into;
+use tidying::copy_front;
+use tidying::tidy_in_place;
 ghost use mathlib.Core.Path.{_≡_};
-ghost use Prim.Native.Nat.{suc, min};
-ghost use lib.ListN.{length};
-ghost use Rattle.formula.specs.Solve.{run};
-ghost use Rattle.sheet.specs.Format.{narrow, fits};
-ghost use Rattle.sheet.specs.Sheet.{sheet};
-ghost use Rattle.sheet.specs.Operations.{padded, solved, solve-call};
+ghost use Prim.Native.Nat.{min};
+ghost use lib.ListN.{length, replicate};
+ghost use Rattle.formula.specs.Solve.{solve};
+ghost use Rattle.sheet.specs.Format.{narrow};
+ghost use Rattle.sheet.specs.Operations.{solve-call};
+ghost use Rattle.sheet.specs.Trace.{room};
 ghost use Rattle.rows.specs.Formats.{format-of};
-ghost use Rattle.tidying.specs.Limits.{Countable, Sheet};
+ghost use Rattle.rows.specs.Formulas.{formula-in};
+ghost use Rattle.checking.specs.Limits.{Countable, Sheet};
 ghost use Rattle.solve.specs.Answers.{solved-answer};
-ghost use Rattle.solve.specs.Running.{Ready, reached};
+ghost use Rattle.solve.specs.Running.{Ready, RawReady, run-from, answered, shown, solution};
 
 pub mod line;
 pub mod step;
@@ -35,10 +38,9 @@ pub enum Solved {
     Ended(Verdict, usize, usize),
 }
 
-// Where a run stands: variables and nodes of the sheet reached, the number settled and the number expanded.
+// Where a run stands: the layout of the sheet reached, the number settled and the number expanded.
 pub struct State {
-    pub variables: usize,
-    pub nodes: usize,
+    pub sheet: Layout,
     pub settled: usize,
     pub expanded: usize,
 }
@@ -52,11 +54,11 @@ fn shorter(a: usize, b: usize) -> usize
     b
 }
 
-// Goes on from a state whose tidy sheet stands in the first buffer, for as long as raw sheets fit `room` bytes, which both buffers have.
-pub fn run(first: &mut [u8], second: &mut [u8], f: Format, room: usize, start: State) -> Solved
+// Takes steps from a state whose tidy sheet stands in the first buffer, for as long as raw sheets fit `room` bytes.
+fn go(first: &mut [u8], second: &mut [u8], f: Format, room: usize, start: State) -> Solved
     requires { ⌜ Ready (format-of f) room start (now first) (now second) ⌝ }
-    ensures { λ r. ⌜ solved-answer r ≡ solved ((run (fits (format-of f) room) (suc (start .variables)) (reached (format-of f) start (now (first .entry)))) .end) ((run (fits (format-of f) room) (suc (start .variables)) (reached (format-of f) start (now (first .entry)))) .state) ⌝ }
-    ensures { λ _. ⌜ now (first .exit) ≡ padded (length (now (first .entry))) (sheet (format-of f) (((run (fits (format-of f) room) (suc (start .variables)) (reached (format-of f) start (now (first .entry)))) .state) .formula)) ⌝ }
+    ensures { λ r. ⌜ solved-answer r ≡ answered (run-from (format-of f) room start (now (first .entry))) ⌝ }
+    ensures { λ _. ⌜ now (first .exit) ≡ shown (format-of f) (length (now (first .entry))) (run-from (format-of f) room start (now (first .entry))) ⌝ }
 {
     let mut s = start;
     loop {
@@ -69,35 +71,53 @@ pub fn run(first: &mut [u8], second: &mut [u8], f: Format, room: usize, start: S
     }
 }
 
-// Solves a sheet that Check accepts with these sizes: 13 a work buffer shorter than the sheet.
-fn solve_checked(
-    sheet: &[u8],
-    f: Format,
-    v: usize,
-    n: usize,
-    first: &mut [u8],
-    second: &mut [u8],
-) -> Solved
-    requires { ⌜ Countable (format-of f) × Sheet (format-of f) (now sheet) v n ⌝ }
+// Goes on from a state whose tidy sheet stands in the first buffer, for as long as raw sheets fit `room` bytes, which both buffers have.
+// The first then holds the sheet reached and zeros, the second only zeros.
+pub fn run(first: &mut [u8], second: &mut [u8], f: Format, room: usize, start: State) -> Solved
+    requires { ⌜ Ready (format-of f) room start (now first) (now second) ⌝ }
+    ensures { λ r. ⌜ solved-answer r ≡ answered (run-from (format-of f) room start (now (first .entry))) ⌝ }
+    ensures { λ _. ⌜ now (first .exit) ≡ shown (format-of f) (length (now (first .entry))) (run-from (format-of f) room start (now (first .entry))) ⌝ }
+    ensures { λ _. ⌜ now (second .exit) ≡ replicate (length (now (second .entry))) 0 ⌝ }
+{
+    let answer = go(first, second, f, room, start);
+    clear(second, 0);
+    answer
+}
+
+// Tidies the formula whose rows stand in the first buffer, and runs from there, with the shorter buffer's length as room.
+pub fn run_raw(first: &mut [u8], second: &mut [u8], f: Format, s: Layout) -> Solved
+    requires { ⌜ RawReady (format-of f) s (now first) (now second) ⌝ }
+    ensures { λ r. ⌜ solved-answer r ≡ answered (solution (format-of f) s (now (first .entry)) (now (second .entry))) ⌝ }
+    ensures { λ _. ⌜ now (first .exit) ≡ shown (format-of f) (length (now (first .entry))) (solution (format-of f) s (now (first .entry)) (now (second .entry))) ⌝ }
+    ensures { λ _. ⌜ now (second .exit) ≡ replicate (length (now (second .entry))) 0 ⌝ }
+{
+    let room = shorter(first.len(), second.len());
+    tidy_in_place(first, f, s);
+    let sheet = Layout {
+        width: s.width,
+        variables: s.variables,
+        nodes: number_at(first, f.width, f.width),
+    };
+    let start = State {
+        sheet: sheet,
+        settled: 0,
+        expanded: 0,
+    };
+    run(first, second, f, room, start)
+}
+
+// Solves a sheet that Check accepts, of this layout: 13 a work buffer shorter than the sheet.
+fn solve_checked(sheet: &[u8], f: Format, s: Layout, first: &mut [u8], second: &mut [u8]) -> Solved
+    requires { ⌜ Countable (format-of f) × Sheet (format-of f) (now sheet) s ⌝ }
     ensures { λ r. ⌜ solved-answer r ≡ (solve-call (format-of f) (now (sheet .entry)) (now (first .entry)) (now (second .entry))) .answer ⌝ }
     ensures { λ _. ⌜ now (first .exit) ≡ (solve-call (format-of f) (now (sheet .entry)) (now (first .entry)) (now (second .entry))) .first ⌝ }
     ensures { λ _. ⌜ now (second .exit) ≡ (solve-call (format-of f) (now (sheet .entry)) (now (first .entry)) (now (second .entry))) .second ⌝ }
 {
-    let room = shorter(first.len(), second.len());
-    if room < sheet.len() {
+    if shorter(first.len(), second.len()) < sheet.len() {
         return Solved::Refused(13, 0);
     }
-    tidy_into(sheet, f, v, n, first);
-    let nodes = number_at(first, f.width, f.width);
-    let start = State {
-        variables: v,
-        nodes: nodes,
-        settled: 0,
-        expanded: 0,
-    };
-    let answer = run(first, second, f, room, start);
-    clear(second, 0);
-    answer
+    copy_front(sheet, first);
+    run_raw(first, second, f, s)
 }
 
 // Solves a sheet of any format whose rows this code can count.
@@ -110,7 +130,14 @@ pub fn solve_in(sheet: &[u8], f: Format, first: &mut [u8], second: &mut [u8]) ->
     let c = checking::check_in(sheet, f);
     match c {
         Checked::Refused(number, place) => Solved::Refused(number, place),
-        Checked::Accepted(v, n) => solve_checked(sheet, f, v, n, first, second),
+        Checked::Accepted(v, n) => {
+            let s = Layout {
+                width: f.width,
+                variables: v,
+                nodes: n,
+            };
+            solve_checked(sheet, f, s, first, second)
+        }
     }
 }
 

@@ -1,3 +1,5 @@
 -- Laws for callers.
 pub mod Admitting
 pub mod RawSheets
+mod Expansions
+mod Copies

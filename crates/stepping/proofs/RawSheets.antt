@@ -1,15 +1,14 @@
 -- A raw sheet written to an output: these rows are those of a raw formula, so tidied they are the sheet of that formula tidied.
 -- Assumes nothing.
-use mathlib.Core.Path.{_≡_, refl, sym, ap, ap₂, _∙_}
+use mathlib.Core.Path.{_≡_, sym, ap, ap₂, _∙_}
 use mathlib.Core.Bool.{Bool, true}
 use mathlib.Core.List.{List, _++_}
-use Prim.Native.Nat.{ℕ, suc, _+_, _*_, _-_, _^_, _≤_, _<_}
+use Prim.Native.Nat.{ℕ, suc, _-_, _^_, _≤_, _<_}
 use native.Mathlib.Omega.{arith}
 use lib.ListN.{length, take, drop}
 use borrow.Author.Tests.{lt-ltb}
-use Rattle.formula.specs.Tree.{Prefix, Tree, Formula, binds, without, replace, assign, assigned}
+use Rattle.formula.specs.Tree.{Prefix, Tree, Formula, binds, without, replace, assign}
 use Rattle.formula.specs.Tidy.{tidied}
-use Rattle.formula.specs.Settle.{settled}
 use Rattle.formula.proofs.Closed.{length-without}
 use Rattle.sheet.specs.Format.{Bytes, Format, sheet-length}
 use Rattle.sheet.specs.Sheet.{sheet}

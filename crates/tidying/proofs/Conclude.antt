@@ -14,7 +14,7 @@ use Rattle.sheet.specs.Format.{Row, row}
 use Rattle.sheet.specs.Sheet.{operator-kind}
 use Rattle.blocks.specs.Blocks.{gone, operator, Blocks, none, _◂_, head, inner, block-rows, grown, live, Laid, Region}
 use Rattle.blocks.specs.Walks.{extent, FirstLive, at-row, Finds}
-use Rattle.blocks.proofs.Blocks.{live-◂, next, rest-laid}
+use Rattle.blocks.proofs.Blocks.{live-◂, next, rest-laid, no-rows}
 use Rattle.blocks.proofs.Walks.{here-next}
 use Rattle.blocks.proofs.SiftAt.{first-live-none}
 use Rattle.blocks.proofs.Hop.{live-one}
@@ -65,15 +65,11 @@ replaced-as {R} {R′} {r} {to} {before} {after} {ts} {us} e f h =
     }
 
 -- the operator is empty: no row behind it, or a dead block
-pub no-rows : (bs : Blocks) → length (block-rows bs) ≡ 0 → live bs ≡ ∅
-unfolding block-rows live
-no-rows none e = refl
-no-rows (x ◂ bs) e = absurd (omega arith)
-
 hollow-short : {R : List Row} {r end : ℕ} {before after : List Row} {x : Row} {bs : Blocks} (kind : ℕ) (o : Op) → kind ≡ operator-kind o
     → end ≤ r + 1 → Headed R r end before x bs after → Replaced (set R r (row kind (end - r))) r end before after (node o ∅ ▸ ∅)
+unfolding live
 hollow-short {R} {r} {end} {before} {after} {x} {bs} kind o k s l =
-    subst (λ ts. Replaced (set R r (row kind (end - r))) r end before after (node o ts ▸ ∅)) (no-rows bs (omega (arith, l .ends)))
+    subst (λ cs. Replaced (set R r (row kind (end - r))) r end before after (node o (live cs) ▸ ∅)) (no-rows bs (omega (arith, l .ends)))
     (operator-put l kind o k)
 
 dead-rows : (o : Op) (ys : List Row)

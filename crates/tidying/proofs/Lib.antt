@@ -1,3 +1,4 @@
+-- Each file has the name of the function, or of the definitions in `specs`, that its laws are about.
 pub mod Conclude
 pub mod Combine
 pub mod TidyRows

@@ -20,11 +20,10 @@ use Rattle.rows.specs.declared.Layout.{Layout}
 use Rattle.rows.proofs.Layouts.{row-in, argument-within}
 use Rattle.blocks.specs.Blocks.{Block, gone, literal, operator, Blocks, none, _◂_, head, inner, block-rows, size, grown, live, Laid, Region, Stands, Standing}
 use Rattle.blocks.specs.Walks.{Counts, at-row}
-use Rattle.blocks.proofs.Blocks.{rows-⊕, live-⊕, length-◂, stands-row, stands-within, laid-within}
+use Rattle.blocks.proofs.Blocks.{rows-⊕, live-⊕, length-◂, stands-row, stands-within, laid-within, no-rows}
 use Rattle.blocks.proofs.Walks.{count-rows}
 use Rattle.blocks.proofs.SiftAt.{inner-laid}
 use Rattle.tidying.specs.Inner.Packed.{packed, entered, stride, ArgumentOf, Put, Puts, Packs}
-use Rattle.tidying.proofs.Conclude.{no-rows}
 
 -- a block is its row, if it is live, and those that come next
 entered-forest : (x : Block) (bs : Blocks) → packed x ++ forest-rows (live (entered x bs)) ≡ forest-rows (live (x ◂ bs))
@@ -248,4 +247,4 @@ pub pack-end : {R₀ R : List Row} {v n at to : ℕ} → Pack R₀ R v n at to �
 unfolding forest-rows live
 pack-end {R = R} {to = to} p l before bs after h =
     let q = p .packing before bs after h in
-    sym (append-nil (take to R)) ∙ ap (λ ts. take to R ++ forest-rows ts) (sym (no-rows (q .rest) (omega (arith, q .ends)))) ∙ q .so-far
+    sym (append-nil (take to R)) ∙ ap (λ cs. take to R ++ forest-rows (live cs)) (sym (no-rows (q .rest) (omega (arith, q .ends)))) ∙ q .so-far

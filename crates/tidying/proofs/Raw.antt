@@ -68,6 +68,9 @@ module _ {F : Format} {b : Bytes} {s : Layout} (k : Countable F) (sh : Sheet F b
   rows-are : rows-in s copied ≡ formula-rows (formula F b)
   rows-are = ap (λ (t : Layout). rows-in t copied) (sh .layout-is) ∙ rows-copied
 
+  pub copied-formula : formula-in s copied ≡ formula F b
+  copied-formula = formula-written s copied (formula F b) rows-are prefix-count
+
   room : Room s (length copied)
   room =
       subst (λ (t : Layout). Room t (length copied)) (sym (sh .layout-is))

@@ -32,4 +32,5 @@ returns c =
     )
 
 pub solve-spec : {M : Type 1} → statement M
-solve-spec = tie.close (tie.spec narrow-requires solve-in-requires same-length same-length-2 returns)
+solve-spec =
+    tie.close (tie.spec narrow-requires solve-in-requires same-length same-length-2 returns)

@@ -3,13 +3,13 @@ use mathlib.Core.Path.{sym, ap, _∙_}
 use borrow.Author.Needs.{needs}
 use Rattle.rows.specs.Formats.{format-of}
 use Rattle.checking.specs.Answers.{checked-answer}
-use Rattle.checking.proofs.CheckedSheets.{accepted-sheet}
+use Rattle.checking.proofs.CheckedSheets.{sheet-checked}
 use Rattle.solve.proofs.Answering.{unchecked-call}
 use Rattle.solve.proofs.solve_in.Statement.{statement}
 use Rattle.solve.proofs.solve_in.Tie as tie
 
 check-in-requires : tie.Need-check-in-requires
-check-in-requires c κs = c .before .before .before .pre .manageable
+check-in-requires c κs = search needs
 
 enum-known-c : tie.Need-enum-known-c
 enum-known-c c = search needs
@@ -21,10 +21,7 @@ solve-checked-requires : tie.Need-solve-checked-requires
 solve-checked-requires c κs =
     let told = c .before .before .before in
     let checked = told .before .before in
-    let s = accepted-sheet (told .c2 .given .1) (checked .check-in .ensures) in (
-      checked .before .before .before .before .pre,
-      record { tests-pass = s .tests-pass; variables-are = s .right .variables-are; nodes-are = s .right .nodes-are },
-    )
+    (checked .before .before .before .before .pre, sheet-checked (told .c2 .given .1) (checked .check-in .ensures))
 
 returns : tie.Need-returns
 returns c =

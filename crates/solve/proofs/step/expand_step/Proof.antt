@@ -1,67 +1,47 @@
 -- `solve::step::expand_step` meets its contract. Assumes nothing.
-use mathlib.Core.Path.{refl}
-use Prim.Native.Nat.{_+_, _*_, _-_, _≤_}
-use native.Mathlib.Omega.{arith}
+use mathlib.Core.Path.{refl, sym, ap, _∙_}
 use borrow.Author.Needs.{needs}
+use borrow.Author.Tests.{not-true, not-false}
+use native.Mathlib.Omega.{arith}
 use lib.ListN.{length}
-use Rattle.formula.specs.Expand.{expanded}
-use Rattle.rows.specs.Rows.{rows-in}
-use Rattle.rows.specs.Formats.{format-of}
-use Rattle.reading.specs.Reading.{formula-in}
-use Rattle.solve.proofs.Holding.{readable, quantified, bound}
-use Rattle.solve.proofs.Arriving.{Leads, raw-room, raw-within, arrived, arrived-formula, some-left, many-stop, long-stop, raw-small, expand-leads, expand-next}
+use Rattle.rows.specs.declared.Layout.{Layout}
+use Rattle.solve.proofs.Holding.{bound}
+use Rattle.solve.proofs.Arriving.{some-left, fetchable, arrived-formula, arrived-held, arrived-second, raw-small, expand-stops, expand-named, expand-expands, prepared-arrives, prepared-next}
 use Rattle.solve.proofs.step.expand_step.Statement.{statement}
 use Rattle.solve.proofs.step.expand_step.Tie as tie
 
-abbrev start : tie.After-choose-expand → tie.Start
-start c = c .before .before .before .before .before
+slice-aggregate-fill-occurrences : tie.Need-slice-aggregate-fill-occurrences
+slice-aggregate-fill-occurrences c = search needs
 
--- the raw sheet written leads to the expanded formula
-leads : (c : tie.After-write-raw) →
-    let d = c .before .before .before .before .before .before .before .before .before in
-    let a = start d .args in
-    let F = format-of (a .f) in
-    let v = a .s .variables in
-    let r = d .choose-expand .result in
-    Leads F (a .room) (v - 1) (r .raw) (rows-in (F .width) (v - 1 + r .raw) (c .write-raw .last .1 .1 .1 .1 .1 .1 .1 .0))
-    (expanded (r .variable) (formula-in (F .width) v (a .s .nodes) (a .first .now)))
-leads c =
-    let test = c .before .before .before .before in
-    let d = test .before .before .before .before .before in
-    let a = start d in
-    let p = a .pre in
-    expand-leads (p .0 .countable) (a .args .s) (a .args .first .now) (p .0 .held) (p .1) (p .3) (d .choose-expand .ensures) (test .before .before .if1 .left) (test .if2 .left)
-    (c .write-raw .ensures .all-rows)
+slice-aggregate-fill-occurrences-2 : tie.Need-slice-aggregate-fill-occurrences-2
+slice-aggregate-fill-occurrences-2 c = search needs
 
--- the raw sheet's length is a small number
-small : (c : tie.Else1) →
-    let d = c .before .before .before in
-    let a = start d .args in
-    (1 + a .f .width) * (a .s .variables - 1 + d .choose-expand .result .raw) ≤ 5 * 9216
-small c =
-    let d = c .before .before .before in
-    let a = start d in
-    let p = a .pre in
-    raw-small (p .0 .countable) (a .args .s) (a .args .first .now) (p .0 .held) (p .1) (p .3) (d .choose-expand .ensures) (c .if1 .left)
+fill-occurrences-requires : tie.Need-fill-occurrences-requires
+fill-occurrences-requires c κs = search needs
 
--- and so is the number of its rows
-few : (c : tie.Else1) →
-    let d = c .before .before .before in
-    let a = start d .args in
-    a .s .variables - 1 + d .choose-expand .result .raw ≤ 9216
-few c =
-    let a = start (c .before .before .before) in
-    let p = a .pre in
-    omega (arith, c .if1 .left, p .0 .countable .manageable .few-nodes, p .0 .countable .manageable .few-variables, p .0 .held .variables-are, p .0 .held .within .few-variables)
+slice-aggregate-choose-expand : tie.Need-slice-aggregate-choose-expand
+slice-aggregate-choose-expand c = search needs
+
+slice-aggregate-choose-expand-2 : tie.Need-slice-aggregate-choose-expand-2
+slice-aggregate-choose-expand-2 c = search needs
 
 choose-expand-requires : tie.Need-choose-expand-requires
 choose-expand-requires c κs =
-    let a = c .before .before .before .before in
-    let p = a .pre in (
-      readable (p .0 .countable) (p .0 .held),
-      p .2,
-      bound (p .0 .countable) (p .0 .held),
-      some-left (p .0 .countable) (a .args .s) (a .args .first .now) (p .0 .held) (p .1),
+    let a = c .before .before .before .before .before .before .before .before .before .before .before .before .before in
+    let r = a .pre .0 in
+    (a .pre .3, bound (r .countable) (r .held), c .before .before .before .before .before .fill-occurrences .ensures, some-left r (a .pre .1))
+
+sub-fits : tie.Need-sub-fits
+sub-fits c = search needs
+
+fits-requires : tie.Need-fits-requires
+fits-requires c κs =
+    let chosen = c .before in
+    let a = chosen .before .before .before .before .before .before .before .before .before .before .before .before .before .before in
+    let r = a .pre .0 in (
+      r .countable .manageable .few-bytes,
+      omega (arith, r .held .within .few-variables, r .few),
+      omega (arith, raw-small r (a .pre .1) (a .pre .2) (chosen .choose-expand .ensures)),
     )
 
 same-length : tie.Need-same-length
@@ -69,140 +49,119 @@ same-length c = search needs
 
 returns : tie.Need-returns
 returns c =
-    let d = c .before .before .before in
-    let a = start d in
-    let p = a .pre in
-    (many-stop (p .0 .countable) (a .args .s) (a .args .first .now) (p .0 .held) (p .1) (p .3) (d .choose-expand .ensures) (c .if1 .taken), refl)
+    let chosen = c .before .before .before in
+    let a = chosen .before .before .before .before .before .before .before .before .before .before .before .before .before .before in
+    let fit = c .before .fits2 in
+    (expand-stops (a .pre .0) (a .pre .1) (a .pre .2) (chosen .choose-expand .ensures) (sym (fit .ensures) ∙ not-true _ (c .if1 .taken)), refl, refl)
 
-mul-if2 : tie.Need-mul-if2
-mul-if2 c = omega (arith, start (c .before .before .before) .pre .0 .countable .manageable .few-bytes)
+slice-aggregate-prepare : tie.Need-slice-aggregate-prepare
+slice-aggregate-prepare c = search needs
 
-add-if2 : tie.Need-add-if2
-add-if2 c = omega (arith, start (c .before .before .before) .pre .0 .countable .manageable .few-bytes)
+slice-aggregate-prepare-2 : tie.Need-slice-aggregate-prepare-2
+slice-aggregate-prepare-2 c = search needs
 
-sub-if2 : tie.Need-sub-if2
-sub-if2 c = omega (arith, c .before .before .before .choose-expand .ensures .inside)
+slice-aggregate-prepare-3 : tie.Need-slice-aggregate-prepare-3
+slice-aggregate-prepare-3 c = search needs
 
-add-if2-2 : tie.Need-add-if2-2
-add-if2-2 c = omega (arith, few (c .before))
+prepare-requires : tie.Need-prepare-requires
+prepare-requires c κs =
+    let chosen = c .before .before .before .before .before .before .before in
+    let a = chosen .before .before .before .before .before .before .before .before .before .before .before .before .before .before in
+    let here = chosen .choose-expand .ensures in (
+      record {
+        indexed = a .pre .3;
+        occurrences = chosen .before .before .before .before .before .before .fill-occurrences .ensures;
+        named = expand-named (a .pre .0) (a .pre .1) (a .pre .2) here;
+        part-is = here .part-is;
+        raw-is = here .raw-is;
+      },
+      omega (arith, a .pre .3 .readable .few-nodes),
+    )
 
-mul-if2-2 : tie.Need-mul-if2-2
-mul-if2-2 c = omega (arith, small (c .before))
+slice-aggregate-expand-into : tie.Need-slice-aggregate-expand-into
+slice-aggregate-expand-into c = search needs
 
-add-if2-3 : tie.Need-add-if2-3
-add-if2-3 c =
-    omega (arith, small (c .before), start (c .before .before .before .before) .pre .0 .countable .manageable .few-bytes)
+expand-into-requires : tie.Need-expand-into-requires
+expand-into-requires c κs =
+    let prepared = c .before .before .before .before in
+    let chosen = prepared .before .before .before .before .before .before .before .before in
+    let a = chosen .before .before .before .before .before .before .before .before .before .before .before .before .before .before in
+    let fit = sym (prepared .before .before .before .before .before .before .fits2 .ensures) ∙ not-false _ (prepared .before .before .before .before .before .if1 .left) in
+    expand-expands (a .pre .0) (a .pre .1) (a .pre .2) (chosen .choose-expand .ensures) fit (prepared .prepare .ensures) (a .pre .0 .second-room)
+
+sub-fetch : tie.Need-sub-fetch
+sub-fetch c = search needs
+
+fetch-requires : tie.Need-fetch-requires
+fetch-requires c κs =
+    let expanded = c .before .before .before .before .before in
+    let prepared = expanded .before .before .before .before .before in
+    let chosen = prepared .before .before .before .before .before .before .before .before in
+    let a = chosen .before .before .before .before .before .before .before .before .before .before .before .before .before .before in
+    let r = a .pre .0 in
+    let fit = sym (prepared .before .before .before .before .before .before .fits2 .ensures) ∙ not-false _ (prepared .before .before .before .before .before .if1 .left) in
+    let arrives = prepared-arrives r (a .pre .1) (a .pre .2) (chosen .choose-expand .ensures) fit (prepared .prepare .ensures) in
+    fetchable (r .countable) arrives (length (a .args .second .now)) (expanded .expand-into .ensures .0) (expanded .expand-into .ensures .1)
+    (r .second-room) (expanded .expand-into .kept .1 .1 .1 .1 .1 .0) (r .first-room)
+
+add-t29 : tie.Need-add-t29
+add-t29 c = record { fits = omega (arith, c .before .before .before .before .before .before .before .before .before .before .before .before .before .before .before .before .before .before .before .before .before .before .before .before .before .before .before .before .before .before .before .before .before .before .before .before .pre .0 .few) }
 
 same-length-2 : tie.Need-same-length-2
 same-length-2 c = search needs
 
-returns-2 : tie.Need-returns-2
-returns-2 c =
-    let e = c .before .before in
-    let d = e .before .before .before in
-    let a = start d in
-    let p = a .pre in
-    (long-stop (p .0 .countable) (a .args .s) (a .args .first .now) (p .0 .held) (p .1) (p .3) (d .choose-expand .ensures) (e .if1 .left) (c .if2 .taken), refl)
-
-sub-write-raw : tie.Need-sub-write-raw
-sub-write-raw c = search needs
-
-add-write-raw : tie.Need-add-write-raw
-add-write-raw c = omega (arith, few (c .before .before .before .before .before))
-
-write-raw-requires : tie.Need-write-raw-requires
-write-raw-requires c κs =
-    let test = c .before .before .before in
-    let e = test .before .before in
-    let d = e .before .before .before in
-    let a = start d in
-    let p = a .pre in
-    let here = d .choose-expand .ensures in (
-      readable (p .0 .countable) (p .0 .held),
-      quantified (p .0 .countable) (p .0 .held),
-      p .2,
-      here .inside,
-      here .at-row,
-      record { few-bytes = p .0 .countable .manageable .few-bytes; holds = omega (arith, test .if2 .left, p .0 .second-room) },
-      omega (arith, here .raw-is),
-      omega (arith, p .0 .countable .few-rows, e .if1 .left, p .0 .held .variables-are, p .0 .held .within .few-variables),
-    )
-
-sub-carry-over : tie.Need-sub-carry-over
-sub-carry-over c = search needs
-
-carry-over-requires : tie.Need-carry-over-requires
-carry-over-requires c κs =
-    let t = c .before .before .before .before in
-    let a = start (t .before .before .before .before .before .before .before .before .before) in
-    let l = leads t in
-    let same = t .write-raw .kept .1 .1 .1 .1 .1 .1 .1 .0 in (
-      a .pre .0 .countable,
-      raw-room (a .pre .0 .countable) _ l (omega (arith, same, a .pre .0 .second-room)),
-      raw-room (a .pre .0 .countable) _ l (a .pre .0 .first-room),
-      l .sound-rows,
-      l .few-rows,
-      raw-within (a .pre .0 .countable) _ l,
-    )
-
-sub-t15 : tie.Need-sub-t15
-sub-t15 c = search needs
-
-add-t19 : tie.Need-add-t19
-add-t19 c =
-    let t = c .before .before .before .before .before .before .before .before .before .before in
-    omega (arith, start (t .before .before .before .before .before .before .before .before .before) .pre .0 .few)
-
 same-length-3 : tie.Need-same-length-3
 same-length-3 c = search needs
 
-same-length-4 : tie.Need-same-length-4
-same-length-4 c = search needs
-
-returns-3 : tie.Need-returns-3
-returns-3 c =
-    let g = c .before .before .before .before .before in
-    let t = g .before .before .before .before .before in
-    let test = t .before .before .before .before in
-    let e = test .before .before in
-    let d = e .before .before .before in
-    let a = start d in
-    let p = a .pre in
-    let l = leads t in
-    let raw = t .write-raw .last .1 .1 .1 .1 .1 .1 .1 .0 in
-    let same = t .write-raw .kept .1 .1 .1 .1 .1 .1 .1 .0 in
-    let new-is = g .carry-over .ensures .0 in
-    let m-is = g .carry-over .ensures .1 in (
-      expand-next (p .0 .countable) (a .args .s) (a .args .first .now) (p .0 .held) (p .1) (p .3) (d .choose-expand .ensures) (e .if1 .left) (test .if2 .left)
-          (g .carry-over .result) (g .carry-over .last .0)
-          (arrived-formula (p .0 .countable) raw l (omega (arith, same, p .0 .second-room)) (p .0 .first-room) new-is m-is),
-      arrived (p .0 .countable) raw l (omega (arith, same, p .0 .second-room)) (p .0 .first-room) new-is m-is,
-      omega (arith, d .choose-expand .ensures .inside),
-      omega (arith, d .choose-expand .ensures .inside),
+returns-2 : tie.Need-returns-2
+returns-2 c =
+    let fetched = c .before .before .before in
+    let expanded = fetched .before .before .before .before .before .before in
+    let prepared = expanded .before .before .before .before .before in
+    let chosen = prepared .before .before .before .before .before .before .before .before in
+    let a = chosen .before .before .before .before .before .before .before .before .before .before .before .before .before .before in
+    let r = a .pre .0 in
+    let fit = sym (prepared .before .before .before .before .before .before .fits2 .ensures) ∙ not-false _ (prepared .before .before .before .before .before .if1 .left) in
+    let arrives = prepared-arrives r (a .pre .1) (a .pre .2) (chosen .choose-expand .ensures) fit (prepared .prepare .ensures) in
+    let len = length (a .args .second .now) in
+    let old = length (a .args .first .now) in
+    let in-second = expanded .expand-into .ensures .0 in
+    let as-long = expanded .expand-into .ensures .1 in
+    let in-first = fetched .fetch .ensures .0 in
+    let at = fetched .fetch .ensures .1 in
+    let some = some-left r (a .pre .1) in
+    let less = ap (λ (t : Layout). t .variables) at in (
+      prepared-next r (a .pre .1) (a .pre .2) (chosen .choose-expand .ensures) fit (prepared .prepare .ensures) _ _
+          (arrived-formula (r .countable) arrives len in-second as-long old (r .first-room) in-first at),
+      arrived-held (r .countable) arrives len in-second as-long old (r .first-room) in-first at,
+      omega (arith, some, less),
+      omega (arith, some, less),
+      arrived-second (r .countable) arrives len in-second as-long old (r .first-room) in-first at,
     )
 
 pub expand-step-spec : {M : Type 1} → statement M
 expand-step-spec =
     tie.close
     (tie.spec
+    slice-aggregate-fill-occurrences
+    slice-aggregate-fill-occurrences-2
+    fill-occurrences-requires
+    slice-aggregate-choose-expand
+    slice-aggregate-choose-expand-2
     choose-expand-requires
+    sub-fits
+    fits-requires
     same-length
     returns
-    mul-if2
-    add-if2
-    sub-if2
-    add-if2-2
-    mul-if2-2
-    add-if2-3
+    slice-aggregate-prepare
+    slice-aggregate-prepare-2
+    slice-aggregate-prepare-3
+    prepare-requires
+    slice-aggregate-expand-into
+    expand-into-requires
+    sub-fetch
+    fetch-requires
+    add-t29
     same-length-2
-    returns-2
-    sub-write-raw
-    add-write-raw
-    write-raw-requires
-    sub-carry-over
-    carry-over-requires
-    sub-t15
-    add-t19
     same-length-3
-    same-length-4
-    returns-3)
+    returns-2)

@@ -9,8 +9,8 @@ use Rattle.solve.proofs.step.take_step.Tie as tie
 
 decide-requires : tie.Need-decide-requires
 decide-requires c κs =
-    let p = c .before .before .before .pre in
-    readable (p .countable) (p .held)
+    let r = c .before .before .before .pre in
+    readable (r .countable) (r .held)
 
 enum-known-d : tie.Need-enum-known-d
 enum-known-d c = search needs
@@ -18,12 +18,11 @@ enum-known-d c = search needs
 enum-told : tie.Need-enum-told
 enum-told c = search needs
 
-undecided-step-requires : tie.Need-undecided-step-requires
-undecided-step-requires c κs =
+open-step-requires : tie.Need-open-step-requires
+open-step-requires c κs =
     let told = c .before .before in
     let decided = told .before .before in
-    let p = decided .before .before .before .before .pre in
-    (p, sym (decided .decide .ensures) ∙ ap decision-of (told .enum-told .given .1))
+    (decided .before .before .before .before .pre, sym (decided .decide .ensures) ∙ ap decision-of (told .enum-told .given .1))
 
 same-length : tie.Need-same-length
 same-length c = search needs
@@ -32,8 +31,7 @@ returns : tie.Need-returns
 returns c =
     let told = c .before in
     let decided = told .before .before in
-    let a = decided .before .before .before .before in
-    (decided-end (a .pre .countable) (a .args .s) (a .args .first .now) (a .pre .held) (sym (decided .decide .ensures) ∙ ap decision-of (told .d .given .1)), refl)
+    (decided-end (decided .before .before .before .before .pre) (sym (decided .decide .ensures) ∙ ap decision-of (told .d .given .1)), refl, refl)
 
 same-length-2 : tie.Need-same-length-2
 same-length-2 c = search needs
@@ -51,7 +49,7 @@ take-step-spec =
     decide-requires
     enum-known-d
     enum-told
-    undecided-step-requires
+    open-step-requires
     same-length
     returns
     same-length-2

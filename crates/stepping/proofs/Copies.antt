@@ -1,0 +1,171 @@
+-- The two copies of an expansion: their tables, and the raw sheet that is written by them.
+-- Assumes nothing.
+use mathlib.Core.Path.{_≡_, refl, sym, ap, ap₂, _∙_, subst}
+use mathlib.Core.Bool.{Bool, true, false}
+use mathlib.Core.List.{List, _++_, append-nil}
+use Prim.Native.Nat.{ℕ, suc, _-_, _≤_}
+use native.Mathlib.Omega.{arith}
+use lib.Dec.{leb}
+use lib.ListN.{length, take, drop, length-append, length-drop, length-set, drop-of-length-le}
+use lib.Seq.{take-at, drop-at}
+use borrow.Author.Tests.{leb-true}
+use Rattle.formula.specs.Tree.{Op, and, or, Tree, Prefix, Formula, Literals, of, quantifier-of, without, has}
+use Rattle.formula.specs.Tidy.{tidied}
+use Rattle.formula.specs.Expand.{Copying, copying, raw-tree, raw-rows, raw, expanded}
+use Rattle.formula.proofs.Booleans.{and-parts}
+use Rattle.sheet.specs.Format.{Bytes, Format, sheet-length, fits}
+use Rattle.sheet.specs.Sheet.{operator-kind, sheet}
+use Rattle.sheet.specs.Operations.{padded}
+use Rattle.rows.specs.Layouts.{Room}
+use Rattle.rows.specs.Formulas.{prefix-in, matrix-in, formula-in}
+use Rattle.rows.specs.declared.Layout.{Layout}
+use Rattle.subtrees.specs.Subtrees.{kids, subtree-in}
+use Rattle.changing.specs.Changes.{put-entry, numbers, putting, chosen, changed}
+use Rattle.changing.proofs.Tables.{length-numbers, chosen-putting, changed-putting}
+use Rattle.relevance.specs.Cuts.{cuts}
+use Rattle.relevance.specs.Parts.{relevant-part}
+use Rattle.raw.specs.Formulas.{first-table, second-table, chosen-by, operator-of, copying-by, expanded-raw, raw-layout, Raw}
+use Rattle.raw.specs.Expansions.{Expandable, Found}
+use Rattle.tidying.specs.Limits as tidying
+use Rattle.stepping.specs.Expanding.{Expands}
+use Rattle.stepping.specs.declared.expanding.Expanding.{Expanding}
+use Rattle.stepping.proofs.RawSheets.{raw-room, prefix-without, written-raw, written-sheet, written-length}
+
+-- the halves of a list, lent one after the other, when they have come back
+pub halves : {p q first second : List ℕ} (old : List ℕ) (n : ℕ) → p ≡ first → q ≡ second → length first ≡ n
+    → let d = p ++ drop n old in
+    take n d ++ (q ++ drop (length d - n) (drop n d)) ≡ first ++ second
+halves {p} {q} old n is then long =
+    let d = p ++ drop n old in
+    ap₂ (λ l r. l ++ r) (take-at p (drop n old) n (ap length is ∙ long) ∙ is)
+    (ap₂ (λ l r. l ++ r) then (drop-of-length-le (drop n d) {i = length d - n} (omega (arith, length-drop n d))) ∙ append-nil _)
+
+pub length-putting : (x : ℕ) (c : Bool) → length (putting x c) ≡ 1025
+length-putting x c = length-set (numbers 1025) x (put-entry c) ∙ length-numbers 1025
+
+operator-back : (q : Op) → operator-of (operator-kind q) ≡ q
+operator-back and = refl
+operator-back or = refl
+
+module _ {x : ℕ} (few : x ≤ 1024) {tables : List ℕ} (is : tables ≡ putting x false ++ putting x true) where
+  first-is : first-table tables ≡ putting x false
+  first-is = ap (take 1025) is ∙ take-at (putting x false) (putting x true) 1025 (length-putting x false)
+
+  second-is : second-table tables ≡ putting x true
+  second-is = ap (drop 1025) is ∙ drop-at (putting x false) (putting x true) 1025 (length-putting x false)
+
+  two-tables : length tables ≡ 2050
+  two-tables =
+      omega (arith, ap length is, length-append (putting x false) (putting x true), length-putting x false, length-putting x true)
+
+  -- the literals of x choose, and become the values that are put in
+  chosen-is : chosen-by tables ≡ of x
+  chosen-is = ap chosen second-is ∙ chosen-putting x few true
+
+  copying-is : (q : Op) {j : ℕ} → j ≡ operator-kind q → copying-by tables j ≡ copying q x
+  copying-is q {j} e =
+      let first = ap changed first-is ∙ changed-putting x few false in
+      let second = ap changed second-is ∙ changed-putting x few true in
+      ap (λ (L : Literals). record {
+        chosen = L;
+        joint = operator-of j;
+        first = changed (first-table tables);
+        second = changed (second-table tables);
+      }) chosen-is ∙
+      ap₂ (λ (l r : Bool → ℕ → Tree). record { chosen = of x; joint = operator-of j; first = l; second = r }) first second ∙
+      ap (λ (o : Op). copying o x) (ap operator-of e ∙ operator-back q)
+
+module _ {F : Format} {s : Layout} {b : Bytes} {table : List ℕ} {w : Expanding} {len : ℕ} (k : Expands F s b table w len)
+    {tables : List ℕ} (is : tables ≡ putting (w .variable) false ++ putting (w .variable) true) where
+  abbrev x : ℕ
+  x = w .variable
+
+  abbrev t : Tree
+  t = matrix-in s b
+
+  abbrev n : ℕ
+  n = raw-rows (of x) t
+
+  chosen-here : of x ≡ chosen-by tables
+  chosen-here = sym (chosen-is (k .named .few) is)
+
+  layout-here : w .to .layout ≡ raw-layout s n
+  layout-here = k .prepared .layout-is
+
+  fit : (n ≤ F .most-nodes) × (sheet-length F (s .variables - 1) n ≤ len)
+  unfolding fits
+  fit =
+      let nodes : w .to .layout .nodes ≡ n = ap (λ (l : Layout). l .nodes) layout-here in
+      let both = and-parts (leb n (F .most-nodes)) (leb (sheet-length F (s .variables - 1) n) len)
+      (ap (λ m. fits F len (s .variables - 1) m) (sym nodes) ∙ k .has-room) in
+      (leb-true n (F .most-nodes) (both .0), leb-true (sheet-length F (s .variables - 1) n) len (both .1))
+
+  pub expandable : (out : Bytes) → length out ≡ len → Expandable s b tables (w .to) out
+  expandable out long =
+      let q = quantifier-of (prefix-in s b) x in
+      let joint = k .prepared .joint-is in
+      record {
+        readable = k .from .readable;
+        two-bytes = omega (arith, k .from .width-is, k .from .countable .two-bytes);
+        two-tables = two-tables (k .named .few) is;
+        in-prefix = k .named .inside;
+        joins = joint ∙ ap operator-kind (sym (ap operator-of joint ∙ operator-back q));
+        layout-is = layout-here ∙ ap (λ (L : Literals). raw-layout s (raw-rows L t)) chosen-here;
+        room = subst (λ l. Room l (length out)) (sym layout-here) (raw-room (k .from) n (omega (arith, fit .1, long)));
+      }
+
+  pub occurs : w .to .occurs ≡ has (chosen-by tables) t
+  occurs = k .prepared .occurs-is ∙ ap (λ (L : Literals). has L t) chosen-here
+
+  pub found : w .to .occurs ≡ true → Found s b tables (take (w .cuts) table) (w .to)
+  found h =
+      let p = k .prepared .found h in
+      let at = w .to .part .operator in (
+        record {
+          present = sym occurs ∙ h;
+          part-is = p .part-is ∙ ap (λ (L : Literals). relevant-part L 0 t) chosen-here;
+          end-is = p .end-is;
+        },
+        λ some. p .cuts-are some ∙ ap (λ (L : Literals). cuts L (suc at) (kids (subtree-in s b at))) chosen-here,
+      )
+
+  abbrev written : Formula
+  written = expanded-raw (w .to .row) (copying-by tables (w .to .joint)) (formula-in s b)
+
+  prefix-is : written .prefix ≡ without x (prefix-in s b)
+  unfolding expanded-raw formula-in
+  prefix-is = prefix-without (k .from) (k .named)
+
+  tidied-is : tidied written ≡ expanded x (formula-in s b)
+  unfolding expanded-raw raw formula-in tidied expanded
+  tidied-is =
+      ap tidied
+      (ap₂ (λ (p : Prefix) (u : Tree). record { prefix = p; matrix = u }) prefix-is
+      (ap (λ (c : Copying). raw-tree c t)
+      (copying-is (k .named .few) is (quantifier-of (prefix-in s b) x) (k .prepared .joint-is))))
+
+  module _ {old new : Bytes} (long : length old ≡ len) (same : length new ≡ length old) (r : Raw (w .to .layout) old new written) where
+    r′ : Raw (raw-layout s n) old new written
+    r′ = subst (λ l. Raw l old new written) layout-here r
+
+    room : sheet-length F (s .variables - 1) n ≤ length old
+    room = omega (arith, fit .1, long)
+
+    pub raw-written : tidying.Raw F (w .to .layout) new
+    raw-written =
+        subst (λ l. tidying.Raw F l new) (sym layout-here)
+        (written-raw (k .from) (k .named) written prefix-is (fit .0) same room r′)
+
+    pub sheet-written : {out : Bytes} → out ≡ padded (length new) (sheet F (tidied (formula-in (w .to .layout) new)))
+        → out ≡ padded (length old) (sheet F (expanded x (formula-in s b)))
+    sheet-written h =
+        written-sheet (k .from) (k .named) written prefix-is (fit .0) same room r′
+        (h ∙ ap (λ l. padded (length new) (sheet F (tidied (formula-in l new)))) layout-here) ∙
+        ap (λ (f : Formula). padded (length old) (sheet F f)) tidied-is
+
+    pub length-written : {len : ℕ} → len ≡ length (sheet F (tidied (formula-in (w .to .layout) new)))
+        → len ≡ length (sheet F (expanded x (formula-in s b)))
+    length-written h =
+        written-length (k .from) (k .named) written prefix-is (fit .0) same room r′
+        (h ∙ ap (λ l. length (sheet F (tidied (formula-in l new)))) layout-here) ∙
+        ap (λ (f : Formula). length (sheet F f)) tidied-is
