@@ -4,7 +4,7 @@ ghost use lib.ListN.{length};
 ghost use Rattle.sheet.specs.Format.{narrow};
 ghost use Rattle.sheet.specs.Check.{check};
 ghost use Rattle.sheet.specs.Operations.{trial-call, part-call, tidy-call, settle-call, expand-call, solve-call};
-ghost use Rattle.tidying.specs.Answers.{written-answer};
+ghost use Rattle.checking.specs.Answers.{written-answer};
 ghost use Rattle.solve.specs.Answers.{verdict-of, solved-answer};
 ghost use Rattle.capi.specs.Packed.{packed, packed-check, packed-trial, verdict-word, packed-written, packed-solved};
 
@@ -49,12 +49,12 @@ pub extern "C" fn plumanchor_part(sheet: &[u8], node: usize) -> usize
 }
 
 // What an operation that writes a sheet answers: refusal number and place, or the new sheet's length.
-fn pack_written(answer: tidying::Written) -> u64
+fn pack_written(answer: checking::Written) -> u64
     ensures { λ r. ⌜ r ≡ packed-written (written-answer answer) ⌝ }
 {
     match answer {
-        tidying::Written::Accepted(length) => pack(0, 0, 0, length as u64),
-        tidying::Written::Refused(number, place) => pack(number, 0, place, 0),
+        checking::Written::Accepted(length) => pack(0, 0, 0, length as u64),
+        checking::Written::Refused(number, place) => pack(number, 0, place, 0),
     }
 }
 

@@ -3,10 +3,10 @@ use crate::outputs::print_reached;
 use crate::outputs::print_short;
 use crate::outputs::print_sum;
 use checking::Checked;
+use checking::Written;
 use printing::print_count;
 use printing::print_number;
 use solve::Solved;
-use tidying::Written;
 use trial::Tried;
 
 fn print_refused(number: usize, place: usize) {

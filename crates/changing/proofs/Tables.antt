@@ -1,14 +1,14 @@
 -- Tables of changes: the one that changes nothing, and the ones that put a value in for one variable.
 -- Assumes nothing.
-use mathlib.Core.Path.{_≡_, refl, sym, ap, _∙_, fun-ext}
+use mathlib.Core.Path.{_≡_, refl, sym, ap, ap₂, _∙_, fun-ext}
 use mathlib.Core.Bool.{Bool, true, false, not, cond, Bool·beq}
 use mathlib.Core.List.{List, [], _∷_, _++_, append-nil}
 use Prim.Native.Nat.{ℕ, zero, suc, _+_, _-_, _≤_, _<_}
 use native.Mathlib.Numerals.{add-one}
 use native.Mathlib.Omega.{arith}
 use lib.Dec.{eqb, leb}
-use lib.ListN.{length, getD, drop, set, length-append, length-set, List·getD-append}
-use lib.Seq.{append-snoc, drop-cons, drop-length, set-at, getD-append-add, getD-set-same, getD-set-other}
+use lib.ListN.{length, getD, take, drop, set, length-append, length-set, drop-of-length-le, List·getD-append}
+use lib.Seq.{take-at, drop-at, append-snoc, drop-cons, drop-length, set-at, getD-append-add, getD-set-same, getD-set-other}
 use borrow.Author.Tests.{eq-eqb, ne-eqb, eqb-true, eqb-false, leb-true, leb-false}
 use Rattle.formula.specs.Tree.{lit, constant, of, assigned}
 use Rattle.changing.specs.Changes.{entry, put-entry, numbers, putting, chosen, became, changed}
@@ -79,6 +79,15 @@ numbers-at (suc n) v = by (leb (suc v) n) refl (numbers-at n v)
         let at : v ≡ length l + k = omega (arith, length-numbers n, leb-false (suc v) n e) in
         ap (λ w. getD (l ++ (n ∷ [])) w w) at ∙ getD-append-add l (n ∷ []) k (length l + k) ∙ last k ∙ sym at
 
+-- two tables in one list: the second part lent comes back as q
+pub both-parts : (p q rest : List ℕ) (n : ℕ) → length p ≡ n
+    → take n (p ++ rest) ++ (q ++ drop (length (p ++ rest) - n) (drop n (p ++ rest))) ≡ p ++ q
+both-parts p q rest n e =
+    let over : length rest ≤ length (p ++ rest) - n = omega (arith, e, length-append p rest) in
+    ap₂ (λ l m. l ++ (q ++ m)) (take-at p rest n e)
+    (ap (drop (length (p ++ rest) - n)) (drop-at p rest n e) ∙ drop-of-length-le rest over) ∙
+    ap (λ l. p ++ l) (append-nil q)
+
 -- nothing changes
 
 pub none-chosen : (n : ℕ) (s : Bool) (v : ℕ) → chosen (numbers n) s v ≡ false
@@ -90,6 +99,9 @@ unfolding changed
 numbers-change n = fun-ext λ s. fun-ext λ v. rw (none-chosen n s v)
 
 -- one variable is put in
+
+pub length-putting : (x : ℕ) (c : Bool) → length (putting x c) ≡ 1025
+length-putting x c = length-set (numbers 1025) x (put-entry c) ∙ length-numbers 1025
 
 module _ (x : ℕ) (small : x ≤ 1024) (c : Bool) where
   put-at : entry (putting x c) x ≡ put-entry c

@@ -8,7 +8,7 @@ use rows::NEGATIVE;
 use rows::NUMBERS;
 use rows::OR;
 use rows::POSITIVE;
-use rows::edit::put_number;
+use rows::bytes::put_number;
 use rows::read::argument_at;
 use rows::read::kind_at;
 ghost use mathlib.Core.Path.{_≡_};

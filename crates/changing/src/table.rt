@@ -1,10 +1,13 @@
 // The table of changes, by variable number: what the literals of each variable become.
 use crate::PUT_FALSE;
 use crate::PUT_TRUE;
+use rows::NUMBERS;
 ghost use mathlib.Core.Path.{_≡_};
+ghost use mathlib.Core.Bool.{true, false};
+ghost use mathlib.Core.List.{_++_};
 ghost use Prim.Native.Nat.{_≤_, _<_};
 ghost use lib.ListN.{length, set};
-ghost use Rattle.changing.specs.Changes.{entry, put-entry, numbers};
+ghost use Rattle.changing.specs.Changes.{entry, put-entry, numbers, putting};
 
 // Makes every variable stay.
 pub fn keep_all(table: &mut [u16])
@@ -28,6 +31,24 @@ pub fn put(table: &mut [u16], x: usize, value: bool)
     } else {
         table[x] = PUT_FALSE;
     }
+}
+
+// Makes the table that puts a value in for `x` alone.
+pub fn fill(table: &mut [u16], x: usize, value: bool)
+    requires { ⌜ (length (now table) ≡ 1025) × (x ≤ 1024) ⌝ }
+    ensures { λ _. ⌜ now (table .exit) ≡ putting x value ⌝ }
+{
+    keep_all(table);
+    put(table, x, value);
+}
+
+// Makes the tables of Expand, one behind the other: x = 0 put in by the first, x = 1 by the second.
+pub fn fill_both(tables: &mut [u16], x: usize)
+    requires { ⌜ (length (now tables) ≡ 2050) × (x ≤ 1024) ⌝ }
+    ensures { λ _. ⌜ now (tables .exit) ≡ putting x false ++ putting x true ⌝ }
+{
+    fill(&mut tables[..NUMBERS], x, false);
+    fill(&mut tables[NUMBERS..], x, true);
 }
 
 // The entry of variable `v`.

@@ -2,19 +2,16 @@
 -- Assumes nothing.
 use mathlib.Core.Path.{_≡_, refl, sym, ap, ap₂, _∙_}
 use mathlib.Core.Bool.{Bool, true, false}
-use Prim.Native.Nat.{ℕ, _+_, _≤_}
+use Prim.Native.Nat.{ℕ, _≤_}
 use native.Mathlib.Omega.{arith}
 use lib.ListN.{length}
-use Rattle.sheet.specs.Format.{Bytes, Format, narrow, sheet-length, variables, nodes, all-rows}
+use Rattle.sheet.specs.Format.{Bytes, Format, narrow, sheet-length, variables, nodes}
 use Rattle.sheet.specs.Sheet.{formula}
 use Rattle.sheet.specs.Check.{accepted, Sizes, passes, size-tests, check-tests, check}
 use Rattle.sheet.proofs.Tests.{answer-passes, accepted-passes}
 use Rattle.sheet.proofs.CheckTests.{passed, passed-sizes}
-use Rattle.rows.specs.Rows as flat
-use Rattle.rows.specs.Layouts.{Room}
 use Rattle.rows.specs.Formulas.{formula-in, Readable, layout-of}
 use Rattle.rows.specs.declared.Layout.{Layout}
-use Rattle.rows.proofs.Rows.{all-rows-in}
 use Rattle.rows.proofs.Formulas.{formula-read, accepted-readable}
 use Rattle.checking.specs.declared.Checked.{Checked}
 use Rattle.checking.specs.declared.Checked.the-variants.{Accepted, Refused}
@@ -98,12 +95,6 @@ refused-sheet F b {k} {p} told h = go (passes (check-tests F b)) refl
         never-both (sym (ap checked-answer told) ∙ h ∙ answer-passes (check-tests F b) (sizes (layout-of F b)) e)
     go false e = refl
 
--- tests that pass make it accepted
-pub accepted-again : {F : Format} {b : Bytes} {v n : ℕ} → passes (check-tests F b) ≡ true → v ≡ variables F b → n ≡ nodes F b
-    → AcceptedSheet F b v n
-accepted-again {F} {b} {v} {n} h vs ns =
-    record { tests-pass = h; right = right-sizes (passed F b h .sizes) (sym (ap sizes (ap₂ (layout-with F) vs ns))) }
-
 -- an accepted sheet by its layout
 pub sheet-checked : {F : Format} {b : Bytes} {v n : ℕ} {r : Checked} → r ≡ Accepted v n → checked-answer r ≡ check F b
     → Sheet F b (layout-with F v n)
@@ -126,11 +117,3 @@ module _ {F : Format} {b : Bytes} {s : Layout} (h : Sheet F b s) where
 
   pub sheet-formula-in : formula-in s b ≡ formula F b
   sheet-formula-in = rw (h .layout-is) (formula-read F b)
-
--- the same rows by their width and number
-pub accepted-room : {F : Format} {b : Bytes} {v n : ℕ} → F .width ≤ 4 → RightSizes F b v n → flat.Room (F .width) (v + n) (length b)
-unfolding sheet-length
-accepted-room few r = record { few-bytes = few; holds = omega (arith, r .right-length) }
-
-pub accepted-rows : {F : Format} {b : Bytes} {v n : ℕ} → RightSizes F b v n → all-rows F b ≡ flat.rows-in (F .width) (v + n) b
-accepted-rows {F} {b} r = rw (r .variables-are, r .nodes-are) (all-rows-in F b)

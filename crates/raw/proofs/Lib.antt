@@ -1,8 +1,10 @@
+-- Laws for callers.
+pub mod Laws
 mod Cuts
 mod Around
 mod Source
 mod Copies
 mod Turn
-mod Raws
+pub mod Raws
 mod Sited
 mod Plans

@@ -8,10 +8,10 @@ use native.Mathlib.Nat.{lt-of-lt-of-le, pow-le-pow-right}
 use native.Mathlib.Omega.{arith}
 use lib.ListN.{length, getD, take, drop, length-append, length-drop, length-map}
 use lib.Seq.{slice, drop-cons, take-all, length-slice}
-use Rattle.formula.specs.Tree.{Tree, Forest, ∅, _▸_, rows, rows-all, count}
+use Rattle.formula.specs.Tree.{Tree, count}
 use Rattle.sheet.specs.Format.{Bytes, Row, row}
 use Rattle.sheet.specs.Sheet.{binding-row, tree-rows, formula-rows}
-use Rattle.sheet.proofs.Preorder.{rows-positive, length-tree-rows}
+use Rattle.sheet.proofs.Preorder.{count-rows, length-tree-rows}
 use Rattle.rows.specs.Layouts.{total, rows-in}
 use Rattle.rows.specs.Formulas.{prefix-in, node-rows-in, formula-in}
 use Rattle.rows.specs.declared.Layout.{Layout}
@@ -31,11 +31,6 @@ use Rattle.raw.proofs.Copies.{relevant-few, whole-rows, some-rows}
 use Rattle.raw.proofs.Turn.{climbs-most}
 use Rattle.raw.proofs.Raws.{room-on}
 use Rattle.raw.proofs.Sited.{Sited, sited}
-
-count-rows : (ts : Forest) → count ts ≤ rows-all ts
-unfolding count rows-all
-count-rows ∅ = omega arith
-count-rows (t ▸ ts) = omega (arith, rows-positive t, count-rows ts)
 
 pub ready-raw : {s : Layout} {b : Bytes} {tables : List ℕ} {e : Expansion} {out : Bytes} → Expandable s b tables e out
     → Ready s b (e .layout) out

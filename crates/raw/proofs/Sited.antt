@@ -18,6 +18,7 @@ use Rattle.rows.specs.Formulas.{node-rows-in, matrix-in}
 use Rattle.rows.specs.declared.Layout.{Layout}
 use Rattle.rows.proofs.Formulas.{length-nodes, one-tree}
 use Rattle.subtrees.specs.Subtrees.{top, kids, forest-in, subtree-in}
+use Rattle.subtrees.proofs.Forest.{tree-rows-top}
 use Rattle.relevance.specs.Parts.{operator-part, relevant-part}
 use Rattle.relevance.specs.declared.Relevant.{Relevant}
 use Rattle.changing.specs.Changes.{changed, changed-row, copied}
@@ -34,11 +35,6 @@ own-operator : (L : Literals) (i : ℕ) (u : Tree) → (own-part L i u) .operato
 unfolding operator-part
 own-operator L i (lit s v) = refl
 own-operator L i (node o ts) = refl
-
-top-first : (u : Tree) → tree-rows u ≡ top u ∷ forest-rows (kids u)
-unfolding tree-rows
-top-first (lit s v) = refl
-top-first (node o ts) = refl
 
 -- lists in three parts
 module _ {A : Type 0} (l p q r : List A) (e : l ≡ p ++ (q ++ r)) {i k : ℕ} (counted : length p ≡ i) (measured : length q ≡ k) where
@@ -167,7 +163,7 @@ module _ (s : Layout) (b : Bytes) (tables : List ℕ) (e : Expansion) {out : Byt
       below =
           ap (λ k. drop k N) one ∙ sym (drop-drop 1 op N) ∙
           ap (drop 1)
-          (behind-first N (A .front) (tree-rows u) (A .back) rows-N (sym op-is) (length-tree-rows u) ∙ ap (λ l. l ++ A .back) (top-first u))
+          (behind-first N (A .front) (tree-rows u) (A .back) rows-N (sym op-is) (length-tree-rows u) ∙ ap (λ l. l ++ A .back) (tree-rows-top u))
         where
           one : suc op ≡ op + 1
           one = omega arith

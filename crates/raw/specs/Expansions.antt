@@ -9,15 +9,17 @@ use Rattle.formula.specs.Tree.{Tree, rows, has}
 use Rattle.formula.specs.Expand.{expand-tree, raw-rows}
 use Rattle.sheet.specs.Format.{Bytes, Row, row}
 use Rattle.sheet.specs.Sheet.{operator-kind, tree-rows}
-use Rattle.rows.specs.Layouts.{Room}
+use Rattle.rows.specs.Layouts.{total, Room}
 use Rattle.rows.specs.Formulas.{node-rows-in, matrix-in, Readable}
 use Rattle.rows.specs.declared.Layout.{Layout}
 use Rattle.subtrees.specs.Subtrees.{top, kids, subtree-in}
 use Rattle.changing.specs.Changes.{changed-row}
+use Rattle.changing.specs.Output.{Ready}
 use Rattle.relevance.specs.Cuts.{cuts, every-other}
 use Rattle.relevance.specs.Parts.{relevant-part}
 use Rattle.raw.specs.Formulas.{first-table, second-table, chosen-by, operator-of, copying-by, raw-layout}
 use Rattle.raw.specs.declared.expand.Expansion.{Expansion}
+use Rattle.raw.specs.declared.runs.Head.{Head}
 
 -- rows at which runs begin, in their order, from row lo on, the last at most n
 abbrev pub Climbs : ℕ → List ℕ → ℕ → Type 0
@@ -28,9 +30,23 @@ Climbs lo (c ∷ cs) n = (lo ≤ c) × Climbs c cs n
 abbrev pub runs-in : Layout → Bytes → List ℕ → List Row
 runs-in s b cs = every-other cs (node-rows-in s b)
 
+-- a sheet, cuts in its rows, and an output with room for every other run from row at on
+pub record Runnable (s : Layout) (b : Bytes) (cs : List ℕ) (t : Layout) (out : Bytes) (at : ℕ) : Type 0 where
+  pub readable : Readable s b
+  pub ready : Ready s b t out
+  pub climbs : Climbs 0 cs (s .nodes)
+  pub room : at + length (runs-in s b cs) ≤ total t
+
+-- an operator's row above a copy, and rows changed by a table below it
+abbrev pub head-row : Head → Row
+head-row h = row (h .kind) (h .children)
+
+abbrev pub below : Row → List ℕ → List Row → List Row
+below head t rs = head ∷ map (changed-row t) rs
+
 -- the rows of two copies, each below the same row, under a joint of the kind k
 unfoldable pub joined : ℕ → Row → List ℕ → List ℕ → List Row → List Row
-joined k head first second rs = row k 2 ∷ ((head ∷ map (changed-row first) rs) ++ (head ∷ map (changed-row second) rs))
+joined k head first second rs = row k 2 ∷ (below head first rs ++ below head second rs)
 
 -- a sheet, two tables, the prefix row that goes, the joint's kind, the raw sheet's layout, and room for it
 pub record Expandable (s : Layout) (b : Bytes) (tables : List ℕ) (e : Expansion) (out : Bytes) : Type 0 where

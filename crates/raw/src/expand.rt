@@ -144,7 +144,7 @@ fn write_subtree(
     write_some(b, s, tables, cuts, e, out)
 }
 
-// A chosen literal occurs: writes the prefix without its row that goes, and the matrix with the relevant subtree expanded.
+// A chosen literal occurs: writes the prefix without the row that goes, and the matrix with the relevant subtree expanded.
 pub fn write_expanded(
     b: &[u8],
     s: Layout,

@@ -4,15 +4,11 @@ use changing::Target;
 use changing::write::write_copy;
 use changing::write::write_row;
 use rows::Layout;
-ghost use mathlib.Core.List.{_∷_, map};
-ghost use Prim.Native.Nat.{_+_, _^_, _≤_, _<_};
-ghost use lib.ListN.{length};
-ghost use Rattle.sheet.specs.Format.{row};
-ghost use Rattle.rows.specs.Layouts.{total};
-ghost use Rattle.rows.specs.Formulas.{Readable};
+ghost use mathlib.Core.List.{map};
+ghost use Prim.Native.Nat.{_+_, _^_, _<_};
 ghost use Rattle.changing.specs.Changes.{changed-row};
-ghost use Rattle.changing.specs.Output.{Ready, Laid};
-ghost use Rattle.raw.specs.Expansions.{Climbs, runs-in};
+ghost use Rattle.changing.specs.Output.{Laid};
+ghost use Rattle.raw.specs.Expansions.{runs-in, head-row, below, Runnable};
 
 // The operator's row above a copy: its kind and how many children it has, and the row of the output that it is written to.
 pub struct Head {
@@ -31,7 +27,7 @@ pub fn write_runs(
     out: &mut [u8],
     to: Target,
 ) -> usize
-    requires { ⌜ Readable s (now b) × Ready s (now b) (to .layout) (now out) × Climbs 0 (now cuts) (s .nodes) × (to .at + length (runs-in s (now b) (now cuts)) ≤ total (to .layout)) ⌝ }
+    requires { ⌜ Runnable s (now b) (now cuts) (to .layout) (now out) (to .at) ⌝ }
     ensures { λ next. ⌜ Laid (to .layout) (now (out .entry)) (now (out .exit)) (to .at) next (map (changed-row (now (table .entry))) (runs-in s (now (b .entry)) (now (cuts .entry)))) ⌝ }
 {
     let t = to.layout;
@@ -59,8 +55,8 @@ pub fn write_below(
     out: &mut [u8],
     head: Head,
 ) -> usize
-    requires { ⌜ Readable s (now b) × Ready s (now b) (head .layout) (now out) × Climbs 0 (now cuts) (s .nodes) × (head .children < 256 ^ s .width) × (head .at + (1 + length (runs-in s (now b) (now cuts))) ≤ total (head .layout)) ⌝ }
-    ensures { λ next. ⌜ Laid (head .layout) (now (out .entry)) (now (out .exit)) (head .at) next (row (head .kind) (head .children) ∷ map (changed-row (now (table .entry))) (runs-in s (now (b .entry)) (now (cuts .entry)))) ⌝ }
+    requires { ⌜ Runnable s (now b) (now cuts) (head .layout) (now out) (head .at + 1) × (head .children < 256 ^ s .width) ⌝ }
+    ensures { λ next. ⌜ Laid (head .layout) (now (out .entry)) (now (out .exit)) (head .at) next (below (head-row head) (now (table .entry)) (runs-in s (now (b .entry)) (now (cuts .entry)))) ⌝ }
 {
     let t = head.layout;
     let here = Target {

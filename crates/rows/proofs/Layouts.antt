@@ -5,7 +5,7 @@ use mathlib.Core.List.{_++_}
 use Prim.Native.Nat.{ℕ, _+_, _*_, _≤_, _<_}
 use lib.ListN.{length, getD, take, drop}
 use Rattle.sheet.specs.Format.{Bytes, Format, row, number, variables, nodes, all-rows}
-use Rattle.rows.specs.Rows as rows
+use Rattle.rows.proofs.Flat as rows
 use Rattle.rows.specs.Layouts.{total, rows-in, Room}
 use Rattle.rows.specs.declared.Layout.{Layout}
 use Rattle.rows.proofs.Rows as flat

@@ -10,7 +10,7 @@ use lib.Seq.{length-take-le, getD-take, getD-drop, drop-drop, take-append-le, dr
 use borrow.Author.Tests.{le-leb, lt-leb}
 use Rattle.sheet.specs.Format.{Bytes, Format, Row, row, number, zip-rows, variables, nodes, kind-bytes, argument-bytes, all-rows, children}
 use Rattle.sheet.proofs.Parts.{length-zip-rows}
-use Rattle.rows.specs.Rows.{rows-in, Room}
+use Rattle.rows.proofs.Flat.{rows-in, Room}
 
 -- the rows of a format's sheet
 pub all-rows-in : (F : Format) (b : Bytes) → all-rows F b ≡ rows-in (F .width) (variables F b + nodes F b) b

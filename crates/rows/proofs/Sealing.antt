@@ -13,7 +13,7 @@ use Rattle.sheet.specs.Sheet.{row-kinds, row-arguments}
 use Rattle.sheet.proofs.Every.{every-take, every-drop}
 use Rattle.sheet.proofs.Numbers.{IsByte, AllBytes, length-digits, digits-number-at}
 use Rattle.sheet.proofs.Parts.{row-kinds-zip}
-use Rattle.rows.specs.Rows.{rows-in, Room}
+use Rattle.rows.proofs.Flat.{rows-in, Room}
 
 -- move_down
 

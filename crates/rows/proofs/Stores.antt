@@ -10,7 +10,7 @@ use lib.ListN.{length, getD, take, drop, set, length-append, length-drop, length
 use lib.Seq.{length-take-le, drop-cons, take-at, drop-at, take-add, drop-drop, drop-append-add, take-all, paste, paste-zero, paste-suc, take-set-le, drop-set-lt, take-set-lt, drop-set-add}
 use Rattle.sheet.specs.Format.{Bytes, row, number, digits, zip-rows}
 use Rattle.sheet.proofs.Numbers.{length-digits, number-digits}
-use Rattle.rows.specs.Rows.{rows-in, Room}
+use Rattle.rows.proofs.Flat.{rows-in, Room}
 use Rattle.rows.proofs.Rows.{next-row}
 
 -- i bytes of a number are stored, and the rest of the number is at hand

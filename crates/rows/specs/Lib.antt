@@ -1,5 +1,4 @@
 -- Rows of a sheet by their number, and the run-time form of a format.
-pub mod Rows
 pub mod Formats
 pub mod Layouts
 pub mod Formulas

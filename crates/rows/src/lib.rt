@@ -1,15 +1,13 @@
 // Rows of a sheet by their number, at any width: what all code above reads sheets through.
 ghost use mathlib.Core.Path.{_≡_};
 ghost use Prim.Native.Nat.{_+_, _^_, _≤_, _<_};
-ghost use lib.ListN.{length, getD, take, drop};
-ghost use Rattle.sheet.specs.Format.{number, row, children, narrow};
-ghost use Rattle.rows.specs.Rows.{rows-in, Room};
+ghost use lib.ListN.{length, take, drop};
+ghost use Rattle.sheet.specs.Format.{number, narrow};
 ghost use Rattle.rows.specs.Formats.{format-of};
 
-pub mod edit;
+pub mod bytes;
 pub mod fit;
 pub mod read;
-pub mod seal;
 pub mod write;
 
 // Kinds of rows: 1 exists, 2 for all, 3 a variable, 4 its negation, 5 AND, 6 OR.
@@ -74,31 +72,4 @@ pub fn number_at(b: &[u8], at: usize, width: usize) -> usize
         value = value * 256 + wide(b[at + i]);
     }
     value
-}
-
-// The kind of row `r`, of `n`.
-pub fn kind_at(b: &[u8], width: usize, n: usize, r: usize) -> u8
-    requires { ⌜ Room width n (length (now b)) × (r < n) ⌝ }
-    ensures { λ k. ⌜ k ≡ (getD (rows-in width n (now (b .entry))) r (row 0 0)) .kind ⌝ }
-{
-    b[2 * width + r]
-}
-
-// The argument of row `r`, of `n`.
-pub fn argument_at(b: &[u8], width: usize, n: usize, r: usize) -> usize
-    requires { ⌜ Room width n (length (now b)) × (r < n) ⌝ }
-    ensures { λ a. ⌜ (a ≡ (getD (rows-in width n (now (b .entry))) r (row 0 0)) .argument) × (a < 2 ^ 32) ⌝ }
-{
-    number_at(b, 2 * width + n + width * r, width)
-}
-
-// How many children row `r`, of `n`, adds to the tree.
-pub fn children_at(b: &[u8], width: usize, n: usize, r: usize) -> usize
-    requires { ⌜ Room width n (length (now b)) × (r < n) ⌝ }
-    ensures { λ a. ⌜ (a ≡ children (getD (rows-in width n (now (b .entry))) r (row 0 0))) × (a < 2 ^ 32) ⌝ }
-{
-    if kind_at(b, width, n, r) <= 4 {
-        return 0;
-    }
-    argument_at(b, width, n, r)
 }

@@ -1,8 +1,8 @@
 // Rows written by their number, and the first rows of a sheet made a sheet of their own.
 use crate::Layout;
-use crate::edit::put_number;
-use crate::seal::clear;
-use crate::seal::move_down;
+use crate::bytes::clear;
+use crate::bytes::move_down;
+use crate::bytes::put_number;
 ghost use mathlib.Core.Path.{_≡_};
 ghost use Prim.Native.Nat.{_+_, _*_, _^_, _≤_, _<_};
 ghost use lib.ListN.{length, set};

@@ -100,7 +100,7 @@ unfolding rows
 rows-positive (lit s v) = omega arith
 rows-positive (node o ts) = omega arith
 
-count-rows : (ts : Forest) → count ts ≤ rows-all ts
+pub count-rows : (ts : Forest) → count ts ≤ rows-all ts
 unfolding count rows-all
 count-rows ∅ = omega arith
 count-rows (t ▸ ts) = omega (arith, rows-positive t, count-rows ts)

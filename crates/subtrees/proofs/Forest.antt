@@ -71,7 +71,7 @@ unfoldable pub rest : Forest → Forest
 rest ∅ = ∅
 rest (t ▸ ts) = ts
 
-tree-rows-top : (t : Tree) → tree-rows t ≡ top t ∷ forest-rows (kids t)
+pub tree-rows-top : (t : Tree) → tree-rows t ≡ top t ∷ forest-rows (kids t)
 unfolding tree-rows
 tree-rows-top (lit s v) = refl
 tree-rows-top (node o ts) = refl

@@ -1,7 +1,7 @@
 -- `capi::pack_written` packs an answer of an operation that writes a sheet.
 -- Assumes nothing.
 use mathlib.Core.Path.{sym, _∙_, ap}
-use Rattle.tidying.specs.Answers.{written-answer}
+use Rattle.checking.specs.Answers.{written-answer}
 use Rattle.capi.specs.Packed.{packed-written}
 use borrow.Author.Needs.{needs}
 use Rattle.capi.proofs.pack_written.Statement.{statement}

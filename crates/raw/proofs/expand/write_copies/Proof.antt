@@ -66,11 +66,13 @@ write-below-requires c κs =
     let a = c .before .before .before .before .before .before .before .before .before .before .before .before .before .before .before in
     let p = some (a .pre .0) (a .pre .1) (a .pre .2) (a .pre .3) in
     let first = c .before .before .before .before .before in (
-      a .pre .0 .readable,
-      ready-on (ready-raw (a .pre .0)) (first .write-row .kept .0),
-      subst (λ l. Climbs 0 l (a .args .s .nodes)) (sym (rest-of 1 (a .args .cuts .now))) (p .climbs-relevant),
+      record {
+        readable = a .pre .0 .readable;
+        ready = ready-on (ready-raw (a .pre .0)) (first .write-row .kept .0);
+        climbs = subst (λ l. Climbs 0 l (a .args .s .nodes)) (sym (rest-of 1 (a .args .cuts .now))) (p .climbs-relevant);
+        room = omega (arith, p .room, p .joined-length, p .begins, p .ordered, first .write-row .ensures .next-row, ap (λ l. length (runs-in (a .args .s) (a .args .b .now) l)) (rest-of 1 (a .args .cuts .now)));
+      },
       p .fits-relevant,
-      omega (arith, p .room, p .joined-length, p .begins, p .ordered, first .write-row .ensures .next-row, ap (λ l. length (runs-in (a .args .s) (a .args .b .now) l)) (rest-of 1 (a .args .cuts .now))),
     )
 
 sub-write-below-3 : tie.Need-sub-write-below-3
@@ -101,22 +103,24 @@ write-below-requires-2 c κs =
     let p = some (a .pre .0) (a .pre .1) (a .pre .2) (a .pre .3) in
     let first = c .before .before .before .before .before .before .before .before .before .before .before in
     let second = c .before .before .before .before .before in (
-      a .pre .0 .readable,
-      ready-on (ready-raw (a .pre .0)) (second .write-below .kept .1 .1 .1 .1 .0 ∙ first .write-row .kept .0),
-      subst (λ l. Climbs 0 l (a .args .s .nodes)) (sym (rest-of 1 (a .args .cuts .now))) (p .climbs-relevant),
+      record {
+        readable = a .pre .0 .readable;
+        ready = ready-on (ready-raw (a .pre .0)) (second .write-below .kept .1 .1 .1 .1 .0 ∙ first .write-row .kept .0);
+        climbs = subst (λ l. Climbs 0 l (a .args .s .nodes)) (sym (rest-of 1 (a .args .cuts .now))) (p .climbs-relevant);
+        room = omega (
+          arith,
+          p .room,
+          p .joined-length,
+          p .begins,
+          p .ordered,
+          first .write-row .ensures .next-row,
+          second .write-below .ensures .next-row,
+          length-map (runs-in (a .args .s) (a .args .b .now) (take (length (a .args .cuts .now) - 1) (drop 1 (a .args .cuts .now))))
+              (changed-row (first-table (a .args .tables .now))),
+          ap (λ l. length (runs-in (a .args .s) (a .args .b .now) l)) (rest-of 1 (a .args .cuts .now)),
+        );
+      },
       p .fits-relevant,
-      omega (
-        arith,
-        p .room,
-        p .joined-length,
-        p .begins,
-        p .ordered,
-        first .write-row .ensures .next-row,
-        second .write-below .ensures .next-row,
-        length-map (runs-in (a .args .s) (a .args .b .now) (take (length (a .args .cuts .now) - 1) (drop 1 (a .args .cuts .now))))
-            (changed-row (first-table (a .args .tables .now))),
-        ap (λ l. length (runs-in (a .args .s) (a .args .b .now) l)) (rest-of 1 (a .args .cuts .now)),
-      ),
     )
 
 same-length : tie.Need-same-length

@@ -132,19 +132,20 @@ write-runs-requires : tie.Need-write-runs-requires
 write-runs-requires c κs =
     let a = c .before .before .before .before .before .before .before .before .before .before .before .before .before .before .before .before .before .before .before .before .before .before .before .before .before .before .before .before .before in
     let p = some (a .pre .0) (a .pre .1) (a .pre .2) (a .pre .3) in
-    let copies = c .before .before .before .before .before in (
-      a .pre .0 .readable,
-      ready-on (ready-raw (a .pre .0)) (copies .write-copies .kept .1 .1 .1 .1 .1 .0 ∙ c .before .before .before .before .before .before .before .before .before .write-copy .kept .1 .1 .1 .1 .0 ∙ c .before .before .before .before .before .before .before .before .before .before .before .before .before .before .write-row .kept .0),
-      subst (λ l. Climbs 0 l (a .args .s .nodes)) (sym (rest-of 2 (a .args .cuts .now))) (p .climbs-others),
-      omega (
+    let copies = c .before .before .before .before .before in
+    record {
+      readable = a .pre .0 .readable;
+      ready = ready-on (ready-raw (a .pre .0)) (copies .write-copies .kept .1 .1 .1 .1 .1 .0 ∙ c .before .before .before .before .before .before .before .before .before .write-copy .kept .1 .1 .1 .1 .0 ∙ c .before .before .before .before .before .before .before .before .before .before .before .before .before .before .write-row .kept .0);
+      climbs = subst (λ l. Climbs 0 l (a .args .s .nodes)) (sym (rest-of 2 (a .args .cuts .now))) (p .climbs-others);
+      room = omega (
         arith,
         p .room,
         p .begins,
         p .ordered,
         copies .write-copies .ensures .next-row,
         ap (λ l. length (runs-in (a .args .s) (a .args .b .now) l)) (rest-of 2 (a .args .cuts .now)),
-      ),
-    )
+      );
+    }
 
 same-length : tie.Need-same-length
 same-length c = search needs

@@ -8,13 +8,18 @@ use Rattle.raw.proofs.runs.write_below.Tie as tie
 write-row-requires : tie.Need-write-row-requires
 write-row-requires c κs =
     let a = c .before .before .before .before .before .before in
-    (a .pre .1 .room, omega (arith, a .pre .4), rw (a .pre .1 .same-width) (a .pre .3))
+    (a .pre .0 .ready .room, omega (arith, a .pre .0 .room), rw (a .pre .0 .ready .same-width) (a .pre .1))
 
 write-runs-requires : tie.Need-write-runs-requires
 write-runs-requires c κs =
     let first = c .before .before .before in
     let a = first .before .before .before .before .before .before .before in
-    (a .pre .0, ready-on (a .pre .1) (first .write-row .kept .0), a .pre .2, omega (arith, a .pre .4, first .write-row .ensures .next-row))
+    record {
+      readable = a .pre .0 .readable;
+      ready = ready-on (a .pre .0 .ready) (first .write-row .kept .0);
+      climbs = a .pre .0 .climbs;
+      room = omega (arith, a .pre .0 .room, first .write-row .ensures .next-row);
+    }
 
 same-length : tie.Need-same-length
 same-length c = search needs

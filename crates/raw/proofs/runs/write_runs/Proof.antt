@@ -21,9 +21,9 @@ here : (c : tie.In-loop Inv-loop μ-loop)
     Within (record { from = a .args .s .variables + getD (a .args .cuts .now) j 0; to = a .args .s .variables + getD (a .args .cuts .now) (j + 1) 0 }) (a .args .s)
 here c =
     let a = c .before .before .before .before .before .before .before in
-    run-within (a .args .s) (a .args .b .now) (a .pre .0) (a .args .table .now) (a .args .cuts .now) (a .args .to .layout) (a .args .out .now)
+    run-within (a .args .s) (a .args .b .now) (a .pre .readable) (a .args .table .now) (a .args .cuts .now) (a .args .to .layout) (a .args .out .now)
     (a .args .to .at)
-    (a .pre .3) (c .loop-test .taken) (c .before .loop .inv)
+    (a .pre .room) (c .loop-test .taken) (c .before .loop .inv)
 
 small : (c : tie.In-loop Inv-loop μ-loop)
     → let a = c .before .before .before .before .before .before .before in
@@ -32,16 +32,16 @@ small : (c : tie.In-loop Inv-loop μ-loop)
 small c =
     let a = c .before .before .before .before .before .before .before in
     let w = here c in
-    let few = a .pre .0 .few-variables in
-    let some = a .pre .0 .few-nodes in
+    let few = a .pre .readable .few-variables in
+    let some = a .pre .readable .few-nodes in
     (omega (arith, w .ordered, w .inside), omega (arith, w .inside))
 
 loop-holds : tie.Need-loop-holds Inv-loop μ-loop
 loop-holds c =
     let a = c .before .before .before .before .before in
-    running-none (a .args .s) (a .args .b .now) (a .pre .0) (a .args .table .now) (a .args .cuts .now) (a .args .to .layout) (a .args .out .now)
+    running-none (a .args .s) (a .args .b .now) (a .pre .readable) (a .args .table .now) (a .args .cuts .now) (a .args .to .layout) (a .args .out .now)
     (a .args .to .at)
-    (a .pre .2)
+    (a .pre .climbs)
 
 add-loop : tie.Need-add-loop Inv-loop μ-loop
 add-loop c = omega (arith, c .loop .inv .within)
@@ -77,11 +77,11 @@ write-copy-requires : tie.Need-write-copy-requires Inv-loop μ-loop
 write-copy-requires c κs =
     let turn = c .before .before .before in
     let a = turn .before .before .before .before .before .before .before in (
-      ready-on (a .pre .1) (turn .before .loop .inv .same-length),
+      ready-on (a .pre .ready) (turn .before .loop .inv .same-length),
       here turn,
-      run-room (a .args .s) (a .args .b .now) (a .pre .0) (a .args .table .now) (a .args .cuts .now) (a .args .to .layout) (a .args .out .now)
+      run-room (a .args .s) (a .args .b .now) (a .pre .readable) (a .args .table .now) (a .args .cuts .now) (a .args .to .layout) (a .args .out .now)
           (a .args .to .at)
-          (a .pre .3) (turn .loop-test .taken) (turn .before .loop .inv),
+          (a .pre .room) (turn .loop-test .taken) (turn .before .loop .inv),
     )
 
 add-j : tie.Need-add-j Inv-loop μ-loop
@@ -94,9 +94,9 @@ loop-again : tie.Need-loop-again Inv-loop μ-loop
 loop-again c =
     let turn = c .before .before .before .before .before .before in
     let a = turn .before .before .before .before .before .before .before in
-    running-next (a .args .s) (a .args .b .now) (a .pre .0) (a .args .table .now) (a .args .cuts .now) (a .args .to .layout) (a .args .out .now)
+    running-next (a .args .s) (a .args .b .now) (a .pre .readable) (a .args .table .now) (a .args .cuts .now) (a .args .to .layout) (a .args .out .now)
     (a .args .to .at)
-    (a .pre .3) (turn .loop-test .taken) (turn .before .loop .inv) (c .before .before .write-copy .ensures .0)
+    (a .pre .room) (turn .loop-test .taken) (turn .before .loop .inv) (c .before .before .write-copy .ensures .0)
     (c .before .before .write-copy .kept .1 .1 .1 .1 .0)
 
 same-length : tie.Need-same-length Inv-loop μ-loop
@@ -105,7 +105,7 @@ same-length c = c .before .loop .inv .same-length
 returns : tie.Need-returns Inv-loop μ-loop
 returns c =
     let a = c .before .before .before .before .before .before .before in
-    running-all (a .args .s) (a .args .b .now) (a .pre .0) (a .args .table .now) (a .args .cuts .now) (a .args .to .layout) (a .args .out .now)
+    running-all (a .args .s) (a .args .b .now) (a .pre .readable) (a .args .table .now) (a .args .cuts .now) (a .args .to .layout) (a .args .out .now)
     (a .args .to .at)
     (c .loop-test .left) (c .before .loop .inv)
 

@@ -3,7 +3,7 @@ use mathlib.Core.Path.{refl}
 use native.Mathlib.Omega.{arith}
 use Rattle.rows.proofs.Sealing.{all-bytes, seal-within}
 use Rattle.rows.proofs.Sealing.{sealed as sealed-rows}
-use Rattle.rows.specs.Rows.{rows-in as flat-rows}
+use Rattle.rows.proofs.Flat.{rows-in as flat-rows}
 use Rattle.rows.specs.Layouts.{rows-in, sealed}
 use Rattle.rows.proofs.Layouts.{room-of}
 use borrow.Author.Needs.{needs}

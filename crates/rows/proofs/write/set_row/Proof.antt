@@ -4,7 +4,7 @@ use Prim.Native.Nat.{_*_}
 use borrow.Author.Needs.{needs}
 use native.Mathlib.Omega.{arith}
 use lib.ListN.{take, drop, length-set}
-use Rattle.rows.specs.Rows.{rows-in as flat-rows}
+use Rattle.rows.proofs.Flat.{rows-in as flat-rows}
 use Rattle.rows.specs.Layouts.{size, rows-in}
 use Rattle.rows.proofs.Layouts.{room-of, argument-within}
 use Rattle.rows.proofs.Stores.{rows-put, header-kept, back-kept}

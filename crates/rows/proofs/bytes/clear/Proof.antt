@@ -1,10 +1,10 @@
--- `rows::seal::clear` meets its contract. Assumes nothing.
+-- `rows::bytes::clear` meets its contract. Assumes nothing.
 use Prim.Native.Nat.{_-_}
 use native.Mathlib.Omega.{arith}
 use lib.ListN.{length}
 use Rattle.rows.proofs.Sealing.{Cleared, cleared-none, cleared-byte, cleared-all}
-use Rattle.rows.proofs.seal.clear.Statement.{statement}
-use Rattle.rows.proofs.seal.clear.Tie as tie
+use Rattle.rows.proofs.bytes.clear.Statement.{statement}
+use Rattle.rows.proofs.bytes.clear.Tie as tie
 
 abbrev Inv-loop : tie.InvT-loop
 Inv-loop b₀ from i₀ b i = Cleared b₀ from b i

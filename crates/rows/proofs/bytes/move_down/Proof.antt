@@ -1,9 +1,9 @@
--- `rows::seal::move_down` meets its contract. Assumes nothing.
+-- `rows::bytes::move_down` meets its contract. Assumes nothing.
 use Prim.Native.Nat.{_-_}
 use native.Mathlib.Omega.{arith}
 use Rattle.rows.proofs.Sealing.{Moved, moved-none, moved-byte, moved-all}
-use Rattle.rows.proofs.seal.move_down.Statement.{statement}
-use Rattle.rows.proofs.seal.move_down.Tie as tie
+use Rattle.rows.proofs.bytes.move_down.Statement.{statement}
+use Rattle.rows.proofs.bytes.move_down.Tie as tie
 
 abbrev Inv-loop : tie.InvT-loop
 Inv-loop b₀ to from count i₀ b i = Moved b₀ to from count b i

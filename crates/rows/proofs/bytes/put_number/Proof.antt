@@ -1,9 +1,9 @@
--- `rows::edit::put_number` meets its contract: low byte first, a byte a turn. Assumes nothing.
+-- `rows::bytes::put_number` meets its contract: low byte first, a byte a turn. Assumes nothing.
 use Prim.Native.Nat.{_-_}
 use native.Mathlib.Omega.{arith}
 use Rattle.rows.proofs.Stores.{Stored, stored-none, stored-byte, stored-all}
-use Rattle.rows.proofs.edit.put_number.Statement.{statement}
-use Rattle.rows.proofs.edit.put_number.Tie as tie
+use Rattle.rows.proofs.bytes.put_number.Statement.{statement}
+use Rattle.rows.proofs.bytes.put_number.Tie as tie
 
 abbrev Inv-loop : tie.InvT-loop
 Inv-loop b₀ at width value rest₀ i₀ b rest i = Stored b₀ at width value b i rest

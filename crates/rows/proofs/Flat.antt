@@ -1,4 +1,4 @@
--- The rows of a sheet of a given number width ("The sheet").
+-- Rows by the width of a number and how many they are: what the laws of a layout rest on.
 -- Assumes nothing.
 use mathlib.Core.List.{List}
 use Prim.Native.Nat.{ℕ, _+_, _*_, _≤_}

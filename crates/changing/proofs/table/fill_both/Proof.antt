@@ -1,0 +1,60 @@
+-- `changing::table::fill_both` meets its contract. Assumes nothing.
+use mathlib.Core.Path.{sym, ap, ap₂, _∙_}
+use mathlib.Core.Bool.{false}
+use mathlib.Core.List.{_++_}
+use native.Mathlib.Omega.{arith}
+use lib.ListN.{length, drop}
+use lib.Seq.{length-take-le}
+use Rattle.changing.proofs.Tables.{length-putting, both-parts}
+use borrow.Author.Needs.{needs}
+use Rattle.changing.proofs.table.fill_both.Statement.{statement}
+use Rattle.changing.proofs.table.fill_both.Tie as tie
+
+slice-relend-prefix-fill : tie.Need-slice-relend-prefix-fill
+slice-relend-prefix-fill c = search needs
+
+slice-aggregate-fill : tie.Need-slice-aggregate-fill
+slice-aggregate-fill c =
+    let a = c .before .before in
+    sym (length-take-le 1025 (a .args .tables .now) (omega (arith, a .pre .0)))
+
+fill-requires : tie.Need-fill-requires
+fill-requires c κs =
+    let a = c .before .before in
+    (length-take-le 1025 (a .args .tables .now) (omega (arith, a .pre .0)), a .pre .1)
+
+sub-fill : tie.Need-sub-fill
+sub-fill c = search needs
+
+part-fill-start : tie.Need-part-fill-start
+part-fill-start c = search needs
+
+part-fill-end : tie.Need-part-fill-end
+part-fill-end c = search needs
+
+fill-requires-2 : tie.Need-fill-requires-2
+fill-requires-2 c κs = search needs
+
+same-length : tie.Need-same-length
+same-length c = search needs
+
+returns : tie.Need-returns
+returns c =
+    let a = c .before .before .before .before .before .before .before .before .before in
+    let first = c .before .before .before .before .before .before .fill .ensures in
+    both-parts (c .before .before .before .before .before .before .fill .last .0) (c .before .before .fill2 .last .0) (drop 1025 (a .args .tables .now)) 1025 (ap length first ∙ length-putting (a .args .x) false) ∙
+    ap₂ _++_ first (c .before .before .fill2 .ensures)
+
+pub fill-both-spec : {M : Type 1} → statement M
+fill-both-spec =
+    tie.close
+    (tie.spec
+    slice-relend-prefix-fill
+    slice-aggregate-fill
+    fill-requires
+    sub-fill
+    part-fill-start
+    part-fill-end
+    fill-requires-2
+    same-length
+    returns)

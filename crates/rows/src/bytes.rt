@@ -1,0 +1,44 @@
+// Bytes of a sheet: a number put, a part moved, the rest cleared.
+ghost use mathlib.Core.Path.{_≡_};
+ghost use mathlib.Core.List.{_++_};
+ghost use Prim.Native.Nat.{_+_, _-_, _≤_};
+ghost use lib.ListN.{length, take, drop, replicate};
+ghost use Rattle.sheet.specs.Format.{digits};
+
+// Writes a number to the `width` bytes at `at`, low byte first.
+pub fn put_number(b: &mut [u8], at: usize, width: usize, value: usize)
+    requires { ⌜ at + width ≤ length (now b) ⌝ }
+    ensures { λ _. ⌜ now (b .exit) ≡ take at (now (b .entry)) ++ digits width value ++ drop (at + width) (now (b .entry)) ⌝ }
+{
+    let mut rest = value;
+    let mut i: usize = 0;
+    while i < width {
+        b[at + i] = (rest % 256) as u8;
+        rest = rest / 256;
+        i += 1;
+    }
+}
+
+// Copies `count` bytes from `from` down to `to`.
+pub fn move_down(b: &mut [u8], to: usize, from: usize, count: usize)
+    requires { ⌜ (to ≤ from) × (from + count ≤ length (now b)) ⌝ }
+    ensures { λ _. ⌜ now (b .exit) ≡ take to (now (b .entry)) ++ take count (drop from (now (b .entry))) ++ drop (to + count) (now (b .entry)) ⌝ }
+{
+    let mut i: usize = 0;
+    while i < count {
+        b[to + i] = b[from + i];
+        i += 1;
+    }
+}
+
+// Makes every byte from `from` on zero.
+pub fn clear(b: &mut [u8], from: usize)
+    requires { ⌜ from ≤ length (now b) ⌝ }
+    ensures { λ _. ⌜ now (b .exit) ≡ take from (now (b .entry)) ++ replicate (length (now (b .entry)) - from) 0 ⌝ }
+{
+    let mut i: usize = 0;
+    while i < b.len() - from {
+        b[from + i] = 0;
+        i += 1;
+    }
+}
