@@ -1,6 +1,1 @@
-mod Place
-mod RawRows
-mod Accepted
-mod Decision
-mod Chosen
-mod Expanded
+mod Deciding

@@ -1,2 +1,2 @@
--- What Expand decides.
+-- What Expand decides; no entry point cites it.
 pub mod Plan

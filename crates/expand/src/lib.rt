@@ -1,37 +1,53 @@
 // Expand: the relevant subtree of an innermost variable gives way to two copies of it, and the tree is tidied ("Expand x").
 use crate::plan::Plan;
-use crate::plan::ROWS;
 use crate::plan::plan_expand;
-use crate::raw::write_raw;
-use reading::ends::fill_ends;
-use tidying::Written;
-use tidying::tidy_in_place;
+use checking::Written;
+use relevance::cuts::CUTS;
+use rows::Format;
+use rows::Layout;
+use rows::fit::fits;
+use stepping::expanding::Expanding;
+use stepping::expanding::expand_into;
 ghost use mathlib.Core.Path.{_≡_};
 ghost use Rattle.sheet.specs.Format.{narrow};
 ghost use Rattle.sheet.specs.Operations.{expand-call};
 ghost use Rattle.rows.specs.Formats.{format-of};
-ghost use Rattle.tidying.specs.Answers.{written-answer};
-ghost use Rattle.tidying.specs.Limits.{Countable};
+ghost use Rattle.checking.specs.Answers.{written-answer};
+ghost use Rattle.checking.specs.Limits.{Countable};
+ghost use Rattle.expand.specs.Plan.{Planned};
 
 pub mod plan;
-pub mod raw;
+
+// Carries a plan out: 13 the raw sheet doesn't fit; else it is written to `out` and tidied there.
+fn expand_planned(
+    sheet: &[u8],
+    f: Format,
+    s: Layout,
+    cuts: &[u16],
+    w: Expanding,
+    out: &mut [u8],
+) -> Written
+    requires { ⌜ Planned (format-of f) (now sheet) (w .variable) (now cuts) s w ⌝ }
+    ensures { λ r. ⌜ written-answer r ≡ (expand-call (format-of f) (now (sheet .entry)) (w .variable) (now (out .entry))) .answer ⌝ }
+    ensures { λ _. ⌜ now (out .exit) ≡ (expand-call (format-of f) (now (sheet .entry)) (w .variable) (now (out .entry))) .output ⌝ }
+{
+    if !fits(f, s.variables - 1, w.to.layout.nodes, out.len()) {
+        return Written::Refused(13, 0);
+    }
+    Written::Accepted(expand_into(sheet, f, s, cuts, w, out))
+}
 
 // Expands `x` in a sheet of any format whose rows this code can count. The raw sheet is written to `out` and tidied there.
-pub fn expand_in(sheet: &[u8], f: rows::Format, x: usize, out: &mut [u8]) -> Written
+pub fn expand_in(sheet: &[u8], f: Format, x: usize, out: &mut [u8]) -> Written
     requires { ⌜ Countable (format-of f) ⌝ }
     ensures { λ r. ⌜ written-answer r ≡ (expand-call (format-of f) (now (sheet .entry)) x (now (out .entry))) .answer ⌝ }
     ensures { λ _. ⌜ now (out .exit) ≡ (expand-call (format-of f) (now (sheet .entry)) x (now (out .entry))) .output ⌝ }
 {
-    let p = plan_expand(sheet, f, x, out.len());
+    let mut cuts = [0u16; CUTS];
+    let p = plan_expand(sheet, f, x, &mut cuts);
     match p {
         Plan::Refused(number, place) => Written::Refused(number, place),
-        Plan::Copy(v, n, i, raw) => {
-            let mut ends = [0u16; ROWS];
-            fill_ends(sheet, f.width, v, n, &mut ends);
-            write_raw(sheet, f.width, v, n, &ends, i, x, out, v - 1 + raw);
-            let length = tidy_in_place(out, f, v - 1, raw);
-            Written::Accepted(length)
-        }
+        Plan::Expands(s, w) => expand_planned(sheet, f, s, &cuts, w, out),
     }
 }
 

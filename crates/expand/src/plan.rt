@@ -1,65 +1,61 @@
-// What Expand decides before it writes: its refusals, in the paper's order, or the sizes of the raw sheet.
-use checking::Checked;
-use reading::cost::raw_rows;
-use reading::ends::fill_ends;
-use reading::faults::first_fault;
-use reading::prefix::find_variable;
-use reading::prefix::in_last_block;
+// What Expand decides before it looks at the output: its refusals short of 13, in the paper's order, or all that the writing needs.
+use choice::expand::price_row;
+use occurrences::fill_occurrences;
+use prefixes::block_start;
 use rows::Format;
-ghost use mathlib.Core.Path.{_≡_};
-ghost use Rattle.sheet.specs.Check.{answer};
+use rows::Layout;
+use rows::NUMBERS;
+use rows::ROWS;
+use stepping::admission::Admission;
+use stepping::admission::Binding;
+use stepping::admission::admit;
+use stepping::expanding::Expanding;
+use stepping::expanding::prepare;
+ghost use Prim.Native.Nat.{_<_};
+ghost use lib.ListN.{length};
 ghost use Rattle.rows.specs.Formats.{format-of};
-ghost use Rattle.checking.specs.Limits.{Manageable};
-ghost use Rattle.reading.specs.Reading.{Readable};
-ghost use Rattle.expand.specs.Plan.{plan-answer, choice-in, later-tests, expand-plan};
+ghost use Rattle.checking.specs.Limits.{Countable};
+ghost use Rattle.stepping.specs.Admission.{Admitted};
+ghost use Rattle.expand.specs.Plan.{Plans};
 
-// The most node rows of a sheet of the wider format.
-pub const ROWS: usize = 8192;
-
-// A refusal's number and place; or V, N, the prefix row of the variable, and the raw sheet's node rows.
+// A refusal's number and place; or the sheet's layout and what is written.
 pub enum Plan {
     Refused(usize, usize),
-    Copy(usize, usize, usize, usize),
+    Expands(Layout, Expanding),
 }
 
-// Decides on a sheet that Check accepts: 9 not tidy, 10 not in the prefix, 11 not in the innermost block, 13 the raw sheet doesn't fit.
-fn plan_checked(b: &[u8], f: Format, v: usize, n: usize, x: usize, room: usize) -> Plan
-    requires { ⌜ Manageable (format-of f) × Readable (f .width) v n (now b) ⌝ }
-    ensures { λ r. ⌜ plan-answer r ≡ answer (later-tests (format-of f) v n (now (b .entry)) x room) (choice-in (format-of f) v n (now (b .entry)) x) ⌝ }
+// Decides on a variable that tests 1 to 10 admit: 11 not in the innermost block. The cuts of an innermost one are filled.
+fn plan_admitted(
+    sheet: &[u8],
+    f: Format,
+    s: Layout,
+    ends: &[u16],
+    z: Binding,
+    cuts: &mut [u16],
+) -> Plan
+    requires { ⌜ Countable (format-of f) × Admitted (format-of f) (now sheet) (z .variable) s (z .row) (now ends) × (8192 < length (now cuts)) ⌝ }
+    ensures { λ r. ⌜ Plans (format-of f) (now (sheet .entry)) (z .variable) (now (cuts .exit)) r ⌝ }
 {
-    let width = f.width;
-    let mut ends = [0u16; ROWS];
-    fill_ends(b, width, v, n, &mut ends);
-    let fault = first_fault(b, width, v, n, &ends);
-    if fault < n {
-        return Plan::Refused(9, v + fault);
-    }
-    let i = find_variable(b, width, v, n, x);
-    if v <= i {
-        return Plan::Refused(10, 0);
-    }
-    let innermost = in_last_block(b, width, v, n, i);
-    if !innermost {
+    if z.row < block_start(sheet, s) {
         return Plan::Refused(11, 0);
     }
-    let raw = raw_rows(b, width, v, n, &ends, x);
-    if f.most_nodes < raw {
-        return Plan::Refused(13, 0);
-    }
-    if room < 2 * width + (1 + width) * (v - 1 + raw) {
-        return Plan::Refused(13, 0);
-    }
-    Plan::Copy(v, n, i, raw)
+    let mut ranges = [0u16; 2 * NUMBERS];
+    let mut next = [0u16; ROWS];
+    fill_occurrences(sheet, s, &mut ranges, &mut next);
+    let c = price_row(sheet, s, ends, &ranges, &next, z.row);
+    let w = prepare(sheet, s, ends, &ranges, &next, c, cuts);
+    Plan::Expands(s, w)
 }
 
-// Decides what Expand of `x` does with a sheet of any format within the limits of Check's code and an output of `room` bytes.
-pub fn plan_expand(sheet: &[u8], f: Format, x: usize, room: usize) -> Plan
-    requires { ⌜ Manageable (format-of f) ⌝ }
-    ensures { λ r. ⌜ plan-answer r ≡ expand-plan (format-of f) (now (sheet .entry)) x room ⌝ }
+// Decides what Expand of `x` does with a sheet, whatever the output.
+pub fn plan_expand(sheet: &[u8], f: Format, x: usize, cuts: &mut [u16]) -> Plan
+    requires { ⌜ Countable (format-of f) × (8192 < length (now cuts)) ⌝ }
+    ensures { λ r. ⌜ Plans (format-of f) (now (sheet .entry)) x (now (cuts .exit)) r ⌝ }
 {
-    let c = checking::check_in(sheet, f);
-    match c {
-        Checked::Refused(number, place) => Plan::Refused(number, place),
-        Checked::Accepted(v, n) => plan_checked(sheet, f, v, n, x, room),
+    let mut ends = [0u16; ROWS];
+    let a = admit(sheet, f, x, &mut ends);
+    match a {
+        Admission::Refused(number, place) => Plan::Refused(number, place),
+        Admission::Admitted(s, z) => plan_admitted(sheet, f, s, &ends, z, cuts),
     }
 }

@@ -2,11 +2,15 @@
 use crate::Site;
 use crate::part::first_behind;
 use rows::Layout;
+use rows::ROWS;
 use subtrees::nodes::children_at;
 ghost use mathlib.Core.Path.{_≡_};
 ghost use Prim.Native.Nat.{_<_};
 ghost use lib.ListN.{length};
 ghost use Rattle.relevance.specs.Walks.{Sited, IsCuts, run-cut, table-cut};
+
+// Entries that are enough for the cuts in a sheet of the wider format.
+pub const CUTS: usize = ROWS + 1;
 
 // The cuts so far: how many, and whether the run at hand holds chosen literals.
 struct Runs {

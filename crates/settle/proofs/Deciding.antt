@@ -1,9 +1,9 @@
 -- 12 and 13, in this order, behind tests 1 to 10; and what Settle writes if all pass.
 -- Assumes nothing.
 use mathlib.Core.Path.{_≡_, refl, sym, ap, _∙_}
-use mathlib.Core.Bool.{Bool, true, false, not, _&&_}
+use mathlib.Core.Bool.{Bool, false, not, _&&_}
 use mathlib.Core.List.{List, [], _∷_}
-use mathlib.Core.Option.{Option, some, Option·getD}
+use mathlib.Core.Option.{Option, Option·getD}
 use Prim.Native.Nat.{ℕ, _-_, _≤_, _<_}
 use native.Mathlib.Omega.{arith}
 use lib.Dec.{ltb}
@@ -13,45 +13,26 @@ use Rattle.formula.specs.Tree.{Formula}
 use Rattle.formula.specs.Settle.{settling, may-settle, settled}
 use Rattle.formula.specs.Solve.{is-some}
 use Rattle.sheet.specs.Format.{Bytes, Format, sheet-length, variables, nodes}
-use Rattle.sheet.specs.Sheet.{formula, sheet, binding}
-use Rattle.sheet.specs.Format.{row}
+use Rattle.sheet.specs.Sheet.{formula, sheet}
 use Rattle.sheet.specs.Check.{refused, accepted, Test, test, answer, passes}
 use Rattle.sheet.specs.Operations.{padded, settle-tests, settle-call}
 use Rattle.sheet.proofs.Tests.{passes-++, answer-++, refused-first}
-use Rattle.sheet.proofs.Limits.{numbered-at}
-use Rattle.sheet.proofs.Accepted.{accepted-within}
 use Rattle.sheet.proofs.Writing.{write-refused, write-accepted}
 use Rattle.rows.specs.Formulas.{prefix-in, formula-in}
 use Rattle.rows.specs.declared.Layout.{Layout}
 use Rattle.rows.proofs.Formulas.{length-prefix}
-use Rattle.checking.specs.Limits.{Manageable, Countable, Sheet}
-use Rattle.checking.proofs.CheckedSheets.{sheet-right, sheet-readable, sheet-formula-in}
-use Rattle.prefixes.specs.Places.{place, binding-at, binding-in}
+use Rattle.checking.specs.Limits.{Countable}
+use Rattle.checking.proofs.CheckedSheets.{sheet-readable, sheet-formula-in}
+use Rattle.prefixes.specs.Places.{place, binding-at}
 use Rattle.prefixes.proofs.Places.{quantifier-of-place, variable-place}
-use Rattle.signs.specs.Value.{Numbered, value-of, settling-in}
+use Rattle.signs.specs.Value.{value-of, settling-in}
 use Rattle.signs.specs.declared.value.Settling.{Settling}
 use Rattle.signs.specs.declared.value.Settling.the-variants.{Take, Not}
 use Rattle.stepping.specs.Steps.{settled-by}
 use Rattle.stepping.specs.Admission.{admission-tests, Admitted}
 use Rattle.stepping.specs.declared.settling.Put.{Put}
+use Rattle.stepping.proofs.Admitting.{sheet-steppable}
 use Rattle.settle.specs.Plan.{Planned}
-
--- the numbers of an accepted sheet's prefix are within the tables
-pub sheet-numbered : {F : Format} {b : Bytes} {s : Layout} → Manageable F → Sheet F b s → Numbered s b
-unfolding formula-in binding-at
-sheet-numbered {F} {b} {s} m h =
-    let same = ap (λ (f : Formula). f .prefix) (sheet-formula-in h) in
-    let numbers = accepted-within F b (h .tests-pass) .is-numbered in
-    record {
-      few-numbers =
-          λ i l. rw same
-          (omega (
-            arith,
-            m .few-variables,
-            numbered-at F ((formula F b) .prefix) i (binding (row 0 0)) numbers
-                (omega (arith, ap length same, length-prefix b (sheet-readable h m), l)),
-          ));
-    }
 
 -- Settle's own tests
 abbrev own-tests : Format → Bytes → ℕ → ℕ → List Test
@@ -109,22 +90,9 @@ module _ {F : Format} {b : Bytes} {x : ℕ} {s : Layout} {i : ℕ} {ends : List 
         → Planned F b x room s (record { row = i; variable = x; value = c })
     unfolding passes is-some
     planned c e l =
-        let right = sheet-right (a .sheet) in
         record {
           tests-pass = rw (passing, value-here v h, e, raw-length, le-ltb room (sheet-length F (s .variables - 1) (s .nodes)) l);
-          puts =
-              record {
-                from =
-                    record {
-                      countable = k;
-                      readable = sheet-readable (a .sheet) (k .manageable);
-                      width-is = ap (λ (t : Layout). t .width) (a .sheet .layout-is);
-                      few-variables = right .few-variables;
-                      few-nodes = right .few-nodes;
-                    };
-                named = a .named;
-                room = l;
-              };
+          puts = record { from = sheet-steppable (a .sheet) k; named = a .named; room = l };
           variable-is = refl;
           value-is = value-here v h ∙ ap value-of e;
           same-formula = same;

@@ -7,6 +7,7 @@ use choice::expand::choose_expand;
 use choice::settle::SettleChoice;
 use choice::settle::choose_settle;
 use occurrences::fill_occurrences;
+use relevance::cuts::CUTS;
 use rows::Format;
 use rows::Layout;
 use rows::NUMBERS;
@@ -92,7 +93,7 @@ fn expand_step(
     if !fits(f, t.variables - 1, c.raw, room) {
         return Step::Stopped(c.variable);
     }
-    let mut cuts = [0u16; ROWS + 1];
+    let mut cuts = [0u16; CUTS];
     let w = prepare(first, t, ends, &ranges, &next, c, &mut cuts);
     let bytes = expand_into(first, f, t, &cuts, w, second);
     let sheet = fetch(first, second, f, t.variables - 1, bytes);

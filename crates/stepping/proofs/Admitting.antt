@@ -7,25 +7,64 @@ use Prim.Native.Nat.{ℕ, _+_, _≤_, _<_}
 use native.Mathlib.Omega.{arith}
 use lib.ListN.{length}
 use borrow.Author.Tests.{lt-ltb, le-ltb}
-use Rattle.formula.specs.Tree.{Tree, Formula, binds}
+use Rattle.formula.specs.Tree.{Tree, Formula, binds, distinct}
 use Rattle.formula.specs.Tidy.{is-tidy, first-fault}
-use Rattle.sheet.specs.Format.{Bytes, Format, variables}
-use Rattle.sheet.specs.Sheet.{formula}
+use Rattle.sheet.specs.Format.{Bytes, Format, row, variables}
+use Rattle.sheet.specs.Sheet.{formula, binding}
 use Rattle.sheet.specs.Check.{refused, Test, test, answer, passes, check-tests}
 use Rattle.sheet.specs.Operations.{tidy-and-bound-tests}
-use Rattle.sheet.proofs.Limits.{binds-numbered}
+use Rattle.sheet.proofs.Limits.{binds-numbered, numbered-at}
 use Rattle.sheet.proofs.Accepted.{accepted-within}
 use Rattle.sheet.proofs.Tests.{passes-++, answer-++}
 use Rattle.rows.specs.Formulas.{prefix-in, matrix-in, formula-in}
 use Rattle.rows.specs.declared.Layout.{Layout}
 use Rattle.rows.proofs.Formulas.{length-prefix, rows-nodes}
-use Rattle.checking.specs.Limits.{Manageable, Sheet}
-use Rattle.checking.proofs.CheckedSheets.{sheet-readable, sheet-formula-in}
+use Rattle.checking.specs.Limits.{Manageable, Countable, Sheet}
+use Rattle.checking.proofs.CheckedSheets.{sheet-right, sheet-readable, sheet-formula-in}
 use Rattle.subtrees.specs.Ends.{Indexed}
-use Rattle.prefixes.specs.Places.{place}
+use Rattle.prefixes.specs.Places.{place, binding-at}
 use Rattle.prefixes.proofs.Places.{binds-place}
 use Rattle.tidiness.proofs.Tidiness.{tidy-by, fault-by}
+use Rattle.signs.specs.Value.{Numbered}
+use Rattle.choice.specs.Choosing.{Bound}
+use Rattle.stepping.specs.Steps.{Steppable}
 use Rattle.stepping.specs.Admission.{admission-tests, Admitted}
+
+-- a sheet that Check accepts: its prefix has no number twice and none past the tables, and it is within its format's limits
+module _ {F : Format} {b : Bytes} {s : Layout} (h : Sheet F b s) where
+  pub sheet-numbered : Manageable F → Numbered s b
+  unfolding formula-in binding-at
+  sheet-numbered m =
+      let same = ap (λ (f : Formula). f .prefix) (sheet-formula-in h) in
+      let numbers = accepted-within F b (h .tests-pass) .is-numbered in
+      record {
+        few-numbers =
+            λ i l. rw same
+            (omega (
+              arith,
+              m .few-variables,
+              numbered-at F ((formula F b) .prefix) i (binding (row 0 0)) numbers
+                  (omega (arith, ap length same, length-prefix b (sheet-readable h m), l)),
+            ));
+      }
+
+  pub sheet-bound : Manageable F → Bound s b
+  unfolding formula-in
+  sheet-bound m =
+      record {
+        is-distinct = ap (λ (f : Formula). distinct (f .prefix)) (sheet-formula-in h) ∙ accepted-within F b (h .tests-pass) .is-distinct;
+        numbered = sheet-numbered m;
+      }
+
+  pub sheet-steppable : Countable F → Steppable F s b
+  sheet-steppable k =
+      record {
+        countable = k;
+        readable = sheet-readable h (k .manageable);
+        width-is = ap (λ (t : Layout). t .width) (h .layout-is);
+        few-variables = sheet-right h .few-variables;
+        few-nodes = sheet-right h .few-nodes;
+      }
 
 module _ {F : Format} {b : Bytes} {s : Layout} (m : Manageable F) (h : Sheet F b s) (x : ℕ) where
   abbrev t : Tree

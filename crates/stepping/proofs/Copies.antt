@@ -1,12 +1,12 @@
--- The two copies of an expansion: their tables, and the raw sheet that is written by them.
+-- The raw sheet of an expansion, by the tables of its two copies.
 -- Assumes nothing.
 use mathlib.Core.Path.{_≡_, refl, sym, ap, ap₂, _∙_, subst}
 use mathlib.Core.Bool.{Bool, true, false}
-use mathlib.Core.List.{List, _++_, append-nil}
+use mathlib.Core.List.{List, _++_}
 use Prim.Native.Nat.{ℕ, suc, _-_, _≤_}
 use native.Mathlib.Omega.{arith}
 use lib.Dec.{leb}
-use lib.ListN.{length, take, drop, length-append, length-drop, length-set, drop-of-length-le}
+use lib.ListN.{length, take, drop, length-append}
 use lib.Seq.{take-at, drop-at}
 use borrow.Author.Tests.{leb-true}
 use Rattle.formula.specs.Tree.{Op, and, or, Tree, Prefix, Formula, Literals, of, quantifier-of, without, has}
@@ -20,8 +20,8 @@ use Rattle.rows.specs.Layouts.{Room}
 use Rattle.rows.specs.Formulas.{prefix-in, matrix-in, formula-in}
 use Rattle.rows.specs.declared.Layout.{Layout}
 use Rattle.subtrees.specs.Subtrees.{kids, subtree-in}
-use Rattle.changing.specs.Changes.{put-entry, numbers, putting, chosen, changed}
-use Rattle.changing.proofs.Tables.{length-numbers, chosen-putting, changed-putting}
+use Rattle.changing.specs.Changes.{putting, chosen, changed}
+use Rattle.changing.proofs.Tables.{length-putting, chosen-putting, changed-putting}
 use Rattle.relevance.specs.Cuts.{cuts}
 use Rattle.relevance.specs.Parts.{relevant-part}
 use Rattle.raw.specs.Formulas.{first-table, second-table, chosen-by, operator-of, copying-by, expanded-raw, raw-layout, Raw}
@@ -30,18 +30,6 @@ use Rattle.tidying.specs.Limits as tidying
 use Rattle.stepping.specs.Expanding.{Expands}
 use Rattle.stepping.specs.declared.expanding.Expanding.{Expanding}
 use Rattle.stepping.proofs.RawSheets.{raw-room, prefix-without, written-raw, written-sheet, written-length}
-
--- the halves of a list, lent one after the other, when they have come back
-pub halves : {p q first second : List ℕ} (old : List ℕ) (n : ℕ) → p ≡ first → q ≡ second → length first ≡ n
-    → let d = p ++ drop n old in
-    take n d ++ (q ++ drop (length d - n) (drop n d)) ≡ first ++ second
-halves {p} {q} old n is then long =
-    let d = p ++ drop n old in
-    ap₂ (λ l r. l ++ r) (take-at p (drop n old) n (ap length is ∙ long) ∙ is)
-    (ap₂ (λ l r. l ++ r) then (drop-of-length-le (drop n d) {i = length d - n} (omega (arith, length-drop n d))) ∙ append-nil _)
-
-pub length-putting : (x : ℕ) (c : Bool) → length (putting x c) ≡ 1025
-length-putting x c = length-set (numbers 1025) x (put-entry c) ∙ length-numbers 1025
 
 operator-back : (q : Op) → operator-of (operator-kind q) ≡ q
 operator-back and = refl

@@ -3,14 +3,14 @@
 use mathlib.Core.Path.{_≡_, refl, sym, ap, _∙_}
 use mathlib.Core.Bool.{Bool, true, false, cond, true≢false, false≢true}
 use mathlib.Core.List.{List}
-use Prim.Native.Nat.{ℕ, suc, _+_, _*_, _<_}
+use Prim.Native.Nat.{ℕ, suc, _+_, _*_, _≤_, _<_}
 use native.Mathlib.Omega.{arith}
 use lib.ListN.{length, getD, take, drop, length-append}
 use lib.Seq.{take-at}
 use Rattle.formula.specs.Tree.{Op, and, or, same-op, exists, Tree, Literals, of, quantifier-of, has}
 use Rattle.sheet.specs.Format.{Bytes}
 use Rattle.sheet.specs.Sheet.{operator-kind}
-use Rattle.rows.specs.Formulas.{prefix-in, matrix-in}
+use Rattle.rows.specs.Formulas.{prefix-in, matrix-in, Readable}
 use Rattle.rows.specs.declared.Layout.{Layout}
 use Rattle.rows.proofs.Formulas.{length-prefix}
 use Rattle.subtrees.specs.Subtrees.{kids, subtree-in}
@@ -20,17 +20,19 @@ use Rattle.prefixes.proofs.Places.{quantifier-of-place}
 use Rattle.occurrences.specs.Chains.{Chain}
 use Rattle.relevance.specs.Cuts.{cuts}
 use Rattle.relevance.specs.Parts.{relevant-part}
-use Rattle.relevance.specs.Raw.{presence}
+use Rattle.relevance.specs.Raw.{presence, grown-by, copied}
 use Rattle.relevance.specs.Walks.{Sited, IsCuts}
 use Rattle.relevance.specs.declared.Relevant.{Relevant}
 use Rattle.relevance.specs.declared.Range.{Range}
 use Rattle.relevance.specs.declared.variable.Presence.{Presence}
 use Rattle.relevance.specs.declared.variable.Presence.the-variants.{Absent, Present}
+use Rattle.relevance.proofs.Growth.{raw-rows-by}
 use Rattle.relevance.proofs.Descent.{placed, operator-before}
 use Rattle.choice.specs.declared.expand.ExpandChoice.{ExpandChoice}
 use Rattle.raw.specs.Formulas.{raw-layout}
 use Rattle.raw.specs.declared.expand.Expansion.{Expansion}
 use Rattle.stepping.specs.Expanding.{Priced, Outlined, Prepared}
+use Rattle.stepping.specs.declared.expanding.Expanding.{Expanding}
 
 -- the joint
 
@@ -69,6 +71,29 @@ module _ (L : Literals) (t : Tree) where
           → (has L t ≡ true) × (p ≡ relevant-part L 0 t)
       by true h e = (h, ap (the-part p) e)
       by false h e = absurd (true≢false (ap is-present e))
+
+-- how many rows the raw sheet can have
+grown-most : (n : ℕ) (p : Presence) → grown-by n p ≤ n + copied p + 2
+grown-most n Absent = omega arith
+grown-most n (Present p) = by (p .all)
+  where
+    by : (c : Bool) → n + (p .rows + cond c 1 2) ≤ n + p .rows + 2
+    by true = omega arith
+    by false = omega arith
+
+pub few-raw : {s : Layout} {b : Bytes} {x i : ℕ} {table : List ℕ} {w : Expanding} → Readable s b → Prepared s b x i table w
+    → w .to .layout .nodes ≤ 16386
+few-raw {s} {b} {x} ok p =
+    let t = matrix-in s b in
+    let raw = raw-rows-by (of x) b ok {p = presence (of x) t} refl in
+    omega (
+      arith,
+      ap (λ (l : Layout). l .nodes) (p .layout-is),
+      raw .0,
+      raw .1,
+      grown-most (s .nodes) (presence (of x) t),
+      ok .few-nodes,
+    )
 
 module _ {s : Layout} {b : Bytes} {ends ranges next : List ℕ} {c : ExpandChoice} (k : Priced s b ends ranges next c) where
   abbrev x : ℕ

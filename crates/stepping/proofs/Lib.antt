@@ -1,5 +1,5 @@
 -- Laws for callers.
 pub mod Admitting
+pub mod Expansions
 pub mod RawSheets
-mod Expansions
 mod Copies

@@ -1,6 +1,5 @@
 // A variable expanded: its raw sheet is written to an output and tidied there ("Expand x").
-use changing::table::keep_all;
-use changing::table::put;
+use changing::table::fill_both;
 use choice::expand::ExpandChoice;
 use prefixes::is_existential;
 use raw::expand::Expansion;
@@ -16,8 +15,6 @@ use rows::NUMBERS;
 use rows::OR;
 use tidying::tidy_in_place;
 ghost use mathlib.Core.Path.{_≡_};
-ghost use mathlib.Core.Bool.{false, true};
-ghost use mathlib.Core.List.{_++_};
 ghost use Prim.Native.Nat.{_≤_, _<_};
 ghost use lib.ListN.{length};
 ghost use Rattle.formula.specs.Expand.{expanded};
@@ -26,7 +23,6 @@ ghost use Rattle.sheet.specs.Operations.{padded};
 ghost use Rattle.rows.specs.Formats.{format-of};
 ghost use Rattle.rows.specs.Formulas.{Readable, formula-in};
 ghost use Rattle.prefixes.specs.Places.{binding-in};
-ghost use Rattle.changing.specs.Changes.{putting};
 ghost use Rattle.stepping.specs.Expanding.{Priced, Outlined, Prepared, Expands};
 
 // The variable, how many cuts its relevant part's children have, and the expansion that is written.
@@ -131,24 +127,6 @@ pub fn prepare(
     }
 }
 
-// Makes every variable stay but `x`, for which a value is put in.
-fn put_alone(table: &mut [u16], x: usize, value: bool)
-    requires { ⌜ (length (now table) ≡ 1025) × (x ≤ 1024) ⌝ }
-    ensures { λ _. ⌜ now (table .exit) ≡ putting x value ⌝ }
-{
-    keep_all(table);
-    put(table, x, value);
-}
-
-// Makes the tables of the two copies: 0 is put in for `x` in the first one, 1 in the second.
-fn put_both(tables: &mut [u16], x: usize)
-    requires { ⌜ (length (now tables) ≡ 2050) × (x ≤ 1024) ⌝ }
-    ensures { λ _. ⌜ now (tables .exit) ≡ putting x false ++ putting x true ⌝ }
-{
-    put_alone(&mut tables[..NUMBERS], x, false);
-    put_alone(&mut tables[NUMBERS..], x, true);
-}
-
 // Writes the expanded sheet to the front of `out`, with zeros behind it, and returns its length.
 pub fn expand_into(
     b: &[u8],
@@ -163,7 +141,7 @@ pub fn expand_into(
     ensures { λ r. ⌜ r ≡ length (sheet (format-of f) (expanded (w .variable) (formula-in s (now (b .entry))))) ⌝ }
 {
     let mut tables = [0u16; 2 * NUMBERS];
-    put_both(&mut tables, w.variable);
+    fill_both(&mut tables, w.variable);
     write_raw(b, s, &tables, &cuts[..w.cuts], w.to, out);
     tidy_in_place(out, f, w.to.layout)
 }

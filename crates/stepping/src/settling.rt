@@ -1,6 +1,5 @@
 // A variable settled: the raw sheet is written to an output and tidied there ("Settle x").
-use changing::table::keep_all;
-use changing::table::put;
+use changing::table::fill;
 use raw::settle::write_settled;
 use rows::Format;
 use rows::Layout;
@@ -28,8 +27,7 @@ pub fn settle_into(b: &[u8], f: Format, s: Layout, p: Put, out: &mut [u8]) -> us
     ensures { λ r. ⌜ r ≡ length (sheet (format-of f) (settled-by p (formula-in s (now (b .entry))))) ⌝ }
 {
     let mut table = [0u16; NUMBERS];
-    keep_all(&mut table);
-    put(&mut table, p.variable, p.value);
+    fill(&mut table, p.variable, p.value);
     write_settled(b, s, &table, p.row, out);
     let t = Layout {
         width: s.width,

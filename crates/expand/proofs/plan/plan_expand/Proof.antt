@@ -1,56 +1,70 @@
--- `expand::plan::plan_expand` meets its contract: a refusal of Check is Expand's, and else the later tests decide.
--- Assumes nothing.
-use mathlib.Core.Path.{sym, ap, _∙_}
+-- `expand::plan::plan_expand` meets its contract. Assumes nothing.
+use mathlib.Core.Path.{subst}
+use Prim.Native.Nat.{ℕ}
 use borrow.Author.Needs.{needs}
 use Rattle.rows.specs.Formats.{format-of}
-use Rattle.checking.specs.Answers.{checked-answer}
-use Rattle.checking.proofs.CheckedSheets.{AcceptedSheet, accepted-sheet}
-use Rattle.reading.proofs.Accepted.{accepted-readable}
-use Rattle.expand.proofs.Accepted.{check-refuses, plan-later}
+use Rattle.stepping.specs.Admission.{Admits}
+use Rattle.expand.specs.Plan.{Plans}
+use Rattle.expand.proofs.Deciding.{refused-before}
 use Rattle.expand.proofs.plan.plan_expand.Statement.{statement}
 use Rattle.expand.proofs.plan.plan_expand.Tie as tie
 
-abbrev start : tie.After-c2 → tie.Start
-start c = c .before .before .before .before
+slice-aggregate-admit : tie.Need-slice-aggregate-admit
+slice-aggregate-admit c = search needs
 
--- the sheet that Check accepted
-accepted : (c : tie.After-c2)
-    → AcceptedSheet (format-of (start c .args .f)) (start c .args .sheet .now) (c .c2 .given .0 .0) (c .c2 .given .0 .1 .0)
-accepted c = accepted-sheet (c .c2 .given .1) (c .before .before .check-in .ensures)
+admit-requires : tie.Need-admit-requires
+admit-requires c κs = search needs
 
-check-in-requires : tie.Need-check-in-requires
-check-in-requires c κs = search needs
+enum-known-a : tie.Need-enum-known-a
+enum-known-a c = search needs
 
-enum-known-c : tie.Need-enum-known-c
-enum-known-c c = search needs
+enum-known-a-2 : tie.Need-enum-known-a-2
+enum-known-a-2 c = search needs
 
-enum-known-c-2 : tie.Need-enum-known-c-2
-enum-known-c-2 c = search needs
+slice-aggregate-plan-admitted : tie.Need-slice-aggregate-plan-admitted
+slice-aggregate-plan-admitted c = search needs
 
-plan-checked-requires : tie.Need-plan-checked-requires
-plan-checked-requires c κs = let m = start (c .before) .pre in (m, accepted-readable (accepted (c .before)) m)
+plan-admitted-requires : tie.Need-plan-admitted-requires
+plan-admitted-requires c κs =
+    let told = c .before .before .before in
+    let admitted = told .before .before .before in
+    let a = admitted .before .before .before .before in (
+      a .pre .0,
+      subst (Admits (format-of (a .args .f)) (a .args .sheet .now) (a .args .x) _) (told .a2 .given .1) (admitted .admit .ensures) .1,
+      a .pre .1,
+    )
 
 returns : tie.Need-returns
 returns c =
     let told = c .before in
-    let checked = told .before .before in
-    let a = checked .before .before .args in
-    check-refuses (format-of (a .f)) (a .sheet .now) (a .x) (a .room)
-    (sym (ap checked-answer (told .c .given .1)) ∙ checked .check-in .ensures)
+    let admitted = told .before .before .before in
+    let a = admitted .before .before .before .before in
+    refused-before (format-of (a .args .f)) (a .args .sheet .now) (a .args .x)
+    (subst (Admits (format-of (a .args .f)) (a .args .sheet .now) (a .args .x) _) (told .a .given .1) (admitted .admit .ensures))
+
+same-length : tie.Need-same-length
+same-length c = search needs
 
 returns-2 : tie.Need-returns-2
 returns-2 c =
-    let told = c .before .before in
-    let a = start told .args in
-    c .plan-checked .ensures ∙ plan-later (accepted told) (a .x) (a .room)
+    let planned = c .before .before in
+    let told = planned .before .before .before .before in
+    let admitted = told .before .before .before in
+    let a = admitted .before .before .before .before in
+    subst (λ (y : ℕ). Plans (format-of (a .args .f)) (a .args .sheet .now) y (planned .plan-admitted .last .1 .1 .1 .1 .1 .0) (planned .plan-admitted .result))
+    (subst (Admits (format-of (a .args .f)) (a .args .sheet .now) (a .args .x) _) (told .a2 .given .1) (admitted .admit .ensures) .0)
+    (planned .plan-admitted .ensures)
 
 pub plan-expand-spec : {M : Type 1} → statement M
 plan-expand-spec =
     tie.close
     (tie.spec
-    check-in-requires
-    enum-known-c
-    enum-known-c-2
-    plan-checked-requires
+    slice-aggregate-admit
+    admit-requires
+    enum-known-a
+    enum-known-a-2
+    slice-aggregate-plan-admitted
+    plan-admitted-requires
     returns
+    same-length
     returns-2)

@@ -2,7 +2,8 @@
 use borrow.Author.Needs.{needs}
 use native.Mathlib.Omega.{arith}
 use Rattle.checking.proofs.CheckedSheets.{sheet-readable}
-use Rattle.settle.proofs.Deciding.{sheet-numbered, not-settled, no-room, planned}
+use Rattle.stepping.proofs.Admitting.{sheet-numbered}
+use Rattle.settle.proofs.Deciding.{not-settled, no-room, planned}
 use Rattle.settle.proofs.plan.plan_admitted.Statement.{statement}
 use Rattle.settle.proofs.plan.plan_admitted.Tie as tie
 
@@ -20,7 +21,7 @@ value-at-requires c κs =
     let a = c .before .before .before .before .before .before in
     let k = a .pre .0 .manageable in (
       sheet-readable (a .pre .1 .sheet) k,
-      sheet-numbered k (a .pre .1 .sheet),
+      sheet-numbered (a .pre .1 .sheet) k,
       a .pre .1 .named .inside,
       c .before .before .fill-signs .ensures,
     )

@@ -1,11 +1,9 @@
 -- `settle::plan::plan_settle` meets its contract. Assumes nothing.
-use mathlib.Core.Path.{_≡_, subst}
-use mathlib.Core.List.{List}
+use mathlib.Core.Path.{subst}
 use Prim.Native.Nat.{ℕ}
 use borrow.Author.Needs.{needs}
 use Rattle.rows.specs.Formats.{format-of}
 use Rattle.stepping.specs.Admission.{Admits}
-use Rattle.stepping.specs.declared.admission.Admission.{Admission}
 use Rattle.settle.specs.Plan.{Plans}
 use Rattle.settle.proofs.Deciding.{refused-before}
 use Rattle.settle.proofs.plan.plan_settle.Statement.{statement}

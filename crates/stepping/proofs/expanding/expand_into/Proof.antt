@@ -6,11 +6,11 @@ use Rattle.stepping.proofs.Copies.{expandable, occurs, found, raw-writt
 use Rattle.stepping.proofs.expanding.expand_into.Statement.{statement}
 use Rattle.stepping.proofs.expanding.expand_into.Tie as tie
 
-slice-aggregate-put-both : tie.Need-slice-aggregate-put-both
-slice-aggregate-put-both c = search needs
+slice-aggregate-fill-both : tie.Need-slice-aggregate-fill-both
+slice-aggregate-fill-both c = search needs
 
-put-both-requires : tie.Need-put-both-requires
-put-both-requires c κs = search needs
+fill-both-requires : tie.Need-fill-both-requires
+fill-both-requires c κs = search needs
 
 slice-aggregate-write-raw : tie.Need-slice-aggregate-write-raw
 slice-aggregate-write-raw c = search needs
@@ -24,7 +24,7 @@ write-raw-requires : tie.Need-write-raw-requires
 write-raw-requires c κs =
     let tables = c .before .before .before .before in
     let a = tables .before .before .before .before .before in
-    let is = tables .put-both .ensures in
+    let is = tables .fill-both .ensures in
     (expandable (a .pre) is (a .args .out .now) refl, occurs (a .pre) is, found (a .pre) is)
 
 tidy-in-place-requires : tie.Need-tidy-in-place-requires
@@ -32,7 +32,7 @@ tidy-in-place-requires c κs =
     let wrote = c .before .before .before in
     let tables = wrote .before .before .before .before .before in
     let a = tables .before .before .before .before .before in
-    raw-written (a .pre) (tables .put-both .ensures) refl (wrote .write-raw .kept .1 .1 .1 .1 .1 .0) (wrote .write-raw .ensures)
+    raw-written (a .pre) (tables .fill-both .ensures) refl (wrote .write-raw .kept .1 .1 .1 .1 .1 .0) (wrote .write-raw .ensures)
 
 same-length : tie.Need-same-length
 same-length c = search needs
@@ -43,7 +43,7 @@ returns c =
     let wrote = tidied .before .before .before .before in
     let tables = wrote .before .before .before .before .before in
     let a = tables .before .before .before .before .before in
-    let is = tables .put-both .ensures in
+    let is = tables .fill-both .ensures in
     let same = wrote .write-raw .kept .1 .1 .1 .1 .1 .0 in (
       sheet-written (a .pre) is refl same (wrote .write-raw .ensures) (tidied .tidy-in-place .ensures .0),
       length-written (a .pre) is refl same (wrote .write-raw .ensures) (tidied .tidy-in-place .ensures .1),
@@ -53,8 +53,8 @@ pub expand-into-spec : {M : Type 1} → statement M
 expand-into-spec =
     tie.close
     (tie.spec
-    slice-aggregate-put-both
-    put-both-requires
+    slice-aggregate-fill-both
+    fill-both-requires
     slice-aggregate-write-raw
     slice-aggregate-write-raw-2
     write-raw-requires
