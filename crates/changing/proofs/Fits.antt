@@ -17,13 +17,10 @@ use Rattle.sheet.proofs.Numbers.{IsByte, AllBytes, number-bound}
 use Rattle.sheet.proofs.Parts.{ArgumentFits}
 use Rattle.rows.specs.Layouts.{total, rows-in}
 use Rattle.rows.specs.declared.Layout.{Layout}
+use Rattle.rows.proofs.Sealing.{all-bytes}
 use Rattle.changing.specs.Changes.{entry, became, chosen-row, changed-row, copied}
 use Rattle.changing.specs.Output.{copy-in}
 use Rattle.changing.specs.declared.Span.{Span}
-
-all-bytes : (b : Bytes) → ((i : ℕ) → getD b i 0 < 256) → AllBytes b
-all-bytes [] h = tt
-all-bytes (x ∷ b) h = (h 0, all-bytes b (λ i. h (suc i)))
 
 length-take-most : {A : Type 0} (w : ℕ) (l : List A) → length (take w l) ≤ w
 length-take-most zero l = omega arith

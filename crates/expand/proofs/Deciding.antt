@@ -33,7 +33,7 @@ use Rattle.stepping.specs.Admission.{admission-tests, Admitted}
 use Rattle.stepping.specs.Expanding.{Priced, Prepared, Expands}
 use Rattle.stepping.specs.declared.expanding.Expanding.{Expanding}
 use Rattle.stepping.proofs.Admitting.{sheet-steppable}
-use Rattle.expand.specs.Plan.{quote-tests, Planned}
+use Rattle.expand.specs.Inner.Plan.{quote-tests, Planned}
 
 -- the tests
 

@@ -1,2 +1,2 @@
--- What Expand decides; no entry point cites it.
-pub mod Plan
+-- Expand's contract needs no definition of its own.
+pub mod Inner

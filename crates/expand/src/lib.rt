@@ -14,7 +14,7 @@ ghost use Rattle.sheet.specs.Operations.{expand-call};
 ghost use Rattle.rows.specs.Formats.{format-of};
 ghost use Rattle.checking.specs.Answers.{written-answer};
 ghost use Rattle.checking.specs.Limits.{Countable};
-ghost use Rattle.expand.specs.Plan.{Planned};
+ghost use Rattle.expand.specs.Inner.Plan.{Planned};
 
 pub mod plan;
 

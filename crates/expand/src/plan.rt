@@ -16,7 +16,7 @@ ghost use lib.ListN.{length};
 ghost use Rattle.rows.specs.Formats.{format-of};
 ghost use Rattle.checking.specs.Limits.{Countable};
 ghost use Rattle.stepping.specs.Admission.{Admitted};
-ghost use Rattle.expand.specs.Plan.{Plans};
+ghost use Rattle.expand.specs.Inner.Plan.{Plans};
 
 // A refusal's number and place; or the sheet's layout and what is written.
 pub enum Plan {

@@ -10,6 +10,7 @@ use lib.Seq.{drop-length}
 use Rattle.formula.specs.Tree.{Tree, lit, node, Forest, ∅, _▸_, _⧺_, Literals, rows, rows-all, has, has-any}
 use Rattle.formula.specs.Tidy.{any}
 use Rattle.formula.specs.Settle.{is-lit}
+use Rattle.formula.proofs.Tidy.Limits.{any-++}
 use Rattle.sheet.specs.Format.{Bytes}
 use Rattle.sheet.specs.Sheet.{trees}
 use Rattle.rows.specs.Formulas.{node-rows-in, matrix-in, Readable}
@@ -20,13 +21,6 @@ use Rattle.subtrees.proofs.Forest.{rest, stepped-at, siblings, all-⧺}
 use Rattle.subtrees.proofs.Matrix.{trees-nodes, sound-nodes}
 use Rattle.subtrees.proofs.Siblings.{below-row}
 use Rattle.occurrences.specs.Chains.{hits, hits-all}
-
--- any
-
-any-++ : (xs ys : List Bool) → any (xs ++ ys) ≡ (any xs || any ys)
-unfolding any
-any-++ [] ys = refl
-any-++ (x ∷ xs) ys = ap (λ c. x || c) (any-++ xs ys) ∙ sym (or-assoc x (any xs) (any ys))
 
 mutual
   unfolding has hits any

@@ -9,6 +9,7 @@ use lib.ListN.{length, getD, take, drop, length-append, length-drop}
 use lib.Seq.{slice, slice-empty, take-add, take-at, drop-at, drop-append-le, drop-drop, length-take-le}
 use Rattle.formula.specs.Tree.{Tree, Forest, ∅, _▸_, Literals, rows, rows-all, has, has-any, keep}
 use Rattle.formula.specs.Expand.{relevant, at-first}
+use Rattle.formula.proofs.Tidy.Children.{keep-same}
 use Rattle.sheet.specs.Format.{Row}
 use Rattle.sheet.specs.Sheet.{tree-rows, forest-rows}
 use Rattle.sheet.proofs.Preorder.{length-tree-rows, length-forest-rows}
@@ -67,11 +68,6 @@ climbs-from lo lo′ n h (x ∷ cs) c = (omega (arith, c .0), c .1)
 
 -- keep
 
-keep-same : (P Q : Tree → Bool) → ((t : Tree) → P t ≡ Q t) → (ts : Forest) → keep P ts ≡ keep Q ts
-unfolding keep
-keep-same P Q e ∅ = refl
-keep-same P Q e (t ▸ ts) = ap₂ (λ m us. cond m (t ▸ us) us) (e t) (keep-same P Q e ts)
-
 beq-true : (b : Bool) → Bool·beq b true ≡ b
 beq-true true = refl
 beq-true false = refl
@@ -87,10 +83,10 @@ module _ (L : Literals) where
 
   pick-relevant : (ts : Forest) → pick true ts ≡ relevant L ts
   unfolding relevant
-  pick-relevant ts = keep-same (λ t. Bool·beq (has L t) true) (has L) (λ t. beq-true (has L t)) ts
+  pick-relevant ts = keep-same {P = λ t. Bool·beq (has L t) true} {Q = has L} (λ t. beq-true (has L t)) ts
 
   pick-others : (ts : Forest) → pick false ts ≡ keep (λ t. not (has L t)) ts
-  pick-others ts = keep-same (λ t. Bool·beq (has L t) false) (λ t. not (has L t)) (λ t. beq-false (has L t)) ts
+  pick-others ts = keep-same {P = λ t. Bool·beq (has L t) false} {Q = λ t. not (has L t)} (λ t. beq-false (has L t)) ts
 
   none-picked : (ts : Forest) → has-any L (pick false ts) ≡ false
   unfolding keep has

@@ -32,7 +32,7 @@ use Rattle.stepping.specs.Steps.{settled-by}
 use Rattle.stepping.specs.Admission.{admission-tests, Admitted}
 use Rattle.stepping.specs.declared.settling.Put.{Put}
 use Rattle.stepping.proofs.Admitting.{sheet-steppable}
-use Rattle.settle.specs.Plan.{Planned}
+use Rattle.settle.specs.Inner.Plan.{Planned}
 
 -- Settle's own tests
 abbrev own-tests : Format → Bytes → ℕ → ℕ → List Test

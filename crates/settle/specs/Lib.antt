@@ -1,2 +1,2 @@
--- What Settle decides; no entry point cites it.
-pub mod Plan
+-- Settle's contract needs no definition of its own.
+pub mod Inner

@@ -14,7 +14,7 @@ use stepping::settling::Put;
 ghost use Rattle.rows.specs.Formats.{format-of};
 ghost use Rattle.checking.specs.Limits.{Countable};
 ghost use Rattle.stepping.specs.Admission.{Admitted};
-ghost use Rattle.settle.specs.Plan.{Plans};
+ghost use Rattle.settle.specs.Inner.Plan.{Plans};
 
 // A refusal's number and place; or the sheet's layout and what is put in.
 pub enum Plan {

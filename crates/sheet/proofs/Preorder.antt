@@ -18,7 +18,7 @@ use Rattle.formula.proofs.Booleans.{or-parts}
 
 -- front and behind
 
-front-⧺ : (ts us : Forest) → front (count ts) (ts ⧺ us) ≡ ts
+pub front-⧺ : (ts us : Forest) → front (count ts) (ts ⧺ us) ≡ ts
 unfolding front count _⧺_
 front-⧺ ∅ us = refl
 front-⧺ (t ▸ ts) us = ap (λ r. t ▸ r) (front-⧺ ts us)

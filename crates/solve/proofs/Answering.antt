@@ -33,7 +33,7 @@ use Rattle.checking.proofs.CheckedSheets.{sheet-right}
 use Rattle.tidying.specs.Limits.{Raw}
 use Rattle.tidying.proofs.Raw.{copied-raw, length-copied, copied-formula}
 use Rattle.solve.specs.declared.State.{State}
-use Rattle.solve.specs.Running.{layout-for, Held, RawReady, run-from, answered, shown, solution}
+use Rattle.solve.specs.Inner.Running.{layout-for, Held, RawReady, run-from, answered, shown, solution}
 use Rattle.solve.proofs.Holding.{hold}
 use Rattle.solve.proofs.Carrying.{header-within, nodes-read}
 

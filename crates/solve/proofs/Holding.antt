@@ -24,7 +24,7 @@ use Rattle.checking.specs.Limits.{Countable}
 use Rattle.prefixes.specs.Places.{binding-at}
 use Rattle.choice.specs.Choosing.{Bound}
 use Rattle.stepping.specs.Steps.{Steppable}
-use Rattle.solve.specs.Running.{layout-for, Held}
+use Rattle.solve.specs.Inner.Running.{layout-for, Held}
 
 pub sound : {F : Format} → Countable F → Sound F
 sound k = record { variables-fit = omega (arith, k .few-rows); nodes-fit = omega (arith, k .few-rows) }

@@ -13,7 +13,7 @@ use Rattle.solve.specs.declared.Verdict.{Verdict}
 use Rattle.solve.specs.declared.Solved.the-variants.{Stopped, Ended}
 use Rattle.solve.specs.declared.step.Step.the-variants as taken
 use Rattle.solve.specs.Answers.{verdict-of, solved-answer}
-use Rattle.solve.specs.Running.{Held, reached, begun, Stepped, run-from, answered, shown}
+use Rattle.solve.specs.Inner.Running.{Held, reached, begun, Stepped, run-from, answered, shown}
 
 run-halt : (fits : Fits) (n : ℕ) (s : Reached) (e : End) → step fits s ≡ halt e → run fits (suc n) s ≡ record { end = e; state = s }
 unfolding run go-on

@@ -1,4 +1,5 @@
--- What Solve answers, and a run between two steps.
+-- What a reader of Solve's contracts must believe.
 pub mod Answers
-pub mod Running
 pub mod Lines
+-- how its code goes about it
+pub mod Inner

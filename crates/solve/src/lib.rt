@@ -20,7 +20,7 @@ ghost use Rattle.rows.specs.Formats.{format-of};
 ghost use Rattle.rows.specs.Formulas.{formula-in};
 ghost use Rattle.checking.specs.Limits.{Countable, Sheet};
 ghost use Rattle.solve.specs.Answers.{solved-answer};
-ghost use Rattle.solve.specs.Running.{Ready, RawReady, run-from, answered, shown, solution};
+ghost use Rattle.solve.specs.Inner.Running.{Ready, RawReady, run-from, answered, shown, solution};
 
 pub mod line;
 pub mod step;

@@ -27,7 +27,7 @@ ghost use Rattle.sheet.specs.Operations.{padded};
 ghost use Rattle.sheet.specs.Format.{number};
 ghost use Rattle.rows.specs.Formats.{format-of};
 ghost use Rattle.subtrees.specs.Ends.{Indexed};
-ghost use Rattle.solve.specs.Running.{Ready, Open, Settles, Unsettled, Fetchable, Stepped};
+ghost use Rattle.solve.specs.Inner.Running.{Ready, Open, Settles, Unsettled, Fetchable, Stepped};
 
 // Decided, stopped at a variable, or on to the next state.
 pub enum Step {

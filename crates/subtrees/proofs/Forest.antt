@@ -10,28 +10,12 @@ use lib.ListN.{length, getD, drop, length-append, length-drop}
 use lib.Seq.{drop-at, drop-cons, drop-drop}
 use Rattle.formula.specs.Tree.{Tree, lit, node, Forest, ∅, _▸_, Literals, rows, rows-all, has, has-any, count, _⧺_}
 use Rattle.formula.specs.Tidy.{faults, faults-all}
+use Rattle.formula.proofs.Tidy.Children.{⧺-none}
 use Rattle.sheet.specs.Format.{Row, row}
 use Rattle.sheet.specs.Sheet.{literal-kind, operator-kind, front, trees, root, tree-rows, forest-rows}
 use Rattle.sheet.proofs.Preorder.{trees-forest, length-tree-rows, length-forest-rows}
 use Rattle.subtrees.specs.Ends.{subtree-ends, forest-ends}
 use Rattle.subtrees.specs.Subtrees.{top, kids}
-
--- _⧺_
-
-⧺-∅ : (ts : Forest) → ts ⧺ ∅ ≡ ts
-unfolding _⧺_
-⧺-∅ ∅ = refl
-⧺-∅ (t ▸ ts) = ap (λ us. t ▸ us) (⧺-∅ ts)
-
-pub count-⧺ : (ts us : Forest) → count (ts ⧺ us) ≡ count ts + count us
-unfolding _⧺_ count
-count-⧺ ∅ us = omega arith
-count-⧺ (t ▸ ts) us = omega (arith, count-⧺ ts us)
-
-pub front-⧺ : (ts us : Forest) → front (count ts) (ts ⧺ us) ≡ ts
-unfolding front count _⧺_
-front-⧺ ∅ us = refl
-front-⧺ (t ▸ ts) us = ap (λ us′. t ▸ us′) (front-⧺ ts us)
 
 -- What sums a forest up tree by tree does so over two forests side by side.
 module _ {A : Type 0} (_·_ : A → A → A) (assoc : (a b c : A) → _·_ (_·_ a b) c ≡ _·_ a (_·_ b c)) (one : Tree → A) (all : Forest → A)
@@ -85,7 +69,7 @@ rows-kids (node o ts) = refl
 
 pub trees-rows : (ts : Forest) → trees (forest-rows ts) ≡ ts
 unfolding trees
-trees-rows ts = ap trees (sym (append-nil (forest-rows ts))) ∙ trees-forest ts [] ∙ ⧺-∅ ts
+trees-rows ts = ap trees (sym (append-nil (forest-rows ts))) ∙ trees-forest ts [] ∙ ⧺-none ts
 
 -- Sound rows are those of their trees.
 abbrev pub Sound : List Row → Type 0

@@ -8,6 +8,8 @@ use native.Mathlib.Nat.{add-zero, zero-add}
 use native.Mathlib.Omega.{arith}
 use lib.ListN.{length, getD}
 use Rattle.formula.specs.Tree.{and, or, Tree, lit, node, Forest, ∅, _▸_, rows, count, _⧺_}
+use Rattle.formula.proofs.Tidy.Children.{count-⧺}
+use Rattle.sheet.proofs.Preorder.{front-⧺}
 use Rattle.sheet.specs.Format.{Bytes, Row, row, children}
 use Rattle.sheet.specs.Sheet.{front}
 use Rattle.rows.specs.Layouts.{rows-in}
@@ -16,7 +18,7 @@ use Rattle.rows.specs.declared.Layout.{Layout}
 use Rattle.rows.proofs.Formulas.{node-row, length-nodes, rows-nodes}
 use Rattle.subtrees.specs.Ends.{Indexed}
 use Rattle.subtrees.specs.Subtrees.{top, kids, forest-in, subtree-in, siblings-in, Beside}
-use Rattle.subtrees.proofs.Forest.{rest, stepped-at, some-row, siblings, end-within, front-⧺, count-⧺}
+use Rattle.subtrees.proofs.Forest.{rest, stepped-at, some-row, siblings, end-within}
 use Rattle.subtrees.proofs.Table.{children-top}
 use Rattle.subtrees.proofs.Matrix.{sound-nodes, end-of}
 

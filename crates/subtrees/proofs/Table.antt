@@ -9,11 +9,13 @@ use native.Mathlib.Omega.{arith}
 use lib.ListN.{length, getD, take, drop, set, length-set}
 use lib.Seq.{drop-cons, drop-drop, getD-drop, getD-take, getD-set-same, drop-set-lt, take-set-lt, length-take-le, drop-length}
 use Rattle.formula.specs.Tree.{and, or, Tree, lit, node, rows, rows-all, count, _⧺_}
+use Rattle.formula.proofs.Tidy.Children.{count-⧺}
+use Rattle.sheet.proofs.Preorder.{front-⧺}
 use Rattle.sheet.specs.Format.{Row, row, children}
 use Rattle.sheet.specs.Sheet.{front, trees, root}
 use Rattle.subtrees.specs.Subtrees.{top, kids}
 use Rattle.subtrees.specs.Ends.{subtree-ends, forest-ends, hops, Hops}
-use Rattle.subtrees.proofs.Forest.{rest, Sound, stepped-at, forest-at, some-row, siblings, end-within, rows-kids, front-⧺, count-⧺, ends-⧺}
+use Rattle.subtrees.proofs.Forest.{rest, Sound, stepped-at, forest-at, some-row, siblings, end-within, rows-kids, ends-⧺}
 
 -- hops
 

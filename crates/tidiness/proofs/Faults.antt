@@ -10,6 +10,7 @@ use lib.ListN.{drop}
 use lib.Seq.{drop-length}
 use borrow.Author.Tests.{eq-eqb, ne-eqb}
 use Rattle.formula.proofs.Booleans.{eqb-comm}
+use Rattle.formula.proofs.Tidy.Children.{some-child-same}
 use Rattle.formula.specs.Tree.{Op, and, or, Tree, lit, node, Forest, ∅, _▸_, Literals, of, count, some-child, some-two, _⧺_}
 use Rattle.formula.specs.Tidy.{is-op, same-variable, alone, childless, breaks, faults, faults-all, root-faults, any, first-true, is-tidy, first-fault}
 use Rattle.formula.specs.Settle.{is-lit}
@@ -48,11 +49,6 @@ pub some-child-more : (P : Tree → Bool) (t : Tree) (ts : Forest) → some-chil
 unfolding some-child
 some-child-more P t ts = refl
 
-some-child-same : (P Q : Tree → Bool) → ((u : Tree) → P u ≡ Q u) → (ts : Forest) → some-child P ts ≡ some-child Q ts
-unfolding some-child
-some-child-same P Q same ∅ = refl
-some-child-same P Q same (t ▸ ts) = ap₂ _||_ (same t) (some-child-same P Q same ts)
-
 some-child-never : (P : Tree → Bool) → ((u : Tree) → P u ≡ false) → (ts : Forest) → some-child P ts ≡ false
 unfolding some-child
 some-child-never P never ∅ = refl
@@ -74,7 +70,7 @@ clash-operator (node o cs) ts h = some-child-never (same-variable (node o cs)) (
 pub clash-literal : (t : Tree) (ts : Forest) {x : ℕ} → (top t) .kind ≤ 4 → x ≡ (top t) .argument
     → clash (t ▸ ts) ≡ some-child (is-lit (of x)) ts
 unfolding clash
-clash-literal (lit s v) ts h e = some-child-same _ _ (same-variable-of s v) ts ∙ ap (λ y. some-child (is-lit (of y)) ts) (sym e)
+clash-literal (lit s v) ts h e = some-child-same (same-variable-of s v) ts ∙ ap (λ y. some-child (is-lit (of y)) ts) (sym e)
 clash-literal (node and cs) ts h e = absurd (omega arith)
 clash-literal (node or cs) ts h e = absurd (omega arith)
 

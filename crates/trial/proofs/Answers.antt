@@ -23,7 +23,7 @@ use Rattle.rows.specs.declared.Layout.{Layout}
 use Rattle.rows.proofs.Formulas.{formula-read, accepted-readable, length-prefix}
 use Rattle.checking.specs.Limits.{Manageable}
 use Rattle.checking.proofs.CheckedSheets.{AcceptedSheet}
-use Rattle.trial.specs.Turns.{semantic-tree, Numbered, Playable}
+use Rattle.trial.specs.Inner.Turns.{semantic-tree, Numbered, Playable}
 
 pub check-refuses : {n i : ℕ} (F : Format) (b : Bytes) → refused n i ≡ check F b → refused n i ≡ trial-call F b
 unfolding check trial-call

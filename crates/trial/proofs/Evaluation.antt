@@ -10,7 +10,7 @@ use lib.ListN.{length, getD}
 use borrow.Author.Tests.{le-leb, lt-leb, eq-eqb, ne-eqb}
 use Rattle.formula.specs.Truth.{Assignment}
 use Rattle.sheet.specs.Format.{Row, row, children}
-use Rattle.trial.specs.Jumps.{entry, row-value, next, Leads, Decides, Jumps}
+use Rattle.trial.specs.Inner.Jumps.{entry, row-value, next, Leads, Decides, Jumps}
 
 -- row_value
 

@@ -16,7 +16,7 @@ use Rattle.formula.specs.Truth.{Assignment, unit, join, eval, eval-all}
 use Rattle.sheet.specs.Format.{Row, row, children}
 use Rattle.sheet.specs.Sheet.{literal-kind, operator-kind, trees, root, tree-rows, forest-rows}
 use Rattle.sheet.proofs.Preorder.{root-trees, length-tree-rows, rows-positive}
-use Rattle.trial.specs.Jumps.{entry, Parent, past, is-and, Wired, Targets, row-value, next, Decides, Jumps}
+use Rattle.trial.specs.Inner.Jumps.{entry, Parent, past, is-and, Wired, Targets, row-value, next, Decides, Jumps}
 use Rattle.trial.proofs.Span.{end-of, end-bound, end-behind, end-within, end-tree}
 
 -- a list from a row on

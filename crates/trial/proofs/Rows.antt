@@ -17,7 +17,7 @@ use Rattle.subtrees.proofs.Forest.{rest, sound-at, stepped-at}
 use Rattle.subtrees.proofs.Table.{children-top}
 use Rattle.subtrees.proofs.Matrix.{sound-nodes}
 use Rattle.subtrees.proofs.Siblings.{row-top, end-subtree, root-end}
-use Rattle.trial.specs.Jumps.{entry}
+use Rattle.trial.specs.Inner.Jumps.{entry}
 use Rattle.trial.proofs.Span.{end-of, end-tree}
 
 module _ {s : Layout} (b : Bytes) (ok : Readable s b) (i : ℕ) (h : i < s .nodes) where

@@ -22,8 +22,8 @@ use Rattle.rows.specs.Formulas.{prefix-in, matrix-in, Readable}
 use Rattle.rows.specs.declared.Layout.{Layout}
 use Rattle.rows.proofs.Formulas.{length-prefix}
 use Rattle.trial.specs.declared.Outcome.{Outcome}
-use Rattle.trial.specs.Jumps.{values}
-use Rattle.trial.specs.Turns.{tried, prefix-row, unread, turns, semantic-tree, Ready, Turned}
+use Rattle.trial.specs.Inner.Jumps.{values}
+use Rattle.trial.specs.Inner.Turns.{tried, prefix-row, unread, turns, semantic-tree, Ready, Turned}
 
 -- the assignment
 

@@ -1,4 +1,4 @@
--- What Trial answers, and what its functions promise one another.
+-- What a reader of Trial's contract must believe.
 pub mod Answers
-pub mod Jumps
-pub mod Turns
+-- how its code goes about it
+pub mod Inner

@@ -18,8 +18,8 @@ ghost use Rattle.rows.specs.Formulas.{node-rows-in, matrix-in, Readable};
 ghost use Rattle.subtrees.specs.Ends.{Indexed};
 ghost use Rattle.checking.specs.Limits.{Manageable};
 ghost use Rattle.trial.specs.Answers.{tried-answer};
-ghost use Rattle.trial.specs.Jumps.{entry, Parent, Parents, past, Targets, Rooms, values, row-value, next, Jumps};
-ghost use Rattle.trial.specs.Turns.{tried, prefix-row, turns, semantic-tree, Playable, Ready, Turned};
+ghost use Rattle.trial.specs.Inner.Jumps.{entry, Parent, Parents, past, Targets, Rooms, values, row-value, next, Jumps};
+ghost use Rattle.trial.specs.Inner.Turns.{tried, prefix-row, turns, semantic-tree, Playable, Ready, Turned};
 
 // What Trial answers: the verdict and the leaves tried, or a refusal's number and place.
 pub enum Tried {

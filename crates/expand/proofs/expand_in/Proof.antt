@@ -5,7 +5,7 @@ use borrow.Author.Needs.{needs}
 use lib.ListN.{length}
 use Rattle.sheet.specs.Operations.{expand-call}
 use Rattle.rows.specs.Formats.{format-of}
-use Rattle.expand.specs.Plan.{Planned, Plans}
+use Rattle.expand.specs.Inner.Plan.{Planned, Plans}
 use Rattle.expand.proofs.Deciding.{by-its-variable, refused-quote, refused-call}
 use Rattle.expand.proofs.expand_in.Statement.{statement}
 use Rattle.expand.proofs.expand_in.Tie as tie

@@ -3,7 +3,7 @@ use mathlib.Core.Path.{subst}
 use borrow.Author.Needs.{needs}
 use lib.ListN.{length}
 use Rattle.rows.specs.Formats.{format-of}
-use Rattle.settle.specs.Plan.{Planned, Plans}
+use Rattle.settle.specs.Inner.Plan.{Planned, Plans}
 use Rattle.settle.proofs.Deciding.{refused-call, settled-call}
 use Rattle.settle.proofs.settle_in.Statement.{statement}
 use Rattle.settle.proofs.settle_in.Tie as tie

@@ -4,7 +4,7 @@ use native.Mathlib.Omega.{arith}
 use borrow.Author.Needs.{needs}
 use lib.ListN.{length}
 use Rattle.rows.specs.Formats.{format-of}
-use Rattle.solve.specs.Running.{Stepped}
+use Rattle.solve.specs.Inner.Running.{Stepped}
 use Rattle.solve.specs.declared.step.Step.{Step}
 use Rattle.solve.proofs.Turning.{Turn, turn-first, turn-next, turn-ended, turn-stopped}
 use Rattle.solve.proofs.go.Statement.{statement}

@@ -7,7 +7,7 @@ use lib.ListN.{length}
 use Rattle.formula.specs.Solve.{Run}
 use Rattle.rows.specs.Formats.{format-of}
 use Rattle.rows.specs.declared.Layout.{Layout}
-use Rattle.solve.specs.Running.{answered, shown}
+use Rattle.solve.specs.Inner.Running.{answered, shown}
 use Rattle.solve.proofs.Answering.{start-held, start-few, start-run}
 use Rattle.solve.proofs.run_raw.Statement.{statement}
 use Rattle.solve.proofs.run_raw.Tie as tie

@@ -3,7 +3,7 @@
 use mathlib.Core.Path.{sym, subst}
 use native.Mathlib.Omega.{arith}
 use Rattle.rows.specs.Formulas.{node-rows-in, matrix-in}
-use Rattle.trial.specs.Jumps.{Targets}
+use Rattle.trial.specs.Inner.Jumps.{Targets}
 use Rattle.rows.proofs.Formulas.{one-tree, length-nodes}
 use Rattle.trial.proofs.Rows.{end-entry}
 use Rattle.trial.proofs.Jumps.{jumps}

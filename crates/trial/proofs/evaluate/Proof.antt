@@ -8,7 +8,7 @@ use Rattle.formula.specs.Truth.{Assignment, eval}
 use Rattle.sheet.specs.Format.{Row}
 use Rattle.sheet.specs.Sheet.{trees, root}
 use Rattle.rows.specs.Formulas.{node-rows-in, matrix-in}
-use Rattle.trial.specs.Jumps.{values, next, Decides}
+use Rattle.trial.specs.Inner.Jumps.{values, next, Decides}
 use Rattle.rows.proofs.Formulas.{length-nodes}
 use Rattle.trial.proofs.Evaluation.{next-on, verdict-at}
 use Rattle.trial.proofs.evaluate.Statement.{statement}

@@ -1,7 +1,7 @@
 -- `trial::next` meets its contract.
 -- Assumes nothing.
 use Rattle.rows.specs.Formulas.{node-rows-in}
-use Rattle.trial.specs.Jumps.{values}
+use Rattle.trial.specs.Inner.Jumps.{values}
 use Rattle.trial.proofs.Rows.{children-row}
 use Rattle.trial.proofs.Evaluation.{next-child, next-high, next-low}
 use borrow.Author.Needs.{needs}

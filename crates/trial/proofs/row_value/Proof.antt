@@ -3,7 +3,7 @@
 use lib.ListN.{getD}
 use Rattle.sheet.specs.Format.{row}
 use Rattle.rows.specs.Formulas.{node-rows-in}
-use Rattle.trial.specs.Jumps.{values}
+use Rattle.trial.specs.Inner.Jumps.{values}
 use Rattle.trial.proofs.Rows.{kind-row, argument-row}
 use Rattle.trial.proofs.Evaluation.{value-literal, value-operator}
 use borrow.Author.Needs.{needs}

@@ -8,7 +8,7 @@ use lib.ListN.{length, length-set}
 use lib.Seq.{getD-set-same}
 use Rattle.sheet.specs.Format.{Row}
 use Rattle.rows.specs.Formulas.{node-rows-in}
-use Rattle.trial.specs.Jumps.{Targets}
+use Rattle.trial.specs.Inner.Jumps.{Targets}
 use Rattle.rows.proofs.Formulas.{length-nodes}
 use Rattle.trial.proofs.Rows.{kind-row, root-entry}
 use Rattle.trial.proofs.Loops.{Wiring, parents-more, wire-row}

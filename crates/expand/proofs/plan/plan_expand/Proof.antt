@@ -4,7 +4,7 @@ use Prim.Native.Nat.{ℕ}
 use borrow.Author.Needs.{needs}
 use Rattle.rows.specs.Formats.{format-of}
 use Rattle.stepping.specs.Admission.{Admits}
-use Rattle.expand.specs.Plan.{Plans}
+use Rattle.expand.specs.Inner.Plan.{Plans}
 use Rattle.expand.proofs.Deciding.{refused-before}
 use Rattle.expand.proofs.plan.plan_expand.Statement.{statement}
 use Rattle.expand.proofs.plan.plan_expand.Tie as tie

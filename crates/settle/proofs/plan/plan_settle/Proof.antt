@@ -4,7 +4,7 @@ use Prim.Native.Nat.{ℕ}
 use borrow.Author.Needs.{needs}
 use Rattle.rows.specs.Formats.{format-of}
 use Rattle.stepping.specs.Admission.{Admits}
-use Rattle.settle.specs.Plan.{Plans}
+use Rattle.settle.specs.Inner.Plan.{Plans}
 use Rattle.settle.proofs.Deciding.{refused-before}
 use Rattle.settle.proofs.plan.plan_settle.Statement.{statement}
 use Rattle.settle.proofs.plan.plan_settle.Tie as tie

@@ -13,7 +13,7 @@ use Rattle.rows.specs.Layouts.{rows-in}
 use Rattle.rows.specs.Formulas.{prefix-in, node-rows-in, matrix-in, Readable}
 use Rattle.rows.specs.declared.Layout.{Layout}
 use Rattle.trial.specs.declared.Outcome.{Outcome}
-use Rattle.trial.specs.Jumps.{Rooms, values, Jumps}
+use Rattle.trial.specs.Inner.Jumps.{Rooms, values, Jumps}
 
 -- the verdict and the leaves tried
 abbrev pub tried : Outcome → Tried

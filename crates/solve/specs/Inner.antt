@@ -1,0 +1,2 @@
+-- A run between two steps: definitions that no entry point cites.
+pub mod Running

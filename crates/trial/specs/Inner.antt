@@ -1,0 +1,3 @@
+-- What Trial's functions promise one another: definitions that no entry point cites.
+pub mod Jumps
+pub mod Turns
