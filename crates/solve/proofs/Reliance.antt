@@ -3,14 +3,13 @@
 -- Assumes nothing.
 use mathlib.Core.Path.{_≡_, refl, sym, ap, _∙_}
 use mathlib.Core.Bool.{true, false, true≢false}
-use mathlib.Core.List.{IsPrefix, getLast?}
-use mathlib.Core.Option.{some}
+use mathlib.Core.List.{IsPrefix}
 use Prim.Native.Nat.{ℕ, _≤_}
 use native.Mathlib.Omega.{arith}
 use lib.ListN.{length}
 use Rattle.formula.specs.Tree.{Formula}
 use Rattle.formula.specs.Truth.{truth}
-use Rattle.formula.specs.Solve.{State, ended as run-ended, stopped as run-stopped}
+use Rattle.formula.specs.Solve.{ended as run-ended, stopped as run-stopped}
 use Rattle.sheet.specs.Format.{Bytes, narrow}
 use Rattle.sheet.specs.Sheet.{formula, sheet as sheet-of}
 use Rattle.sheet.specs.Operations.{padded, is-refused, is-stopped, is-ended, solved, solve-call}
@@ -23,6 +22,7 @@ use Rattle.solve.specs.declared.Verdict.the-variants.{True, False}
 use Rattle.solve.specs.declared.Solved.{Solved}
 use Rattle.solve.specs.declared.Solved.the-variants.{Refused, Stopped, Ended}
 use Rattle.solve.specs.Answers.{verdict-of, solved-answer}
+use Rattle.solve.specs.Stops.{Stop}
 
 -- an answer r of the call solve(sheet, first, second), as its contract has it
 module _ (sheet first second : Bytes) (r : Solved) (contract : solved-answer r ≡ (solve-call narrow sheet first second) .answer) where
@@ -38,21 +38,14 @@ module _ (sheet first second : Bytes) (r : Solved) (contract : solved-answer r �
 
   -- a stop: the last of the states, which the answer shows, and what the first buffer then holds
   module _ (held : Bytes) (holds : held ≡ (solve-call narrow sheet first second) .first) where
-    pub record Stop (settled expanded : ℕ) : Type 0 where
-      pub state : State
-      pub is-last : getLast? (solve-states narrow sheet first second) ≡ some state
-      pub its-settled : state .settles ≡ settled
-      pub its-expanded : state .expands ≡ expanded
-      pub its-sheet : held ≡ padded (length first) (sheet-of narrow (state .formula))
-
-    pub stop-shown : {x settled expanded : ℕ} → r ≡ Stopped x settled expanded → Stop settled expanded
+    pub stop-shown : {x settled expanded : ℕ} → r ≡ Stopped x settled expanded → Stop sheet first second held settled expanded
     unfolding solved
     stop-shown {x} {settled} {expanded} e = by (solve-shows narrow sheet first second)
       where
         told : is-stopped x settled expanded ≡ (solve-call narrow sheet first second) .answer
         told = ap solved-answer (sym e) ∙ contract
 
-        by : Shows narrow sheet first second → Stop settled expanded
+        by : Shows narrow sheet first second → Stop sheet first second held settled expanded
         by (no-state n i a l) = let k = told ∙ a in let z : _≡_ {A = ℕ} 0 1 = cc in absurd (omega arith)
         by (last-state (run-ended v) s a h l) = let k = told ∙ a in let z : _≡_ {A = ℕ} 0 1 = cc in absurd (omega arith)
         by (last-state (run-stopped y) s a h l) =

@@ -1,0 +1,21 @@
+-- What a stopped answer of Solve shows.
+-- Assumes nothing.
+use mathlib.Core.Path.{_≡_}
+use mathlib.Core.List.{getLast?}
+use mathlib.Core.Option.{some}
+use Prim.Native.Nat.{ℕ}
+use lib.ListN.{length}
+use Rattle.formula.specs.Solve.{State}
+use Rattle.sheet.specs.Format.{Bytes, narrow}
+use Rattle.sheet.specs.Sheet.{sheet}
+use Rattle.sheet.specs.Operations.{padded}
+use Rattle.sheet.specs.Trace.{solve-states}
+
+-- The last state of the call solve(b, first, second), with the counts answered; its sheet stands in the first buffer, which now holds
+-- the bytes held.
+pub record Stop (b first second held : Bytes) (settled expanded : ℕ) : Type 0 where
+  pub state : State
+  pub is-last : getLast? (solve-states narrow b first second) ≡ some state
+  pub its-settled : state .settles ≡ settled
+  pub its-expanded : state .expands ≡ expanded
+  pub its-sheet : held ≡ padded (length first) (sheet narrow (state .formula))
