@@ -3,9 +3,13 @@
 //! of the one before by the compiled Tidy, Settle or Expand.
 
 use differential::compare::hexadecimal;
+use differential::NARROW;
 use outside::generate::{self, cases, Family, Limits, Rng};
 use outside::reference::*;
 use outside::with_deep_stack;
+
+const FORMAT: Format = NARROW.reading.format;
+const LONGEST: usize = FORMAT.longest_sheet();
 
 /// Where a run stands.
 #[derive(Debug, PartialEq, Eq)]
@@ -26,20 +30,20 @@ fn written(room: usize, operation: impl FnOnce(&mut [u8]) -> Answer<usize>) -> O
 }
 
 fn formula_of(state: &State) -> Formula {
-    parse(&state.sheet).expect("the sheet reached is a good one")
+    FORMAT.parse(&state.sheet).expect("the sheet reached is a good one")
 }
 
 /// The state after this one, unless it is decided or the raw sheet doesn't fit.
 fn step(state: &State, room: usize) -> Option<State> {
     let State { sheet, settled, expanded } = state;
-    let (sheet, settled, expanded) = match next_move(&formula_of(state)) {
+    let (sheet, settled, expanded) = match NARROW.reading.rules.next_move(&formula_of(state)) {
         Move::End(_) => return None,
         Move::Settle(x, _) => {
-            let settle = |output: &mut [u8]| differential::settle(sheet, x, output);
+            let settle = |output: &mut [u8]| NARROW.step(Operation::Settle, sheet, x, output);
             (written(room, settle)?, settled + 1, *expanded)
         }
         Move::Expand(x) => {
-            let expand = |output: &mut [u8]| differential::expand(sheet, x, output);
+            let expand = |output: &mut [u8]| NARROW.step(Operation::Expand, sheet, x, output);
             (written(room, expand)?, *settled, expanded + 1)
         }
     };
@@ -49,7 +53,7 @@ fn step(state: &State, room: usize) -> Option<State> {
 /// All states of a run in buffers of which the shorter has `room` bytes; none
 /// if the sheet is refused.
 fn states(sheet: &[u8], room: usize) -> Vec<State> {
-    let tidied = written(room, |output| differential::tidy(sheet, output));
+    let tidied = written(room, |output| NARROW.tidy(sheet, output));
     let first = tidied.map(|sheet| State { sheet, settled: 0, expanded: 0 });
     std::iter::successors(first, |state| step(state, room)).collect()
 }
@@ -58,16 +62,16 @@ fn states(sheet: &[u8], room: usize) -> Vec<State> {
 /// own and those of the raw sheets on the way; any length, and the longest.
 fn lengths(rng: &mut Rng, sheet: &[u8]) -> Vec<usize> {
     let mut lengths = vec![sheet.len()];
-    for state in states(sheet, PROGRAM_BUFFER) {
+    for state in states(sheet, LONGEST) {
         let formula = formula_of(&state);
-        if let Move::Expand(x) = next_move(&formula) {
-            lengths.push(sheet_length(formula.prefix.len() - 1, raw_rows(&formula, x)));
+        if let Move::Expand(x) = NARROW.reading.rules.next_move(&formula) {
+            lengths.push(FORMAT.sheet_length(formula.prefix.len() - 1, raw_rows(&formula, x)));
         }
     }
     let mut lengths: Vec<usize> =
         lengths.into_iter().flat_map(|length| [length.saturating_sub(1), length]).collect();
-    lengths.extend([rng.below(PROGRAM_BUFFER), PROGRAM_BUFFER]);
-    lengths.retain(|&length| length <= PROGRAM_BUFFER);
+    lengths.extend([rng.below(LONGEST), LONGEST]);
+    lengths.retain(|&length| length <= LONGEST);
     lengths.sort_unstable();
     lengths.dedup();
     lengths
@@ -81,7 +85,7 @@ struct Run {
 /// Solve's answer and first buffer show the last of the states.
 fn run(rng: &mut Rng, sheet: &[u8], rooms: (usize, usize)) -> Run {
     let (mut first, mut second) = (generate::dirty(rng, rooms.0), generate::dirty(rng, rooms.1));
-    let answer = differential::solve(sheet, &mut first, &mut second);
+    let answer = NARROW.solve(sheet, &mut first, &mut second);
     let states = states(sheet, rooms.0.min(rooms.1));
     match (answer, states.last()) {
         (SolveAnswer::Refused(..), None) => {}
@@ -146,8 +150,8 @@ impl Seen {
 fn small_sheets_good_and_damaged() {
     let mut seen = Seen::default();
     cases(20_000, |rng| {
-        let sheet = generate::sheet(rng, Limits::SMALL);
-        let damaged = generate::damage(rng, &sheet);
+        let sheet = generate::sheet(rng, Limits::small(FORMAT));
+        let damaged = generate::damage(rng, FORMAT, &sheet);
         seen.compare_all(rng, &sheet);
         seen.compare_all(rng, &damaged);
     });
@@ -162,10 +166,11 @@ fn sheets_that_take_many_steps() {
         let mut seen = Seen::default();
         cases(250, |rng| {
             let (variables, nodes) = (rng.between(10, 60), rng.between(100, 900));
+            let limits = Limits { format: FORMAT, variables, nodes };
             let family = rng.pick(&[Family::Clauses, Family::Tidy, Family::Parity]);
-            let several = generate::alternating_formula(rng, family, variables, nodes);
-            for formula in [generate::solver_formula(rng), several] {
-                seen.compare_all(rng, &encode(&formula));
+            let several = generate::alternating_formula(rng, family, limits);
+            for formula in [generate::solver_formula(rng, FORMAT), several] {
+                seen.compare_all(rng, &FORMAT.encode(&formula));
             }
         });
         println!("{seen:?}");
