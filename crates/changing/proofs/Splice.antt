@@ -12,7 +12,7 @@ use Rattle.sheet.specs.Format.{Bytes, Row, zip-rows}
 use Rattle.sheet.specs.Sheet.{row-kinds, row-arguments}
 use Rattle.sheet.proofs.Every.{Every}
 use Rattle.sheet.proofs.Parts.{ArgumentFits, zip-rows-rows, length-row-kinds, length-row-arguments, length-zip-rows}
-use Rattle.rows.specs.Layouts.{total, rows-in, Room, Kept}
+use Rattle.rows.specs.Layouts.{total, kind-place, argument-place, rows-in, Room, Kept}
 use Rattle.rows.specs.declared.Layout.{Layout}
 use Rattle.rows.proofs.Layouts.{length-rows-in}
 use Rattle.changing.specs.Output.{Ready, spliced, Laid}
@@ -224,19 +224,20 @@ ready-on {t = t} r e =
 
 -- the arguments of k rows have their place, by either layout's width
 pub arguments-room : {s t : Layout} {b out : Bytes} → Ready s b t out → (at k : ℕ) → at + k ≤ total t
-    → 2 * s .width + total t + s .width * at + s .width * k ≤ length out
+    → argument-place t at + s .width * k ≤ length out
 arguments-room {s} {t} ready at k h =
     rw (← ready .same-width)
     (omega (arith, ready .room .holds, add-mul 1 (t .width) (total t), one-mul (total t), mul-add (t .width) at k, mul-le-mul-left (t .width) h))
 
 pub copied-laid : {s t : Layout} {b : Bytes} (d : Bytes) → Ready s b t d → (at : ℕ) (new : List Row) → Every (ArgumentFits (s .width)) new → (k : ℕ)
-    → length new ≡ k → at + k ≤ total t → {mid out : Bytes} → mid ≡ spliced (2 * s .width + at) (row-kinds new) d
-    → out ≡ spliced (2 * s .width + total t + s .width * at) (row-arguments (s .width) new) mid → Laid t d out at (at + k) new
-copied-laid {s} {t} d ready at new fits k counted within first second =
+    → length new ≡ k → at + k ≤ total t → {kinds arguments : ℕ} → kinds ≡ kind-place t at → arguments ≡ argument-place t at
+    → {mid out : Bytes} → mid ≡ spliced kinds (row-kinds new) d → out ≡ spliced arguments (row-arguments (s .width) new) mid
+    → Laid t d out at (at + k) new
+copied-laid {s} {t} d ready at new fits k counted within at-kinds at-arguments first second =
     subst₂ (λ n out. Laid t d out at (at + n) new) counted
     (sym
-    (second ∙ ap (spliced (2 * s .width + total t + s .width * at) (row-arguments (s .width) new)) first ∙
-    ap (λ w. spliced (2 * w + total t + w * at) (row-arguments w new) (spliced (2 * w + at) (row-kinds new) d)) (sym (ready .same-width))))
+    (second ∙ ap₂ (λ i mid. spliced i (row-arguments (s .width) new) mid) at-arguments (first ∙ ap (λ i. spliced i (row-kinds new) d) at-kinds) ∙
+    ap (λ w. spliced (argument-place t at) (row-arguments w new) (spliced (kind-place t at) (row-kinds new) d)) (sym (ready .same-width))))
     (copy-laid t d (ready .room) at new (rw (ready .same-width) fits) (omega arith))
 
 pub row-laid : (t : Layout) (d : Bytes) → Room t (length d) → (at : ℕ) (r : Row) → at < total t → {out : Bytes}

@@ -8,7 +8,7 @@ use rows::NEGATIVE;
 use rows::NUMBERS;
 use rows::OR;
 use rows::POSITIVE;
-use rows::bytes::put_number;
+use rows::bytes::put_nth;
 use rows::read::argument_at;
 use rows::read::kind_at;
 ghost use mathlib.Core.Path.{_≡_};
@@ -91,13 +91,12 @@ pub fn copy_arguments(b: &[u8], s: Layout, table: &[u16], span: Span, out: &mut 
     requires { ⌜ Room s (length (now b)) × Within span s × (s .width * extent span ≤ length (now out)) ⌝ }
     ensures { λ _. ⌜ now (out .exit) ≡ row-arguments (s .width) (copy-in s (now (b .entry)) (now (table .entry)) span) ++ drop (s .width * extent span) (now (out .entry)) ⌝ }
 {
-    let width = s.width;
     let from = span.from;
     let to = span.to;
     let mut i = from;
     while i < to {
         let argument = changed_argument(b, s, table, i);
-        put_number(out, width * (i - from), width, argument);
+        put_nth(out, i - from, s.width, argument);
         i += 1;
     }
 }

@@ -4,6 +4,8 @@ use crate::Target;
 use crate::copy::copy_arguments;
 use crate::copy::copy_kinds;
 use rows::Layout;
+use rows::places::argument_place;
+use rows::places::kind_place;
 use rows::write::set_row;
 ghost use mathlib.Core.Path.{_≡_};
 ghost use mathlib.Core.List.{[], _∷_};
@@ -53,11 +55,10 @@ pub fn write_copy(
     ensures { λ next. ⌜ Laid (to .layout) (now (out .entry)) (now (out .exit)) (to .at) next (copy-in s (now (b .entry)) (now (table .entry)) span) ⌝ }
     ensures { λ next. ⌜ next ≡ to .at + extent span ⌝ }
 {
-    let width = s.width;
     let at = to.at;
     let t = to.layout;
-    let kinds = 2 * width + at;
-    let arguments = 2 * width + (t.variables + t.nodes) + width * at;
+    let kinds = kind_place(t, at);
+    let arguments = argument_place(t, at);
     let next = at + (span.to - span.from);
     write_kinds(b, s, table, span, out, kinds);
     write_arguments(b, s, table, span, out, arguments);

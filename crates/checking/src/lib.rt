@@ -8,10 +8,12 @@ use rows::NUMBERS;
 use rows::OR;
 use rows::POSITIVE;
 use rows::fit::sheet_length;
-use rows::number_at;
+use rows::places::header;
 use rows::read::argument_at;
 use rows::read::children_at;
 use rows::read::kind_at;
+use rows::read::nodes_at;
+use rows::read::variables_at;
 ghost use mathlib.Core.Path.{_≡_};
 ghost use mathlib.Core.Bool.{false};
 ghost use mathlib.Core.List.{[]};
@@ -62,12 +64,11 @@ fn check_sizes(sheet: &[u8], f: Format) -> Checked
     requires { ⌜ Manageable (format-of f) ⌝ }
     ensures { λ r. ⌜ checked-answer r ≡ size-answer (format-of f) (now (sheet .entry)) ⌝ }
 {
-    let width = f.width;
-    if sheet.len() < 2 * width {
+    if sheet.len() < header(f) {
         return Checked::Refused(1, 0);
     }
-    let v = number_at(sheet, 0, width);
-    let n = number_at(sheet, width, width);
+    let v = variables_at(sheet, f);
+    let n = nodes_at(sheet, f);
     let outside = is_outside(f, v, n);
     let exact = sheet.len() == sheet_length(f, v, n);
     if outside {

@@ -1,6 +1,6 @@
 -- The kind bytes of a subtree: the rows from its own to where the debt walk ends.
 -- Assumes nothing.
-use mathlib.Core.Path.{_≡_, refl, sym, ap, _∙_}
+use mathlib.Core.Path.{_≡_, refl, sym, ap, ap₂, _∙_}
 use mathlib.Core.Bool.{false}
 use mathlib.Core.List.{List, [], _∷_}
 use Prim.Native.Nat.{ℕ, zero, suc, _+_, _*_, _-_, _≤_, _<_}
@@ -11,7 +11,7 @@ use borrow.Author.Tests.{lt-ltb, le-ltb}
 use Rattle.sheet.specs.Format.{Bytes, Format, Row, nodes, kind-bytes}
 use Rattle.sheet.specs.Check.{passes, check-tests}
 use Rattle.sheet.specs.Operations.{span, part-call}
-use Rattle.rows.specs.Layouts.{total, rows-in, Room}
+use Rattle.rows.specs.Layouts.{total, kind-place, rows-in, Room}
 use Rattle.rows.specs.declared.Layout.{Layout}
 use Rattle.rows.proofs.Layouts.{all-rows-in, length-rows-in}
 use Rattle.checking.specs.declared.Reached.{Reached}
@@ -57,10 +57,10 @@ module _ {F : Format} {b : Bytes} {s : Layout} (i : ℕ) (h : Sheet F b s) where
     unfolding part-call kind-bytes
     own = rw (h .layout-is, h .tests-pass, lt-ltb i (nodes F b) (omega (arith, nodes-are)), all-rows-in F b)
 
-    pub part-here : take (2 * s .width + w .row - (2 * s .width + (s .variables + i))) (drop (2 * s .width + (s .variables + i)) b) ≡
-        part-call F b i
-    part-here =
-        ap (λ k. take k (drop (2 * s .width + (s .variables + i)) b)) covered ∙
+    pub part-here : {from to : ℕ} → from ≡ kind-place s (s .variables + i) → to ≡ kind-place s (w .row)
+        → take (to - from) (drop from b) ≡ part-call F b i
+    part-here start end =
+        ap₂ (λ k m. take (k - m) (drop m b)) end start ∙ ap (λ k. take k (drop (2 * s .width + (s .variables + i)) b)) covered ∙
         rw (← drop-drop (s .variables + i) (2 * s .width) b)
         (sym (take-drop-take (s .variables + i) (span 1 subtree) (total s) (drop (2 * s .width) b) within)) ∙
         own

@@ -2,6 +2,7 @@
 use checking::Checked;
 use rows::Format;
 use rows::Layout;
+use rows::places::kind_place;
 ghost use mathlib.Core.Path.{_≡_};
 ghost use Rattle.sheet.specs.Format.{narrow};
 ghost use Rattle.sheet.specs.Operations.{part-call};
@@ -27,9 +28,9 @@ fn part_in<'a>(sheet: &'a [u8], f: Format, node: usize) -> &'a [u8]
     };
     let first = variables + node;
     let end = checking::walk(sheet, s, first);
-    let last = end.row;
-    let kinds = 2 * f.width;
-    &sheet[kinds + first..kinds + last]
+    let from = kind_place(s, first);
+    let to = kind_place(s, end.row);
+    &sheet[from..to]
 }
 
 // The kind bytes that the subtree of a node covers, from 0 for the root on; none if Check refuses the sheet or there is no such node.

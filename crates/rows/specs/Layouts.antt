@@ -15,6 +15,13 @@ total s = s .variables + s .nodes
 abbrev pub size : Layout → ℕ
 size s = 2 * s .width + (1 + s .width) * total s
 
+-- where the kind of row r stands, and where its argument begins
+abbrev pub kind-place : Layout → ℕ → ℕ
+kind-place s r = 2 * s .width + r
+
+abbrev pub argument-place : Layout → ℕ → ℕ
+argument-place s r = 2 * s .width + total s + s .width * r
+
 unfoldable pub rows-in : Layout → Bytes → List Row
 rows-in s b = zip-rows (s .width) (take (total s) (drop (2 * s .width) b)) (drop (2 * s .width + total s) b)
 

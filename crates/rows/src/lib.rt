@@ -7,6 +7,7 @@ ghost use Rattle.rows.specs.Formats.{format-of};
 
 pub mod bytes;
 pub mod fit;
+pub mod places;
 pub mod read;
 pub mod write;
 

@@ -1,19 +1,39 @@
-// Rows read by their number, counted over the whole sheet.
+// Sizes, and rows by their number, counted over the whole sheet.
+use crate::Format;
 use crate::Layout;
 use crate::NEGATIVE;
 use crate::number_at;
+use crate::places::argument_place;
+use crate::places::kind_place;
 ghost use mathlib.Core.Path.{_≡_};
-ghost use Prim.Native.Nat.{_^_, _<_};
+ghost use Prim.Native.Nat.{_^_, _≤_, _<_};
 ghost use lib.ListN.{length, getD};
-ghost use Rattle.sheet.specs.Format.{row, children};
+ghost use Rattle.sheet.specs.Format.{header, variables, nodes, row, children};
+ghost use Rattle.rows.specs.Formats.{format-of};
 ghost use Rattle.rows.specs.Layouts.{total, rows-in, Room};
+
+// V, as a sheet's first bytes say it.
+pub fn variables_at(b: &[u8], f: Format) -> usize
+    requires { ⌜ (header (format-of f) ≤ length (now b)) × (f .width ≤ 4) ⌝ }
+    ensures { λ r. ⌜ (r ≡ variables (format-of f) (now (b .entry))) × (r < 2 ^ 32) ⌝ }
+{
+    number_at(b, 0, f.width)
+}
+
+// N, as the bytes behind V say it.
+pub fn nodes_at(b: &[u8], f: Format) -> usize
+    requires { ⌜ (header (format-of f) ≤ length (now b)) × (f .width ≤ 4) ⌝ }
+    ensures { λ r. ⌜ (r ≡ nodes (format-of f) (now (b .entry))) × (r < 2 ^ 32) ⌝ }
+{
+    number_at(b, f.width, f.width)
+}
 
 // The kind of row `r`.
 pub fn kind_at(b: &[u8], s: Layout, r: usize) -> u8
     requires { ⌜ Room s (length (now b)) × (r < total s) ⌝ }
     ensures { λ k. ⌜ k ≡ (getD (rows-in s (now (b .entry))) r (row 0 0)) .kind ⌝ }
 {
-    b[2 * s.width + r]
+    b[kind_place(s, r)]
 }
 
 // The argument of row `r`.
@@ -21,8 +41,7 @@ pub fn argument_at(b: &[u8], s: Layout, r: usize) -> usize
     requires { ⌜ Room s (length (now b)) × (r < total s) ⌝ }
     ensures { λ a. ⌜ (a ≡ (getD (rows-in s (now (b .entry))) r (row 0 0)) .argument) × (a < 2 ^ 32) ⌝ }
 {
-    let width = s.width;
-    number_at(b, 2 * width + (s.variables + s.nodes) + width * r, width)
+    number_at(b, argument_place(s, r), s.width)
 }
 
 // How many children row `r` adds to the tree.

@@ -3,6 +3,8 @@ use crate::Layout;
 use crate::bytes::clear;
 use crate::bytes::move_down;
 use crate::bytes::put_number;
+use crate::places::argument_place;
+use crate::places::kind_place;
 ghost use mathlib.Core.Path.{_≡_};
 ghost use Prim.Native.Nat.{_+_, _*_, _^_, _≤_, _<_};
 ghost use lib.ListN.{length, set};
@@ -15,14 +17,8 @@ pub fn set_row(b: &mut [u8], s: Layout, r: usize, kind: u8, argument: usize)
     ensures { λ _. ⌜ rows-in s (now (b .exit)) ≡ set (rows-in s (now (b .entry))) r (row kind argument) ⌝ }
     ensures { λ _. ⌜ Kept s (now (b .entry)) (now (b .exit)) ⌝ }
 {
-    let width = s.width;
-    b[2 * width + r] = kind;
-    put_number(
-        b,
-        2 * width + (s.variables + s.nodes) + width * r,
-        width,
-        argument,
-    );
+    b[kind_place(s, r)] = kind;
+    put_number(b, argument_place(s, r), s.width, argument);
 }
 
 // Makes the first `m` rows a sheet of as many variables, with zeros behind it, and returns its length.

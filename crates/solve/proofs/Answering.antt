@@ -14,7 +14,7 @@ use Rattle.formula.specs.Tidy.{tidied}
 use Rattle.formula.specs.Solve.{Run, run, solve}
 use Rattle.formula.proofs.Tidy.Growth.{rows-tidy}
 use Rattle.formula.proofs.Steps.{proper-tidied}
-use Rattle.sheet.specs.Format.{Bytes, Format, sheet-length, number, fits}
+use Rattle.sheet.specs.Format.{Bytes, Format, sheet-length, nodes, fits}
 use Rattle.sheet.specs.Sheet.{formula, formula-rows, sheet}
 use Rattle.sheet.specs.Check.{Answer, refused, accepted, test, answer, check-tests, check}
 use Rattle.sheet.specs.Operations.{padded, tidy-tests, Solved, is-refused, Solving, solving, solve-call}
@@ -82,12 +82,8 @@ module _ {F : Format} {s : Layout} {first second : Bytes} (r : RawReady F s firs
         r .has-room,
       )
 
-  -- the nodes stand in it
-  pub nodes-within : {len : ℕ} → len ≡ length first → F .width + F .width ≤ len
-  nodes-within e = omega (arith, header-within F (tidied f), tidied-short, e)
-
   module _ {most : ℕ} (shorter : most ≡ room first second) {new : Bytes} (new-is : new ≡ padded (length first) (sheet F (tidied f))) {t : Layout}
-      (at : t ≡ record { width = s .width; variables = s .variables; nodes = number (take (F .width) (drop (F .width) new)) }) where
+      (at : t ≡ record { width = s .width; variables = s .variables; nodes = nodes F new }) where
     abbrev start : State
     start = record { sheet = t; settled = 0; expanded = 0 }
 
@@ -97,7 +93,7 @@ module _ {F : Format} {s : Layout} {first second : Bytes} (r : RawReady F s firs
         hold (r .countable) (tidied f) (within-tidied F f (r .within)) (length first)
         (proper-tidied f (r .within .is-distinct) (r .within .is-closed) .is-neat) (omega (arith, shorter, tidied-short)) (omega (arith, shorter))
         (at ∙
-        ap (λ (w : ℕ). record { width = w; variables = s .variables; nodes = number (take (F .width) (drop (F .width) new)) }) (r .raw .width-is) ∙
+        ap (λ (w : ℕ). record { width = w; variables = s .variables; nodes = nodes F new }) (r .raw .width-is) ∙
         ap₂ (λ (v n : ℕ). record { width = F .width; variables = v; nodes = n }) (sym variables-are)
         (nodes-read F (tidied f) (r .countable) (within-tidied F f (r .within)) (length first) new-is))
         new-is

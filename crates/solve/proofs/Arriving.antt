@@ -20,7 +20,7 @@ use Rattle.formula.proofs.Booleans.{and-parts}
 use Rattle.formula.proofs.Closed.{length-without}
 use Rattle.formula.proofs.Choice.{lowest-chosen, cheapest-chosen}
 use Rattle.formula.proofs.Steps.{proper-settled, rows-settled, proper-expanded, rows-expanded}
-use Rattle.sheet.specs.Format.{Bytes, Format, sheet-length, number, fits}
+use Rattle.sheet.specs.Format.{Bytes, Format, sheet-length, nodes, fits}
 use Rattle.sheet.specs.Sheet.{sheet}
 use Rattle.sheet.specs.Operations.{padded}
 use Rattle.sheet.specs.Limits.{Within}
@@ -69,7 +69,7 @@ module _ {F : Format} (k : Countable F) {most v : ℕ} {g : Formula} (a : Arrive
       }
 
   module _ (old : ℕ) {t : Layout} {b : Bytes} (room : most ≤ old) (in-first : b ≡ padded old (take bytes c))
-      (at : t ≡ record { width = F .width; variables = v; nodes = number (take (F .width) (drop (F .width) c)) }) where
+      (at : t ≡ record { width = F .width; variables = v; nodes = nodes F c }) where
     arrived : (formula-in t b ≡ g) × Held F most t b
     arrived =
         hold k g (a .within) old (a .is-neat) (a .short) room

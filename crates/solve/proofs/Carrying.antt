@@ -40,7 +40,7 @@ module _ (F : Format) (f : Formula) where
 
   -- and its nodes are read from it
   pub nodes-read : Countable F → Within F f → (len : ℕ) {b : Bytes} → b ≡ padded len (sheet F f)
-      → number (take (F .width) (drop (F .width) b)) ≡ rows (f .matrix)
+      → nodes F b ≡ rows (f .matrix)
   unfolding padded nodes
   nodes-read k h len e =
       let s = sheet F f in

@@ -6,7 +6,7 @@ use checking::Checked;
 use rows::Format;
 use rows::Layout;
 use rows::bytes::clear;
-use rows::number_at;
+use rows::read::nodes_at;
 use tidying::copy_front;
 use tidying::tidy_in_place;
 ghost use mathlib.Core.Path.{_≡_};
@@ -96,7 +96,7 @@ pub fn run_raw(first: &mut [u8], second: &mut [u8], f: Format, s: Layout) -> Sol
     let sheet = Layout {
         width: s.width,
         variables: s.variables,
-        nodes: number_at(first, f.width, f.width),
+        nodes: nodes_at(first, f),
     };
     let start = State {
         sheet: sheet,

@@ -14,7 +14,7 @@ use rows::NUMBERS;
 use rows::ROWS;
 use rows::bytes::clear;
 use rows::fit::fits;
-use rows::number_at;
+use rows::read::nodes_at;
 use stepping::expanding::expand_into;
 use stepping::expanding::prepare;
 use stepping::settling::Put;
@@ -22,9 +22,9 @@ use stepping::settling::settle_into;
 use subtrees::ends::fill_ends;
 use tidying::copy_front;
 ghost use mathlib.Core.Path.{_≡_};
-ghost use lib.ListN.{length, take, drop};
+ghost use lib.ListN.{length, take};
 ghost use Rattle.sheet.specs.Operations.{padded};
-ghost use Rattle.sheet.specs.Format.{number};
+ghost use Rattle.sheet.specs.Format.{nodes};
 ghost use Rattle.rows.specs.Formats.{format-of};
 ghost use Rattle.subtrees.specs.Ends.{Indexed};
 ghost use Rattle.solve.specs.Inner.Running.{Ready, Open, Settles, Unsettled, Fetchable, Stepped};
@@ -40,14 +40,14 @@ pub enum Step {
 fn fetch(first: &mut [u8], second: &[u8], f: Format, v: usize, bytes: usize) -> Layout
     requires { ⌜ Fetchable (format-of f) bytes (now first) (now second) ⌝ }
     ensures { λ _. ⌜ now (first .exit) ≡ padded (length (now (first .entry))) (take bytes (now (second .entry))) ⌝ }
-    ensures { λ t. ⌜ t ≡ record { width = f .width; variables = v; nodes = number (take (f .width) (drop (f .width) (now (second .entry)))) } ⌝ }
+    ensures { λ t. ⌜ t ≡ record { width = f .width; variables = v; nodes = nodes (format-of f) (now (second .entry)) } ⌝ }
 {
     copy_front(&second[..bytes], first);
     clear(first, bytes);
     Layout {
         width: f.width,
         variables: v,
-        nodes: number_at(second, f.width, f.width),
+        nodes: nodes_at(second, f),
     }
 }
 

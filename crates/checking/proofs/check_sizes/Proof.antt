@@ -1,26 +1,26 @@
 -- `checking::check_sizes` meets its contract: each return is the first of the three tests that fails. Assumes nothing.
 use mathlib.Core.Path.{sym, _∙_}
 use borrow.Author.Needs.{needs}
+use native.Mathlib.Omega.{arith}
 use borrow.Author.Tests.{not-true, not-false}
-use Rattle.sheet.specs.Format.{variables, nodes}
 use Rattle.rows.specs.Formats.{format-of}
 use Rattle.checking.proofs.Sizes.{SizesRead, too-short, size-outside, wrong-length, right-length}
 use Rattle.checking.proofs.check_sizes.Statement.{statement}
 use Rattle.checking.proofs.check_sizes.Tie as tie
 
-mul-if1 : tie.Need-mul-if1
-mul-if1 c = search needs
+header-requires : tie.Need-header-requires
+header-requires c κs = search needs
 
 returns : tie.Need-returns
 returns c =
-    let a = c .before .before .args in
-    too-short (format-of (a .f)) (a .sheet .now) (c .if1 .taken)
+    let a = c .before .before .before .args in
+    too-short (format-of (a .f)) (a .sheet .now) (omega (arith, c .before .header .ensures))
 
-number-at-requires : tie.Need-number-at-requires
-number-at-requires c κs = search needs
+variables-at-requires : tie.Need-variables-at-requires
+variables-at-requires c κs = search needs
 
-number-at-requires-2 : tie.Need-number-at-requires-2
-number-at-requires-2 c κs = search needs
+nodes-at-requires : tie.Need-nodes-at-requires
+nodes-at-requires c κs = search needs
 
 is-outside-requires : tie.Need-is-outside-requires
 is-outside-requires c κs = search needs
@@ -28,15 +28,14 @@ is-outside-requires c κs = search needs
 sheet-length-requires : tie.Need-sheet-length-requires
 sheet-length-requires c κs = search needs
 
-read : (c : tie.After-number-at2)
-    → SizesRead (format-of (c .before .before .before .before .args .f)) (c .before .before .before .before .args .sheet .now)
-    (c .before .number-at .result) (c .number-at2 .result)
-unfolding variables nodes
+read : (c : tie.After-nodes-at)
+    → SizesRead (format-of (c .before .before .before .before .before .args .f)) (c .before .before .before .before .before .args .sheet .now)
+    (c .before .variables-at .result) (c .nodes-at .result)
 read c =
     record {
-      long-enough = c .before .before .if1 .left;
-      variables-read = c .before .number-at .ensures .0;
-      nodes-read = c .number-at2 .ensures .0;
+      long-enough = omega (arith, c .before .before .if1 .left, c .before .before .before .header .ensures);
+      variables-read = c .before .variables-at .ensures .0;
+      nodes-read = c .nodes-at .ensures .0;
     }
 
 returns-2 : tie.Need-returns-2
@@ -62,10 +61,10 @@ pub check-sizes-spec : {M : Type 1} → statement M
 check-sizes-spec =
     tie.close
     (tie.spec
-    mul-if1
+    header-requires
     returns
-    number-at-requires
-    number-at-requires-2
+    variables-at-requires
+    nodes-at-requires
     is-outside-requires
     sheet-length-requires
     returns-2

@@ -85,29 +85,28 @@ end c =
       ends-within _ (checked s) room (c .before .if1 .left) (c .walk .result) (c .walk .ensures),
     )
 
-mul-kinds : tie.Need-mul-kinds
-mul-kinds c = search needs
+kind-place-requires : tie.Need-kind-place-requires
+kind-place-requires c κs = omega (arith, readable (accepted c))
 
-add-result : tie.Need-add-result
-add-result c = omega (arith, readable (accepted (c .before)))
-
-add-result-2 : tie.Need-add-result-2
-add-result-2 c = omega (arith, readable (accepted (c .before)), end (c .before))
+kind-place-requires-2 : tie.Need-kind-place-requires-2
+kind-place-requires-2 c κs = omega (arith, readable (accepted (c .before)), end (c .before))
 
 sub-result-3 : tie.Need-sub-result-3
-sub-result-3 c = omega (arith, end (c .before))
+sub-result-3 c = omega (arith, end (c .before .before), c .before .kind-place .ensures, c .kind-place2 .ensures)
 
 part-result-start-3 : tie.Need-part-result-start-3
-part-result-start-3 c = omega (arith, end (c .before))
+part-result-start-3 c = omega (arith, end (c .before .before), c .before .kind-place .ensures, c .kind-place2 .ensures)
 
 part-result-end-3 : tie.Need-part-result-end-3
-part-result-end-3 c = omega (arith, readable (accepted (c .before)), end (c .before))
+part-result-end-3 c = omega (arith, readable (accepted (c .before .before)), end (c .before .before), c .kind-place2 .ensures)
 
 returns-3 : tie.Need-returns-3
 returns-3 c =
-    let w = c .before .before in
+    let places = c .before in
+    let w = places .before .before in
     let s = accepted w in
     part-here _ (checked s) (readable s .room) (w .before .if1 .left) (w .walk .result) (w .walk .ensures)
+    (places .before .kind-place .ensures) (places .kind-place2 .ensures)
 
 pub part-in-spec : {M : Type 1} → statement M
 part-in-spec =
@@ -126,9 +125,8 @@ part-in-spec =
     returns-2
     add-first
     walk-requires
-    mul-kinds
-    add-result
-    add-result-2
+    kind-place-requires
+    kind-place-requires-2
     sub-result-3
     part-result-start-3
     part-result-end-3

@@ -18,8 +18,8 @@ shorter-requires c κs = search needs
 tidy-in-place-requires : tie.Need-tidy-in-place-requires
 tidy-in-place-requires c κs = search needs
 
-number-at-requires : tie.Need-number-at-requires
-number-at-requires c κs = search needs
+nodes-at-requires : tie.Need-nodes-at-requires
+nodes-at-requires c κs = search needs
 
 run-requires : tie.Need-run-requires
 run-requires c κs =
@@ -27,7 +27,7 @@ run-requires c κs =
     let tidied = numbered .before .before .before .before in
     let a = tidied .before .before .before .before .before in
     let layout : ℕ → Layout = λ n. record { width = a .args .s .width; variables = a .args .s .variables; nodes = n } in
-    let at = ap layout (numbered .number-at .ensures .0) in
+    let at = ap layout (numbered .nodes-at .ensures .0) in
     let new = tidied .tidy-in-place .ensures .0 in
     let most = tidied .before .before .shorter .ensures in
     let same = tidied .tidy-in-place .kept .0 in
@@ -52,7 +52,7 @@ returns c =
     let tidied = numbered .before .before .before .before in
     let a = tidied .before .before .before .before .before in
     let layout : ℕ → Layout = λ n. record { width = a .args .s .width; variables = a .args .s .variables; nodes = n } in
-    let at = ap layout (numbered .number-at .ensures .0) in
+    let at = ap layout (numbered .nodes-at .ensures .0) in
     let new = tidied .tidy-in-place .ensures .0 in
     let most = tidied .before .before .shorter .ensures in
     let same = start-run (a .pre) most new at in (
@@ -69,7 +69,7 @@ run-raw-spec =
     (tie.spec
     shorter-requires
     tidy-in-place-requires
-    number-at-requires
+    nodes-at-requires
     run-requires
     same-length
     same-length-2

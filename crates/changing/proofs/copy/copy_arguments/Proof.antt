@@ -12,11 +12,11 @@ use Rattle.changing.proofs.copy.copy_arguments.Statement.{statement}
 use Rattle.changing.proofs.copy.copy_arguments.Tie as tie
 
 abbrev Inv-loop : tie.InvT-loop
-Inv-loop b s table out₀ width from to i₀ out i =
+Inv-loop b s table out₀ from to i₀ out i =
     Copied (row-arguments (s .width)) (s .width) table from to (rows-in s b) out₀ out i
 
 abbrev μ-loop : tie.MeasureT-loop
-μ-loop b s table out₀ width from to i₀ out i = to - i
+μ-loop b s table out₀ from to i₀ out i = to - i
 
 inside : (a : tie.Start Inv-loop μ-loop) → a .args .span .to ≤ length (rows-in (a .args .s) (a .args .b .now))
 inside a = omega (arith, length-rows-in (a .args .b .now) (a .pre .0), a .pre .1 .inside)
@@ -42,14 +42,11 @@ changed-argument-requires c κs =
     let a = c .before .before .before .before .before in
     (a .pre .0, omega (arith, a .pre .1 .inside))
 
-sub-put-number : tie.Need-sub-put-number Inv-loop μ-loop
-sub-put-number c = omega (arith, c .before .before .before .loop .inv .start)
+sub-put-nth : tie.Need-sub-put-nth Inv-loop μ-loop
+sub-put-nth c = omega (arith, c .before .before .before .loop .inv .start)
 
-mul-put-number : tie.Need-mul-put-number Inv-loop μ-loop
-mul-put-number c = omega (arith, left (c .before .before), c .before .before .before .loop .inv .same-length)
-
-put-number-requires : tie.Need-put-number-requires Inv-loop μ-loop
-put-number-requires c κs = left (c .before .before)
+put-nth-requires : tie.Need-put-nth-requires Inv-loop μ-loop
+put-nth-requires c κs = left (c .before .before)
 
 add-i : tie.Need-add-i Inv-loop μ-loop
 add-i c = omega arith
@@ -66,7 +63,7 @@ loop-again c =
     (turn .loop-test .taken) (turn .before .loop .inv)
     (argument-stored (a .args .s .width) _ (turn .before .loop .out) (a .args .s .width * (turn .before .loop .i - a .args .span .from))
     (changed-row (a .args .table .now) (getD (rows-in (a .args .s) (a .args .b .now)) (turn .before .loop .i) (row 0 0)))
-    (c .before .before .before .before .changed-argument .ensures) (c .before .before .put-number .ensures))
+    (c .before .before .before .before .changed-argument .ensures) (c .before .before .put-nth .ensures))
 
 same-length : tie.Need-same-length Inv-loop μ-loop
 same-length c = c .before .loop .inv .same-length
@@ -86,9 +83,8 @@ copy-arguments-spec =
     μ-loop
     loop-holds
     changed-argument-requires
-    sub-put-number
-    mul-put-number
-    put-number-requires
+    sub-put-nth
+    put-nth-requires
     add-i
     loop-less
     loop-again

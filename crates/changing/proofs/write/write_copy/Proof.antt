@@ -9,28 +9,11 @@ use borrow.Author.Needs.{needs}
 use Rattle.changing.proofs.write.write_copy.Statement.{statement}
 use Rattle.changing.proofs.write.write_copy.Tie as tie
 
-mul-kinds : tie.Need-mul-kinds
-mul-kinds c = search needs
+kind-place-requires : tie.Need-kind-place-requires
+kind-place-requires c κs = search needs
 
-add-kinds : tie.Need-add-kinds
-add-kinds c = search needs
-
-mul-arguments : tie.Need-mul-arguments
-mul-arguments c = search needs
-
-add-arguments : tie.Need-add-arguments
-add-arguments c = search needs
-
-add-arguments-2 : tie.Need-add-arguments-2
-add-arguments-2 c = search needs
-
-mul-arguments-2 : tie.Need-mul-arguments-2
-mul-arguments-2 c =
-    let a = c .before .before .before .before .before in
-    omega (arith, arguments-room (a .pre .0) (a .args .to .at) (extent (a .args .span)) (a .pre .2), a .good)
-
-add-arguments-3 : tie.Need-add-arguments-3
-add-arguments-3 c =
+argument-place-requires : tie.Need-argument-place-requires
+argument-place-requires c κs =
     let a = c .before .before .before .before .before in
     omega (arith, arguments-room (a .pre .0) (a .args .to .at) (extent (a .args .span)) (a .pre .2), a .good)
 
@@ -45,10 +28,13 @@ write-kinds-requires c κs = search needs
 
 write-arguments-requires : tie.Need-write-arguments-requires
 write-arguments-requires c κs =
-    let a = c .before .before .before .before .before .before .before .before .before .before .before in (
+    let kinds = c .before .before .before in
+    let places = kinds .before .before .before in
+    let a = places .before .before .before .before .before .before in (
       a .pre .0 .source,
       a .pre .1,
-      rw (c .before .before .before .write-kinds .kept .1 .1 .1 .1 .0) (arguments-room (a .pre .0) (a .args .to .at) (extent (a .args .span)) (a .pre .2)),
+      rw (kinds .write-kinds .kept .1 .1 .1 .1 .0, places .argument-place .ensures)
+          (arguments-room (a .pre .0) (a .args .to .at) (extent (a .args .span)) (a .pre .2)),
     )
 
 same-length : tie.Need-same-length
@@ -56,7 +42,9 @@ same-length c = search needs
 
 returns : tie.Need-returns
 returns c =
-    let known = c .before .before .before .before .before .before .before .before .before .before .before .before .before in
+    let kinds = c .before .before .before .before .before .before in
+    let places = kinds .before .before .before in
+    let known = places .before .before .before .before .before in
     let a = known .before in (
       copied-laid (a .args .out .now) (a .pre .0) (a .args .to .at)
           (copy-in (a .args .s) (a .args .b .now) (a .args .table .now) (a .args .span))
@@ -64,7 +52,7 @@ returns c =
           (a .args .span))
           (extent (a .args .span))
           (length-copy (a .args .s) (a .args .b .now) (a .pre .0 .source) (a .args .table .now) (a .args .span) (a .pre .1))
-          (a .pre .2) (c .before .before .before .before .before .before .write-kinds .ensures)
+          (a .pre .2) (places .before .kind-place .ensures) (places .argument-place .ensures) (kinds .write-kinds .ensures)
           (c .before .before .write-arguments .ensures),
       refl,
     )
@@ -73,13 +61,8 @@ pub write-copy-spec : {M : Type 1} → statement M
 write-copy-spec =
     tie.close
     (tie.spec
-    mul-kinds
-    add-kinds
-    mul-arguments
-    add-arguments
-    add-arguments-2
-    mul-arguments-2
-    add-arguments-3
+    kind-place-requires
+    argument-place-requires
     sub-next
     add-next
     write-kinds-requires

@@ -20,8 +20,8 @@ copy-front-requires c κs =
 clear-requires : tie.Need-clear-requires
 clear-requires c κs = search needs
 
-number-at-requires : tie.Need-number-at-requires
-number-at-requires c κs = search needs
+nodes-at-requires : tie.Need-nodes-at-requires
+nodes-at-requires c κs = search needs
 
 same-length : tie.Need-same-length
 same-length c = search needs
@@ -32,7 +32,7 @@ returns c =
     let layout : ℕ → Layout = λ n. record { width = a .args .f .width; variables = a .args .v; nodes = n } in (
       cleared (a .args .second .now) (a .args .first .now) (a .args .bytes) (a .pre .in-second) (a .pre .in-first)
           (c .before .before .before .before .before .before .before .copy-front .ensures) (c .before .before .before .clear .ensures),
-      ap layout (c .number-at .ensures .0),
+      ap layout (c .nodes-at .ensures .0),
     )
 
 pub fetch-spec : {M : Type 1} → statement M
@@ -42,6 +42,6 @@ fetch-spec =
     slice-aggregate-copy-front
     copy-front-requires
     clear-requires
-    number-at-requires
+    nodes-at-requires
     same-length
     returns)

@@ -1,0 +1,32 @@
+// Where the bytes of a sheet stand: its two sizes, then the kinds of all rows, then their arguments.
+use crate::Format;
+use crate::Layout;
+ghost use mathlib.Core.Path.{_≡_};
+ghost use Prim.Native.Nat.{_^_, _≤_, _<_};
+ghost use Rattle.sheet.specs.Format.{header};
+ghost use Rattle.rows.specs.Formats.{format-of};
+ghost use Rattle.rows.specs.Layouts.{kind-place, argument-place};
+
+// The bytes of the two sizes.
+pub fn header(f: Format) -> usize
+    requires { ⌜ f .width ≤ 4 ⌝ }
+    ensures { λ r. ⌜ r ≡ header (format-of f) ⌝ }
+{
+    2 * f.width
+}
+
+// The byte with the kind of row `r`.
+pub fn kind_place(s: Layout, r: usize) -> usize
+    requires { ⌜ kind-place s r < 2 ^ 63 ⌝ }
+    ensures { λ p. ⌜ p ≡ kind-place s r ⌝ }
+{
+    2 * s.width + r
+}
+
+// The first byte of the argument of row `r`.
+pub fn argument_place(s: Layout, r: usize) -> usize
+    requires { ⌜ argument-place s r < 2 ^ 63 ⌝ }
+    ensures { λ p. ⌜ p ≡ argument-place s r ⌝ }
+{
+    2 * s.width + (s.variables + s.nodes) + s.width * r
+}
