@@ -20,6 +20,7 @@ use Rattle.relevance.specs.Raw.{presence, grown-by}
 use Rattle.relevance.specs.declared.variable.Presence.{Presence}
 use Rattle.relevance.proofs.Growth.{raw-rows-by}
 use Rattle.choice.specs.Choosing.{Bound}
+use Rattle.choice.specs.Settling.{Unsettled}
 use Rattle.choice.specs.Expanding.{ExpandHere, ToExpand, cheapest-from, priced-in, beats, cheaper-of}
 use Rattle.choice.specs.declared.expand.ExpandChoice.{ExpandChoice}
 use Rattle.choice.proofs.Rows.{block-within, place-in, innermost-row, least-row, those-behind}
@@ -47,7 +48,7 @@ module _ {s : Layout} (b : Bytes) (ok : Readable s b) where
       let parted = is ∙ ap (λ v. presence (of v) (matrix-in s b)) here in
       rw (e ∙ raw-rows-by (of ((binding-in s b i) .variable)) b ok parted .0, parted, here)
 
-  module _ (bound : Bound s b) where
+  module _ (bound : Bound s b) (nothing : Unsettled s b) where
     priced : (i : ℕ) {o : Option ℕ} → i < s .variables → o ≡ some ((binding-in s b i) .variable) → ExpandHere s b o (priced-in s b i)
     priced i h e = record { is-cheapest = e; inside = h; at-row = sym (place-in b ok bound i h); part-is = refl; raw-is = refl }
 
@@ -57,7 +58,7 @@ module _ {s : Layout} (b : Bytes) (ok : Readable s b) where
     unfolding cheapest-from formula-in
     cheapest-row i h k =
         least-row (cheaper (formula-in s b)) (λ x. innermost x (formula-in s b)) (prefix-row b ok i h)
-        (innermost-row b ok bound i h ∙ le-leb (block-start (prefix-in s b)) i k)
+        (innermost-row b ok bound nothing i h ∙ le-leb (block-start (prefix-in s b)) i k)
 
     pub price-start : (i : ℕ) {best : ExpandChoice} → suc i ≡ s .variables → best ≡ priced-in s b i → Pricing s b i best
     unfolding cheapest-from formula-in those least earlier
@@ -115,4 +116,4 @@ module _ {s : Layout} (b : Bytes) (ok : Readable s b) where
       where
         none : (j : ℕ) → j < i → innermost ((binding-in s b j) .variable) (formula-in s b) ≡ false
         none j k =
-            innermost-row b ok bound j (omega (arith, p .inside)) ∙ lt-leb (block-start (prefix-in s b)) j (omega arith)
+            innermost-row b ok bound nothing j (omega (arith, p .inside)) ∙ lt-leb (block-start (prefix-in s b)) j (omega arith)

@@ -13,6 +13,7 @@ use Rattle.formula.specs.Settle.{settling, may-settle}
 use Rattle.formula.specs.Expand.{all-of, innermost}
 use Rattle.formula.specs.Solve.{those, earlier, least}
 use Rattle.formula.proofs.Booleans.{and-parts}
+use Rattle.formula.proofs.Innermost.{solve-block}
 use Rattle.sheet.specs.Format.{Bytes}
 use Rattle.rows.specs.Formulas.{prefix-in, matrix-in, formula-in, Readable}
 use Rattle.rows.specs.declared.Layout.{Layout}
@@ -21,6 +22,7 @@ use Rattle.prefixes.specs.Places.{place, binding-at, binding-in, block-start}
 use Rattle.prefixes.proofs.Places.{quantifier-of-place, block-place}
 use Rattle.signs.specs.Value.{settling-in}
 use Rattle.choice.specs.Choosing.{Bound}
+use Rattle.choice.specs.Settling.{Unsettled}
 
 -- a row's number is bound
 binds-row : (p : Prefix) (i : ℕ) → i < length p → binds p ((binding-at p i) .variable) ≡ true
@@ -90,11 +92,11 @@ module _ {s : Layout} (b : Bytes) (ok : Readable s b) (bound : Bound s b) where
       ap (λ q. settling q x (matrix-in s b))
       (quantifier-of-place x p (omega (arith, place-in i h, length-prefix b ok)) ∙ ap (λ j. (binding-at p j) .quantifier) (place-in i h))
 
-  -- a row's variable is innermost exactly if the row is not before the block
-  pub innermost-row : (i : ℕ) → i < s .variables
+  -- where none may be settled, a row's variable is innermost exactly if the row is not before the block
+  pub innermost-row : Unsettled s b → (i : ℕ) → i < s .variables
       → innermost ((binding-in s b i) .variable) (formula-in s b) ≡ leb (block-start (prefix-in s b)) i
-  unfolding formula-in innermost
-  innermost-row i h =
+  unfolding formula-in
+  innermost-row nothing i h =
       let x = (binding-in s b i) .variable in
       let p = prefix-in s b in
-      block-place x p (omega (arith, place-in i h, length-prefix b ok)) ∙ ap (leb (block-start p)) (place-in i h)
+      solve-block (formula-in s b) nothing x ∙ block-place x p (omega (arith, place-in i h, length-prefix b ok)) ∙ ap (leb (block-start p)) (place-in i h)

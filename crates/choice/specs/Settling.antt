@@ -31,6 +31,10 @@ SettleOf s b chosen Nothing = chosen ≡ none
 abbrev pub ToSettle : Layout → Bytes → SettleChoice → Type 0
 ToSettle s b r = SettleOf s b (lowest (formula-in s b)) r
 
+-- no variable may be settled
+abbrev pub Unsettled : Layout → Bytes → Type 0
+Unsettled s b = lowest (formula-in s b) ≡ none
+
 -- the lowest-numbered variable that may be settled, of those from prefix row i on, and the code's choice among them
 unfoldable pub lowest-from : ℕ → Formula → Option ℕ
 lowest-from i f = least ltb (those (λ x. is-some (may-settle x f)) (drop i (f .prefix)))

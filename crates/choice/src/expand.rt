@@ -11,6 +11,7 @@ ghost use Prim.Native.Nat.{_<_};
 ghost use Rattle.subtrees.specs.Ends.{Indexed};
 ghost use Rattle.occurrences.specs.Occurrences.{Occurrences};
 ghost use Rattle.choice.specs.Choosing.{Bound};
+ghost use Rattle.choice.specs.Settling.{Unsettled};
 ghost use Rattle.choice.specs.Expanding.{ToExpand, beats, cheaper-of, priced-in};
 
 // The variable to expand: its prefix row, its number, its relevant part if it has a literal, and the raw sheet's node rows.
@@ -64,7 +65,8 @@ fn cheaper_of(best: ExpandChoice, own: ExpandChoice) -> ExpandChoice
     own
 }
 
-// The innermost-block variable with the fewest raw rows: from the last prefix row back to the block's first.
+// The innermost-block variable with the fewest raw rows, where none may be settled: every row then has a literal, so the block is the
+// run of equal kinds at the end of the prefix, and is walked from the last row back to its first.
 pub fn choose_expand(
     b: &[u8],
     s: Layout,
@@ -72,7 +74,7 @@ pub fn choose_expand(
     ranges: &[u16],
     next: &[u16],
 ) -> ExpandChoice
-    requires { ⌜ Indexed s (now b) (now ends) × Bound s (now b) × Occurrences s (now b) (now ranges) (now next) × (0 < s .variables) ⌝ }
+    requires { ⌜ Indexed s (now b) (now ends) × Bound s (now b) × Occurrences s (now b) (now ranges) (now next) × (0 < s .variables) × Unsettled s (now b) ⌝ }
     ensures { λ r. ⌜ ToExpand s (now (b .entry)) r ⌝ }
 {
     let from = block_start(b, s);

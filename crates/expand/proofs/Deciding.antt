@@ -5,10 +5,8 @@ use mathlib.Core.Bool.{Bool, true, false, not}
 use mathlib.Core.List.{List, [], _∷_, _++_}
 use Prim.Native.Nat.{ℕ, _-_, _≤_, _<_}
 use native.Mathlib.Omega.{arith}
-use lib.Dec.{leb}
 use lib.ListN.{length}
 use lib.Seq.{append-snoc}
-use borrow.Author.Tests.{le-leb, lt-leb}
 use Rattle.formula.specs.Tree.{Prefix, Formula, of}
 use Rattle.formula.specs.Expand.{innermost, expanded}
 use Rattle.formula.specs.Solve.{fits-raw}
@@ -23,8 +21,8 @@ use Rattle.rows.specs.declared.Layout.{Layout}
 use Rattle.rows.proofs.Formulas.{length-prefix}
 use Rattle.checking.specs.Limits.{Countable}
 use Rattle.checking.proofs.CheckedSheets.{sheet-readable, sheet-formula-in}
-use Rattle.prefixes.specs.Places.{place, binding-at, binding-in, block-start}
-use Rattle.prefixes.proofs.Places.{variable-place, block-place}
+use Rattle.prefixes.specs.Places.{place, binding-at, binding-in}
+use Rattle.prefixes.proofs.Places.{variable-place}
 use Rattle.occurrences.specs.Occurrences.{Occurrences}
 use Rattle.choice.specs.Expanding.{priced-in}
 use Rattle.choice.specs.declared.expand.ExpandChoice.{ExpandChoice}
@@ -66,29 +64,25 @@ module _ {F : Format} {b : Bytes} {x : ℕ} {s : Layout} {i : ℕ} {ends : List 
   inside : place x p < length p
   inside = omega (arith, a .named .inside, a .named .row-is, length-prefix b (sheet-readable (a .sheet) (k .manageable)))
 
-  innermost-here : innermost x (formula F b) ≡ leb (block-start p) i
-  unfolding innermost formula-in
-  innermost-here =
-      ap (innermost x) (sym (sheet-formula-in (a .sheet))) ∙ block-place x p inside ∙ ap (leb (block-start p)) (sym (a .named .row-is))
+  innermost-here : {w c : Bool} → w ≡ innermost x (formula-in s b) → w ≡ c → innermost x (formula F b) ≡ c
+  innermost-here is e = ap (innermost x) (sym (sheet-formula-in (a .sheet))) ∙ sym is ∙ e
 
   -- 11 not in the innermost block
-  pub not-innermost : {from : ℕ} → from ≡ block-start p → i < from → refused 11 0 ≡ answer (quote-tests F b x) x
+  pub not-innermost : {w : Bool} → w ≡ innermost x (formula-in s b) → w ≡ false → refused 11 0 ≡ answer (quote-tests F b x) x
   unfolding quote-tests answer
-  not-innermost e l =
+  not-innermost is e =
       rw (
         answer-++ (admission-tests F b x) (innermost-test F b x ∷ []) x (a .tests-pass),
-        innermost-here,
-        lt-leb (block-start p) i (omega (arith, e)),
+        innermost-here is e,
       )
 
-  quoted : block-start p ≤ i → passes (quote-tests F b x) ≡ true
+  quoted : {w : Bool} → w ≡ innermost x (formula-in s b) → w ≡ true → passes (quote-tests F b x) ≡ true
   unfolding quote-tests passes
-  quoted l =
+  quoted is e =
       rw (
         passes-++ (admission-tests F b x) (innermost-test F b x ∷ []),
         a .tests-pass,
-        innermost-here,
-        le-leb (block-start p) i l,
+        innermost-here is e,
       )
 
   row-variable : (binding-in s b i) .variable ≡ x
@@ -106,13 +100,13 @@ module _ {F : Format} {b : Bytes} {x : ℕ} {s : Layout} {i : ℕ} {ends : List 
           raw-is = refl;
         })
 
-    pub planned : {from : ℕ} {table : List ℕ} {w : Expanding} → from ≡ block-start p → from ≤ i
+    pub planned : {in-block : Bool} {table : List ℕ} {w : Expanding} → in-block ≡ innermost x (formula-in s b) → in-block ≡ true
         → Prepared s b (c .variable) (c .row) table w → Planned F b x table s w
-    planned {from} {table} {w} e l r =
+    planned {table = table} {w} e l r =
         let variable : w .variable ≡ x = r .variable-is ∙ ap (λ (q : ExpandChoice). q .variable) is ∙ row-variable in
         let row : w .to .row ≡ i = r .row-is ∙ ap (λ (q : ExpandChoice). q .row) is in
         record {
-          tests-pass = quoted (omega (arith, e));
+          tests-pass = quoted e l;
           variable-is = variable;
           from = sheet-steppable (a .sheet) k;
           named = subst₂ (Named s b) (sym variable) (sym row) (a .named);

@@ -1,1 +1,2 @@
+mod Innermost
 mod Deciding

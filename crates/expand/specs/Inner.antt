@@ -1,2 +1,3 @@
 -- What Expand's code decides: definitions that no entry point cites.
+pub mod Block
 pub mod Plan

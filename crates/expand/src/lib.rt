@@ -16,6 +16,7 @@ ghost use Rattle.checking.specs.Answers.{written-answer};
 ghost use Rattle.checking.specs.Limits.{Countable};
 ghost use Rattle.expand.specs.Inner.Plan.{Planned};
 
+pub mod block;
 pub mod plan;
 
 // Carries a plan out: 13 the raw sheet doesn't fit; else it is written to `out` and tidied there.

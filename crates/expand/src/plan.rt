@@ -1,7 +1,7 @@
 // What Expand decides before it looks at the output: its refusals short of 13, in the paper's order, or all that the writing needs.
+use crate::block::is_innermost;
 use choice::expand::price_row;
 use occurrences::fill_occurrences;
-use prefixes::block_start;
 use rows::Format;
 use rows::Layout;
 use rows::NUMBERS;
@@ -36,12 +36,12 @@ fn plan_admitted(
     requires { ⌜ Countable (format-of f) × Admitted (format-of f) (now sheet) (z .variable) s (z .row) (now ends) × (8192 < length (now cuts)) ⌝ }
     ensures { λ r. ⌜ Plans (format-of f) (now (sheet .entry)) (z .variable) (now (cuts .exit)) r ⌝ }
 {
-    if z.row < block_start(sheet, s) {
-        return Plan::Refused(11, 0);
-    }
     let mut ranges = [0u16; 2 * NUMBERS];
     let mut next = [0u16; ROWS];
     fill_occurrences(sheet, s, &mut ranges, &mut next);
+    if !is_innermost(sheet, s, &ranges, z) {
+        return Plan::Refused(11, 0);
+    }
     let c = price_row(sheet, s, ends, &ranges, &next, z.row);
     let w = prepare(sheet, s, ends, &ranges, &next, c, cuts);
     Plan::Expands(s, w)

@@ -9,8 +9,8 @@ use borrow.Author.Tests.{eqb-true, eq-eqb, not-true}
 use Rattle.formula.specs.Tree.{Op, and, or, same-op, Quantifier, Binding, Prefix, binds, quantifier-of, without, distinct}
 use Rattle.formula.specs.Truth.{Assignment, put, join, bind}
 use Rattle.formula.specs.Settle.{value}
-use Rattle.formula.specs.Expand.{all-of, in-last-block}
-use Rattle.formula.proofs.Booleans.{join-comm, join-assoc, join-value, Leads, join-leads, and-parts, or-parts}
+use Rattle.formula.specs.Expand.{all-of, after, among}
+use Rattle.formula.proofs.Booleans.{join-comm, join-assoc, join-self, join-value, Leads, join-leads, and-parts, or-parts}
 
 -- setting another variable first or last makes no difference
 pub put-swap : (ρ : Assignment) (x y : ℕ) (a b : Bool) → eqb x y ≡ false → put (put ρ x a) y b ≡ put (put ρ y b) x a
@@ -103,20 +103,78 @@ bind-settle (z ∷ p) f x s ρ h d better = by (eqb (z .variable) x) refl h (λ 
         (bind-leads p (λ σ. f (put σ x (not s))) (λ σ. f (put σ x s)) better ρ)
     by false e k again = ap₂ (join (z .quantifier)) (again (put ρ (z .variable) false) k) (again (put ρ (z .variable) true) k)
 
--- A quantifier of the innermost block may be moved innermost: its two copies are then joined for each assignment.
-pub bind-expand : (p : Prefix) (f : Assignment → Bool) (x : ℕ) (ρ : Assignment) → in-last-block x p ≡ true → distinct p ≡ true
-    → bind p f ρ ≡ bind (without x p) (λ σ. join (quantifier-of p x) (f (put σ x false)) (f (put σ x true))) ρ
-unfolding bind distinct without quantifier-of in-last-block
-bind-expand [] f x ρ h d = absurd (false≢true h)
-bind-expand (z ∷ p) f x ρ h d = by (eqb (z .variable) x) refl h (λ ρ′ k. bind-expand p f x ρ′ k (and-parts (not (binds p (z .variable))) (distinct p) d .1))
+-- Functions that ignore a variable: its quantifier may go, wherever it stands.
+
+abbrev pub Ignores : (Assignment → Bool) → ℕ → Type 0
+Ignores f v = (ρ : Assignment) (b : Bool) → f (put ρ v b) ≡ f ρ
+
+-- of two values set for one variable the later one counts
+put-again : (ρ : Assignment) (x : ℕ) (a b : Bool) → put (put ρ x a) x b ≡ put ρ x b
+put-again ρ x a b = fun-ext (λ v. at v (eqb v x))
   where
-    by : (m : Bool) → eqb (z .variable) x ≡ m → cond m (all-of (z .quantifier) p) (in-last-block x p) ≡ true
-        → ((ρ′ : Assignment) → in-last-block x p ≡ true
+    at : (v : ℕ) (m : Bool) → cond m b (cond m a (ρ v)) ≡ cond m b (ρ v)
+    at v true = refl
+    at v false = refl
+
+pub ignores-put : (f : Assignment → Bool) (v x : ℕ) (a : Bool) → Ignores f v → Ignores (λ σ. f (put σ x a)) v
+ignores-put f v x a h ρ b = by (eqb v x) refl
+  where
+    by : (m : Bool) → eqb v x ≡ m → f (put (put ρ v b) x a) ≡ f (put ρ x a)
+    by true e =
+        ap (λ (y : ℕ). f (put (put ρ y b) x a)) (eqb-true v x e) ∙ ap f (put-again ρ x b a)
+    by false e = ap f (put-swap ρ v x b a e) ∙ h (put ρ x a) b
+
+bind-ignores : (p : Prefix) (f : Assignment → Bool) (v : ℕ) → Ignores f v → Ignores (bind p f) v
+unfolding bind
+bind-ignores [] f v h ρ b = h ρ b
+bind-ignores (z ∷ p) f v h ρ b =
+    let below = bind-ignores p f v h in
+    ap₂ (join (z .quantifier)) (ignores-put (bind p f) v (z .variable) false below ρ b)
+    (ignores-put (bind p f) v (z .variable) true below ρ b)
+
+-- only the rows of a set count, if the function ignores all others
+pub bind-among : (P : ℕ → Bool) (p : Prefix) (f : Assignment → Bool) → ((v : ℕ) → P v ≡ false → Ignores f v) → (ρ : Assignment)
+    → bind p f ρ ≡ bind (among P p) f ρ
+unfolding bind among
+bind-among P [] f h ρ = refl
+bind-among P (z ∷ p) f h ρ = by (P (z .variable)) refl (λ ρ′. bind-among P p f h ρ′)
+  where
+    by : (m : Bool) → P (z .variable) ≡ m → ((ρ′ : Assignment) → bind p f ρ′ ≡ bind (among P p) f ρ′)
+        → join (z .quantifier) (bind p f (put ρ (z .variable) false)) (bind p f (put ρ (z .variable) true)) ≡
+        bind (cond m (z ∷ among P p) (among P p)) f ρ
+    by true e more = ap₂ (join (z .quantifier)) (more (put ρ (z .variable) false)) (more (put ρ (z .variable) true))
+    by false e more =
+        let same = bind-ignores p f (z .variable) (h (z .variable) e) ρ in
+        ap₂ (join (z .quantifier)) (same false) (same true) ∙ join-self (z .quantifier) (bind p f ρ) ∙ more ρ
+
+-- quantifiers go through the operator that joins their copies, if those that aren't of its kind are ignored
+bind-join-among : (q : Quantifier) (P : ℕ → Bool) (p : Prefix) (f g : Assignment → Bool) → ((v : ℕ) → P v ≡ false → Ignores f v)
+    → ((v : ℕ) → P v ≡ false → Ignores g v) → (ρ : Assignment) → all-of q (among P p) ≡ true
+    → bind p (λ σ. join q (f σ) (g σ)) ρ ≡ join q (bind p f ρ) (bind p g ρ)
+bind-join-among q P p f g hf hg ρ k =
+    bind-among P p (λ σ. join q (f σ) (g σ)) (λ v e σ b. ap₂ (join q) (hf v e σ b) (hg v e σ b)) ρ ∙
+    bind-join q (among P p) f g ρ k ∙ sym (ap₂ (join q) (bind-among P p f hf ρ) (bind-among P p g hg ρ))
+
+-- A quantifier may be moved innermost past rows of its kind and past rows that the function ignores: its two copies are then joined
+-- for each assignment.
+pub bind-expand : (P : ℕ → Bool) (p : Prefix) (f : Assignment → Bool) (x : ℕ) → ((v : ℕ) → P v ≡ false → Ignores f v) → (ρ : Assignment)
+    → binds p x ≡ true → all-of (quantifier-of p x) (among P (after x p)) ≡ true → distinct p ≡ true
+    → bind p f ρ ≡ bind (without x p) (λ σ. join (quantifier-of p x) (f (put σ x false)) (f (put σ x true))) ρ
+unfolding bind binds distinct without quantifier-of after
+bind-expand P [] f x i ρ h k d = absurd (false≢true h)
+bind-expand P (z ∷ p) f x i ρ h k d =
+    by (eqb (z .variable) x) refl h k (λ ρ′ h′ k′. bind-expand P p f x i ρ′ h′ k′ (and-parts (not (binds p (z .variable))) (distinct p) d .1))
+  where
+    by : (m : Bool) → eqb (z .variable) x ≡ m → (m || binds p x) ≡ true
+        → all-of (cond m (z .quantifier) (quantifier-of p x)) (among P (cond m p (after x p))) ≡ true
+        → ((ρ′ : Assignment) → binds p x ≡ true → all-of (quantifier-of p x) (among P (after x p)) ≡ true
         → bind p f ρ′ ≡ bind (without x p) (λ σ. join (quantifier-of p x) (f (put σ x false)) (f (put σ x true))) ρ′)
         → join (z .quantifier) (bind p f (put ρ (z .variable) false)) (bind p f (put ρ (z .variable) true)) ≡
         bind (cond m p (z ∷ without x p))
         (λ σ. join (cond m (z .quantifier) (quantifier-of p x)) (f (put σ x false)) (f (put σ x true))) ρ
-    by true e k again =
+    by true e b a again =
         ap₂ (join (z .quantifier)) (bind-own z p f x false ρ e d) (bind-own z p f x true ρ e d) ∙
-        sym (bind-join (z .quantifier) p (λ σ. f (put σ x false)) (λ σ. f (put σ x true)) ρ k)
-    by false e k again = ap₂ (join (z .quantifier)) (again (put ρ (z .variable) false) k) (again (put ρ (z .variable) true) k)
+        sym
+        (bind-join-among (z .quantifier) P p (λ σ. f (put σ x false)) (λ σ. f (put σ x true)) (λ v n. ignores-put f v x false (i v n))
+        (λ v n. ignores-put f v x true (i v n)) ρ a)
+    by false e b a again = ap₂ (join (z .quantifier)) (again (put ρ (z .variable) false) b a) (again (put ρ (z .variable) true) b a)

@@ -7,12 +7,13 @@ use mathlib.Core.Logic.{⊎-elim}
 use mathlib.Core.Option.{Option, none, some}
 use Prim.Native.Nat.{ℕ}
 use lib.Dec.{eqb}
-use borrow.Author.Tests.{eqb-true, eq-eqb, ne-eqb, not-true}
-use Rattle.formula.specs.Tree.{Binding, Prefix, Formula, binds, distinct}
+use borrow.Author.Tests.{eqb-true, eq-eqb}
+use Rattle.formula.specs.Tree.{Prefix, Formula, binds, distinct}
 use Rattle.formula.specs.Settle.{may-settle}
-use Rattle.formula.specs.Expand.{all-of, in-last-block, innermost}
+use Rattle.formula.specs.Expand.{innermost}
 use Rattle.formula.specs.Solve.{those, earlier, least, is-some, lowest, cheaper, cheapest}
-use Rattle.formula.proofs.Booleans.{and-parts, or-cases}
+use Rattle.formula.proofs.Booleans.{or-cases}
+use Rattle.formula.proofs.Innermost.{innermost-binds, last-variable}
 
 -- a chosen variable passes the test and is in the prefix
 
@@ -77,35 +78,13 @@ least-found before P (z ∷ p) x c = by (P (z .variable)) refl (λ k. least-foun
         ⊎-elim (λ k. absurd (false≢true (sym e ∙ ap P (eqb-true (z .variable) x k) ∙ c .0))) rest
         (or-cases (eqb (z .variable) x) (binds p x) (c .1))
 
--- the last row of a prefix is in the innermost block
-last-variable : (z : Binding) (p : Prefix) → distinct (z ∷ p) ≡ true
-    → (x : ℕ) × (in-last-block x (z ∷ p) ≡ true) × (binds (z ∷ p) x ≡ true)
-unfolding in-last-block binds distinct all-of
-last-variable z [] d =
-    let own : eqb (z .variable) (z .variable) ≡ true = eq-eqb (z .variable) (z .variable) refl in
-    (z .variable, ap (λ (m : Bool). cond m true false) own, ap (λ (m : Bool). m || false) own)
-last-variable z (w ∷ p) d =
-    let parts = and-parts (not (binds (w ∷ p) (z .variable))) (distinct (w ∷ p)) d in
-    further (not-true (binds (w ∷ p) (z .variable)) (parts .0)) (last-variable w p (parts .1))
-  where
-    further : binds (w ∷ p) (z .variable) ≡ false → (x : ℕ) × (in-last-block x (w ∷ p) ≡ true) × (binds (w ∷ p) x ≡ true)
-        → (x : ℕ) × (in-last-block x (z ∷ w ∷ p) ≡ true) × (binds (z ∷ w ∷ p) x ≡ true)
-    further fresh l =
-        let x = l .0 in
-        let apart : eqb (z .variable) x ≡ false
-        = ne-eqb (z .variable) x (λ e. false≢true (sym fresh ∙ ap (binds (w ∷ p)) e ∙ l .2)) in (
-          x,
-          ap (λ (m : Bool). cond m (all-of (z .quantifier) (w ∷ p)) (in-last-block x (w ∷ p))) apart ∙ l .1,
-          ap (λ (m : Bool). m || binds (w ∷ p) x) apart ∙ l .2,
-        )
-
 pub cheapest-found : (f : Formula) → distinct (f .prefix) ≡ true → (f .prefix ≡ [] → ⊥) → (x : ℕ) × (cheapest f ≡ some x)
-unfolding cheapest Chosen innermost
+unfolding cheapest Chosen
 cheapest-found f d h = by (f .prefix) refl
   where
-    by : (p : Prefix) → f .prefix ≡ p → (x : ℕ) × (least (cheaper f) (those (λ x. in-last-block x (f .prefix)) (f .prefix)) ≡ some x)
+    by : (p : Prefix) → f .prefix ≡ p → (x : ℕ) × (least (cheaper f) (those (λ x. innermost x f) (f .prefix)) ≡ some x)
     by [] e = absurd (h e)
     by (z ∷ p) e =
-        let last = last-variable z p (ap distinct (sym e) ∙ d) in
-        least-found (cheaper f) (λ x. in-last-block x (f .prefix)) (f .prefix) (last .0)
-        (ap (in-last-block (last .0)) e ∙ last .1, ap (λ (q : Prefix). binds q (last .0)) e ∙ last .2)
+        let last = last-variable z p (f .matrix) (ap distinct (sym e) ∙ d) in
+        let there : innermost (last .0) f ≡ true = ap (λ (q : Prefix). innermost (last .0) (record { prefix = q; matrix = f .matrix })) e ∙ last .1 in
+        least-found (cheaper f) (λ x. innermost x f) (f .prefix) (last .0) (there, innermost-binds (last .0) f there)

@@ -5,11 +5,11 @@ use mathlib.Core.Bool.{Bool, true, false, not, _||_, cond, Bool·beq, false≢tr
 use Prim.Native.Nat.{ℕ, suc, _+_}
 use native.Mathlib.Omega.{arith}
 use borrow.Author.Tests.{eqb-true, not-true, not-false}
-use Rattle.formula.specs.Tree.{Op, Quantifier, Tree, lit, node, Forest, ∅, _▸_, Formula, Literals, of, rows, rows-all, has, has-any, replace-all, quantifier-of, without, distinct, count, some-child, keep}
+use Rattle.formula.specs.Tree.{Op, Quantifier, Tree, lit, node, Forest, ∅, _▸_, Formula, Literals, of, rows, rows-all, has, has-any, replace-all, binds, quantifier-of, without, distinct, count, some-child, keep}
 use Rattle.formula.specs.Truth.{Assignment, put, join, unit, eval, eval-all, truth}
-use Rattle.formula.specs.Expand.{innermost, Copying, copying, relevant, one-relevant, all-relevant, copies, at-first, expand-tree, expand-below, raw-tree, growth, growth-below, raw-rows, raw}
-use Rattle.formula.proofs.Booleans.{join-comm, join-assoc, join-self, join-unit, join-share, share-join, or-parts}
-use Rattle.formula.proofs.Binding.{bind-ext, bind-expand}
+use Rattle.formula.specs.Expand.{all-of, occurs, occurring, later, innermost, Copying, copying, relevant, one-relevant, all-relevant, copies, at-first, expand-tree, expand-below, raw-tree, growth, growth-below, raw-rows, raw}
+use Rattle.formula.proofs.Booleans.{join-comm, join-assoc, join-self, join-unit, join-share, share-join, and-parts, or-parts}
+use Rattle.formula.proofs.Binding.{bind-ext, Ignores, bind-expand}
 use Rattle.formula.proofs.Evaluation.{eval-replace-all, eval-assigned, eval-same, eval-all-same, put-other, rows-replace-all, rows-assigned}
 
 -- forests divided by a test
@@ -244,14 +244,19 @@ eval-raw-tree q x t ρ = by (has (of x) t) refl
         let same : (b : Bool) → eval t (put ρ x b) ≡ eval t ρ = λ b. eval-same (of x) (put ρ x b) ρ (put-other x b ρ) t e in
         sym (ap₂ (join q) (same false) (same true) ∙ join-self q (eval t ρ))
 
+-- a tree ignores the variables that have no literal in it
+pub eval-ignores : (t : Tree) (v : ℕ) → occurs t v ≡ false → Ignores (eval t) v
+eval-ignores t v e ρ b = eval-same (of v) (put ρ v b) ρ (put-other v b ρ) t e
+
 -- before it is tidied, the expanded formula has the truth of the formula
 pub truth-raw : (x : ℕ) (f : Formula) → innermost x f ≡ true → distinct (f .prefix) ≡ true → truth (raw x f) ≡ truth f
-unfolding truth raw innermost
+unfolding truth raw innermost later occurring
 truth-raw x f h d =
     let q : Quantifier = quantifier-of (f .prefix) x in
     let start : Assignment = λ _. false in
+    let parts = and-parts (binds (f .prefix) x) (all-of q (later x f)) h in
     bind-ext (without x (f .prefix)) (eval-raw-tree q x (f .matrix)) start ∙
-    sym (bind-expand (f .prefix) (eval (f .matrix)) x start h d)
+    sym (bind-expand (occurs (f .matrix)) (f .prefix) (eval (f .matrix)) x (eval-ignores (f .matrix)) start (parts .0) (parts .1) d)
 
 -- rows
 

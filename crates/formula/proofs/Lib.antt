@@ -6,6 +6,7 @@ pub mod Tidy
 pub mod Settle
 pub mod Expand
 pub mod Closed
+pub mod Innermost
 pub mod Steps
 pub mod Choice
 pub mod Solve

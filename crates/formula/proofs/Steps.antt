@@ -13,7 +13,7 @@ use Rattle.formula.specs.Tree.{and, or, Tree, lit, node, Forest, ∅, _�
 use Rattle.formula.specs.Truth.{Assignment, put, join, eval, bind, truth}
 use Rattle.formula.specs.Tidy.{tidied, is-tidy, childless, breaks, faults, faults-all, root-faults, any, verdict}
 use Rattle.formula.specs.Settle.{may-settle, settled}
-use Rattle.formula.specs.Expand.{all-of, in-last-block, innermost, copying, raw-tree, raw-rows, raw, expanded}
+use Rattle.formula.specs.Expand.{innermost, copying, raw-tree, raw-rows, raw, expanded}
 use Rattle.formula.specs.Solve.{Fits, fits-raw}
 use Rattle.formula.proofs.Booleans.{join-self, or-parts}
 use Rattle.formula.proofs.Binding.{bind-ext}
@@ -102,22 +102,6 @@ fits-raw-formula fits x f h =
     let l = length-without x (f .prefix) h in
     let less : length (f .prefix) - 1 ≡ length (without x (f .prefix)) = omega arith in
     ap₂ fits less (sym (rows-raw-tree (quantifier-of (f .prefix) x) x (f .matrix)))
-
--- a variable of the innermost block is in the prefix
-
-last-binds : (x : ℕ) (p : Prefix) → in-last-block x p ≡ true → binds p x ≡ true
-unfolding in-last-block binds
-last-binds x [] h = absurd (false≢true h)
-last-binds x (z ∷ p) h = by (eqb (z .variable) x) h (last-binds x p)
-  where
-    by : (m : Bool) → cond m (all-of (z .quantifier) p) (in-last-block x p) ≡ true → (in-last-block x p ≡ true → binds p x ≡ true)
-        → (m || binds p x) ≡ true
-    by true k rest = refl
-    by false k rest = rest k
-
-pub innermost-binds : (x : ℕ) (f : Formula) → innermost x f ≡ true → binds (f .prefix) x ≡ true
-unfolding innermost
-innermost-binds x f h = last-binds x (f .prefix) h
 
 -- decided
 

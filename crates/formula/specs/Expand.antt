@@ -4,7 +4,7 @@ use mathlib.Core.Bool.{Bool, true, false, not, _&&_, cond}
 use mathlib.Core.List.{[], _∷_}
 use Prim.Native.Nat.{ℕ, _+_}
 use lib.Dec.{eqb}
-use Rattle.formula.specs.Tree.{Quantifier, Op, same-op, Tree, lit, node, Forest, ∅, _▸_, Prefix, Formula, Literals, of, quantifier-of, without, rows, rows-all, has, replace-all, assigned, count, some-child, keep}
+use Rattle.formula.specs.Tree.{Quantifier, Op, same-op, Tree, lit, node, Forest, ∅, _▸_, Prefix, Formula, Literals, of, binds, quantifier-of, without, rows, rows-all, has, replace-all, assigned, count, some-child, keep}
 use Rattle.formula.specs.Tidy.{tidy}
 
 -- every row of the prefix has the quantifier q
@@ -12,13 +12,34 @@ unfoldable pub all-of : Quantifier → Prefix → Bool
 all-of q [] = true
 all-of q (z ∷ p) = same-op q (z .quantifier) && all-of q p
 
--- x is in the innermost block, the longest run of equal kinds at the end of the prefix: every row after it is of its kind
+-- the rows after x
+unfoldable pub after : ℕ → Prefix → Prefix
+after x [] = []
+after x (z ∷ p) = cond (eqb (z .variable) x) p (after x p)
+
+-- the rows whose variable is in a set, and those whose variable has a literal in a tree
+unfoldable pub among : (ℕ → Bool) → Prefix → Prefix
+among P [] = []
+among P (z ∷ p) = cond (P (z .variable)) (z ∷ among P p) (among P p)
+
+abbrev pub occurs : Tree → ℕ → Bool
+occurs t v = has (of v) t
+
+unfoldable pub occurring : Tree → Prefix → Prefix
+occurring t p = among (occurs t) p
+
+-- the rows after x that have a literal
+unfoldable pub later : ℕ → Formula → Prefix
+later x f = occurring (f .matrix) (after x (f .prefix))
+
+-- x is in the innermost block: every row after it that has a literal is of its kind (N5)
+unfoldable pub innermost : ℕ → Formula → Bool
+innermost x f = binds (f .prefix) x && all-of (quantifier-of (f .prefix) x) (later x f)
+
+-- the longest run of equal kinds at the end of the prefix, which is the innermost block where every variable has a literal
 unfoldable pub in-last-block : ℕ → Prefix → Bool
 in-last-block x [] = false
 in-last-block x (z ∷ p) = cond (eqb (z .variable) x) (all-of (z .quantifier) p) (in-last-block x p)
-
-unfoldable pub innermost : ℕ → Formula → Bool
-innermost x f = in-last-block x (f .prefix)
 
 -- What an expansion copies: the literals that choose the relevant subtree, the operator that joins the copies, and what each literal
 -- becomes in the first copy and in the second.

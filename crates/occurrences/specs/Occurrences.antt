@@ -23,6 +23,11 @@ pub record Occurrences (s : Layout) (b : Bytes) (ranges next : List ℕ) : Type 
   pub chained : (x : ℕ) → x ≤ 1024 → has (of x) (matrix-in s b) ≡ true
       → Chain (of x) s b next (getD ranges (2 * x) 0) (getD ranges (2 * x + 1) 0)
 
+-- the first table alone: whether a literal of the variable stands in the matrix
+pub record Occurring (s : Layout) (b : Bytes) (ranges : List ℕ) : Type 0 where
+  pub holds : length ranges ≡ 2050
+  pub tells : (x : ℕ) → x ≤ 1024 → ltb (getD ranges (2 * x) 0) (s .nodes) ≡ has (of x) (matrix-in s b)
+
 -- While the tables are filled.
 
 -- the variable of a literal; for an operator 1025, a number that no table has

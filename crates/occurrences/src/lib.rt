@@ -6,7 +6,8 @@ use rows::NUMBERS;
 use subtrees::nodes::argument_at;
 use subtrees::nodes::kind_at;
 ghost use mathlib.Core.Path.{_≡_};
-ghost use Prim.Native.Nat.{_^_, _≤_, _<_};
+ghost use Prim.Native.Nat.{_*_, _^_, _≤_, _<_};
+ghost use lib.Dec.{ltb};
 ghost use lib.ListN.{length, getD, set, replicate};
 ghost use Rattle.rows.specs.Formulas.{Readable};
 ghost use Rattle.subtrees.specs.Subtrees.{subtree-in};
@@ -90,4 +91,12 @@ pub fn fill_occurrences(b: &[u8], s: Layout, ranges: &mut [u16], next: &mut [u16
 {
     link(b, s, ranges, next);
     mark(b, s, ranges);
+}
+
+// Whether the variable `x` has a literal.
+pub fn occurs(s: Layout, ranges: &[u16], x: usize) -> bool
+    requires { ⌜ (length (now ranges) ≡ 2050) × (x ≤ 1024) ⌝ }
+    ensures { λ r. ⌜ r ≡ ltb (getD (now (ranges .entry)) (2 * x) 0) (s .nodes) ⌝ }
+{
+    (ranges[2 * x] as usize) < s.nodes
 }

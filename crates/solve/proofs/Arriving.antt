@@ -40,7 +40,7 @@ use Rattle.stepping.specs.Expanding.{Prepared, Expands}
 use Rattle.stepping.specs.declared.expanding.Expanding.{Expanding}
 use Rattle.stepping.specs.declared.settling.Put.{Put}
 use Rattle.solve.specs.declared.State.{State}
-use Rattle.solve.specs.Inner.Running.{layout-for, Held, Ready, begun, Open, Settles, Unsettled, Fetchable, reached}
+use Rattle.solve.specs.Inner.Running.{layout-for, Held, Ready, begun, Open, Settles, Fetchable, reached}
 use Rattle.solve.proofs.Holding.{hold, readable, proper, steppable, variables-are, nodes-are}
 use Rattle.solve.proofs.Carrying.{front-part, header-within, nodes-read}
 use Rattle.solve.proofs.Stepping.{step-ends, step-settles, step-expands, step-stops, variables-left, within-settled, within-expanded, fits-tested}
@@ -177,7 +177,7 @@ module _ {F : Format} {most : ℕ} {s : State} {first second : Bytes} (r : Ready
 
     -- Expand
 
-    module _ (nothing : Unsettled s first) {c : ExpandChoice} (here : ToExpand t first c) where
+    module _ (nothing : Unsettled t first) {c : ExpandChoice} (here : ToExpand t first c) where
       abbrev y : ℕ
       y = c .variable
 

@@ -27,7 +27,8 @@ ghost use Rattle.sheet.specs.Operations.{padded};
 ghost use Rattle.sheet.specs.Format.{nodes};
 ghost use Rattle.rows.specs.Formats.{format-of};
 ghost use Rattle.subtrees.specs.Ends.{Indexed};
-ghost use Rattle.solve.specs.Inner.Running.{Ready, Open, Settles, Unsettled, Fetchable, Stepped};
+ghost use Rattle.choice.specs.Settling.{Unsettled};
+ghost use Rattle.solve.specs.Inner.Running.{Ready, Open, Settles, Fetchable, Stepped};
 
 // Decided, stopped at a variable, or on to the next state.
 pub enum Step {
@@ -82,7 +83,7 @@ fn expand_step(
     s: State,
     ends: &[u16],
 ) -> Step
-    requires { ⌜ Ready (format-of f) room s (now first) (now second) × Open s (now first) × Unsettled s (now first) × Indexed (s .sheet) (now first) (now ends) ⌝ }
+    requires { ⌜ Ready (format-of f) room s (now first) (now second) × Open s (now first) × Unsettled (s .sheet) (now first) × Indexed (s .sheet) (now first) (now ends) ⌝ }
     ensures { λ r. ⌜ Stepped (format-of f) room s (now (first .entry)) (now (second .entry)) (now (first .exit)) (now (second .exit)) r ⌝ }
 {
     let t = s.sheet;

@@ -5,7 +5,7 @@
 use differential::compare::{cases, hexadecimal};
 use differential::Library;
 use outside::generate::{self, Limits, Rng};
-use outside::reference::{verdict, Answer, Formula, Move, Operation, Variable};
+use outside::reference::{verdict, Answer, Formula, Move, Operation, Rules, Variable};
 use outside::{depqbf, truth, with_deep_stack};
 
 /// A list of calls under way.
@@ -16,12 +16,14 @@ struct Run<'a> {
     truth: Option<bool>,
     held: Vec<u8>,
     accepted: usize,
+    /// Expansions accepted beyond the run of equal kinds at the end of the prefix.
+    past_spare_rows: usize,
 }
 
 impl Run<'_> {
     fn new(library: &Library, first: Formula, truth: Option<bool>) -> Run<'_> {
         let held = library.reading.format.encode(&first);
-        Run { library, first, truth, held, accepted: 0 }
+        Run { library, first, truth, held, accepted: 0, past_spare_rows: 0 }
     }
 
     fn formula_held(&self) -> Formula {
@@ -35,7 +37,8 @@ impl Run<'_> {
 
     /// One more call; answers with the refusal number, 0 if it was accepted.
     fn call(&mut self, rng: &mut Rng) -> usize {
-        let call = generate::call(rng, &self.library.reading, &self.formula_held());
+        let formula = self.formula_held();
+        let call = generate::call(rng, &self.library.reading, &formula);
         let before = generate::dirty(rng, call.room);
         let outcome = self.library.agree_on_call(&self.held, call, &before);
         match outcome.answer {
@@ -44,6 +47,9 @@ impl Run<'_> {
                 assert!(behind.iter().all(|&byte| byte == 0), "zeros behind");
                 self.held = sheet.to_vec();
                 self.accepted += 1;
+                let outside =
+                    !Rules::DOCUMENT_01.innermost_block(&formula).contains(&call.variable);
+                self.past_spare_rows += usize::from(outside && call.operation == Operation::Expand);
                 self.check_truth();
             }
             Answer::Refused(..) => assert!(outcome.output() == before, "refused, and written"),
@@ -92,6 +98,22 @@ fn lists_of_calls_on_small_sheets() {
         assert!(answers[number] > 5_000, "{answers:?}");
     }
     assert!(ended > 4_000, "{ended} lists left no variable");
+}
+
+/// Prefixes full of rows without a literal, which the innermost block reaches past.
+#[test]
+fn lists_of_calls_past_spare_rows() {
+    let mut past = 0;
+    cases(10_000, |library, rng| {
+        let first = generate::spare_formula(rng, Limits::small(library.reading.format));
+        let truth = truth::is_true(&first);
+        let mut run = Run::new(library, first, Some(truth));
+        for _ in 0..rng.between(1, 20) {
+            run.call(rng);
+        }
+        past += run.past_spare_rows;
+    });
+    assert!(past > 5_000, "{past}");
 }
 
 #[test]

@@ -12,7 +12,8 @@ mod trees;
 pub use calls::{call, dirty, length_around, Call};
 pub use damage::damage;
 pub use families::{
-    alternating_formula, formula, formula_of, sheet, solver_formula, tidy_formula, Family, Limits,
+    alternating_formula, formula, formula_of, sheet, solver_formula, spare_formula, tidy_formula,
+    Family, Limits,
 };
 pub use limit_sheets::{
     deep_formula, ladder_formula, limit_sheets, wide_formula, with_variables, LimitSheet,

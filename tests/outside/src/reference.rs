@@ -62,6 +62,6 @@ pub struct Reading {
 }
 
 impl Reading {
-    pub const NARROW: Reading = Reading { format: Format::NARROW, rules: Rules::DOCUMENT_01 };
-    pub const WIDE: Reading = Reading { format: Format::WIDE, rules: Rules::DOCUMENT_01 };
+    pub const NARROW: Reading = Reading { format: Format::NARROW, rules: Rules::CURRENT };
+    pub const WIDE: Reading = Reading { format: Format::WIDE, rules: Rules::CURRENT };
 }

@@ -310,7 +310,8 @@ fn expected_refusal(formula: &Formula, call: Call) -> usize {
     let x = call.variable;
     let bound = formula.prefix.iter().position(|row| row.1 == x);
     let rest = bound.map_or(&[][..], |row| &formula.prefix[row..]);
-    let outside_block = rest.iter().any(|row| row.0 != rest[0].0);
+    let blocks = |row: &Binding| row.0 != rest[0].0 && mentions(&formula.matrix, row.1);
+    let outside_block = rest.iter().any(blocks);
     let v_left = formula.prefix.len().saturating_sub(1);
     let short = |rows: usize| call.room < 4 + 3 * (v_left + rows);
     let conditions = match call.operation {

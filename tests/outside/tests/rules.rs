@@ -6,7 +6,7 @@ use outside::generate::{self, cases, Limits};
 use outside::reference::*;
 use outside::truth;
 
-const RULES: Rules = Rules::DOCUMENT_01;
+const RULES: Rules = Rules::CURRENT;
 const SMALL: Limits = Limits::small(Format::NARROW);
 
 /// A list with the item at `left_out` missing.
@@ -44,6 +44,26 @@ fn being_tidy_needs_each_of_its_limits() {
             assert_eq!(rules.is_tidy(matrix), limit == left_out);
         }
     }
+}
+
+/// N5 widens document 01's block, and only where a row has no literal.
+#[test]
+fn the_innermost_block_reaches_past_spare_rows() {
+    let (mut wider, mut same) = (0, 0);
+    cases(4_000, |rng| {
+        let any = if rng.one_in(2) { generate::spare_formula } else { generate::tidy_formula };
+        let formula = any(rng, SMALL);
+        let run = Rules::DOCUMENT_01.innermost_block(&formula);
+        let block = RULES.innermost_block(&formula);
+        assert!(run.iter().all(|x| block.contains(x)), "{formula:?}");
+        let used = formula.matrix.variables();
+        if formula.variables().iter().all(|x| used.contains(x)) {
+            assert_eq!(block, run, "{formula:?}");
+            same += 1;
+        }
+        wider += u32::from(block.len() > run.len());
+    });
+    assert!(wider > 1_000 && same > 200, "{wider} wider, {same} the same");
 }
 
 #[test]

@@ -54,12 +54,9 @@ pub record Ready (F : Format) (most : ℕ) (s : State) (first second : Bytes) : 
 abbrev pub Open : State → Bytes → Type 0
 Open s b = verdict (matrix-in (s .sheet) b) ≡ none
 
--- a variable is settled next, or none may be
+-- a variable is settled next
 abbrev pub Settles : State → Bytes → Put → Type 0
 Settles s b p = SettleHere (s .sheet) b (lowest (formula-in (s .sheet) b)) (p .row) (p .variable) (p .value)
-
-abbrev pub Unsettled : State → Bytes → Type 0
-Unsettled s b = lowest (formula-in (s .sheet) b) ≡ none
 
 -- a sheet of so many bytes at the front of the second buffer has its place in the first
 pub record Fetchable (F : Format) (bytes : ℕ) (first second : Bytes) : Type 0 where

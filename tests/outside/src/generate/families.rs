@@ -106,6 +106,20 @@ pub fn alternating_formula(rng: &mut Rng, family: Family, limits: Limits) -> For
     Formula { prefix, matrix }
 }
 
+/// A tidy formula of which at most three variables occur: all other rows of its
+/// prefix, of either kind and anywhere, are spare.
+pub fn spare_formula(rng: &mut Rng, limits: Limits) -> Formula {
+    let style = rng.pick(&[Style::Alternating, Style::Blocks, Style::Mixed]);
+    let count = rng.between(2, limits.variables);
+    let prefix = prefix_of(rng, limits.format, style, count);
+    let mut pool: Vec<Variable> = prefix.iter().map(|row| row.1).collect();
+    rng.shuffle(&mut pool);
+    pool.truncate(rng.between(1, 3));
+    let (family, budget) = (rng.pick(&TIDY_FAMILIES), rng.between(1, limits.nodes));
+    let matrix = matrix(rng, family, &pool, budget);
+    Formula { prefix, matrix }
+}
+
 /// Clause sets, nested trees and parities over 5 to 80 variables, of which a
 /// solver decides most.
 pub fn solver_formula(rng: &mut Rng, format: Format) -> Formula {
@@ -173,7 +187,7 @@ mod tests {
     }
 
     fn every_family_keeps_within(limits: Limits) {
-        let (count, rules) = (if limits.nodes > 1000 { 40 } else { 400 }, Rules::DOCUMENT_01);
+        let (count, rules) = (if limits.nodes > 1000 { 40 } else { 400 }, Rules::CURRENT);
         cases(count, |rng| {
             for family in FAMILIES {
                 let formula = formula_of(rng, family, limits);

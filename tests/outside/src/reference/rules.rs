@@ -1,7 +1,7 @@
 //! The rules that a later request may change, each list in its own order.
 
 use super::tidy::{self, Limit, TidyRule};
-use super::{Formula, Variable};
+use super::{Binding, Formula, Variable};
 
 #[derive(Clone, Copy, Debug)]
 pub struct Rules {
@@ -26,6 +26,9 @@ impl Rules {
         innermost_block: last_run,
     };
 
+    /// Document 01 with the requests that have landed since: N5.
+    pub const CURRENT: Rules = Rules { innermost_block: past_spare_rows, ..Rules::DOCUMENT_01 };
+
     pub fn innermost_block(&self, formula: &Formula) -> Vec<Variable> {
         (self.innermost_block)(formula)
     }
@@ -38,4 +41,12 @@ fn last_run(formula: &Formula) -> Vec<Variable> {
     };
     let outside = formula.prefix.iter().rposition(|row| row.0 != last);
     formula.variables().split_off(outside.map_or(0, |row| row + 1))
+}
+
+/// N5: the variables of which every later row that has a literal is of their kind.
+fn past_spare_rows(formula: &Formula) -> Vec<Variable> {
+    let (prefix, used) = (&formula.prefix, formula.matrix.variables());
+    let blocks = |row: &Binding, quantifier| row.0 != quantifier && used.contains(&row.1);
+    let inside = |at: usize| !prefix[at + 1..].iter().any(|row| blocks(row, prefix[at].0));
+    (0..prefix.len()).filter(|&at| inside(at)).map(|at| prefix[at].1).collect()
 }

@@ -1,5 +1,7 @@
 //! Formulas: a prefix of quantifiers, and a matrix in negation normal form.
 
+use std::collections::BTreeSet;
+
 /// A variable number; wider than a sheet's, since a caller may name any number.
 pub type Variable = usize;
 
@@ -82,6 +84,14 @@ impl Node {
         match self {
             Node::Lit { .. } => &[],
             Node::Op { children, .. } => children,
+        }
+    }
+
+    /// The variables that have a literal.
+    pub fn variables(&self) -> BTreeSet<Variable> {
+        match self {
+            Node::Lit { var, .. } => BTreeSet::from([*var]),
+            Node::Op { children, .. } => children.iter().flat_map(Node::variables).collect(),
         }
     }
 

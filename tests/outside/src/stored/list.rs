@@ -134,6 +134,12 @@ fn traps() -> Vec<Formula> {
     }
     // Joining an existential's copies with AND; expanding outside the innermost block.
     formulas.push(formula(&[(Exists, 3), (ForAll, 2), (Exists, 1)], equal_pair()));
+    // Rows without a literal counted as blocking, or x's own literals asked for: 1, 2 and 4 are in the block, 3 isn't.
+    formulas.push(formula(&[(Exists, 1), (ForAll, 3), (Exists, 2), (ForAll, 4)], equal_pair()));
+    // A later row of another kind ignored though it has a literal: 2 and 3 are in the block, 1 isn't.
+    formulas.push(formula(&[(Exists, 1), (ForAll, 2), (Exists, 3)], equal_pair()));
+    // Spare rows alone, of any kind.
+    formulas.push(formula(&[(ForAll, 3), (Exists, 1), (ForAll, 2)], and(vec![])));
     // Reading "no variables left" as true.
     formulas.push(formula(&all(ForAll, 1), lit(1)));
     formulas.push(formula(

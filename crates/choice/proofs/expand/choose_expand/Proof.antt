@@ -26,7 +26,7 @@ price-row-requires c κs = let a = start (c .before) in (a .pre .0, a .pre .1, a
 loop-holds : tie.Need-loop-holds Inv-loop μ-loop
 loop-holds c =
     let a = start (c .before .before) in
-    price-start (a .args .b .now) (a .pre .0 .readable) (a .pre .1) (a .args .s .variables - 1) (omega (arith, a .pre .3)) (c .price-row .ensures)
+    price-start (a .args .b .now) (a .pre .0 .readable) (a .pre .1) (a .pre .4) (a .args .s .variables - 1) (omega (arith, a .pre .3)) (c .price-row .ensures)
 
 sub-i-2 : tie.Need-sub-i-2 Inv-loop μ-loop
 sub-i-2 c = omega arith
@@ -49,7 +49,7 @@ loop-again c =
     let head = turn .before in
     let block = head .before .before .before in
     let a = start block in
-    price-on (a .args .b .now) (a .pre .0 .readable) (a .pre .1) (head .loop .i) (omega arith)
+    price-on (a .args .b .now) (a .pre .0 .readable) (a .pre .1) (a .pre .4) (head .loop .i) (omega arith)
     (omega (arith, turn .loop-test .taken, block .block-start .ensures)) (c .before .price-row2 .ensures) (c .cheaper-of .ensures)
     (head .loop .inv)
 
@@ -58,7 +58,7 @@ returns c =
     let head = c .before in
     let block = head .before .before .before in
     let a = start block in
-    price-all (a .args .b .now) (a .pre .0 .readable) (a .pre .1) (omega (arith, c .loop-test .left, block .block-start .ensures))
+    price-all (a .args .b .now) (a .pre .0 .readable) (a .pre .1) (a .pre .4) (omega (arith, c .loop-test .left, block .block-start .ensures))
     (head .loop .inv)
 
 pub choose-expand-spec : {M : Type 1} → statement M

@@ -7,7 +7,7 @@ use outside::formulas::{all, and, clause, formula, lit};
 use outside::generate::{self, ladder_formula, Family, Limits, Rng};
 use outside::reference::*;
 use std::time::Duration;
-use Quantifier::Exists;
+use Quantifier::{Exists, ForAll};
 
 const FORMAT: Format = NARROW.reading.format;
 
@@ -96,6 +96,20 @@ fn ladder(rows: usize, literals_of_1: usize) -> Formula {
     ladder_formula(FORMAT, rows - 1 + rows % 2, literals_of_1)
 }
 
+/// A ladder of 1 and 2 with all other rows of the prefix spare and in between.
+fn ladder_past_spare_rows(rows: usize) -> Formula {
+    let mut matrix = clause(&[1, 2]);
+    for rung in 1..rows / 2 {
+        let literal = Node::Lit { positive: rung % 4 < 2, var: 1 + rung % 2 };
+        let kind = if rung.is_multiple_of(2) { Kind::Or } else { Kind::And };
+        matrix = Node::Op { kind, children: vec![literal, matrix] };
+    }
+    let spare = (3..=FORMAT.most_variables).map(|x| (ForAll, x));
+    let prefix: Vec<Binding> =
+        [(Exists, 1)].into_iter().chain(spare).chain([(Exists, 2)]).collect();
+    formula(&prefix, matrix)
+}
+
 /// Of a hundred random formulas of a family the one with the most rows.
 fn random(family: Family, rows: usize) -> Formula {
     let limits = Limits { nodes: rows, ..Limits::full(FORMAT) };
@@ -141,5 +155,6 @@ pub fn report() {
     series("expand, flat", EXPAND, |n| Sheet::raw(flat_clauses(n / 2, 1, true), 1));
     series("expand, random", EXPAND, random_to_expand);
     series("expand, ladder copied", EXPAND, |n| Sheet::raw(ladder(n / 2, 2), 1));
+    series("expand, past spare rows", EXPAND, |n| Sheet::raw(ladder_past_spare_rows(n / 2), 1));
     series("expand, ladder, one literal", EXPAND, |n| Sheet::raw(ladder(n - 3, 1), 1));
 }
