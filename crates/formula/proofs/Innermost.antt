@@ -19,6 +19,11 @@ pub innermost-binds : (x : ℕ) (f : Formula) → innermost x f ≡ true → bin
 unfolding innermost
 innermost-binds x f h = and-parts (binds (f .prefix) x) (all-of (quantifier-of (f .prefix) x) (later x f)) h .0
 
+-- a row without a literal, of whatever kind, is not among those that count
+pub occurring-spare : (t : Tree) (z : Binding) (p : Prefix) → occurs t (z .variable) ≡ false → occurring t (z ∷ p) ≡ occurring t p
+unfolding occurring among
+occurring-spare t z p e = ap (λ (m : Bool). cond m (z ∷ among (occurs t) p) (among (occurs t) p)) e
+
 -- the run of equal kinds at the end: x is there, and every row after it is of its kind
 last-block : (x : ℕ) (p : Prefix) → in-last-block x p ≡ (binds p x && all-of (quantifier-of p x) (after x p))
 unfolding in-last-block binds quantifier-of after
@@ -113,6 +118,8 @@ last-variable z (w ∷ p) t d =
     further fresh l =
         let x = l .0 in
         let apart : eqb (z .variable) x ≡ false
-        = ne-eqb (z .variable) x (λ e. false≢true (sym fresh ∙ ap (binds (w ∷ p)) e ∙ innermost-binds x rest (l .1))) in
-        (x, ap (λ (m : Bool). (m || binds (w ∷ p) x) &&
-        all-of (cond m (z .quantifier) (quantifier-of (w ∷ p) x)) (among (occurs t) (cond m (w ∷ p) (after x (w ∷ p))))) apart ∙ l .1)
+        = ne-eqb (z .variable) x (λ e. false≢true (sym fresh ∙ ap (binds (w ∷ p)) e ∙ innermost-binds x rest (l .1))) in (
+          x,
+          ap (λ (m : Bool). (m || binds (w ∷ p) x) &&
+              all-of (cond m (z .quantifier) (quantifier-of (w ∷ p) x)) (among (occurs t) (cond m (w ∷ p) (after x (w ∷ p))))) apart ∙ l .1,
+        )

@@ -33,6 +33,7 @@ use Rattle.relevance.specs.Raw.{grown-by, copied}
 use Rattle.relevance.specs.declared.variable.Presence.{Presence}
 use Rattle.relevance.specs.declared.variable.Presence.the-variants.{Absent, Present}
 use Rattle.relevance.proofs.Growth.{raw-rows-by}
+use Rattle.choice.specs.Settling.{Unsettled}
 use Rattle.choice.specs.Expanding.{ToExpand}
 use Rattle.choice.specs.declared.expand.ExpandChoice.{ExpandChoice}
 use Rattle.stepping.specs.Steps.{Named, Puts}

@@ -113,7 +113,7 @@ fn lists_of_calls_past_spare_rows() {
         }
         past += run.past_spare_rows;
     });
-    assert!(past > 5_000, "{past}");
+    assert!(past > 2_000, "{past}");
 }
 
 #[test]

@@ -29,7 +29,7 @@ choose-expand-requires : tie.Need-choose-expand-requires
 choose-expand-requires c κs =
     let a = c .before .before .before .before .before .before .before .before .before .before .before .before .before in
     let r = a .pre .0 in
-    (a .pre .3, bound (r .countable) (r .held), c .before .before .before .before .before .fill-occurrences .ensures, some-left r (a .pre .1))
+    (a .pre .3, bound (r .countable) (r .held), c .before .before .before .before .before .fill-occurrences .ensures, some-left r (a .pre .1), a .pre .2)
 
 sub-fits : tie.Need-sub-fits
 sub-fits c = search needs

@@ -155,6 +155,6 @@ pub fn report() {
     series("expand, flat", EXPAND, |n| Sheet::raw(flat_clauses(n / 2, 1, true), 1));
     series("expand, random", EXPAND, random_to_expand);
     series("expand, ladder copied", EXPAND, |n| Sheet::raw(ladder(n / 2, 2), 1));
-    series("expand, past spare rows", EXPAND, |n| Sheet::raw(ladder_past_spare_rows(n / 2), 1));
+    series("expand, past spare rows", EXPAND, |n| Sheet::raw(ladder_past_spare_rows(n / 2 - 1), 1));
     series("expand, ladder, one literal", EXPAND, |n| Sheet::raw(ladder(n - 3, 1), 1));
 }
