@@ -35,6 +35,13 @@ uint64_t plumanchor_settle(const uint8_t *sheet, size_t length, size_t x, uint8_
 /* Expand x, any number, in the same way; the output must have room for the raw sheet. */
 uint64_t plumanchor_expand(const uint8_t *sheet, size_t length, size_t x, uint8_t *output, size_t room);
 
+/* Quote: what expanding x, any number, costs. Accepted: the raw sheet's node rows in HIGH. Refused as Expand would be, whatever the
+ * output. Nothing is written. */
+uint64_t plumanchor_quote(const uint8_t *sheet, size_t length, size_t x);
+
+/* Execute: Expand x if the raw sheet has at most so many node rows as the ceiling, any number, and else refuse with 19. */
+uint64_t plumanchor_execute(const uint8_t *sheet, size_t length, size_t x, size_t ceiling, uint8_t *output, size_t room);
+
 /* Solve, in two work buffers; none of the three may overlap. Not refused: WORD is 1 for true, 0 for false and 2 for stopped, LOW the
  * number settled, HIGH the number expanded in its lower 16 bits and, where stopped, the variable in its upper ones. The first buffer
  * then holds the sheet reached and zeros, the second only zeros. Refused: no byte changes. */

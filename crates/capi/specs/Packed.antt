@@ -29,6 +29,11 @@ unfoldable pub packed-written : Answer ℕ → ℕ
 packed-written (refused number place) = packed number 0 place 0
 packed-written (accepted length) = packed 0 0 0 length
 
+-- Quote: number and place, or the raw row count
+unfoldable pub packed-quote : Answer ℕ → ℕ
+packed-quote (refused number place) = packed number 0 place 0
+packed-quote (accepted count) = packed 0 0 0 count
+
 -- Solve: number and place; or the word (1 true, 0 false, 2 stopped), the number settled, the number expanded and above it the variable
 -- stopped at
 unfoldable pub packed-solved : Solved → ℕ

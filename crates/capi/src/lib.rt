@@ -3,10 +3,10 @@ ghost use mathlib.Core.Path.{_≡_};
 ghost use lib.ListN.{length};
 ghost use Rattle.sheet.specs.Format.{narrow};
 ghost use Rattle.sheet.specs.Check.{check};
-ghost use Rattle.sheet.specs.Operations.{trial-call, part-call, tidy-call, settle-call, expand-call, solve-call};
+ghost use Rattle.sheet.specs.Operations.{trial-call, part-call, tidy-call, settle-call, expand-call, quote-call, execute-call, solve-call};
 ghost use Rattle.checking.specs.Answers.{written-answer};
 ghost use Rattle.solve.specs.Answers.{verdict-of, solved-answer};
-ghost use Rattle.capi.specs.Packed.{packed, packed-check, packed-trial, verdict-word, packed-written, packed-solved};
+ghost use Rattle.capi.specs.Packed.{packed, packed-check, packed-trial, verdict-word, packed-written, packed-quote, packed-solved};
 
 // An answer in one number: refusal number, word and two values.
 fn pack(number: usize, word: usize, low: usize, high: u64) -> u64
@@ -83,6 +83,26 @@ pub extern "C" fn plumanchor_expand(sheet: &[u8], x: usize, out: &mut [u8]) -> u
     ensures { λ _. ⌜ now (out .exit) ≡ (expand-call narrow (now (sheet .entry)) x (now (out .entry))) .output ⌝ }
 {
     pack_written(expand::expand(sheet, x, out))
+}
+
+// Quote: refusal number and place, or the raw row count.
+#[no_mangle]
+pub extern "C" fn plumanchor_quote(sheet: &[u8], x: usize) -> u64
+    ensures { λ r. ⌜ r ≡ packed-quote (quote-call narrow (now (sheet .entry)) x) ⌝ }
+{
+    match expand::quote::quote(sheet, x) {
+        expand::quote::Quoted::Rows(count) => pack(0, 0, 0, count as u64),
+        expand::quote::Quoted::Refused(number, place) => pack(number, 0, place, 0),
+    }
+}
+
+// Execute: refusal number and place, or the new sheet's length.
+#[no_mangle]
+pub extern "C" fn plumanchor_execute(sheet: &[u8], x: usize, ceiling: usize, out: &mut [u8]) -> u64
+    ensures { λ r. ⌜ r ≡ packed-written ((execute-call narrow (now (sheet .entry)) x ceiling (now (out .entry))) .answer) ⌝ }
+    ensures { λ _. ⌜ now (out .exit) ≡ (execute-call narrow (now (sheet .entry)) x ceiling (now (out .entry))) .output ⌝ }
+{
+    pack_written(expand::execute(sheet, x, ceiling, out))
 }
 
 // A verdict's word: 1 true, 0 false.

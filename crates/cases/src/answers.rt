@@ -4,6 +4,7 @@ use crate::outputs::print_short;
 use crate::outputs::print_sum;
 use checking::Checked;
 use checking::Written;
+use expand::quote::Quoted;
 use printing::print_count;
 use printing::print_number;
 use solve::Solved;
@@ -65,6 +66,16 @@ pub fn print_written(answer: Written, out: &[u8]) {
             print_refused(number, place);
             print_sum(out);
         }
+    }
+}
+
+pub fn print_quoted(answer: Quoted) {
+    match answer {
+        Quoted::Rows(count) => {
+            io::write_all(1, b" rows");
+            print_number(count);
+        }
+        Quoted::Refused(number, place) => print_refused(number, place),
     }
 }
 

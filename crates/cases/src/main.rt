@@ -1,11 +1,11 @@
 // The test program. Standard input holds cases: a sheet's length, the number of calls to be made on it, the sheet, the calls. A call is
-// an operation's letter, a number (Part's node, the variable of Settle and Expand, the length of Solve's second buffer), the length of
+// an operation's letter, a number (Part's node, the variable of a step or a quote, the length of Solve's second buffer), the length of
 // the output (of Solve: its first buffer), the length of a list and the list, for operations that take values, a second sheet or further
 // numbers. Numbers have four bytes, low byte first. A line is written for each call.
 //
-// Letters: c Check, t Trial, p Part, d Tidy, s Settle, e Expand, o Solve. Of the last four a line tells the answer (of Solve: the
-// program's line), a sum over each whole output and, if it is short, the new sheet in hexadecimal. Outputs are filled with one byte
-// before, so that the sums tell zeros and bytes left alone too.
+// Letters: c Check, t Trial, p Part, q Quote, d Tidy, s Settle, e Expand, x Execute with its ceiling as the list, o Solve. Of the last
+// five a line tells the answer (of Solve: the program's line), a sum over each whole output and, if it is short, the new sheet in
+// hexadecimal. Outputs are filled with one byte before, so that the sums tell zeros and bytes left alone too.
 mod answers;
 mod input;
 mod operations;

@@ -2,6 +2,7 @@
 use crate::ROOM;
 use crate::answers::print_checked;
 use crate::answers::print_kinds;
+use crate::answers::print_quoted;
 use crate::answers::print_solved;
 use crate::answers::print_tried;
 use crate::answers::print_written;
@@ -43,6 +44,26 @@ fn run_expand(sheet: &[u8], x: usize, out: &mut [u8]) {
     print_written(answer, out);
 }
 
+fn run_quote(sheet: &[u8], x: usize) {
+    io::write_all(1, b"quote");
+    print_number(x);
+    print_quoted(expand::quote::quote(sheet, x));
+}
+
+// The ceiling is the number that the list begins with.
+fn run_execute(sheet: &[u8], x: usize, list: &[u8], out: &mut [u8]) {
+    if list.len() < 4 {
+        return;
+    }
+    let ceiling = rows::number_at(list, 0, 4);
+    io::write_all(1, b"execute");
+    print_number(x);
+    print_number(ceiling);
+    fill(out);
+    let answer = expand::execute(sheet, x, ceiling, out);
+    print_written(answer, out);
+}
+
 fn run_writing(operation: u8, number: usize, sheet: &[u8], out: &mut [u8]) {
     fill(out);
     if operation == b'd' {
@@ -74,7 +95,7 @@ fn run_solve(sheet: &[u8], first: &mut [u8], length: usize) {
     solve_in_buffers(sheet, first, second);
 }
 
-// Calls the operation of this letter. None of these takes a list.
+// Calls the operation of this letter.
 pub fn run(operation: u8, number: usize, sheet: &[u8], list: &[u8], out: &mut [u8]) {
     if operation == b'c' {
         run_check(sheet);
@@ -90,6 +111,14 @@ pub fn run(operation: u8, number: usize, sheet: &[u8], list: &[u8], out: &mut [u
     }
     if operation == b'o' {
         run_solve(sheet, out, number);
+        return;
+    }
+    if operation == b'q' {
+        run_quote(sheet, number);
+        return;
+    }
+    if operation == b'x' {
+        run_execute(sheet, number, list, out);
         return;
     }
     run_writing(operation, number, sheet, out);

@@ -1,3 +1,4 @@
--- What Expand's code decides: definitions that no entry point cites.
+-- What the code of Quote and Expand decides: definitions that no entry point cites.
 pub mod Block
+pub mod Price
 pub mod Plan

@@ -1,2 +1,3 @@
--- Expand's contract needs no definition of its own.
+-- Quote's answer. Expand's and Execute's contracts need no definition of their own.
+pub mod Answers
 pub mod Inner

@@ -1,4 +1,5 @@
-// Expand: the relevant subtree of an innermost variable gives way to two copies of it, and the tree is tidied ("Expand x").
+// Expand: the relevant subtree of an innermost variable gives way to two copies of it, and the tree is tidied ("Expand x"). Execute does
+// the same under a ceiling, which a quote gives.
 use crate::plan::Plan;
 use crate::plan::plan_expand;
 use checking::Written;
@@ -10,7 +11,7 @@ use stepping::expanding::Expanding;
 use stepping::expanding::expand_into;
 ghost use mathlib.Core.Path.{_≡_};
 ghost use Rattle.sheet.specs.Format.{narrow};
-ghost use Rattle.sheet.specs.Operations.{expand-call};
+ghost use Rattle.sheet.specs.Operations.{expand-call, execute-call};
 ghost use Rattle.rows.specs.Formats.{format-of};
 ghost use Rattle.checking.specs.Answers.{written-answer};
 ghost use Rattle.checking.specs.Limits.{Countable};
@@ -18,6 +19,8 @@ ghost use Rattle.expand.specs.Inner.Plan.{Planned};
 
 pub mod block;
 pub mod plan;
+pub mod price;
+pub mod quote;
 
 // Carries a plan out: 13 the raw sheet doesn't fit; else it is written to `out` and tidied there.
 fn expand_planned(
@@ -50,6 +53,34 @@ pub fn expand_in(sheet: &[u8], f: Format, x: usize, out: &mut [u8]) -> Written
         Plan::Refused(number, place) => Written::Refused(number, place),
         Plan::Expands(s, w) => expand_planned(sheet, f, s, &cuts, w, out),
     }
+}
+
+// Carries a quote out in a sheet of any format whose rows this code can count: as Expand, but 19 if the raw sheet has more node rows than
+// `ceiling`, before its room is tested.
+pub fn execute_in(sheet: &[u8], f: Format, x: usize, ceiling: usize, out: &mut [u8]) -> Written
+    requires { ⌜ Countable (format-of f) ⌝ }
+    ensures { λ r. ⌜ written-answer r ≡ (execute-call (format-of f) (now (sheet .entry)) x ceiling (now (out .entry))) .answer ⌝ }
+    ensures { λ _. ⌜ now (out .exit) ≡ (execute-call (format-of f) (now (sheet .entry)) x ceiling (now (out .entry))) .output ⌝ }
+{
+    let mut cuts = [0u16; CUTS];
+    let p = plan_expand(sheet, f, x, &mut cuts);
+    match p {
+        Plan::Refused(number, place) => Written::Refused(number, place),
+        Plan::Expands(s, w) => {
+            if ceiling < w.to.layout.nodes {
+                return Written::Refused(19, 0);
+            }
+            expand_planned(sheet, f, s, &cuts, w, out)
+        }
+    }
+}
+
+// Expands `x` in a sheet of document 01 if its raw row count is at most `ceiling`; everything else is as with `expand`.
+pub fn execute(sheet: &[u8], x: usize, ceiling: usize, out: &mut [u8]) -> Written
+    ensures { λ r. ⌜ written-answer r ≡ (execute-call narrow (now (sheet .entry)) x ceiling (now (out .entry))) .answer ⌝ }
+    ensures { λ _. ⌜ now (out .exit) ≡ (execute-call narrow (now (sheet .entry)) x ceiling (now (out .entry))) .output ⌝ }
+{
+    execute_in(sheet, rows::narrow(), x, ceiling, out)
 }
 
 // Expands `x` in a sheet of document 01: the new sheet stands at the front of `out` with zeros behind it, and its length is returned;

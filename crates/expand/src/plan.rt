@@ -1,7 +1,7 @@
-// What Expand decides before it looks at the output: its refusals short of 13, in the paper's order, or all that the writing needs.
-use crate::block::is_innermost;
-use choice::expand::price_row;
-use occurrences::fill_occurrences;
+// What Expand decides before it looks at a ceiling or the output: the quote's refusals, in the paper's order, or all that the writing
+// needs.
+use crate::price::Price;
+use crate::price::find_price;
 use rows::Format;
 use rows::Layout;
 use rows::NUMBERS;
@@ -38,13 +38,14 @@ fn plan_admitted(
 {
     let mut ranges = [0u16; 2 * NUMBERS];
     let mut next = [0u16; ROWS];
-    fill_occurrences(sheet, s, &mut ranges, &mut next);
-    if !is_innermost(sheet, s, &ranges, z) {
-        return Plan::Refused(11, 0);
+    let p = find_price(sheet, s, ends, z, &mut ranges, &mut next);
+    match p {
+        Price::Outside => Plan::Refused(11, 0),
+        Price::Inside(c) => {
+            let w = prepare(sheet, s, ends, &ranges, &next, c, cuts);
+            Plan::Expands(s, w)
+        }
     }
-    let c = price_row(sheet, s, ends, &ranges, &next, z.row);
-    let w = prepare(sheet, s, ends, &ranges, &next, c, cuts);
-    Plan::Expands(s, w)
 }
 
 // Decides what Expand of `x` does with a sheet, whatever the output.

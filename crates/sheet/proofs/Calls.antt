@@ -1,4 +1,4 @@
--- Demand 3: one theorem about a whole list of Settle and Expand calls.
+-- Demand 3: one theorem about a whole list of Settle, Expand and Execute calls.
 -- Assumes nothing.
 use mathlib.Core.Path.{_≡_, refl, sym, _∙_, ap, subst}
 use mathlib.Core.Bool.{Bool, true, false, false≢true}
@@ -23,8 +23,8 @@ use Rattle.formula.proofs.Steps.{Proper, truth-settled, proper-settled, rows-se
 use Rattle.sheet.specs.Format.{Bytes, Format, fits, variables, nodes}
 use Rattle.sheet.specs.Sheet.{formula, sheet}
 use Rattle.sheet.specs.Check.{Answer, refused, accepted, Test, answer, passes, Sizes, check-tests, check}
-use Rattle.sheet.specs.Operations.{padded, output-after, write, tidy-and-bound-tests, settle-tests, settle-call, expand-tests, expand-call}
-use Rattle.sheet.specs.Calls.{Call, settle, expand, perform, Held, held-after, perform-all, held, sheet-verdict, Demand-3}
+use Rattle.sheet.specs.Operations.{padded, output-after, write, tidy-and-bound-tests, settle-tests, settle-call, quote-tests, expand-tests, expand-call, execute-tests, execute-call}
+use Rattle.sheet.specs.Calls.{Call, settle, expand, execute, perform, Held, held-after, perform-all, held, sheet-verdict, Demand-3}
 use Rattle.sheet.proofs.Tests.{passed-∷, passed-++, answer-passes, accepted-passes}
 use Rattle.sheet.specs.Limits.{Sound}
 use Rattle.sheet.proofs.Limits.{within-step}
@@ -113,22 +113,39 @@ module _ (F : Format) (sound : Sound F) where
       (le-trans (rows-settled x v f) (accepted-within F b (g .is-accepted) .few-nodes))
       (truth-settled x v f bound (p .is-distinct) allowed))
 
-  expand-stepped : (b : Bytes) (x : ℕ) (out : Bytes) (n : ℕ) → Good F b → (expand-call F b x out) .answer ≡ accepted n
-      → Stepped F b (take n ((expand-call F b x out) .output))
-  unfolding expand-call expand-tests expanded raw fits-raw fits
-  expand-stepped b x out n g h =
+  -- the quote's tests passed, and the raw sheet fits some output
+  expanded-stepped : (b : Bytes) (x len : ℕ) → Good F b → passes (quote-tests F b x) ≡ true
+      → fits-raw (fits F len) x (formula F b) ≡ true → Stepped F b (sheet F (expanded x (formula F b)))
+  unfolding quote-tests expanded raw fits-raw fits
+  expanded-stepped b x len g quoted fitting =
       let f = formula F b in
-      let w = front-written (expand-tests F b x (length out)) (sheet F (expanded x f)) out n h in
-      let passed = passed-++ (check-tests F b ++ tidy-and-bound-tests F b x) _ (w .0) in
+      let passed = passed-++ (check-tests F b ++ tidy-and-bound-tests F b x) _ quoted in
       let bound = bound-passed b x (passed-++ (check-tests F b) (tidy-and-bound-tests F b x) (passed .0) .1) in
       let inside = not-false (innermost x f) (passed-∷ _ _ (passed .1) .0) in
-      let fitting = not-false (fits-raw (fits F (length out)) x f) (passed-∷ _ _ (passed-∷ _ _ (passed .1) .1) .0) in
       let few = and-parts (leb (raw-rows (of x) (f .matrix)) (F .most-nodes)) _ fitting .0 in
       let p = proper b g in
-      subst (Stepped F b) (sym (w .1))
-      (stepped b x (expanded x f) g bound refl (proper-expanded x f p)
+      stepped b x (expanded x f) g bound refl (proper-expanded x f p)
       (le-trans (rows-expanded x f) (leb-true (raw-rows (of x) (f .matrix)) (F .most-nodes) few))
-      (truth-expanded x f inside (p .is-distinct)))
+      (truth-expanded x f inside (p .is-distinct))
+
+  expand-stepped : (b : Bytes) (x : ℕ) (out : Bytes) (n : ℕ) → Good F b → (expand-call F b x out) .answer ≡ accepted n
+      → Stepped F b (take n ((expand-call F b x out) .output))
+  unfolding expand-call expand-tests
+  expand-stepped b x out n g h =
+      let w = front-written (expand-tests F b x (length out)) (sheet F (expanded x (formula F b))) out n h in
+      let passed = passed-++ (quote-tests F b x) _ (w .0) in
+      subst (Stepped F b) (sym (w .1))
+      (expanded-stepped b x (length out) g (passed .0) (not-false (fits-raw (fits F (length out)) x (formula F b)) (passed-∷ _ _ (passed .1) .0)))
+
+  execute-stepped : (b : Bytes) (x ceiling : ℕ) (out : Bytes) (n : ℕ) → Good F b → (execute-call F b x ceiling out) .answer ≡ accepted n
+      → Stepped F b (take n ((execute-call F b x ceiling out) .output))
+  unfolding execute-call execute-tests
+  execute-stepped b x ceiling out n g h =
+      let w = front-written (execute-tests F b x ceiling (length out)) (sheet F (expanded x (formula F b))) out n h in
+      let passed = passed-++ (quote-tests F b x) _ (w .0) in
+      let room = passed-∷ _ _ (passed-∷ _ _ (passed .1) .1) .0 in
+      subst (Stepped F b) (sym (w .1))
+      (expanded-stepped b x (length out) g (passed .0) (not-false (fits-raw (fits F (length out)) x (formula F b)) room))
 
   -- the sheet held after any calls, compared with the first one
   record Well (b : Bytes) (h : Held) : Type 0 where
@@ -150,6 +167,7 @@ module _ (F : Format) (sound : Sound F) where
   unfolding perform
   perform-stepped (settle x out) b n g h = settle-stepped b x out n g h
   perform-stepped (expand x out) b n g h = expand-stepped b x out n g h
+  perform-stepped (execute x ceiling out) b n g h = execute-stepped b x ceiling out n g h
 
   well-after : (b : Bytes) (h : Held) (c : Call) → Well b h
       → Well b (held-after h ((perform F c (h .sheet)) .answer) ((perform F c (h .sheet)) .output))

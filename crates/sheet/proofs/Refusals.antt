@@ -7,7 +7,7 @@ use native.Mathlib.Omega.{arith}
 use Rattle.formula.specs.Solve.{State, End, ended, stopped, Run}
 use Rattle.sheet.specs.Format.{Bytes, Format}
 use Rattle.sheet.specs.Check.{Answer, refused, accepted, Test}
-use Rattle.sheet.specs.Operations.{output-after, write, tidy-call, settle-call, expand-call, is-refused, solved, solving, solve-call}
+use Rattle.sheet.specs.Operations.{output-after, write, tidy-call, settle-call, expand-call, execute-call, is-refused, solved, solving, solve-call}
 
 written-refused : (tests : List Test) (new out : Bytes) (n i : ℕ) → (write tests new out) .answer ≡ refused n i → (write tests new out) .output ≡ out
 unfolding write output-after
@@ -38,6 +38,11 @@ module _ (F : Format) (b : Bytes) (n i : ℕ) where
     pub expand-refused : (expand-call F b x out) .answer ≡ refused n i → (expand-call F b x out) .output ≡ out
     unfolding expand-call
     expand-refused h = written-refused _ _ out n i h
+
+    pub execute-refused : (ceiling : ℕ) → (execute-call F b x ceiling out) .answer ≡ refused n i
+        → (execute-call F b x ceiling out) .output ≡ out
+    unfolding execute-call
+    execute-refused ceiling h = written-refused _ _ out n i h
 
   -- both work buffers of Solve
   pub solve-refused : (first second : Bytes) → (solve-call F b first second) .answer ≡ is-refused n i

@@ -1,4 +1,4 @@
--- Lists of Settle and Expand calls, the sheet held, and what demand 3 says of them ("Settling and expanding").
+-- Lists of Settle, Expand and Execute calls, the sheet held, and what demand 3 says of them ("Settling and expanding").
 -- Assumes nothing.
 use mathlib.Core.Path.{_≡_}
 use mathlib.Core.Bool.{Bool, true}
@@ -11,16 +11,19 @@ use Rattle.formula.specs.Tidy.{is-tidy, verdict}
 use Rattle.sheet.specs.Format.{Bytes, Format, variables}
 use Rattle.sheet.specs.Sheet.{formula}
 use Rattle.sheet.specs.Check.{Answer, refused, accepted, Sizes, check}
-use Rattle.sheet.specs.Operations.{Written, settle-call, expand-call}
+use Rattle.sheet.specs.Operations.{Written, settle-call, expand-call, execute-call}
 
--- a call: the operation, any number as x, and an output of any length and contents
+-- a call: the operation, any number as x, of Execute any number as ceiling, and an output of any length and contents; a quote, which
+-- writes nothing, is none
 pub data Call : Type 0 where
   settle : ℕ → Bytes → Call
   expand : ℕ → Bytes → Call
+  execute : ℕ → ℕ → Bytes → Call
 
 unfoldable pub perform : Format → Call → Bytes → Written
 perform F (settle x out) b = settle-call F b x out
 perform F (expand x out) b = expand-call F b x out
+perform F (execute x ceiling out) b = execute-call F b x ceiling out
 
 -- the sheet held and the calls accepted so far
 pub record Held : Type 0 where

@@ -6,10 +6,10 @@ use mathlib.Core.Option.{Option·getD}
 use Prim.Native.Nat.{ℕ, zero, suc, _+_, _-_, min}
 use lib.Dec.{ltb}
 use lib.ListN.{length, take, drop, replicate}
-use Rattle.formula.specs.Tree.{binds}
+use Rattle.formula.specs.Tree.{of, binds}
 use Rattle.formula.specs.Tidy.{tidied, is-tidy, first-fault}
 use Rattle.formula.specs.Settle.{may-settle, settled}
-use Rattle.formula.specs.Expand.{innermost, expanded}
+use Rattle.formula.specs.Expand.{innermost, raw-rows, expanded}
 use Rattle.formula.specs.Solve.{State, End, ended, stopped, Run, is-some, fits-raw, solve}
 use Rattle.formula.specs.Trial.{Tried, trial}
 use Rattle.sheet.specs.Format.{Bytes, Format, Row, sheet-length, fits, variables, nodes, kind-bytes, all-rows, children}
@@ -59,16 +59,35 @@ unfoldable pub settle-call : Format → Bytes → ℕ → Bytes → Written
 settle-call F b x out =
     write (settle-tests F b x (length out)) (sheet F (settled x (Option·getD (may-settle x (formula F b)) false) (formula F b))) out
 
--- Expand: 1 to 8; 9; 10; 11 x not in the innermost block; 13 the raw sheet doesn't fit
+-- Quote (N7): 1 to 8; 9; 10; 11 x not in the innermost block
+unfoldable pub quote-tests : Format → Bytes → ℕ → List Test
+quote-tests F b x = check-tests F b ++ tidy-and-bound-tests F b x ++ (test (not (innermost x (formula F b))) 11 0 ∷ [])
+
+-- the raw row count of the expansion of x
+abbrev pub raw-count : Format → Bytes → ℕ → ℕ
+raw-count F b x = raw-rows (of x) ((formula F b) .matrix)
+
+unfoldable pub quote-call : Format → Bytes → ℕ → Answer ℕ
+quote-call F b x = answer (quote-tests F b x) (raw-count F b x)
+
+-- 13 the raw sheet doesn't fit
+abbrev pub raw-room-test : Format → Bytes → ℕ → ℕ → Test
+raw-room-test F b x len = test (not (fits-raw (fits F len) x (formula F b))) 13 0
+
+-- Expand: the quote's tests; 13
 unfoldable pub expand-tests : Format → Bytes → ℕ → ℕ → List Test
-expand-tests F b x len =
-    check-tests F b ++ tidy-and-bound-tests F b x ++
-    (test (not (innermost x (formula F b))) 11 0 ∷
-    test (not (fits-raw (fits F len) x (formula F b))) 13 0 ∷
-    [])
+expand-tests F b x len = quote-tests F b x ++ (raw-room-test F b x len ∷ [])
 
 unfoldable pub expand-call : Format → Bytes → ℕ → Bytes → Written
 expand-call F b x out = write (expand-tests F b x (length out)) (sheet F (expanded x (formula F b))) out
+
+-- Execute (N7), the carrying out of a quote: the quote's tests; 19 the raw count is above the ceiling; 13
+unfoldable pub execute-tests : Format → Bytes → ℕ → ℕ → ℕ → List Test
+execute-tests F b x ceiling len =
+    quote-tests F b x ++ (test (ltb ceiling (raw-count F b x)) 19 0 ∷ raw-room-test F b x len ∷ [])
+
+unfoldable pub execute-call : Format → Bytes → ℕ → ℕ → Bytes → Written
+execute-call F b x ceiling out = write (execute-tests F b x ceiling (length out)) (sheet F (expanded x (formula F b))) out
 
 -- Solve: refused with number and place, stopped at a variable, or ended with a verdict; the latter two with the number settled and
 -- the number expanded

@@ -3,7 +3,7 @@
 
 use crate::{Library, LIBRARIES};
 use outside::generate::{self, Call, Rng};
-use outside::reference::{Answer, Refusal, SolveAnswer};
+use outside::reference::{Answer, Refusal, SolveAnswer, Variable};
 use std::fmt::Debug;
 
 /// Runs `test` on `count` seeded generators for each library.
@@ -105,7 +105,12 @@ impl Library {
         )
     }
 
-    /// Settle or Expand; the output is as long as the call says and has any contents.
+    pub fn agree_on_quote(&self, sheet: &[u8], x: Variable) -> Answer<usize> {
+        let what = format!("quote {x}");
+        agree(&what, sheet, [], |_| self.quote(sheet, x), |_| self.reading.quote(sheet, x)).answer
+    }
+
+    /// Settle, Expand or Execute; the output is as long as the call says and has any contents.
     pub fn agree_on_call(&self, sheet: &[u8], call: Call, before: &[u8]) -> Written {
         let Call { operation, variable: x, .. } = call;
         agree(

@@ -7,6 +7,8 @@ type Reads = unsafe extern "C" fn(Bytes, usize) -> u64;
 type Finds = unsafe extern "C" fn(Bytes, usize, usize) -> usize;
 type Writes = unsafe extern "C" fn(Bytes, usize, Output, usize) -> u64;
 type Steps = unsafe extern "C" fn(Bytes, usize, usize, Output, usize) -> u64;
+type Quotes = unsafe extern "C" fn(Bytes, usize, usize) -> u64;
+type Executes = unsafe extern "C" fn(Bytes, usize, usize, usize, Output, usize) -> u64;
 type Solves = unsafe extern "C" fn(Bytes, usize, Output, usize, Output, usize) -> u64;
 
 pub struct Entries {
@@ -16,6 +18,8 @@ pub struct Entries {
     pub tidy: Writes,
     pub settle: Steps,
     pub expand: Steps,
+    pub quote: Quotes,
+    pub execute: Executes,
     pub solve: Solves,
 }
 
@@ -26,6 +30,8 @@ pub const NARROW: Entries = Entries {
     tidy: plumanchor_tidy,
     settle: plumanchor_settle,
     expand: plumanchor_expand,
+    quote: plumanchor_quote,
+    execute: plumanchor_execute,
     solve: plumanchor_solve,
 };
 
@@ -38,6 +44,15 @@ extern "C" {
         -> u64;
     fn plumanchor_expand(sheet: Bytes, length: usize, x: usize, output: Output, room: usize)
         -> u64;
+    fn plumanchor_quote(sheet: Bytes, length: usize, x: usize) -> u64;
+    fn plumanchor_execute(
+        sheet: Bytes,
+        length: usize,
+        x: usize,
+        ceiling: usize,
+        output: Output,
+        room: usize,
+    ) -> u64;
     fn plumanchor_solve(
         sheet: Bytes,
         length: usize,

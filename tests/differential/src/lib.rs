@@ -87,12 +87,21 @@ impl Library {
         x: Variable,
         output: &mut [u8],
     ) -> Answer<usize> {
-        let entry = match operation {
-            Operation::Settle => self.entries.settle,
-            Operation::Expand => self.entries.expand,
-        };
+        let (bytes, length) = (sheet.as_ptr(), sheet.len());
         let (out, room) = (output.as_mut_ptr(), output.len());
-        written(unsafe { entry(sheet.as_ptr(), sheet.len(), x, out, room) })
+        let Library { entries, .. } = self;
+        written(match operation {
+            Operation::Settle => unsafe { (entries.settle)(bytes, length, x, out, room) },
+            Operation::Expand => unsafe { (entries.expand)(bytes, length, x, out, room) },
+            Operation::Execute(ceiling) => unsafe {
+                (entries.execute)(bytes, length, x, ceiling, out, room)
+            },
+        })
+    }
+
+    /// The raw rows of an expansion.
+    pub fn quote(&self, sheet: &[u8], x: Variable) -> Answer<usize> {
+        written(unsafe { (self.entries.quote)(sheet.as_ptr(), sheet.len(), x) })
     }
 
     /// Solve, with the counts in the answer's two values and the variable stopped at above the second.

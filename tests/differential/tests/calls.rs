@@ -1,4 +1,4 @@
-//! Demand 3 on the compiled code: random lists of Settle and Expand calls,
+//! Demand 3 on the compiled code: random lists of Settle, Expand and Execute calls,
 //! refused ones among them, each on the sheet held. Every call is compared
 //! with the independent reading too.
 
@@ -49,7 +49,7 @@ impl Run<'_> {
                 self.accepted += 1;
                 let outside =
                     !Rules::DOCUMENT_01.innermost_block(&formula).contains(&call.variable);
-                self.past_spare_rows += usize::from(outside && call.operation == Operation::Expand);
+                self.past_spare_rows += usize::from(outside && call.operation != Operation::Settle);
                 self.check_truth();
             }
             Answer::Refused(..) => assert!(outcome.output() == before, "refused, and written"),
@@ -82,7 +82,7 @@ impl Run<'_> {
 
 #[test]
 fn lists_of_calls_on_small_sheets() {
-    let mut answers = [0; 15];
+    let mut answers = [0; 20];
     let mut ended = 0;
     cases(20_000, |library, rng| {
         let first = generate::tidy_formula(rng, Limits::small(library.reading.format));
@@ -94,7 +94,7 @@ fn lists_of_calls_on_small_sheets() {
         }
         ended += u32::from(run.formula_held().prefix.is_empty());
     });
-    for number in [0, 10, 11, 12, 13] {
+    for number in [0, 10, 11, 12, 13, 19] {
         assert!(answers[number] > 5_000, "{answers:?}");
     }
     assert!(ended > 4_000, "{ended} lists left no variable");

@@ -8,7 +8,7 @@ use outside::formulas::{all, clause, formula, lit};
 use outside::generate::{self, Call, Limits, Rng};
 use outside::reference::*;
 use outside::with_deep_stack;
-use Operation::{Expand, Settle};
+use Operation::{Execute, Expand, Settle};
 use Quantifier::{Exists, ForAll};
 
 fn agree_on_tidy(rng: &mut Rng, library: &Library, sheet: &[u8]) {
@@ -120,6 +120,70 @@ fn expand_on_small_sheets() {
 #[test]
 fn expand_on_large_sheets() {
     agree_on_large_sheets(Expand);
+}
+
+/// A quote, its execution and Expand in equal outputs; answers with the quote.
+fn agree_on_quote(
+    rng: &mut Rng,
+    library: &Library,
+    sheet: &[u8],
+    x: Variable,
+    room: usize,
+) -> Answer<usize> {
+    let before = generate::dirty(rng, room);
+    let mut call =
+        |operation| library.agree_on_call(sheet, Call { operation, variable: x, room }, &before);
+    let expanded = call(Expand);
+    let quote = library.agree_on_quote(sheet, x);
+    match quote {
+        Answer::Accepted(rows) => {
+            assert!(call(Execute(rows)) == expanded, "quoted {rows}: {}", hexadecimal(sheet));
+            assert_eq!(call(Execute(rows - 1)).answer, Answer::Refused(19, 0));
+        }
+        refused => {
+            assert_eq!(expanded.answer, refused);
+            assert_eq!(call(Execute(usize::MAX)).answer, refused);
+        }
+    }
+    let ceiling = generate::ceiling_around(rng, quote.accepted().unwrap_or(1));
+    call(Execute(ceiling));
+    quote
+}
+
+#[test]
+fn a_quote_and_its_execution_are_an_expansion() {
+    let mut seen = [0; 20];
+    cases(20_000, |library, rng| {
+        let format = library.reading.format;
+        let formula = generate::tidy_formula(rng, Limits::small(format));
+        let untidy = generate::formula(rng, Limits::small(format));
+        let sheet = format.encode(&formula);
+        let damaged = generate::damage(rng, format, &sheet);
+        let x = variable(rng, &library.reading, &formula);
+        let room = generate::length_around(rng, format, format.least_output(Expand, &formula, x));
+        for sheet in [sheet, format.encode(&untidy), damaged] {
+            seen[agree_on_quote(rng, library, &sheet, x, room).number()] += 1;
+        }
+    });
+    assert!((0..=11).all(|number| seen[number] > 200), "{seen:?}");
+}
+
+/// A quote has no limit of rows: above the format's most, Execute is refused by
+/// 13 under a high enough ceiling.
+#[test]
+fn quotes_above_the_row_limit() {
+    let mut rng = Rng::new(generate::run_seed());
+    for library in &LIBRARIES {
+        let format = library.reading.format;
+        for raw in format.most_nodes - 1..format.most_nodes + 3 {
+            for matrix in with_raw_rows(format, Kind::And, raw) {
+                let sheet = format.encode(&formula(&all(Exists, 4), matrix));
+                let room = 3 * format.longest_sheet();
+                let quote = agree_on_quote(&mut rng, library, &sheet, 1, room);
+                assert_eq!(quote, Answer::Accepted(raw));
+            }
+        }
+    }
 }
 
 /// One call with each length around the least that suffices.

@@ -9,7 +9,7 @@ mod prefix;
 mod random;
 mod trees;
 
-pub use calls::{call, dirty, length_around, Call};
+pub use calls::{call, ceiling_around, dirty, length_around, Call};
 pub use damage::damage;
 pub use families::{
     alternating_formula, formula, formula_of, sheet, solver_formula, spare_formula, tidy_formula,

@@ -45,6 +45,15 @@ impl<T> Answer<T> {
     }
 }
 
+impl<T: Copy> Answer<T> {
+    pub fn accepted(&self) -> Option<T> {
+        match self {
+            Answer::Refused(..) => None,
+            Answer::Accepted(value) => Some(*value),
+        }
+    }
+}
+
 impl<T> From<Result<T, Refusal>> for Answer<T> {
     fn from(result: Result<T, Refusal>) -> Self {
         match result {

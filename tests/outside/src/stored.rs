@@ -32,11 +32,13 @@ pub enum Letter {
     Tidy = b'd',
     Settle = b's',
     Expand = b'e',
+    Quote = b'q',
+    Execute = b'x',
     Solve = b'o',
 }
 
-/// A letter, a number (the node of Part, the variable of Settle and Expand, the
-/// length of Solve's second buffer), the length of the output (of Solve: its
+/// A letter, a number (the node of Part, the variable of a step or a
+/// quote, the length of Solve's second buffer), the length of the output (of Solve: its
 /// first buffer) and a list, for operations that take values, a second sheet or
 /// further numbers.
 #[derive(Clone, PartialEq, Eq)]
@@ -51,6 +53,19 @@ impl Call {
     /// A call of an operation that takes no list.
     pub const fn new(letter: Letter, number: usize, room: usize) -> Call {
         Call { letter, number, room, list: Vec::new() }
+    }
+
+    /// Execute with a ceiling, which stands in the list.
+    pub fn execute(x: usize, ceiling: usize, room: usize) -> Call {
+        let mut list = Vec::new();
+        push_number(ceiling, &mut list);
+        Call { list, ..Call::new(Letter::Execute, x, room) }
+    }
+
+    /// The number that the list begins with.
+    fn first_of_list(&self) -> usize {
+        let bytes = self.list.first_chunk().expect("a list with a number");
+        u32::from_le_bytes(*bytes) as usize
     }
 
     /// Solve with buffers of these lengths.

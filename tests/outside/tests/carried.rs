@@ -91,7 +91,7 @@ fn agree(
 
 #[test]
 fn writing_operations_agree() {
-    let mut answers = [0; 14];
+    let mut answers = [0; 20];
     cases(2_000, |rng| {
         let formula = generate::formula(rng, SMALL);
         let sheet = NARROW.format.encode(&formula);

@@ -274,7 +274,7 @@ fn solve_is_its_single_calls() {
 
 #[test]
 fn lists_of_calls_keep_truth_and_count_variables() {
-    let mut refusals = [0; 14];
+    let mut refusals = [0; 20];
     cases(3_000, |rng| {
         let start = generate::tidy_formula(rng, SMALL);
         let truth_at_start = truth::is_true(&start);
@@ -314,18 +314,26 @@ fn expected_refusal(formula: &Formula, call: Call) -> usize {
     let outside_block = rest.iter().any(blocks);
     let v_left = formula.prefix.len().saturating_sub(1);
     let short = |rows: usize| call.room < 4 + 3 * (v_left + rows);
+    let raw = |x| raw_expansion(formula, x).raw.matrix.rows();
     let conditions = match call.operation {
-        Operation::Settle => [
+        Operation::Settle => vec![
             (9, !RULES.is_tidy(&formula.matrix)),
             (10, bound.is_none()),
             (12, bound.is_some() && settle_value(formula, x).is_none()),
             (13, short(formula.matrix.rows())),
         ],
-        Operation::Expand => [
+        Operation::Expand => vec![
             (9, !RULES.is_tidy(&formula.matrix)),
             (10, bound.is_none()),
             (11, outside_block),
-            (13, bound.is_some() && short(raw_expansion(formula, x).raw.matrix.rows())),
+            (13, bound.is_some() && short(raw(x))),
+        ],
+        Operation::Execute(ceiling) => vec![
+            (9, !RULES.is_tidy(&formula.matrix)),
+            (10, bound.is_none()),
+            (11, outside_block),
+            (19, bound.is_some() && ceiling < raw(x)),
+            (13, bound.is_some() && short(raw(x))),
         ],
     };
     conditions.into_iter().find(|condition| condition.1).map_or(0, |condition| condition.0)

@@ -1,25 +1,20 @@
 -- What Expand decides before it looks at the output ("Expand x"; "What each operation turns away").
 -- Assumes nothing.
 use mathlib.Core.Path.{_≡_}
-use mathlib.Core.Bool.{true, not}
-use mathlib.Core.List.{List, [], _∷_, _++_}
+use mathlib.Core.Bool.{true}
+use mathlib.Core.List.{List}
 use Prim.Native.Nat.{ℕ}
-use Rattle.formula.specs.Expand.{innermost}
 use Rattle.sheet.specs.Format.{Bytes, Format}
 use Rattle.sheet.specs.Sheet.{formula}
-use Rattle.sheet.specs.Check.{refused, Test, test, answer, passes}
+use Rattle.sheet.specs.Check.{refused, answer, passes}
+use Rattle.sheet.specs.Operations.{quote-tests}
 use Rattle.rows.specs.Formulas.{formula-in}
 use Rattle.rows.specs.declared.Layout.{Layout}
 use Rattle.stepping.specs.Steps.{Steppable, Named}
-use Rattle.stepping.specs.Admission.{admission-tests}
 use Rattle.stepping.specs.Expanding.{Prepared}
 use Rattle.stepping.specs.declared.expanding.Expanding.{Expanding}
 use Rattle.expand.specs.declared.plan.Plan as plan
 use Rattle.expand.specs.declared.plan.Plan.{Plan}
-
--- 1 to 10, and 11 x not in the innermost block; Expand's tests are these and then 13
-unfoldable pub quote-tests : Format → Bytes → ℕ → List Test
-quote-tests F b x = admission-tests F b x ++ (test (not (innermost x (formula F b))) 11 0 ∷ [])
 
 -- every test short of 13 passes, and what is written is the expansion of x, with its cuts at the front of a table
 pub record Planned (F : Format) (b : Bytes) (x : ℕ) (table : List ℕ) (s : Layout) (w : Expanding) : Type 0 where

@@ -1,7 +1,7 @@
 //! Buffers and calls.
 
 use super::{damage, Rng};
-use crate::reference::{Format, Formula, Operation, Reading, Variable};
+use crate::reference::{raw_rows, Format, Formula, Operation, Reading, Variable};
 
 /// A buffer of any contents.
 pub fn dirty(rng: &mut Rng, length: usize) -> Vec<u8> {
@@ -32,10 +32,22 @@ pub struct Call {
 /// A call on `formula`, likely accepted, with any number as the variable and
 /// an output about as long as the call needs.
 pub fn call(rng: &mut Rng, reading: &Reading, formula: &Formula) -> Call {
-    let operation = rng.pick(&[Operation::Settle, Operation::Expand]);
     let variable = variable(rng, reading, formula);
+    let execute = Operation::Execute(ceiling_around(rng, raw_rows(formula, variable)));
+    let operation = rng.pick(&[Operation::Settle, Operation::Expand, execute]);
     let exact = reading.format.least_output(operation, formula, variable);
     Call { operation, variable, room: length_around(rng, reading.format, exact) }
+}
+
+/// A ceiling that is the raw rows, next to them, or any number.
+pub fn ceiling_around(rng: &mut Rng, raw_rows: usize) -> usize {
+    let numbers =
+        [raw_rows, raw_rows, raw_rows - 1, raw_rows + 1, 0, 4096, u32::MAX as usize, usize::MAX];
+    if rng.one_in(10) {
+        rng.below(2 * raw_rows)
+    } else {
+        rng.pick(&numbers)
+    }
 }
 
 fn variable(rng: &mut Rng, reading: &Reading, formula: &Formula) -> Variable {

@@ -163,15 +163,46 @@ impl Format {
 impl Reading {
     /// Expand: the new sheet's length.
     pub fn expand(&self, sheet: &[u8], x: Variable, output: &mut [u8]) -> Answer<usize> {
-        self.format.answer(self.expanded(sheet, x, output.len()), output)
+        let formula = self.quoted(sheet, x);
+        let expanded = formula.and_then(|formula| self.expanded(formula, x, output.len()));
+        self.format.answer(expanded, output)
     }
 
-    fn expanded(&self, sheet: &[u8], x: Variable, room: usize) -> Result<Formula, Refusal> {
+    /// Quote: the raw rows.
+    pub fn quote(&self, sheet: &[u8], x: Variable) -> Answer<usize> {
+        self.quoted(sheet, x).map(|formula| raw_rows(&formula, x)).into()
+    }
+
+    /// Execute: the new sheet's length.
+    pub fn execute(
+        &self,
+        sheet: &[u8],
+        x: Variable,
+        ceiling: usize,
+        output: &mut [u8],
+    ) -> Answer<usize> {
+        let within = self.quoted(sheet, x).and_then(|formula| {
+            if raw_rows(&formula, x) <= ceiling {
+                Ok(formula)
+            } else {
+                Err((19, 0))
+            }
+        });
+        let expanded = within.and_then(|formula| self.expanded(formula, x, output.len()));
+        self.format.answer(expanded, output)
+    }
+
+    /// The formula of a sheet that a quote is given for.
+    fn quoted(&self, sheet: &[u8], x: Variable) -> Result<Formula, Refusal> {
         let formula = self.parse_tidy(sheet)?;
         formula.quantifier(x).ok_or((10, 0))?;
         if !self.rules.innermost_block(&formula).contains(&x) {
             return Err((11, 0));
         }
+        Ok(formula)
+    }
+
+    fn expanded(&self, formula: Formula, x: Variable, room: usize) -> Result<Formula, Refusal> {
         if !self.format.raw_sheet_fits(&formula, x, room) {
             return Err((13, 0));
         }

@@ -1,4 +1,4 @@
-//! Settle and Expand as the calls of demand 3's lists: one shape for both.
+//! Settle, Expand and Execute as the calls of demand 3's lists: one shape for all.
 
 use super::{raw_rows, Answer, Format, Formula, Reading, Variable};
 
@@ -6,6 +6,8 @@ use super::{raw_rows, Answer, Format, Formula, Reading, Variable};
 pub enum Operation {
     Settle,
     Expand,
+    /// Expand under this ceiling for the raw rows.
+    Execute(usize),
 }
 
 impl Format {
@@ -14,7 +16,7 @@ impl Format {
     pub fn least_output(self, operation: Operation, formula: &Formula, x: Variable) -> usize {
         let rows = match operation {
             Operation::Settle => formula.matrix.rows(),
-            Operation::Expand => raw_rows(formula, x),
+            Operation::Expand | Operation::Execute(_) => raw_rows(formula, x),
         };
         self.sheet_length(formula.prefix.len().saturating_sub(1), rows)
     }
@@ -31,6 +33,7 @@ impl Reading {
         match operation {
             Operation::Settle => self.settle(sheet, x, output),
             Operation::Expand => self.expand(sheet, x, output),
+            Operation::Execute(ceiling) => self.execute(sheet, x, ceiling, output),
         }
     }
 }

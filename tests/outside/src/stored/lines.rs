@@ -33,6 +33,15 @@ fn line(sheet: &[u8], call: &Call) -> String {
         Letter::Expand => written_line(&format!("expand {number}"), room, |output| {
             READING.expand(sheet, number, output)
         }),
+        Letter::Quote => told(&format!("quote {number}"), READING.quote(sheet, number), |rows| {
+            format!("rows {rows}")
+        }),
+        Letter::Execute => {
+            let ceiling = call.first_of_list();
+            written_line(&format!("execute {number} {ceiling}"), room, |output| {
+                READING.execute(sheet, number, ceiling, output)
+            })
+        }
         Letter::Solve => solve_line(sheet, room, number),
     }
 }

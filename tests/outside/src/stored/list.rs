@@ -3,7 +3,7 @@
 use super::{Call, Case, Letter, FORMAT, READING, SHORT};
 use crate::formulas::*;
 use crate::generate::{deep_formula, ladder_formula, limit_sheets, wide_formula};
-use crate::reference::{Formula, Move, Node, Operation, Quantifier, Row, Variable};
+use crate::reference::{raw_rows, Formula, Move, Node, Operation, Quantifier, Row, Variable};
 use Quantifier::{Exists, ForAll};
 
 /// The program's buffers.
@@ -50,11 +50,23 @@ fn step_calls(formula: &Formula, variables: &[Variable]) -> Vec<Call> {
     calls
 }
 
-/// Tidy, and Settle and Expand of every variable and of two other numbers.
+/// Quote, and Execute with the raw rows as its ceiling and with one less, in an
+/// output that suffices and in none.
+fn quote_calls(formula: &Formula, x: Variable) -> Vec<Call> {
+    let (raw, room) = (raw_rows(formula, x), FORMAT.least_output(Operation::Expand, formula, x));
+    let mut calls = vec![Call::new(Letter::Quote, x, 0)];
+    for ceiling in [raw, raw - 1] {
+        calls.extend([room, 0].map(|room| Call::execute(x, ceiling, room)));
+    }
+    calls
+}
+
+/// Tidy, and the steps and quotes of every variable and of two other numbers.
 fn writing_calls(formula: &Formula) -> Vec<Call> {
     let mut variables = formula.variables();
     variables.extend([0, 300]);
-    [tidy_calls(formula), step_calls(formula, &variables)].concat()
+    let quotes = variables.iter().flat_map(|&x| quote_calls(formula, x)).collect();
+    [tidy_calls(formula), step_calls(formula, &variables), quotes].concat()
 }
 
 /// The single calls that Solve is made of, each on the sheet that the last one left.
