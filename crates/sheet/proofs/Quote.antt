@@ -1,19 +1,20 @@
 -- Quote, then carry out: what Execute makes of its ceiling, and that a quote followed by its execution is Expand (N7).
 -- Assumes nothing.
 use mathlib.Core.Path.{_≡_, refl, sym, ap, _∙_}
-use mathlib.Core.Bool.{Bool, true, false, not, _&&_, cond}
+use mathlib.Core.Bool.{Bool, true, false, not, _&&_, cond, and-true}
 use mathlib.Core.List.{List, [], _∷_, _++_}
-use Prim.Native.Nat.{ℕ, _≤_, _<_}
+use Prim.Native.Nat.{ℕ, _-_, _≤_, _<_}
 use native.Mathlib.Omega.{arith}
 use lib.Dec.{ltb}
 use lib.ListN.{length}
 use borrow.Author.Tests.{lt-ltb, le-ltb}
 use Rattle.formula.specs.Expand.{expanded}
-use Rattle.sheet.specs.Format.{Bytes, Format}
+use Rattle.formula.specs.Solve.{fits-raw}
+use Rattle.sheet.specs.Format.{Bytes, Format, fits}
 use Rattle.sheet.specs.Sheet.{formula, sheet}
 use Rattle.sheet.specs.Check.{Answer, refused, accepted, Test, test, answer, passes}
 use Rattle.sheet.specs.Operations.{Written, output-after, write, quote-tests, raw-count, quote-call, raw-room-test, expand-tests, expand-call, execute-tests, execute-call}
-use Rattle.sheet.proofs.Tests.{answer-++, accepted-passes, refused-first}
+use Rattle.sheet.proofs.Tests.{passes-++, answer-++, accepted-passes, refused-first}
 use Rattle.sheet.proofs.Writing.{write-refused}
 
 -- a test that doesn't fail makes no difference
@@ -53,3 +54,17 @@ module _ (F : Format) (b : Bytes) (x : ℕ) where
     sym (refused-first (quote-tests F b x) _ (raw-count F b x) _ (sym h)),
     λ ceiling. sym (refused-first (quote-tests F b x) _ (raw-count F b x) _ (sym h)),
   )
+
+  -- what a quote is good for: Expand is accepted exactly if so many node rows, and one variable less, fit the output
+  pub quote-room : (n : ℕ) (out : Bytes) → quote-call F b x ≡ accepted n
+      → passes (expand-tests F b x (length out)) ≡ fits F (length out) (length ((formula F b) .prefix) - 1) n
+  unfolding quote-call expand-tests passes fits-raw
+  quote-room n out h =
+      let quoted = accepted-passes (quote-tests F b x) (raw-count F b x) n h in
+      let fit = fits F (length out) (length ((formula F b) .prefix) - 1) (raw-count F b x) in
+      passes-++ (quote-tests F b x) (raw-room-test F b x (length out) ∷ []) ∙ ap (λ (c : Bool). c && (not (not fit) && true)) (quoted .0) ∙
+      and-true (not (not fit)) ∙ not-not fit ∙ ap (fits F (length out) (length ((formula F b) .prefix) - 1)) (quoted .1)
+    where
+      not-not : (c : Bool) → not (not c) ≡ c
+      not-not true = refl
+      not-not false = refl

@@ -131,7 +131,7 @@ fn agree_on_quote(
     room: usize,
 ) -> Answer<usize> {
     let before = generate::dirty(rng, room);
-    let mut call =
+    let call =
         |operation| library.agree_on_call(sheet, Call { operation, variable: x, room }, &before);
     let expanded = call(Expand);
     let quote = library.agree_on_quote(sheet, x);

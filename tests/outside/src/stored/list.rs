@@ -53,7 +53,8 @@ fn step_calls(formula: &Formula, variables: &[Variable]) -> Vec<Call> {
 /// Quote, and Execute with the raw rows as its ceiling and with one less, in an
 /// output that suffices and in none.
 fn quote_calls(formula: &Formula, x: Variable) -> Vec<Call> {
-    let (raw, room) = (raw_rows(formula, x), FORMAT.least_output(Operation::Expand, formula, x));
+    let raw = raw_rows(formula, x);
+    let room = FORMAT.least_output(Operation::Expand, formula, x).min(LONGEST);
     let mut calls = vec![Call::new(Letter::Quote, x, 0)];
     for ceiling in [raw, raw - 1] {
         calls.extend([room, 0].map(|room| Call::execute(x, ceiling, room)));
@@ -182,7 +183,8 @@ fn largest() -> Vec<Case> {
         clauses(682),
     ] {
         let steps = step_calls(&formula, &[1, 2, 256]);
-        let calls = [tidy_calls(&formula), steps, solve_calls(&formula)].concat();
+        let quotes = quote_calls(&formula, 1);
+        let calls = [tidy_calls(&formula), steps, quotes, solve_calls(&formula)].concat();
         cases.push(Case { sheet: FORMAT.encode(&formula), calls });
     }
     cases.extend(largest_expansions());
