@@ -70,6 +70,17 @@ module _ (d : Bytes) (at width value : ℕ) (inside : at + width ≤ length d) w
       s .so-far ∙ ap (paste d at (digits width value)) last ∙
       ap (λ l. take at d ++ l ++ drop (at + width) d) (take-all width (digits width value) (omega (arith, length-digits width value)))
 
+-- two bytes, written at once
+pub stored-pair : (d : Bytes) (at value : ℕ) → at + 2 ≤ length d
+    → set (set d at (value % 256)) (at + 1) (value / 256 % 256) ≡ take at d ++ digits 2 value ++ drop (at + 2) d
+stored-pair d at value inside =
+    ap (λ i. set (set d i (value % 256)) (at + 1) (value / 256 % 256)) (none at) ∙
+    stored-all d at 2 value inside (omega arith)
+    (stored-byte d at 2 value inside (omega arith) (stored-byte d at 2 value inside (omega arith) (stored-none d at 2 value inside)))
+  where
+    none : (n : ℕ) → n ≡ n + 0
+    none n = omega arith
+
 -- the argument's bytes in place of row r's
 abbrev argument-put : ℕ → ℕ → ℕ → Bytes → Bytes
 argument-put w r a ds = take (w * r) ds ++ (digits w a ++ drop (w * r + w) ds)

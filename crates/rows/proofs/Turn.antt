@@ -67,3 +67,16 @@ module _ (b : Bytes) (at width : ℕ) (inside : at + width ≤ length b) where
   read-all {i} narrow none r =
       let first : i ≡ 0 = omega arith in
       (rw first at (r .so-far), few-bytes 4 (omega arith) (r .bounded))
+
+-- two bytes, read at once
+pub two-bytes : (b : Bytes) (at : ℕ) → at + 2 ≤ length b → {low high : ℕ} → low ≡ getD b at 0 → high ≡ getD b (at + 1) 0
+    → low + 256 * high ≡ number (take 2 (drop at b))
+unfolding number
+two-bytes b at inside {low} {high} el eh =
+    let first = number-cons b at 2 inside 0 (omega arith) in
+    let second = number-cons b at 2 inside 1 (omega arith) in
+    let none = ap number (ap (λ n. drop n (part b at 2 inside)) (sym (length-part b at 2 inside)) ∙ drop-length (part b at 2 inside)) in
+    omega (arith, first, second, none, el, eh, ap (λ i. getD b i 0) (zero-behind at))
+  where
+    zero-behind : (n : ℕ) → n + 0 ≡ n
+    zero-behind n = omega arith

@@ -5,11 +5,24 @@ ghost use Prim.Native.Nat.{_+_, _-_, _*_, _≤_};
 ghost use lib.ListN.{length, take, drop, replicate};
 ghost use Rattle.sheet.specs.Format.{digits};
 
-// Writes a number to the `width` bytes at `at`, low byte first.
+// Writes a number to the two bytes at `at`, low byte first.
+fn put_pair(b: &mut [u8], at: usize, value: usize)
+    requires { ⌜ at + 2 ≤ length (now b) ⌝ }
+    ensures { λ _. ⌜ now (b .exit) ≡ take at (now (b .entry)) ++ digits 2 value ++ drop (at + 2) (now (b .entry)) ⌝ }
+{
+    b[at] = (value % 256) as u8;
+    b[at + 1] = (value / 256 % 256) as u8;
+}
+
+// Writes a number to the `width` bytes at `at`, low byte first; two bytes without a loop.
 pub fn put_number(b: &mut [u8], at: usize, width: usize, value: usize)
     requires { ⌜ at + width ≤ length (now b) ⌝ }
     ensures { λ _. ⌜ now (b .exit) ≡ take at (now (b .entry)) ++ digits width value ++ drop (at + width) (now (b .entry)) ⌝ }
 {
+    if width == 2 {
+        put_pair(b, at, value);
+        return;
+    }
     let mut rest = value;
     let mut i: usize = 0;
     while i < width {

@@ -1,6 +1,10 @@
--- `rows::number_at` meets its contract: from the last byte to the first, the value is the number of the bytes read.
+-- `rows::number_at` meets its contract: two bytes at once; else from the last byte to the first, the value is the number
+-- of the bytes read.
 -- Assumes nothing.
+use mathlib.Core.Path.{sym, ap, _∙_}
 use native.Mathlib.Omega.{arith}
+use lib.ListN.{take, drop}
+use Rattle.sheet.specs.Format.{number}
 use Rattle.rows.proofs.Turn.{Read, few-bytes, read-none, read-byte, read-all}
 use Rattle.rows.proofs.number_at.Statement.{statement}
 use Rattle.rows.proofs.number_at.Tie as tie
@@ -11,8 +15,19 @@ Inv-loop b at width value₀ i₀ value i = Read b at width i value
 abbrev μ-loop : tie.MeasureT-loop
 μ-loop b at width value₀ i₀ value i = i
 
+pair-at-requires : tie.Need-pair-at-requires Inv-loop μ-loop
+pair-at-requires c κs = omega arith
+
+returns : tie.Need-returns Inv-loop μ-loop
+returns c =
+    let two = c .before in
+    let a = two .before .before in (
+      c .pair-at .ensures .0 ∙ ap (λ w. number (take w (drop (a .args .at) (a .args .b .now)))) (sym (two .if1 .taken)),
+      c .pair-at .ensures .1,
+    )
+
 loop-holds : tie.Need-loop-holds Inv-loop μ-loop
-loop-holds c = let a = c .before in read-none (a .args .b .now) (a .args .at) (a .args .width) (a .pre .0)
+loop-holds c = let a = c .before .before in read-none (a .args .b .now) (a .args .at) (a .args .width) (a .pre .0)
 
 sub-i : tie.Need-sub-i Inv-loop μ-loop
 sub-i c = omega arith
@@ -39,13 +54,13 @@ loop-less c = omega arith
 loop-again : tie.Need-loop-again Inv-loop μ-loop
 loop-again c =
     let head = c .before .before .before in
-    let a = head .before .before in
+    let a = head .before .before .before in
     read-byte (a .args .b .now) (a .args .at) (a .args .width) (a .pre .0) (omega arith) (head .loop .inv)
     (c .wide .ensures .0) (c .wide .ensures .1)
 
-returns : tie.Need-returns Inv-loop μ-loop
-returns c =
-    let a = c .before .before .before in
+returns-2 : tie.Need-returns-2 Inv-loop μ-loop
+returns-2 c =
+    let a = c .before .before .before .before in
     read-all (a .args .b .now) (a .args .at) (a .args .width) (a .pre .0) (a .pre .1) (c .loop-test .left) (c .before .loop .inv)
 
 pub number-at-spec : {M : Type 1} → statement M
@@ -54,6 +69,8 @@ number-at-spec =
     (tie.spec
     Inv-loop
     μ-loop
+    pair-at-requires
+    returns
     loop-holds
     sub-i
     mul-value
@@ -63,4 +80,4 @@ number-at-spec =
     add-value
     loop-less
     loop-again
-    returns)
+    returns-2)
