@@ -12,3 +12,4 @@ pub mod Choice
 pub mod Solve
 pub mod Longer
 pub mod Trial
+pub mod Reduce

@@ -7,4 +7,5 @@ pub mod Expand
 pub mod Solve
 pub mod Trace
 pub mod Trial
+pub mod Reduce
 pub mod Right

@@ -43,7 +43,7 @@ record Stepped (F : Format) (b b′ : Bytes) : Type 0 where
   one-less : variables F b ≡ suc (variables F b′)
 
 -- the front of what an accepted call wrote is its new sheet
-front-written : (tests : List Test) (new out : Bytes) (n : ℕ) → (write tests new out) .answer ≡ accepted n
+pub front-written : (tests : List Test) (new out : Bytes) (n : ℕ) → (write tests new out) .answer ≡ accepted n
     → (passes tests ≡ true) × (take n ((write tests new out) .output) ≡ new)
 unfolding write output-after padded
 front-written tests new out n h =

@@ -11,6 +11,7 @@ pub mod Accepted
 pub mod Starred
 pub mod Calls
 pub mod Quote
+pub mod Reduction
 pub mod Verdicts
 pub mod Refusals
 pub mod Longer

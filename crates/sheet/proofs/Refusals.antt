@@ -7,7 +7,7 @@ use native.Mathlib.Omega.{arith}
 use Rattle.formula.specs.Solve.{State, End, ended, stopped, Run}
 use Rattle.sheet.specs.Format.{Bytes, Format}
 use Rattle.sheet.specs.Check.{Answer, refused, accepted, Test}
-use Rattle.sheet.specs.Operations.{output-after, write, tidy-call, settle-call, expand-call, execute-call, is-refused, solved, solving, solve-call}
+use Rattle.sheet.specs.Operations.{output-after, write, tidy-call, settle-call, expand-call, execute-call, reduce-call, is-refused, solved, solving, solve-call}
 
 written-refused : (tests : List Test) (new out : Bytes) (n i : ℕ) → (write tests new out) .answer ≡ refused n i → (write tests new out) .output ≡ out
 unfolding write output-after
@@ -29,6 +29,10 @@ module _ (F : Format) (b : Bytes) (n i : ℕ) where
   pub tidy-refused : (out : Bytes) → (tidy-call F b out) .answer ≡ refused n i → (tidy-call F b out) .output ≡ out
   unfolding tidy-call
   tidy-refused out h = written-refused _ _ out n i h
+
+  pub reduce-refused : (out : Bytes) → (reduce-call F b out) .answer ≡ refused n i → (reduce-call F b out) .output ≡ out
+  unfolding reduce-call
+  reduce-refused out h = written-refused _ _ out n i h
 
   module _ (x : ℕ) (out : Bytes) where
     pub settle-refused : (settle-call F b x out) .answer ≡ refused n i → (settle-call F b x out) .output ≡ out

@@ -12,6 +12,7 @@ use Rattle.formula.specs.Settle.{may-settle, settled}
 use Rattle.formula.specs.Expand.{innermost, raw-rows, expanded}
 use Rattle.formula.specs.Solve.{State, End, ended, stopped, Run, is-some, fits-raw, solve}
 use Rattle.formula.specs.Trial.{Tried, trial}
+use Rattle.formula.specs.Reduce.{in-profile, reduced}
 use Rattle.sheet.specs.Format.{Bytes, Format, Row, sheet-length, fits, variables, nodes, kind-bytes, all-rows, children}
 use Rattle.sheet.specs.Sheet.{formula, sheet}
 use Rattle.sheet.specs.Check.{Answer, refused, accepted, Test, test, answer, passes, check-tests}
@@ -40,12 +41,13 @@ tidy-tests F b len = check-tests F b ++ (test (ltb len (length b)) 13 0 ∷ [])
 unfoldable pub tidy-call : Format → Bytes → Bytes → Written
 tidy-call F b out = write (tidy-tests F b (length out)) (sheet F (tidied (formula F b))) out
 
--- 9 not tidy, at the row of the first operator at fault; 10 x not in the prefix
+-- 9 not tidy, at the row of the first operator at fault
+abbrev pub tidiness-test : Format → Bytes → Test
+tidiness-test F b = test (not (is-tidy ((formula F b) .matrix))) 9 (variables F b + first-fault ((formula F b) .matrix))
+
+-- 9; 10 x not in the prefix
 unfoldable pub tidy-and-bound-tests : Format → Bytes → ℕ → List Test
-tidy-and-bound-tests F b x =
-    test (not (is-tidy ((formula F b) .matrix))) 9 (variables F b + first-fault ((formula F b) .matrix)) ∷
-    test (not (binds ((formula F b) .prefix) x)) 10 0 ∷
-    []
+tidy-and-bound-tests F b x = tidiness-test F b ∷ test (not (binds ((formula F b) .prefix) x)) 10 0 ∷ []
 
 -- Settle: 1 to 8; 9; 10; 12 may not be settled; 13 output shorter than 4 + 3 times (V-1+N)
 unfoldable pub settle-tests : Format → Bytes → ℕ → ℕ → List Test
@@ -88,6 +90,15 @@ execute-tests F b x ceiling len =
 
 unfoldable pub execute-call : Format → Bytes → ℕ → ℕ → Bytes → Written
 execute-call F b x ceiling out = write (execute-tests F b x ceiling (length out)) (sheet F (expanded x (formula F b))) out
+
+-- Reduce (N8): 1 to 8; 9; 20 not of the clause profile; 13 output shorter than the sheet
+unfoldable pub reduce-tests : Format → Bytes → ℕ → List Test
+reduce-tests F b len =
+    check-tests F b ++
+    (tidiness-test F b ∷ test (not (in-profile ((formula F b) .matrix))) 20 0 ∷ test (ltb len (length b)) 13 0 ∷ [])
+
+unfoldable pub reduce-call : Format → Bytes → Bytes → Written
+reduce-call F b out = write (reduce-tests F b (length out)) (sheet F (reduced (formula F b))) out
 
 -- Solve: refused with number and place, stopped at a variable, or ended with a verdict; the latter two with the number settled and
 -- the number expanded
