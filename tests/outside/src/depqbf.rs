@@ -4,6 +4,8 @@ use crate::qdimacs::translate;
 use crate::reference::Formula;
 use std::io::{Result, Write};
 use std::process::{Command, Stdio};
+use std::thread::sleep;
+use std::time::{Duration, Instant};
 
 /// What one run may cost, so that it is bounded and the same everywhere.
 const DECISIONS: u32 = 2_000;
@@ -23,6 +25,29 @@ pub fn verdict_of(text: &str) -> Result<Option<bool>> {
         Some(20) => Some(false),
         _ => None,
     })
+}
+
+/// The same without a limit of decisions, for at most so long: nothing if it
+/// takes longer.
+pub fn verdict_within(text: &str, limit: Duration) -> Result<Option<bool>> {
+    let mut process = Command::new("depqbf")
+        .stdin(Stdio::piped())
+        .stdout(Stdio::null())
+        .stderr(Stdio::null())
+        .spawn()?;
+    process.stdin.take().expect("a piped input").write_all(text.as_bytes())?;
+    let start = Instant::now();
+    while start.elapsed() < limit {
+        match process.try_wait()?.map(|status| status.code()) {
+            Some(Some(10)) => return Ok(Some(true)),
+            Some(Some(20)) => return Ok(Some(false)),
+            Some(_) => return Ok(None),
+            None => sleep(Duration::from_micros(200)),
+        }
+    }
+    process.kill()?;
+    process.wait()?;
+    Ok(None)
 }
 
 pub fn verdict(formula: &Formula) -> Option<bool> {

@@ -12,6 +12,7 @@ pub mod depqbf;
 pub mod examples;
 pub mod formulas;
 pub mod generate;
+pub mod literature;
 pub mod qdimacs;
 pub mod reference;
 pub mod stored;

@@ -93,6 +93,11 @@ fn bind(blocks: &mut Vec<(Quantifier, Vec<Variable>)>, quantifier: Quantifier, v
 }
 
 impl Qdimacs {
+    /// Clauses as they stand, under a prefix that binds 1 to its length.
+    pub fn of_clauses(prefix: &[Binding], clauses: Vec<Vec<i32>>) -> Qdimacs {
+        Qdimacs { variables: prefix.len(), blocks: blocks_of(prefix), clauses }
+    }
+
     pub fn text(&self) -> String {
         let mut text = format!("p cnf {} {}\n", self.variables, self.clauses.len());
         for (quantifier, variables) in &self.blocks {

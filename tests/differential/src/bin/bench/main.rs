@@ -1,6 +1,8 @@
 //! Times of the proved operations, with the ratio to the independent reading
-//! in the same run. It reports and never fails.
+//! in the same run. It reports and never fails. Arguments name the sections
+//! that are wanted: reading, steps, solving, literature; none means all.
 
+mod literature;
 mod reading;
 mod solving;
 mod steps;
@@ -26,9 +28,18 @@ fn ratio(a: Duration, b: Duration) -> f64 {
 }
 
 fn main() {
-    outside::with_deep_stack(|| {
-        reading::report();
-        steps::report();
-        solving::report();
+    let wanted: Vec<String> = std::env::args().skip(1).collect();
+    let sections: [(&str, fn()); 4] = [
+        ("reading", reading::report),
+        ("steps", steps::report),
+        ("solving", solving::report),
+        ("literature", literature::report),
+    ];
+    outside::with_deep_stack(move || {
+        for (name, report) in sections {
+            if wanted.is_empty() || wanted.iter().any(|section| section == name) {
+                report();
+            }
+        }
     });
 }
