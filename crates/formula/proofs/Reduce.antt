@@ -10,9 +10,9 @@ use Prim.Native.Nat.{ℕ, _≤_}
 use native.Mathlib.Omega.{arith}
 use lib.Dec.{eqb}
 use borrow.Author.Tests.{eqb-true, eq-eqb, not-true, not-false}
-use Rattle.formula.specs.Tree.{and, or, Quantifier, same-op, exists, for-all, Tree, lit, node, Forest, ∅, _▸_, Binding, Prefix, Formula, Literals, binds, quantifier-of, distinct, closed, of, of-sign, rows, rows-all, has, has-any, some-child, some-two, keep}
+use Rattle.formula.specs.Tree.{and, or, Quantifier, same-op, exists, for-all, Tree, lit, node, Forest, ∅, _▸_, Binding, Prefix, Formula, Literals, binds, quantifier-of, distinct, closed, of, of-sign, rows, rows-all, has, has-any, some-child, some-two, keep, _⧺_}
 use Rattle.formula.specs.Truth.{Assignment, put, join, eval, eval-all, bind, truth}
-use Rattle.formula.specs.Tidy.{is-op, same-variable, alone, tidy, is-tidy, breaks, childless, faults, faults-all, root-faults, any}
+use Rattle.formula.specs.Tidy.{is-op, same-variable, spliced, splice, decides, firsts, unwrap, combine, alone, tidy, tidy-all, is-tidy, breaks, childless, faults, faults-all, root-faults, any}
 use Rattle.formula.specs.Expand.{after, occurs}
 use Rattle.formula.specs.Reduce.{is-literal, is-clause, in-profile, has-existential, goes, stays, reduce-clause, reduce-all, reduce-tree, reduced}
 use Rattle.formula.proofs.Booleans.{share-join, Leads, and-parts, or-parts, or-none, or-cases}
@@ -550,3 +550,119 @@ proper-reduced f w =
           (not-true (has (unbound (f .prefix)) (f .matrix)) (w .is-closed))));
       is-neat = tidy-is-tidy (reduce-tree (f .prefix) (f .matrix));
     }
+
+-- A literal that goes may become OR of nothing in its place instead: tidying leaves the same.
+
+unfoldable pub blank : Prefix → Tree → Tree → Tree
+blank p c t = cond (stays p c t) t (node or ∅)
+
+unfoldable pub blank-forest : Prefix → Tree → Forest → Forest
+blank-forest p c ∅ = ∅
+blank-forest p c (t ▸ ts) = blank p c t ▸ blank-forest p c ts
+
+-- splicing under OR drops what is empty
+splice-blank : (p : Prefix) (c : Tree) (ts : Forest) → splice or (tidy-all (blank-forest p c ts)) ≡ splice or (tidy-all (keep (stays p c) ts))
+unfolding blank blank-forest tidy splice spliced keep combine decides some-child some-two firsts unwrap _⧺_
+splice-blank p c ∅ = refl
+splice-blank p c (t ▸ ts) = by (stays p c t) (splice-blank p c ts)
+  where
+    by : (m : Bool) → splice or (tidy-all (blank-forest p c ts)) ≡ splice or (tidy-all (keep (stays p c) ts))
+        → spliced or (tidy (cond m t (node or ∅))) (splice or (tidy-all (blank-forest p c ts))) ≡
+        splice or (tidy-all (cond m (t ▸ keep (stays p c) ts) (keep (stays p c) ts)))
+    by true e = ap (spliced or (tidy t)) e
+    by false e = e
+
+pub tidy-blank : (p : Prefix) (c : Tree) (ts : Forest) → tidy (node or (blank-forest p c ts)) ≡ tidy (node or (keep (stays p c) ts))
+unfolding tidy combine
+tidy-blank p c ts =
+    ap (λ us. cond (decides or us) (node and ∅) (unwrap or (firsts us))) (splice-blank p c ts)
+
+unfoldable pub blank-clause : Prefix → Tree → Tree
+blank-clause p (lit s v) = blank p (lit s v) (lit s v)
+blank-clause p (node o ts) = node o (blank-forest p (node o ts) ts)
+
+unfoldable pub blank-all : Prefix → Forest → Forest
+blank-all p ∅ = ∅
+blank-all p (t ▸ ts) = blank-clause p t ▸ blank-all p ts
+
+unfoldable pub blank-tree : Prefix → Tree → Tree
+blank-tree p (lit s v) = blank-clause p (lit s v)
+blank-tree p (node or ts) = blank-clause p (node or ts)
+blank-tree p (node and ts) = node and (blank-all p ts)
+
+tidy-blank-clause : (p : Prefix) (c : Tree) → is-clause c ≡ true → tidy (blank-clause p c) ≡ tidy (reduce-clause p c)
+unfolding blank blank-clause reduce-clause stays is-clause
+tidy-blank-clause p (lit s v) h = ap tidy (by (goes p (lit s v) v))
+  where
+    by : (m : Bool) → cond (not m) (lit s v) (node or ∅) ≡ cond m (node or ∅) (lit s v)
+    by true = refl
+    by false = refl
+tidy-blank-clause p (node and ts) h = absurd (false≢true h)
+tidy-blank-clause p (node or ts) h = tidy-blank p (node or ts) ts
+
+tidy-blank-all : (p : Prefix) (ts : Forest) → some-child (λ t. not (is-clause t)) ts ≡ false → tidy-all (blank-all p ts) ≡ tidy-all (reduce-all p ts)
+unfolding blank-all reduce-all some-child tidy
+tidy-blank-all p ∅ h = refl
+tidy-blank-all p (t ▸ ts) h =
+    let parts = or-parts (not (is-clause t)) (some-child (λ t. not (is-clause t)) ts) h in
+    ap₂ (λ u us. u ▸ us) (tidy-blank-clause p t (not-false (is-clause t) (parts .0))) (tidy-blank-all p ts (parts .1))
+
+pub tidy-blank-tree : (p : Prefix) (t : Tree) → in-profile t ≡ true → tidy (blank-tree p t) ≡ tidy (reduce-tree p t)
+unfolding blank-tree reduce-tree in-profile tidy is-clause
+tidy-blank-tree p (lit s v) h = tidy-blank-clause p (lit s v) refl
+tidy-blank-tree p (node or ts) h = tidy-blank-clause p (node or ts) h
+tidy-blank-tree p (node and ts) h = ap (combine and) (tidy-blank-all p ts (not-true (some-child (λ t. not (is-clause t)) ts) h))
+
+-- the profile by rows: a tidy tree is of it exactly if no operator but the root is AND
+
+unfoldable mutual
+  pub has-and : Tree → Bool
+  has-and (lit s v) = false
+  has-and (node and ts) = true
+  has-and (node or ts) = some-and ts
+
+  pub some-and : Forest → Bool
+  some-and ∅ = false
+  some-and (t ▸ ts) = has-and t || some-and ts
+
+unfoldable pub and-below : Tree → Bool
+and-below (lit s v) = false
+and-below (node o ts) = some-and ts
+
+-- under an OR whose children are of the other kind, what is no literal is AND
+and-or-literal : (ts : Forest) → some-child (is-op or) ts ≡ false → some-child (λ t. not (is-literal t)) ts ≡ some-and ts
+unfolding some-child is-op is-literal has-and
+and-or-literal ∅ h = refl
+and-or-literal (lit s v ▸ ts) h = and-or-literal ts h
+and-or-literal (node and us ▸ ts) h = refl
+and-or-literal (node or us ▸ ts) h = absurd (true≢false h)
+
+clause-or-and : (t : Tree) → any (faults t) ≡ false → not (is-clause t) ≡ has-and t
+unfolding is-clause has-and faults any breaks
+clause-or-and (lit s v) f = refl
+clause-or-and (node and ts) f = refl
+clause-or-and (node or ts) f =
+    let broken = or-parts (childless ts) (breaks or ts) (or-parts (childless ts || breaks or ts) (any (faults-all ts)) f .0) .1 in
+    let apart = or-parts (alone ts) (some-child (is-op or) ts) (or-parts (alone ts || some-child (is-op or) ts) (some-two same-variable ts) broken .0) .1 in
+    twice (some-child (λ t. not (is-literal t)) ts) ∙ and-or-literal ts apart
+  where
+    twice : (m : Bool) → not (not m) ≡ m
+    twice true = refl
+    twice false = refl
+
+clauses-or-and : (ts : Forest) → any (faults-all ts) ≡ false → some-child (λ t. not (is-clause t)) ts ≡ some-and ts
+unfolding some-child has-and faults any
+clauses-or-and ∅ f = refl
+clauses-or-and (t ▸ ts) f =
+    let rest = or-parts (any (faults t)) (any (faults-all ts)) (sym (any-++ (faults t) (faults-all ts)) ∙ f) in
+    ap₂ _||_ (clause-or-and t (rest .0)) (clauses-or-and ts (rest .1))
+
+pub profile-and-below : (t : Tree) → is-tidy t ≡ true → in-profile t ≡ not (and-below t)
+unfolding in-profile and-below is-clause is-tidy root-faults any breaks
+profile-and-below (lit s v) n = refl
+profile-and-below (node and ts) n =
+    ap not (clauses-or-and ts (or-parts (breaks and ts) (any (faults-all ts)) (not-true (any (root-faults (node and ts))) n) .1))
+profile-and-below (node or ts) n =
+    let broken = or-parts (breaks or ts) (any (faults-all ts)) (not-true (any (root-faults (node or ts))) n) .0 in
+    ap not
+    (and-or-literal ts (or-parts (alone ts) (some-child (is-op or) ts) (or-parts (alone ts || some-child (is-op or) ts) (some-two same-variable ts) broken .0) .1))
