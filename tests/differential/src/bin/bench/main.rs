@@ -1,11 +1,12 @@
 //! Times of the proved operations, with the ratio to the independent reading
 //! in the same run. It reports and never fails. Arguments name the sections
-//! that are wanted: reading, steps, solving, literature; none means all.
+//! that are wanted: reading, steps, solving, twin, literature; none means all.
 
 mod literature;
 mod reading;
 mod solving;
 mod steps;
+mod twin;
 
 use std::time::{Duration, Instant};
 
@@ -29,10 +30,11 @@ fn ratio(a: Duration, b: Duration) -> f64 {
 
 fn main() {
     let wanted: Vec<String> = std::env::args().skip(1).collect();
-    let sections: [(&str, fn()); 4] = [
+    let sections: [(&str, fn()); 5] = [
         ("reading", reading::report),
         ("steps", steps::report),
         ("solving", solving::report),
+        ("twin", twin::report),
         ("literature", literature::report),
     ];
     outside::with_deep_stack(move || {
