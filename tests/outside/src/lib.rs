@@ -3,10 +3,10 @@
 //! `reference` holds every operation on plain trees, `truth` the two splitting
 //! rules by brute force, `formulas` document 01's own formulas, `examples` the
 //! sheets of `examples/` with their lines, `generate` seeded random sheets and
-//! damage to them, `literature` families of clause sets from papers, `stored` the
-//! cases of the test program, `qdimacs` a clause
-//! translation for solvers from outside, `depqbf` a run of one of them, `twin` Solve
-//! once more, tuned. Nothing else here is optimised, and trees recurse: sheets of full size want
+//! damage to them, `literature` families of clause sets from papers, `stored`
+//! the cases of the test program, `qdimacs` a clause translation for solvers
+//! from outside, `depqbf` a run of one of them, `twin` Solve once more, tuned.
+//! Nothing else here is optimised, and trees recurse: sheets of full size want
 //! `with_deep_stack`.
 
 pub mod depqbf;
