@@ -86,6 +86,13 @@ fn flat_clauses(rows: usize, step: usize, both_signs: bool) -> Formula {
     formula(&all(Exists, 256), and((0..(rows - 1) / 3).map(of).collect()))
 }
 
+/// Half the rows clauses, the other half literals behind them, under one operator.
+fn mixed(rows: usize) -> Formula {
+    let clauses = (0..rows / 6).map(|at| clause(&[1 + (at % 128) as i32, 129 + (at % 127) as i32]));
+    let literals = (0..rows / 2).map(|at| lit(1 + (at % 256) as i32));
+    formula(&all(Exists, 256), and(clauses.chain(literals).collect()))
+}
+
 /// A chain of one-child operators.
 fn one_child_chain(rows: usize) -> Formula {
     generate::deep_formula(256, rows)
@@ -146,6 +153,7 @@ pub fn report() {
     );
     series("tidy, flat", TIDY, |n| Sheet::new(flat_literals(n), 1));
     series("tidy, flat clauses", TIDY, |n| Sheet::new(flat_clauses(n, 4, true), 1));
+    series("tidy, mixed", TIDY, |n| Sheet::new(mixed(n), 1));
     series("tidy, random", TIDY, |n| Sheet::new(random(Family::Untidy, n), 1));
     series("tidy, chain", TIDY, |n| Sheet::new(one_child_chain(n), 1));
     series("tidy, ladder", TIDY, |n| Sheet::new(ladder(n, 1), 1));
