@@ -5,7 +5,7 @@ use mathlib.Core.Bool.{Bool, true, false}
 use Prim.Native.Nat.{ℕ, _≤_}
 use native.Mathlib.Omega.{arith}
 use lib.ListN.{length}
-use Rattle.sheet.specs.Format.{Bytes, Format, narrow, sheet-length, variables, nodes}
+use Rattle.sheet.specs.Format.{Bytes, Format, narrow, wide, sheet-length, variables, nodes}
 use Rattle.sheet.specs.Sheet.{formula}
 use Rattle.sheet.specs.Check.{accepted, Sizes, passes, size-tests, check-tests, check}
 use Rattle.sheet.proofs.Tests.{answer-passes, accepted-passes}
@@ -25,6 +25,12 @@ narrow-manageable = record { few-bytes = omega arith; few-variables = omega arit
 
 pub narrow-countable : Countable narrow
 narrow-countable = record { manageable = narrow-manageable; two-bytes = omega arith; few-rows = omega arith }
+
+pub wide-manageable : Manageable wide
+wide-manageable = record { few-bytes = omega arith; few-variables = omega arith; few-nodes = omega arith }
+
+pub wide-countable : Countable wide
+wide-countable = record { manageable = wide-manageable; two-bytes = omega arith; few-rows = omega arith }
 
 -- the layout of a format's sheet with these sizes
 abbrev pub layout-with : Format → ℕ → ℕ → Layout

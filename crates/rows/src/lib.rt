@@ -2,7 +2,7 @@
 ghost use mathlib.Core.Path.{_≡_};
 ghost use Prim.Native.Nat.{_+_, _^_, _≤_, _<_};
 ghost use lib.ListN.{length, take, drop};
-ghost use Rattle.sheet.specs.Format.{number, narrow};
+ghost use Rattle.sheet.specs.Format.{number, narrow, wide};
 ghost use Rattle.rows.specs.Formats.{format-of};
 
 pub mod bytes;
@@ -51,6 +51,17 @@ pub fn narrow() -> Format
         width: 2,
         most_variables: 256,
         most_nodes: 4096,
+    }
+}
+
+// The format of wider sheets: 32 bits, 1,024 variables, 8,192 nodes.
+pub fn wider() -> Format
+    ensures { λ f. ⌜ format-of f ≡ wide ⌝ }
+{
+    Format {
+        width: 4,
+        most_variables: 1024,
+        most_nodes: 8192,
     }
 }
 

@@ -9,7 +9,7 @@ use lib.Dec.{eqb, ltb}
 use lib.ListN.{length, getD}
 use borrow.Author.Tests.{not-true, ltb-false, eqb-true}
 use Rattle.formula.specs.Tree.{Binding, Prefix, Formula, binds, without, distinct, rows, closed}
-use Rattle.sheet.specs.Format.{Format, narrow}
+use Rattle.sheet.specs.Format.{Format, narrow, wide}
 use Rattle.sheet.specs.Limits.{Sound, numbered, Within}
 use Rattle.formula.proofs.Booleans.{and-parts, or-parts}
 use Rattle.formula.proofs.Closed.{length-without}
@@ -17,6 +17,9 @@ use Rattle.formula.proofs.Steps.{Proper}
 
 pub narrow-sound : Sound narrow
 narrow-sound = record { variables-fit = omega arith; nodes-fit = omega arith }
+
+pub wide-sound : Sound wide
+wide-sound = record { variables-fit = omega arith; nodes-fit = omega arith }
 
 pub numbered-∷ : (F : Format) (z : Binding) (p : Prefix) → numbered F (z ∷ p) ≡ true
     → (z .variable ≤ F .most-variables) × (numbered F p ≡ true)

@@ -19,11 +19,15 @@ pub record Format : Type 0 where
 abbrev pub narrow : Format
 narrow = record { width = 2; most-variables = 256; most-nodes = 4096 }
 
+-- wider sheets (N11): 32 bits, 1,024 variables, 8,192 nodes
+abbrev pub wide : Format
+wide = record { width = 4; most-variables = 1024; most-nodes = 8192 }
+
 -- the two sizes stand first
 abbrev pub header : Format → ℕ
 header F = 2 * F .width
 
--- 4 + 3 times (V+N)
+-- 4 + 3 times (V+N), wide 8 + 5 times (V+N)
 unfoldable pub sheet-length : Format → ℕ → ℕ → ℕ
 sheet-length F v n = header F + (1 + F .width) * (v + n)
 
