@@ -1,23 +1,149 @@
-//! The proved operations, as include/plumanchor.h declares them.
+//! The proved operations, safe to call: all that the tool knows of them.
 
+pub mod foreign;
+
+use crate::format::Format;
+use crate::formula::{row_at, Formula};
 use crate::refusal::Refusal;
 
-extern "C" {
-    fn plumanchor_quote(sheet: *const u8, length: usize, x: usize) -> u64;
+/// Bytes that are taken for a sheet of a format. Every operation checks them.
+#[derive(Clone)]
+pub struct Sheet {
+    pub format: &'static Format,
+    pub bytes: Vec<u8>,
 }
 
-/// The raw rows of the expansion of `x`.
-pub fn quote(sheet: &[u8], x: usize) -> Result<u32, Refusal> {
-    // Sound: the pointer comes with the length of a slice that lives until the call returns.
-    let answer = unsafe { plumanchor_quote(sheet.as_ptr(), sheet.len(), x) };
-    accepted(answer)?;
-    Ok((answer >> 32) as u32)
+/// An answer of Solve that is no refusal.
+#[derive(Clone, Copy, Debug, PartialEq, Eq)]
+pub struct Solved {
+    /// Nothing if it stopped.
+    pub verdict: Option<bool>,
+    pub settled: usize,
+    pub expanded: usize,
+    /// The variable that it stopped at, 0 with a verdict.
+    pub variable: usize,
 }
 
-/// Nothing for an accepted call, or the refusal's number and place.
-fn accepted(answer: u64) -> Result<(), Refusal> {
-    match answer as u8 {
-        0 => Ok(()),
-        number => Err(Refusal { number, place: (answer >> 16) as u16 }),
+impl Solved {
+    /// The program's line, without its end.
+    pub fn line(&self) -> String {
+        let word = self.verdict.map_or("stopped".to_string(), |verdict| verdict.to_string());
+        format!("{word} {} {} {}", self.settled, self.expanded, self.variable)
+    }
+}
+
+/// An accepted call's word and two values; include/plumanchor.h has their places.
+struct Accepted {
+    word: u8,
+    low: usize,
+    high: usize,
+}
+
+// Every call is sound: each pointer comes with the length of a slice that lives until the call
+// returns, and outputs are borrowed for it alone.
+impl Sheet {
+    /// V and N.
+    pub fn check(&self) -> Result<(usize, usize), Refusal> {
+        let answer = unsafe { (self.format.entries.check)(self.bytes.as_ptr(), self.bytes.len()) };
+        self.accepted(answer).map(|answer| (answer.low, answer.high))
+    }
+
+    /// The rows of a sheet that Check accepts.
+    pub fn formula(&self) -> Result<Formula, Refusal> {
+        self.check()?;
+        Ok(Formula::decode(self.format, &self.bytes))
+    }
+
+    /// The same rows in a format.
+    pub fn carried(self, format: &Format) -> Result<Sheet, Refusal> {
+        self.check()?;
+        assert_eq!(self.format.name, format.name, "there is one format of sheets");
+        Ok(self)
+    }
+
+    /// The verdict, and how many leaves were tried.
+    pub fn trial(&self) -> Result<(bool, usize), Refusal> {
+        let answer = unsafe { (self.format.entries.trial)(self.bytes.as_ptr(), self.bytes.len()) };
+        self.accepted(answer).map(|answer| (answer.word == 1, answer.high))
+    }
+
+    /// The kind bytes of the subtree at a node: none if sheet or node is bad.
+    pub fn part(&self, node: usize) -> &[u8] {
+        let (bytes, length) = (self.bytes.as_ptr(), self.bytes.len());
+        match unsafe { (self.format.entries.part)(bytes, length, node) } {
+            0 => &[],
+            rows => {
+                let v = self.format.number(&self.bytes, 0).expect("a sheet with a part");
+                let start = self.format.header() + v + node;
+                &self.bytes[start..start + rows]
+            }
+        }
+    }
+
+    /// The tidied sheet, written to an output of so many bytes.
+    pub fn tidy(&self, room: usize) -> Result<Sheet, Refusal> {
+        self.writes(room, |sheet, length, output, room| unsafe {
+            (self.format.entries.tidy)(sheet, length, output, room)
+        })
+    }
+
+    /// The sheet with `x` settled, in the same way.
+    pub fn settle(&self, x: usize, room: usize) -> Result<Sheet, Refusal> {
+        self.writes(room, |sheet, length, output, room| unsafe {
+            (self.format.entries.settle)(sheet, length, x, output, room)
+        })
+    }
+
+    /// The sheet with `x` expanded, in the same way.
+    pub fn expand(&self, x: usize, room: usize) -> Result<Sheet, Refusal> {
+        self.writes(room, |sheet, length, output, room| unsafe {
+            (self.format.entries.expand)(sheet, length, x, output, room)
+        })
+    }
+
+    /// The same if the raw rows are no more than the ceiling.
+    pub fn execute(&self, x: usize, ceiling: usize, room: usize) -> Result<Sheet, Refusal> {
+        self.writes(room, |sheet, length, output, room| unsafe {
+            (self.format.entries.execute)(sheet, length, x, ceiling, output, room)
+        })
+    }
+
+    /// The raw rows of the expansion of `x`.
+    pub fn quote(&self, x: usize) -> Result<usize, Refusal> {
+        let (bytes, length) = (self.bytes.as_ptr(), self.bytes.len());
+        let answer = unsafe { (self.format.entries.quote)(bytes, length, x) };
+        self.accepted(answer).map(|answer| answer.high)
+    }
+
+    /// Solve in two buffers of so many bytes.
+    pub fn solve(&self, room: usize) -> Result<Solved, Refusal> {
+        let (bytes, length) = (self.bytes.as_ptr(), self.bytes.len());
+        let (mut first, mut second) = (vec![0; room], vec![0; room]);
+        let (one, two) = (first.as_mut_ptr(), second.as_mut_ptr());
+        let answer = unsafe { (self.format.entries.solve)(bytes, length, one, room, two, room) };
+        let Accepted { word, low, high } = self.accepted(answer)?;
+        let verdict = [Some(false), Some(true), None][usize::from(word)];
+        Ok(Solved { verdict, settled: low, expanded: high & 0xffff, variable: high >> 16 })
+    }
+
+    /// What an operation leaves at the front of an output of so many bytes.
+    fn writes(
+        &self,
+        room: usize,
+        operation: impl Fn(*const u8, usize, *mut u8, usize) -> u64,
+    ) -> Result<Sheet, Refusal> {
+        let mut bytes = vec![0; room];
+        let answer = operation(self.bytes.as_ptr(), self.bytes.len(), bytes.as_mut_ptr(), room);
+        bytes.truncate(self.accepted(answer)?.high);
+        Ok(Sheet { format: self.format, bytes })
+    }
+
+    fn accepted(&self, answer: u64) -> Result<Accepted, Refusal> {
+        let (number, low) = (answer as u8, usize::from((answer >> 16) as u16));
+        if number != 0 {
+            let row = row_at(self.format, &self.bytes, low);
+            return Err(Refusal { number, place: low, row });
+        }
+        Ok(Accepted { word: (answer >> 8) as u8, low, high: (answer >> 32) as usize })
     }
 }

@@ -1,26 +1,13 @@
 //! The command `quote` as people call it: output, messages and exit status.
 
-use std::io::Write;
-use std::process::{Command, Stdio};
+mod common;
+
+use common::{example, spawned};
 
 /// Exit status, standard output and standard error of one call.
-fn call(arguments: &[&str], input: &[u8]) -> (i32, String, String) {
-    let mut child = Command::new(env!("CARGO_BIN_EXE_plumanchor-tool"))
-        .args(arguments)
-        .stdin(Stdio::piped())
-        .stdout(Stdio::piped())
-        .stderr(Stdio::piped())
-        .spawn()
-        .expect("the tool");
-    // A call that needs no input may be over before it is written.
-    let _ = child.stdin.take().expect("a pipe").write_all(input);
-    let output = child.wait_with_output().expect("the tool's output");
-    let text = |bytes| String::from_utf8(bytes).expect("text");
-    (output.status.code().expect("an exit status"), text(output.stdout), text(output.stderr))
-}
-
-fn example(name: &str) -> String {
-    format!("{}/../examples/{name}.sheet", env!("CARGO_MANIFEST_DIR"))
+fn call(arguments: &[&str], input: &[u8]) -> (u8, String, String) {
+    let ended = spawned(arguments, input);
+    (ended.status, common::text(ended.output), ended.message)
 }
 
 /// For all 2, exists 1, both equal: 7 rows, all copied under a new one.

@@ -1,0 +1,29 @@
+//! The commands, a file for each; the help lists them in this order.
+
+mod check;
+mod convert;
+mod execute;
+mod expand;
+mod part;
+mod quote;
+mod settle;
+mod show;
+mod solve;
+mod tidy;
+mod trial;
+
+use crate::command::Command;
+
+pub static COMMANDS: &[Command] = &[
+    solve::COMMAND,
+    show::COMMAND,
+    convert::COMMAND,
+    check::COMMAND,
+    trial::COMMAND,
+    part::COMMAND,
+    tidy::COMMAND,
+    settle::COMMAND,
+    expand::COMMAND,
+    quote::COMMAND,
+    execute::COMMAND,
+];

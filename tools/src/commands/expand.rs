@@ -1,0 +1,22 @@
+//! `plumanchor expand X [SHEET]`.
+
+use crate::arguments::Arguments;
+use crate::command::{Answer, Command, Failure};
+use crate::input;
+
+pub const COMMAND: Command = Command {
+    name: "expand",
+    purpose: "replace an innermost variable by two copies",
+    help: "Usage: plumanchor expand X [--from FORMAT] [SHEET] > EXPANDED\n\n\
+           Writes the sheet without variable X, of the same truth and tidied: the relevant subtree\n\
+           stands in it twice, with 0 and with 1 put in. X must be in the innermost block; the sheet\n\
+           must be tidy. 'quote X' tells beforehand what it costs.\n",
+    options: &["from"],
+    run,
+};
+
+fn run(mut arguments: Arguments) -> Result<Answer, Failure> {
+    let x = arguments.number("variable")?;
+    let sheet = input::sheet(arguments)?;
+    Ok(sheet.expand(x, sheet.format.longest())?.bytes.into())
+}

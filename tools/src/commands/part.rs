@@ -1,0 +1,28 @@
+//! `plumanchor part NODE [SHEET]`.
+
+use crate::arguments::Arguments;
+use crate::command::{Answer, Command, Failure};
+use crate::input;
+
+pub const COMMAND: Command = Command {
+    name: "part",
+    purpose: "the kinds of the rows of a subtree",
+    help: "Usage: plumanchor part NODE [--from FORMAT] [SHEET]\n\n\
+           Writes the kinds of the rows that the subtree at a node covers, in preorder. Nodes count\n\
+           from 0, the root. Kinds: 3 a variable, 4 its negation, 5 AND, 6 OR.\n",
+    options: &["from"],
+    run,
+};
+
+fn run(mut arguments: Arguments) -> Result<Answer, Failure> {
+    let node = arguments.number("node")?;
+    let sheet = input::sheet(arguments)?;
+    let (_, nodes) = sheet.check()?;
+    match sheet.part(node) {
+        [] => {
+            let most = nodes - 1;
+            Err(Failure::Unreadable(format!("node {node} is not there: nodes are 0 to {most}")))
+        }
+        kinds => Ok((kinds.iter().map(u8::to_string).collect::<Vec<_>>().join(" ") + "\n").into()),
+    }
+}

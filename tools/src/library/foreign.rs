@@ -1,0 +1,65 @@
+//! The entry points, as include/plumanchor.h declares them: one table for each
+//! format.
+
+type Bytes = *const u8;
+type Output = *mut u8;
+type Reads = unsafe extern "C" fn(Bytes, usize) -> u64;
+type Finds = unsafe extern "C" fn(Bytes, usize, usize) -> usize;
+type Prices = unsafe extern "C" fn(Bytes, usize, usize) -> u64;
+type Writes = unsafe extern "C" fn(Bytes, usize, Output, usize) -> u64;
+type Steps = unsafe extern "C" fn(Bytes, usize, usize, Output, usize) -> u64;
+type Executes = unsafe extern "C" fn(Bytes, usize, usize, usize, Output, usize) -> u64;
+type Solves = unsafe extern "C" fn(Bytes, usize, Output, usize, Output, usize) -> u64;
+
+/// The operations on sheets of one format.
+pub struct Entries {
+    pub check: Reads,
+    pub trial: Reads,
+    pub part: Finds,
+    pub tidy: Writes,
+    pub settle: Steps,
+    pub expand: Steps,
+    pub quote: Prices,
+    pub execute: Executes,
+    pub solve: Solves,
+}
+
+pub const NARROW_ENTRIES: Entries = Entries {
+    check: plumanchor_check,
+    trial: plumanchor_trial,
+    part: plumanchor_part,
+    tidy: plumanchor_tidy,
+    settle: plumanchor_settle,
+    expand: plumanchor_expand,
+    quote: plumanchor_quote,
+    execute: plumanchor_execute,
+    solve: plumanchor_solve,
+};
+
+extern "C" {
+    fn plumanchor_check(sheet: Bytes, length: usize) -> u64;
+    fn plumanchor_trial(sheet: Bytes, length: usize) -> u64;
+    fn plumanchor_part(sheet: Bytes, length: usize, node: usize) -> usize;
+    fn plumanchor_tidy(sheet: Bytes, length: usize, output: Output, room: usize) -> u64;
+    fn plumanchor_settle(sheet: Bytes, length: usize, x: usize, output: Output, room: usize)
+        -> u64;
+    fn plumanchor_expand(sheet: Bytes, length: usize, x: usize, output: Output, room: usize)
+        -> u64;
+    fn plumanchor_quote(sheet: Bytes, length: usize, x: usize) -> u64;
+    fn plumanchor_execute(
+        sheet: Bytes,
+        length: usize,
+        x: usize,
+        ceiling: usize,
+        output: Output,
+        room: usize,
+    ) -> u64;
+    fn plumanchor_solve(
+        sheet: Bytes,
+        length: usize,
+        first: Output,
+        first_room: usize,
+        second: Output,
+        second_room: usize,
+    ) -> u64;
+}
