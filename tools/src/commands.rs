@@ -4,6 +4,7 @@ mod check;
 mod convert;
 mod execute;
 mod expand;
+mod explain;
 mod part;
 mod quote;
 mod settle;
@@ -17,6 +18,7 @@ use crate::command::Command;
 pub static COMMANDS: &[Command] = &[
     solve::COMMAND,
     show::COMMAND,
+    explain::COMMAND,
     convert::COMMAND,
     check::COMMAND,
     trial::COMMAND,

@@ -30,6 +30,15 @@ impl Row {
         self.is_literal() && self.argument == x
     }
 
+    /// What a quantifier's row is called.
+    pub fn quantifier(self) -> &'static str {
+        if self.kind == EXISTS {
+            "exists"
+        } else {
+            "for all"
+        }
+    }
+
     /// How many children the row has.
     pub fn children(self) -> usize {
         if self.is_literal() {

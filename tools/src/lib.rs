@@ -15,6 +15,8 @@ mod library;
 mod names;
 mod qcir;
 mod refusal;
+mod rule;
+mod words;
 
 use arguments::{Arguments, Misuse};
 use command::{Answer, Failure};

@@ -14,7 +14,7 @@ pub struct Sheet {
 }
 
 /// An answer of Solve that is no refusal.
-#[derive(Clone, Copy, Debug, PartialEq, Eq)]
+#[derive(Clone, Copy, Debug, Default, PartialEq, Eq)]
 pub struct Solved {
     /// Nothing if it stopped.
     pub verdict: Option<bool>,
@@ -78,6 +78,12 @@ impl Sheet {
                 &self.bytes[start..start + rows]
             }
         }
+    }
+
+    /// So many bytes for an output, or as many as the program has. More than these never matter.
+    pub fn room(&self, asked: Option<usize>) -> usize {
+        let longest = self.format.longest();
+        asked.map_or(longest, |room| room.min(longest))
     }
 
     /// The tidied sheet, written to an output of so many bytes.

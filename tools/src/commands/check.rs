@@ -3,6 +3,7 @@
 use crate::arguments::Arguments;
 use crate::command::{Answer, Command, Failure};
 use crate::input;
+use crate::words::count;
 
 pub const COMMAND: Command = Command {
     name: "check",
@@ -16,5 +17,5 @@ pub const COMMAND: Command = Command {
 
 fn run(arguments: Arguments) -> Result<Answer, Failure> {
     let (variables, nodes) = input::sheet(arguments)?.check()?;
-    Ok(format!("{variables} variables, {nodes} nodes\n").into())
+    Ok(format!("{}, {}\n", count(variables, "variable"), count(nodes, "node")).into())
 }

@@ -3,9 +3,10 @@
 use crate::arguments::Arguments;
 use crate::command::{Answer, Command, Failure};
 use crate::format::DEFAULT;
-use crate::formula::{Formula, Row, AND, FOR_ALL};
+use crate::formula::{Formula, Row, AND};
 use crate::input::{self, Input};
 use crate::names::Names;
+use crate::words::count;
 
 pub const COMMAND: Command = Command {
     name: "show",
@@ -37,10 +38,11 @@ struct Line<'a> {
 
 fn text(formula: &Formula, names: &Names) -> String {
     let Formula { prefix, matrix } = formula;
-    let mut text = format!("{} variables, {} nodes\n\n", prefix.len(), matrix.len());
+    let sizes = [count(prefix.len(), "variable"), count(matrix.len(), "node")];
+    let mut text = sizes.join(", ") + "\n\n";
     for block in prefix.chunk_by(|one, next| one.kind == next.kind) {
-        let quantifier = if block[0].kind == FOR_ALL { "for all " } else { "exists " };
-        push_list(quantifier, block.iter().map(|row| names.of(row.argument)), &mut text);
+        let quantifier = format!("{} ", block[0].quantifier());
+        push_list(&quantifier, block.iter().map(|row| names.of(row.argument)), &mut text);
     }
     if !prefix.is_empty() {
         text.push('\n');

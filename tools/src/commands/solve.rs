@@ -18,6 +18,5 @@ pub const COMMAND: Command = Command {
 fn run(mut arguments: Arguments) -> Result<Answer, Failure> {
     let room = arguments.number_option("room")?;
     let sheet = input::sheet(arguments)?;
-    let solved = sheet.solve(room.unwrap_or(sheet.format.longest()));
-    Ok(Answer::of_run(String::new(), solved))
+    Ok(Answer::of_run(String::new(), sheet.solve(sheet.room(room))))
 }
