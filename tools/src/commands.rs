@@ -2,6 +2,7 @@
 
 mod check;
 mod convert;
+mod draw;
 mod execute;
 mod expand;
 mod explain;
@@ -19,6 +20,7 @@ pub static COMMANDS: &[Command] = &[
     solve::COMMAND,
     show::COMMAND,
     explain::COMMAND,
+    draw::COMMAND,
     convert::COMMAND,
     check::COMMAND,
     trial::COMMAND,

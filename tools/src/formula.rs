@@ -108,6 +108,20 @@ impl Formula {
         depths
     }
 
+    /// The row behind each node row's subtree.
+    pub fn ends(&self) -> Vec<usize> {
+        let mut ends = vec![0; self.matrix.len()];
+        // Where the subtrees behind the row end that have no parent yet, the next one last.
+        let mut open: Vec<usize> = Vec::new();
+        for (at, row) in self.matrix.iter().enumerate().rev() {
+            let left = open.len() - row.children();
+            ends[at] = open.get(left).copied().unwrap_or(at + 1);
+            open.truncate(left);
+            open.push(ends[at]);
+        }
+        ends
+    }
+
     pub fn encode(&self, format: &Format) -> Vec<u8> {
         let rows = || self.prefix.iter().chain(&self.matrix);
         let mut bytes = Vec::with_capacity(format.length(rows().count()));

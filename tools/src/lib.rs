@@ -8,13 +8,16 @@
 mod arguments;
 mod command;
 mod commands;
+mod dot;
 mod format;
 mod formula;
 mod input;
 mod library;
 mod names;
+mod picture;
 mod qcir;
 mod refusal;
+mod relevant;
 mod rule;
 mod words;
 

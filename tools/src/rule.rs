@@ -22,7 +22,7 @@ pub enum Reason {
     NoLiteral,
     /// All its literals are of this kind.
     Pure(u8),
-    /// A literal of this kind is the root or a child of it.
+    /// A literal of this kind is a child of the root; one that is the root itself is pure.
     Unit(u8),
 }
 

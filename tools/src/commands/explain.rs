@@ -109,7 +109,7 @@ impl<'a> Run<'a> {
             Reason::Pure(_) => "only negative literals".to_string(),
             Reason::Unit(kind) => {
                 let literal = self.names.literal(Row::new(kind, row.argument));
-                format!("the literal {literal} stands at the root")
+                format!("the literal {literal} stands under the root")
             }
         };
         let next = held.settle(row.argument, self.room)?;

@@ -1,0 +1,71 @@
+//! A sheet's tree as boxes: operators, literals that follow one another, and
+//! what is folded. Every node row is in exactly one box.
+
+use crate::formula::{Formula, Row};
+use std::collections::VecDeque;
+use std::ops::Range;
+
+/// An operator shows so many boxes below it, and a row of literals so many of
+/// them, before the rest is folded.
+const MOST_BELOW: usize = 12;
+
+pub enum Content {
+    Operator(Row),
+    /// Literals, of which the first are shown.
+    Literals(usize),
+    /// Subtrees that are only counted.
+    Folded,
+}
+
+/// A box covers node rows that follow one another.
+pub struct Shape {
+    pub rows: Range<usize>,
+    /// The operator above it, by its row.
+    pub parent: Option<usize>,
+    pub content: Content,
+}
+
+/// The children of an operator, by where subtrees end.
+pub fn children(ends: &[usize], operator: usize) -> impl Iterator<Item = usize> + '_ {
+    let next = move |at: usize| Some(at).filter(|&at| at < ends[operator]);
+    std::iter::successors(next(operator + 1), move |&child| next(ends[child]))
+}
+
+/// The boxes of a tree, level by level, and folded once there are `most`.
+pub fn shapes(formula: &Formula, most: usize) -> Vec<Shape> {
+    let (matrix, ends) = (&formula.matrix, formula.ends());
+    let mut shapes = vec![shape(matrix, 0, matrix.len(), None)];
+    let mut operators = VecDeque::from([0]);
+    while let Some(operator) = operators.pop_front() {
+        let (mut at, end) = (operator + 1, ends[operator]);
+        let mut below = 0;
+        while at < end {
+            let parent = Some(operator);
+            let next = if below == MOST_BELOW || shapes.len() >= most {
+                Shape { rows: at..end, parent, content: Content::Folded }
+            } else {
+                shape(matrix, at, end, parent)
+            };
+            at = match next.content {
+                Content::Operator(_) => {
+                    operators.push_back(at);
+                    ends[at]
+                }
+                _ => next.rows.end,
+            };
+            below += 1;
+            shapes.push(next);
+        }
+    }
+    shapes
+}
+
+/// The operator at a row, or the literals from there on that are its siblings.
+fn shape(matrix: &[Row], at: usize, end: usize, parent: Option<usize>) -> Shape {
+    if !matrix[at].is_literal() {
+        return Shape { rows: at..at + 1, parent, content: Content::Operator(matrix[at]) };
+    }
+    let literals = matrix[at..end].iter().take_while(|row| row.is_literal()).count();
+    let content = Content::Literals(literals.min(MOST_BELOW));
+    Shape { rows: at..at + literals, parent, content }
+}
