@@ -67,8 +67,7 @@ impl Display for Row {
 
 /// Row `at` of any bytes, counted from 0, if they go so far.
 pub fn row_at(format: &Format, bytes: &[u8], at: usize) -> Option<Row> {
-    let v = format.number(bytes, 0)?;
-    let rows = v + format.number(bytes, format.width)?;
+    let rows = format.number(bytes, 0)? + format.number(bytes, format.width)?;
     let kind = *bytes.get(format.header() + at).filter(|_| at < rows)?;
     let argument = format.number(bytes, format.header() + rows + format.width * at)?;
     Some(Row { kind, argument })

@@ -3,7 +3,7 @@
 pub mod foreign;
 
 use crate::format::Format;
-use crate::formula::{row_at, Formula};
+use crate::formula::Formula;
 use crate::refusal::Refusal;
 
 /// Bytes that are taken for a sheet of a format. Every operation checks them.
@@ -147,8 +147,7 @@ impl Sheet {
     fn accepted(&self, answer: u64) -> Result<Accepted, Refusal> {
         let (number, low) = (answer as u8, usize::from((answer >> 16) as u16));
         if number != 0 {
-            let row = row_at(self.format, &self.bytes, low);
-            return Err(Refusal { number, place: low, row });
+            return Err(Refusal::new(number, low, self));
         }
         Ok(Accepted { word: (answer >> 8) as u8, low, high: (answer >> 32) as usize })
     }

@@ -40,12 +40,11 @@ pub fn shapes(formula: &Formula, most: usize) -> Vec<Shape> {
         let (mut at, end) = (operator + 1, ends[operator]);
         let mut below = 0;
         while at < end {
-            let parent = Some(operator);
-            let next = if below == MOST_BELOW || shapes.len() >= most {
-                Shape { rows: at..end, parent, content: Content::Folded }
-            } else {
-                shape(matrix, at, end, parent)
-            };
+            let mut next = shape(matrix, at, end, Some(operator));
+            // A fold is a box itself, so literals that are all the rest are shown in its place.
+            if (below == MOST_BELOW || shapes.len() >= most) && next.rows.end < end {
+                next = Shape { rows: at..end, content: Content::Folded, ..next };
+            }
             at = match next.content {
                 Content::Operator(_) => {
                     operators.push_back(at);

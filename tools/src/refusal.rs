@@ -1,48 +1,66 @@
 //! Refusals in words.
 
-use crate::formula::Row;
+use crate::formula::row_at;
+use crate::library::Sheet;
 use std::fmt::{self, Display, Formatter};
 
-/// The number of a refusal and its place, a row counted from 0, with what the
-/// sheet has in that row.
+/// The number of a refusal, its place, and what the sheet has to show for it.
 #[derive(Clone, Debug, PartialEq, Eq)]
 pub struct Refusal {
     pub number: u8,
     pub place: usize,
-    pub row: Option<Row>,
+    evidence: Option<String>,
 }
 
 impl Refusal {
-    /// What the number means; of some a row is at fault.
-    fn meaning(&self) -> (&'static str, bool) {
+    pub fn new(number: u8, place: usize, sheet: &Sheet) -> Refusal {
+        let evidence = match number {
+            2 => sizes(sheet).map(|(v, n)| format!("V = {v}, N = {n}")),
+            3 => sizes(sheet).map(|(v, n)| {
+                let (asked, length) = (sheet.format.length(v + n), sheet.bytes.len());
+                format!("V = {v} and N = {n} ask for {asked} bytes, and there are {length}")
+            }),
+            4..=9 => row_at(sheet.format, &sheet.bytes, place)
+                .map(|row| format!("row {place}, counted from 0: {row}")),
+            _ => None,
+        };
+        Refusal { number, place, evidence }
+    }
+
+    /// What the number means.
+    fn meaning(&self) -> &'static str {
         match self.number {
-            1 => ("the sheet is shorter than its two sizes", false),
-            2 => ("a size is outside its limits", false),
-            3 => ("the sheet's length is not that of its sizes", false),
-            4 => ("the row's kind is none that may stand there", true),
-            5 => ("the quantifier's number is outside its limits", true),
-            6 => ("the row binds a number that is bound already", true),
-            7 => ("the literal's variable is not bound", true),
-            8 if self.row.is_none() => ("the rows end before the tree does", false),
-            8 => ("the tree has ended before the row", true),
-            9 => ("the operator in the row is not tidy", true),
-            10 => ("the variable is not in the prefix", false),
-            11 => ("the variable is not in the innermost block", false),
-            12 => ("the variable may not be settled", false),
-            13 => ("a buffer is too short", false),
-            14 => ("the sheet has more than 20 variables, too many to try all values", false),
-            19 => ("the raw rows are above the ceiling", false),
-            _ => ("see documents 01 and 02", false),
+            1 => "the sheet is shorter than its two sizes",
+            2 => "a size is outside its limits",
+            3 => "the sheet's length is not that of its sizes",
+            4 => "the row's kind is none that may stand there",
+            5 => "the quantifier's number is outside its limits",
+            6 => "the row binds a number that is bound already",
+            7 => "the literal's variable is not bound",
+            8 if self.evidence.is_none() => "the rows end before the tree does",
+            8 => "the tree has ended before the row",
+            9 => "the operator in the row is not tidy",
+            10 => "the variable is not in the prefix",
+            11 => "the variable is not in the innermost block",
+            12 => "the variable may not be settled",
+            13 => "a buffer has too little room",
+            14 => "the sheet has more than 20 variables",
+            19 => "the raw rows are above the ceiling",
+            _ => "see documents 01 and 02",
         }
     }
 }
 
+fn sizes(sheet: &Sheet) -> Option<(usize, usize)> {
+    let Sheet { format, bytes } = sheet;
+    format.number(bytes, 0).zip(format.number(bytes, format.width))
+}
+
 impl Display for Refusal {
     fn fmt(&self, to: &mut Formatter) -> fmt::Result {
-        let (meaning, has_row) = self.meaning();
-        write!(to, "refused {}: {meaning}", self.number)?;
-        match self.row.filter(|_| has_row) {
-            Some(row) => write!(to, " (row {}, counted from 0: {row})", self.place),
+        write!(to, "refused {}: {}", self.number, self.meaning())?;
+        match &self.evidence {
+            Some(evidence) => write!(to, " ({evidence})"),
             None => Ok(()),
         }
     }

@@ -10,11 +10,12 @@ pub const COMMAND: Command = Command {
     name: "convert",
     purpose: "a sheet from another format, or to another",
     help: "Usage: plumanchor convert [--from FORMAT] [--to FORMAT] [FILE] > RESULT\n\n\
-           FORMAT is 'narrow' for sheets of 16-bit numbers, the default for both; or 'qcir' for\n\
-           QCIR-G14, a text. From a circuit a tree is written: shared gates are copied, negation is\n\
-           pushed to the literals, xor and ite are written out, free variables are exists rows in\n\
-           front. Variables keep their numbers if all are numbers of the format, and are else\n\
-           numbered from 1 in their order; '--to names' writes which number has which name.\n",
+           FORMAT is 'narrow', sheets of 16-bit numbers, or 'qcir', texts in QCIR-G14; without the\n\
+           option it is the program's own format. Of a circuit a tree is written: shared gates are\n\
+           copied, negation is pushed to the literals, xor and ite are written out, and free variables\n\
+           are exists rows in front. Variables keep their numbers if all are called by numbers that\n\
+           the sheet can have, and are else numbered from 1 in their order; '--to names' writes a\n\
+           number and a name a line.\n",
     options: &["from", "to"],
     run,
 };

@@ -23,14 +23,14 @@ pub const COMMAND: Command = Command {
            layout, so its program 'dot' must be installed.\n\n  \
              --to svg|dot    a picture for browsers, the default; or Graphviz's own language\n  \
              --expand X      mark the rows that expanding variable X would copy\n  \
-             --most BOXES    fold what is beyond so many boxes, 150 if not given\n  \
+             --most BOXES    fold what is beyond so many boxes, 60 if not given\n  \
              --from FORMAT   what the sheet is written in\n  \
              --names FILE    call variables by names: a number and a name a line\n",
     options: &["from", "to", "expand", "most", "names"],
     run,
 };
 
-const MOST_BOXES: usize = 150;
+const MOST_BOXES: usize = 60;
 
 fn run(mut arguments: Arguments) -> Result<Answer, Failure> {
     let svg = match arguments.option("to").as_deref() {
