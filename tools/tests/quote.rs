@@ -30,9 +30,11 @@ fn a_refusal_is_told_in_words() {
         ("1", "cut-short", "refused 3: the sheet's length is not that of its sizes"),
         ("1", "too-many-variables", "refused 2: a size is outside its limits"),
     ] {
-        assert_eq!(refused(x, name), (1, String::new(), format!("plumanchor: {message}\n")));
+        let (status, output, told) = refused(x, name);
+        assert_eq!((status, output.as_str()), (1, ""));
+        assert!(told.starts_with(&format!("plumanchor: {message}")), "{told}");
     }
-    let unbound = [0, 0, 1, 0, 3, 5, 0];
+    let unbound = common::READING.format.sheet_of(0, &[(3, 5)]);
     let (status, output, message) = call(&["quote", "5"], &unbound);
     assert_eq!((status, output.as_str()), (1, ""));
     assert!(message.contains("refused 7") && message.contains("row 0"), "{message}");

@@ -60,7 +60,7 @@ fn drawing(
         relevant = marked(sheet, formula, x)?;
         let copied = count(relevant.marks.iter().filter(|&&mark| mark).count(), "row");
         caption += &format!(
-            "; expanding {} copies the {copied} marked: {} raw",
+            "; expanding {} copies the {copied} marked: {} raw rows",
             names.of(x),
             relevant.raw
         );
