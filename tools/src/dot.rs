@@ -115,12 +115,10 @@ fn node_name(shape: &Shape) -> String {
     }
 }
 
-fn operator_label(row: Row) -> &'static str {
-    match (row.kind == AND, row.children() == 0) {
-        (true, true) => "AND of nothing\\ntrue",
-        (true, false) => "AND",
-        (false, true) => "OR of nothing\\nfalse",
-        (false, false) => "OR",
+fn operator_label(row: Row) -> String {
+    match row.constant() {
+        Some(value) => format!("{} of nothing\\n{value}", row.operator()),
+        None => row.operator().to_string(),
     }
 }
 

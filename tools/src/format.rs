@@ -1,6 +1,6 @@
 //! The formats of sheets: sizes and numbers of a width, kinds of a byte.
 
-use crate::library::foreign::{Entries, NARROW_ENTRIES};
+use crate::library::foreign::{self, Entries};
 
 /// A sheet's numbers have `width` bytes, low byte first; `entries` are the
 /// proved operations on such sheets.
@@ -17,7 +17,7 @@ pub static NARROW: Format = Format {
     width: 2,
     most_variables: 256,
     most_nodes: 4096,
-    entries: NARROW_ENTRIES,
+    entries: foreign::NARROW,
 };
 
 /// Every format of sheets.

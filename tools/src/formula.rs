@@ -39,6 +39,20 @@ impl Row {
         }
     }
 
+    /// What an operator's row is called.
+    pub fn operator(self) -> &'static str {
+        if self.kind == AND {
+            "AND"
+        } else {
+            "OR"
+        }
+    }
+
+    /// The truth of an operator without children.
+    pub fn constant(self) -> Option<bool> {
+        (!self.is_literal() && self.argument == 0).then_some(self.kind == AND)
+    }
+
     /// How many children the row has.
     pub fn children(self) -> usize {
         if self.is_literal() {

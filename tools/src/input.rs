@@ -2,11 +2,12 @@
 //! `--from` names.
 
 use crate::arguments::{contents, Arguments, Misuse};
-use crate::command::Failure;
+use crate::command::{Answer, Failure};
 use crate::format::{Format, DEFAULT, FORMATS};
 use crate::library::Sheet;
 use crate::names::Names;
 use crate::qcir;
+use crate::refusal::Refusal;
 
 /// What `--from` and `--to` can name.
 #[derive(Clone, Copy)]
@@ -75,4 +76,15 @@ pub fn input(mut arguments: Arguments, format: &'static Format) -> Result<Input,
         input.names = read.map_err(|why| Misuse::new(format!("{file}: {why}")))?;
     }
     Ok(input)
+}
+
+/// What an operation makes of the variable that the next word names and of the
+/// sheet, with an output of the program's length.
+pub fn step(
+    mut arguments: Arguments,
+    operation: impl Fn(&Sheet, usize, usize) -> Result<Sheet, Refusal>,
+) -> Result<Answer, Failure> {
+    let x = arguments.number("variable")?;
+    let sheet = sheet(arguments)?;
+    Ok(operation(&sheet, x, sheet.format.longest())?.bytes.into())
 }

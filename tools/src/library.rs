@@ -1,5 +1,6 @@
 //! The proved operations, safe to call: all that the tool knows of them.
 
+#[path = "../../include/plumanchor.rs"]
 pub mod foreign;
 
 use crate::format::Format;

@@ -1,8 +1,8 @@
 //! `plumanchor expand X [SHEET]`.
 
-use crate::arguments::Arguments;
-use crate::command::{Answer, Command, Failure};
-use crate::input;
+use crate::command::Command;
+use crate::input::step;
+use crate::library::Sheet;
 
 pub const COMMAND: Command = Command {
     name: "expand",
@@ -12,11 +12,5 @@ pub const COMMAND: Command = Command {
            stands in it twice, with 0 and with 1 put in. X must be in the innermost block; the sheet\n\
            must be tidy. 'quote X' tells beforehand what it costs.\n",
     options: &["from"],
-    run,
+    run: |arguments| step(arguments, Sheet::expand),
 };
-
-fn run(mut arguments: Arguments) -> Result<Answer, Failure> {
-    let x = arguments.number("variable")?;
-    let sheet = input::sheet(arguments)?;
-    Ok(sheet.expand(x, sheet.format.longest())?.bytes.into())
-}

@@ -1,8 +1,8 @@
 //! `plumanchor settle X [SHEET]`.
 
-use crate::arguments::Arguments;
-use crate::command::{Answer, Command, Failure};
-use crate::input;
+use crate::command::Command;
+use crate::input::step;
+use crate::library::Sheet;
 
 pub const COMMAND: Command = Command {
     name: "settle",
@@ -11,11 +11,5 @@ pub const COMMAND: Command = Command {
            Writes the sheet without variable X, of the same truth and tidied. X must have literals of\n\
            one sign only, or a literal at the root or under it; the sheet must be tidy.\n",
     options: &["from"],
-    run,
+    run: |arguments| step(arguments, Sheet::settle),
 };
-
-fn run(mut arguments: Arguments) -> Result<Answer, Failure> {
-    let x = arguments.number("variable")?;
-    let sheet = input::sheet(arguments)?;
-    Ok(sheet.settle(x, sheet.format.longest())?.bytes.into())
-}

@@ -3,7 +3,7 @@
 use crate::arguments::Arguments;
 use crate::command::{Answer, Command, Failure};
 use crate::format::DEFAULT;
-use crate::formula::{Formula, Row, AND};
+use crate::formula::{Formula, Row};
 use crate::input::{self, Input};
 use crate::names::Names;
 use crate::words::count;
@@ -50,7 +50,7 @@ fn text(formula: &Formula, names: &Names) -> String {
     for Line { depth, operator, literals } in lines(formula) {
         let mut head = margin(depth);
         if let Some(row) = operator {
-            head += operator_word(row);
+            head += &operator_words(row);
             head += if literals.is_empty() { "" } else { " " };
         }
         push_list(&head, literals.iter().map(|&row| names.literal(row)), &mut text);
@@ -75,12 +75,10 @@ fn lines(formula: &Formula) -> Vec<Line<'_>> {
     lines
 }
 
-fn operator_word(row: Row) -> &'static str {
-    match (row.kind == AND, row.children() == 0) {
-        (true, true) => "AND of nothing (true)",
-        (true, false) => "AND",
-        (false, true) => "OR of nothing (false)",
-        (false, false) => "OR",
+fn operator_words(row: Row) -> String {
+    match row.constant() {
+        Some(value) => format!("{} of nothing ({value})", row.operator()),
+        None => row.operator().to_string(),
     }
 }
 
