@@ -52,8 +52,8 @@ pub enum Failure {
     Misused(Misuse),
     /// An operation's refusal.
     Refused(Refusal),
-    /// A text that is none of its format, or that no sheet can hold.
-    Unreadable(String),
+    /// A text that is none of its format or that no sheet can hold, or a node that isn't there.
+    Unusable(String),
     /// What the tool worked out differs from what a proved operation says.
     Contradicted(String),
 }
@@ -62,7 +62,7 @@ impl Failure {
     /// The exit status.
     pub fn status(&self) -> u8 {
         match self {
-            Failure::Refused(_) | Failure::Unreadable(_) => 1,
+            Failure::Refused(_) | Failure::Unusable(_) => 1,
             Failure::Misused(_) => 2,
             Failure::Contradicted(_) => 3,
         }
@@ -74,7 +74,7 @@ impl Display for Failure {
         match self {
             Failure::Misused(misuse) => write!(to, "{misuse}; 'plumanchor --help' tells more"),
             Failure::Refused(refusal) => refusal.fmt(to),
-            Failure::Unreadable(why) => why.fmt(to),
+            Failure::Unusable(why) => why.fmt(to),
             Failure::Contradicted(what) => write!(to, "a mistake of this tool: {what}"),
         }
     }

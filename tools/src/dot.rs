@@ -56,7 +56,7 @@ impl Drawing<'_> {
                 format!("shape=box, style=dashed, label=\"... {} more\"", shape.rows.len())
             }
         };
-        let id = format!("rows-{}-{}", shape.rows.start, shape.rows.end - 1);
+        let id = format!("nodes-{}-{}", shape.rows.start, shape.rows.end - 1);
         let mut text =
             format!("\"{name}\" [id=\"{id}\", color=\"{colour}\", penwidth={width}, {looks}];\n");
         if let Some(parent) = shape.parent {
@@ -66,7 +66,7 @@ impl Drawing<'_> {
             } else {
                 String::new()
             };
-            text += &format!("\"row {parent}\" -> \"{name}\"{looks};\n");
+            text += &format!("\"node {parent}\" -> \"{name}\"{looks};\n");
         }
         text
     }
@@ -78,7 +78,8 @@ impl Drawing<'_> {
             let quantifier = self.quantifier_of(row.argument);
             cells += &cell(quantifier, self.marks[at], &self.names.literal(row));
         }
-        table(&[cells + &more(shape.rows.len() - shown)])
+        let hidden = shape.rows.start + shown..shape.rows.end;
+        table(&[cells + &more(hidden.len(), self.marks[hidden].contains(&true))])
     }
 
     fn quantifier_of(&self, x: usize) -> u8 {
@@ -102,16 +103,17 @@ impl Drawing<'_> {
             }
             *line += &cell(row.kind, false, &self.names.of(row.argument));
         }
-        *lines.last_mut().expect("a line") += &more(prefix.len().saturating_sub(MOST_VARIABLES));
+        *lines.last_mut().expect("a line") +=
+            &more(prefix.len().saturating_sub(MOST_VARIABLES), false);
         table(&lines)
     }
 }
 
-/// Shown when a pointer rests on the box.
+/// Shown when a pointer rests on the box. Nodes count from 0, as for Part.
 fn node_name(shape: &Shape) -> String {
     match shape.rows.len() {
-        1 => format!("row {}", shape.rows.start),
-        _ => format!("rows {} to {}", shape.rows.start, shape.rows.end - 1),
+        1 => format!("node {}", shape.rows.start),
+        _ => format!("nodes {} to {}", shape.rows.start, shape.rows.end - 1),
     }
 }
 
@@ -130,9 +132,10 @@ fn cell(quantifier: u8, marked: bool, word: &str) -> String {
     format!("<TD BGCOLOR=\"{colour}\"{style} COLOR=\"{line}\" BORDER=\"{width}\">{word}</TD>")
 }
 
-fn more(hidden: usize) -> String {
+fn more(hidden: usize, marked: bool) -> String {
     match hidden {
         0 => String::new(),
+        _ if marked => format!("<TD COLOR=\"{MARK_COLOUR}\" BORDER=\"2\">... {hidden} more</TD>"),
         _ => format!("<TD BORDER=\"0\">... {hidden} more</TD>"),
     }
 }

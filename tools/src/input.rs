@@ -52,7 +52,7 @@ impl Notation {
             Notation::Qcir => {
                 let read = qcir::read(&bytes, format);
                 let (formula, names) =
-                    read.map_err(|fault| Failure::Unreadable(fault.to_string()))?;
+                    read.map_err(|fault| Failure::Unusable(fault.to_string()))?;
                 Ok(Input { sheet: Sheet { format, bytes: formula.encode(format) }, names })
             }
             Notation::Names => Err(Misuse::new("names alone are no formula").into()),

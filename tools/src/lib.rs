@@ -55,7 +55,9 @@ fn answer(mut words: Vec<String>, standard_input: Box<dyn Read>) -> Result<Answe
         return Ok(help().into());
     }
     let command = COMMANDS.iter().find(|command| command.name == name);
-    let command = command.ok_or_else(|| Misuse::new(format!("no command '{name}'")))?;
+    let command = command.ok_or_else(|| {
+        Misuse::new(format!("no command '{name}'; a sheet is solved by 'plumanchor solve SHEET'"))
+    })?;
     if rest.iter().any(|word| word == "--help") {
         return Ok(command.help.to_string().into());
     }

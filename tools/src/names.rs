@@ -17,6 +17,10 @@ impl Names {
         Names(names.into_iter().collect())
     }
 
+    pub fn is_empty(&self) -> bool {
+        self.0.is_empty()
+    }
+
     pub fn of(&self, variable: usize) -> String {
         self.0.get(&variable).cloned().unwrap_or_else(|| variable.to_string())
     }

@@ -37,7 +37,7 @@ impl Display for Fault {
 }
 
 /// The formula of a circuit, within the limits of a format, and what its
-/// variables were called if not by the numbers that they have now.
+/// variables are called there.
 pub fn read(bytes: &[u8], format: &Format) -> Result<(Formula, Names), Fault> {
     let circuit = Circuit::read(text(bytes)?)?;
     let (prefix, names) = circuit.numbered(format)?;

@@ -24,7 +24,7 @@ fn rows_of(sheet: &[u8]) -> (usize, Vec<Row>) {
 
 /// The node rows of a box, by its id.
 fn range(id: &str) -> Option<Range<usize>> {
-    let (first, last) = id.strip_prefix("rows-")?.split_once('-')?;
+    let (first, last) = id.strip_prefix("nodes-")?.split_once('-')?;
     Some(first.parse().ok()?..last.parse::<usize>().ok()? + 1)
 }
 

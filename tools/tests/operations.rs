@@ -108,7 +108,7 @@ const NARROW_TRUE: [u8; 7] = [0, 0, 1, 0, 5, 0, 0];
 #[test]
 fn wrong_use_is_never_ignored() {
     let name = example("equal-after");
-    let calls: [&[&str]; 20] = [
+    let calls: [&[&str]; 21] = [
         &[],
         &["--version"],
         &["sheet", &name],
@@ -128,6 +128,7 @@ fn wrong_use_is_never_ignored() {
         &["solve", "--room", "much", &name],
         &["draw", "--expand", "x", &name],
         &["convert", "--to", "svg", &name],
+        &["convert", "--to", "names", &name],
         &["show", "no/such/file"],
     ];
     for arguments in calls {

@@ -1,6 +1,6 @@
 //! `plumanchor convert [--from FORMAT] [--to FORMAT] [FILE]`.
 
-use crate::arguments::Arguments;
+use crate::arguments::{Arguments, Misuse};
 use crate::command::{Answer, Command, Failure};
 use crate::format::DEFAULT;
 use crate::input::{self, Input, Notation};
@@ -27,6 +27,7 @@ fn run(mut arguments: Arguments) -> Result<Answer, Failure> {
     Ok(match to {
         Notation::Sheet(format) => sheet.carried(format)?.bytes.into(),
         Notation::Qcir => qcir::write(&sheet.formula()?).into(),
+        Notation::Names if names.is_empty() => return Err(Misuse::new("no names there").into()),
         Notation::Names => names.text().into(),
     })
 }

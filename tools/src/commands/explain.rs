@@ -32,8 +32,9 @@ fn run(mut arguments: Arguments) -> Result<Answer, Failure> {
     let folder = arguments.option("sheets");
     let Input { sheet, names } = input::input(arguments, DEFAULT)?;
     let room = sheet.room(room);
-    let Ok(solved) = sheet.solve(room) else {
-        return Ok(Answer::of_run(String::new(), sheet.solve(room)));
+    let solved = match sheet.solve(room) {
+        Ok(solved) => solved,
+        refused => return Ok(Answer::of_run(String::new(), refused)),
     };
     let wrong =
         |what: String| Failure::Contradicted(format!("{what}, and Solve says {}", solved.line()));

@@ -21,7 +21,7 @@ fn run(mut arguments: Arguments) -> Result<Answer, Failure> {
     match sheet.part(node) {
         [] => {
             let most = nodes - 1;
-            Err(Failure::Unreadable(format!("node {node} is not there: nodes are 0 to {most}")))
+            Err(Failure::Unusable(format!("node {node} is not there: nodes are 0 to {most}")))
         }
         kinds => Ok((kinds.iter().map(u8::to_string).collect::<Vec<_>>().join(" ") + "\n").into()),
     }

@@ -75,11 +75,10 @@ impl Circuit {
         }
         let own = self.variables.iter().map(|variable| own_number(&variable.name, most));
         let own: Option<Vec<usize>> = own.collect();
-        let named = own.is_none();
         let numbers = own.unwrap_or_else(|| (1..=self.variables.len()).collect());
         let pairs = || self.variables.iter().zip(&numbers);
         let prefix = pairs().map(|(variable, &x)| Row::new(variable.quantifier, x)).collect();
-        let names = pairs().filter(|_| named).map(|(variable, &x)| (x, variable.name.clone()));
+        let names = pairs().map(|(variable, &x)| (x, variable.name.clone()));
         Ok((prefix, Names::new(names)))
     }
 }
