@@ -19,7 +19,7 @@ pub fn rows(circuit: &Circuit, prefix: &[Row], format: &Format) -> Result<Vec<Ro
         );
         return Err(Fault::new(circuit.output.line, why));
     }
-    Ok(unfolded(circuit, prefix))
+    Ok(unfolded(circuit, prefix, size as usize))
 }
 
 /// How many rows the output's tree has; the highest number stands for all above.
@@ -89,10 +89,11 @@ enum Piece {
     Literal(Literal),
 }
 
-fn unfolded(circuit: &Circuit, prefix: &[Row]) -> Vec<Row> {
-    let mut rows = Vec::new();
+fn unfolded(circuit: &Circuit, prefix: &[Row], size: usize) -> Vec<Row> {
+    let mut rows = Vec::with_capacity(size);
     let mut pieces = vec![Piece::Literal(circuit.output.what)];
     while let Some(piece) = pieces.pop() {
+        assert!(rows.len() < size, "no more rows than were counted");
         match piece {
             Piece::Row(row) => rows.push(row),
             Piece::Literal(Literal { target: Target::Variable(x), negated }) => {
