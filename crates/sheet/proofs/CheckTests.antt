@@ -178,7 +178,7 @@ passed-quantifiers F rs h =
 
 -- node rows
 
-member-arguments : (rs : List Row) (x : ℕ) → member x (arguments rs) ≡ binds (map binding rs) x
+pub member-arguments : (rs : List Row) (x : ℕ) → member x (arguments rs) ≡ binds (map binding rs) x
 unfolding member arguments binds binding
 member-arguments [] x = refl
 member-arguments (r ∷ rs) x = ap (λ b. eqb (r .argument) x || b) (member-arguments rs x)

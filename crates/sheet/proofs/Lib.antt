@@ -15,3 +15,5 @@ pub mod Reduction
 pub mod Verdicts
 pub mod Refusals
 pub mod Longer
+pub mod Carrying
+pub mod Formats

@@ -9,7 +9,7 @@ use Rattle.sheet.specs.Format.{Bytes, Format}
 use Rattle.sheet.specs.Check.{Answer, refused, accepted, Test}
 use Rattle.sheet.specs.Operations.{output-after, write, tidy-call, settle-call, expand-call, execute-call, reduce-call, is-refused, solved, solving, solve-call}
 
-written-refused : (tests : List Test) (new out : Bytes) (n i : ℕ) → (write tests new out) .answer ≡ refused n i → (write tests new out) .output ≡ out
+pub written-refused : (tests : List Test) (new out : Bytes) (n i : ℕ) → (write tests new out) .answer ≡ refused n i → (write tests new out) .output ≡ out
 unfolding write output-after
 written-refused tests new out n i h = ap (λ (a : Answer ℕ). output-after a new out) h
 

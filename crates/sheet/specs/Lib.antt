@@ -3,6 +3,7 @@ pub mod Format
 pub mod Sheet
 pub mod Check
 pub mod Operations
+pub mod Carrying
 pub mod Trace
 pub mod Calls
 pub mod Limits

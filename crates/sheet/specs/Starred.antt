@@ -5,14 +5,15 @@ use mathlib.Core.List.{List, [], _∷_}
 use Prim.Native.Nat.{ℕ}
 use lib.ListN.{replicate}
 use Rattle.formula.specs.Trial.{Tried}
-use Rattle.sheet.specs.Format.{Bytes, narrow}
+use Rattle.sheet.specs.Format.{Bytes, Format, narrow, wide}
 use Rattle.sheet.specs.Check.{Answer, accepted}
+use Rattle.sheet.specs.Carrying.{carried}
 use Rattle.sheet.specs.Operations.{Line, line, says-true, says-false, says-stopped, solve-call, trial-call, line-of}
 
--- a sheet with what is asked of it and what is to come: the program's line with two buffers of a length, or Trial's verdict and leaves
+-- a sheet of a format with what is asked of it and what is to come: the program's line with two buffers of a length, or Trial's verdict and leaves
 pub data Tested : Type 0 where
-  solves : Bytes → ℕ → Line → Tested
-  tries : Bytes → Bool → ℕ → Tested
+  solves : Format → Bytes → ℕ → Line → Tested
+  tries : Format → Bytes → Bool → ℕ → Tested
 
 pub data Result : Type 0 where
   writes : Line → Result
@@ -54,26 +55,42 @@ equal-for-all-exists = 2 ∷ 0 ∷ 7 ∷ 0 ∷ 2 ∷ 1 ∷ 6 ∷ 5 ∷ 3 ∷ 3 �
 abbrev equal-exists-for-all : Bytes
 equal-exists-for-all = 2 ∷ 0 ∷ 7 ∷ 0 ∷ 1 ∷ 2 ∷ 6 ∷ 5 ∷ 3 ∷ 3 ∷ 5 ∷ 4 ∷ 4 ∷ 1 ∷ 0 ∷ 2 ∷ 0 ∷ 2 ∷ 0 ∷ 2 ∷ 0 ∷ 1 ∷ 0 ∷ 2 ∷ 0 ∷ 2 ∷ 0 ∷ 1 ∷ 0 ∷ 2 ∷ 0 ∷ []
 
+-- the same sheet with wider numbers (N11)
+abbrev over : Bytes → Bytes
+over b = carried narrow wide b
+
 unfoldable pub starred : List Tested
 starred =
-    solves and-of-nothing 13060 (line says-true 0 0 0) ∷
-    solves or-of-nothing 13060 (line says-false 0 0 0) ∷
-    solves excluded-middle 13060 (line says-true 0 0 0) ∷
-    solves four-ands 88 (line says-true 0 1 0) ∷
-    solves four-ands 87 (line says-stopped 0 0 1) ∷
-    solves figure-001 13060 (line says-false 1 2 0) ∷
-    solves figure-000-exists 13060 (line says-true 1 0 0) ∷
-    solves figure-000-for-all 13060 (line says-false 3 0 0) ∷
-    solves equal-for-all-exists 13060 (line says-true 0 1 0) ∷
-    solves equal-exists-for-all 13060 (line says-false 0 1 0) ∷
-    tries equal-for-all-exists true 3 ∷
-    tries equal-exists-for-all false 3 ∷
+    solves narrow and-of-nothing 13060 (line says-true 0 0 0) ∷
+    solves narrow or-of-nothing 13060 (line says-false 0 0 0) ∷
+    solves narrow excluded-middle 13060 (line says-true 0 0 0) ∷
+    solves narrow four-ands 88 (line says-true 0 1 0) ∷
+    solves narrow four-ands 87 (line says-stopped 0 0 1) ∷
+    solves narrow figure-001 13060 (line says-false 1 2 0) ∷
+    solves narrow figure-000-exists 13060 (line says-true 1 0 0) ∷
+    solves narrow figure-000-for-all 13060 (line says-false 3 0 0) ∷
+    solves narrow equal-for-all-exists 13060 (line says-true 0 1 0) ∷
+    solves narrow equal-exists-for-all 13060 (line says-false 0 1 0) ∷
+    tries narrow equal-for-all-exists true 3 ∷
+    tries narrow equal-exists-for-all false 3 ∷
+    solves wide (over and-of-nothing) 46088 (line says-true 0 0 0) ∷
+    solves wide (over or-of-nothing) 46088 (line says-false 0 0 0) ∷
+    solves wide (over excluded-middle) 46088 (line says-true 0 0 0) ∷
+    solves wide (over four-ands) 148 (line says-true 0 1 0) ∷
+    solves wide (over four-ands) 147 (line says-stopped 0 0 1) ∷
+    solves wide (over figure-001) 46088 (line says-false 1 2 0) ∷
+    solves wide (over figure-000-exists) 46088 (line says-true 1 0 0) ∷
+    solves wide (over figure-000-for-all) 46088 (line says-false 3 0 0) ∷
+    solves wide (over equal-for-all-exists) 46088 (line says-true 0 1 0) ∷
+    solves wide (over equal-exists-for-all) 46088 (line says-false 0 1 0) ∷
+    tries wide (over equal-for-all-exists) true 3 ∷
+    tries wide (over equal-exists-for-all) false 3 ∷
     []
 
 unfoldable pub expected : Tested → Result
-expected (solves b n l) = writes l
-expected (tries b v n) = answers (accepted (record { verdict = v; leaves = n }))
+expected (solves F b n l) = writes l
+expected (tries F b v n) = answers (accepted (record { verdict = v; leaves = n }))
 
 unfoldable pub computed : Tested → Result
-computed (solves b n l) = writes (line-of ((solve-call narrow b (replicate n 0) (replicate n 0)) .answer))
-computed (tries b v n) = answers (trial-call narrow b)
+computed (solves F b n l) = writes (line-of ((solve-call F b (replicate n 0) (replicate n 0)) .answer))
+computed (tries F b v n) = answers (trial-call F b)

@@ -10,7 +10,7 @@ use lib.ListN.{length}
 use Rattle.formula.specs.Tree.{Formula}
 use Rattle.formula.specs.Truth.{truth}
 use Rattle.formula.specs.Solve.{ended as run-ended, stopped as run-stopped}
-use Rattle.sheet.specs.Format.{Bytes, narrow}
+use Rattle.sheet.specs.Format.{Bytes, Format}
 use Rattle.sheet.specs.Sheet.{formula, sheet as sheet-of}
 use Rattle.sheet.specs.Operations.{padded, is-refused, is-stopped, is-ended, solved, solve-call}
 use Rattle.sheet.specs.Trace.{solve-states}
@@ -24,28 +24,28 @@ use Rattle.solve.specs.declared.Solved.the-variants.{Refused, Stopped, E
 use Rattle.solve.specs.Answers.{verdict-of, solved-answer}
 use Rattle.solve.specs.Stops.{Stop}
 
--- an answer r of the call solve(sheet, first, second), as its contract has it
-module _ (sheet first second : Bytes) (r : Solved) (contract : solved-answer r ≡ (solve-call narrow sheet first second) .answer) where
-  ended : {v : Verdict} {settled expanded : ℕ} → r ≡ Ended v settled expanded → truth (formula narrow sheet) ≡ verdict-of v
+-- an answer r of a call of Solve on a format's sheet, as its contract has it
+module _ (F : Format) (sheet first second : Bytes) (r : Solved) (contract : solved-answer r ≡ (solve-call F sheet first second) .answer) where
+  ended : {v : Verdict} {settled expanded : ℕ} → r ≡ Ended v settled expanded → truth (formula F sheet) ≡ verdict-of v
   ended {v} {settled} {expanded} e =
-      sym (solve-ended narrow sheet first second (verdict-of v) settled expanded (sym contract ∙ ap solved-answer e) .0)
+      sym (solve-ended F sheet first second (verdict-of v) settled expanded (sym contract ∙ ap solved-answer e) .0)
 
-  pub true-only-if-true : {settled expanded : ℕ} → r ≡ Ended True settled expanded → truth (formula narrow sheet) ≡ true
+  pub true-only-if-true : {settled expanded : ℕ} → r ≡ Ended True settled expanded → truth (formula F sheet) ≡ true
   true-only-if-true e = ended e
 
-  pub false-only-if-false : {settled expanded : ℕ} → r ≡ Ended False settled expanded → truth (formula narrow sheet) ≡ false
+  pub false-only-if-false : {settled expanded : ℕ} → r ≡ Ended False settled expanded → truth (formula F sheet) ≡ false
   false-only-if-false e = ended e
 
   -- a stop: the last of the states, which the answer shows, and what the first buffer then holds
-  module _ (held : Bytes) (holds : held ≡ (solve-call narrow sheet first second) .first) where
-    pub stop-shown : {x settled expanded : ℕ} → r ≡ Stopped x settled expanded → Stop sheet first second held settled expanded
+  module _ (held : Bytes) (holds : held ≡ (solve-call F sheet first second) .first) where
+    pub stop-shown : {x settled expanded : ℕ} → r ≡ Stopped x settled expanded → Stop F sheet first second held settled expanded
     unfolding solved
-    stop-shown {x} {settled} {expanded} e = by (solve-shows narrow sheet first second)
+    stop-shown {x} {settled} {expanded} e = by (solve-shows F sheet first second)
       where
-        told : is-stopped x settled expanded ≡ (solve-call narrow sheet first second) .answer
+        told : is-stopped x settled expanded ≡ (solve-call F sheet first second) .answer
         told = ap solved-answer (sym e) ∙ contract
 
-        by : Shows narrow sheet first second → Stop sheet first second held settled expanded
+        by : Shows F sheet first second → Stop F sheet first second held settled expanded
         by (no-state n i a l) = let k = told ∙ a in let z : _≡_ {A = ℕ} 0 1 = cc in absurd (omega arith)
         by (last-state (run-ended v) s a h l) = let k = told ∙ a in let z : _≡_ {A = ℕ} 0 1 = cc in absurd (omega arith)
         by (last-state (run-stopped y) s a h l) =
@@ -74,20 +74,20 @@ refused-known (Refused m j) n i e = cc
 refused-known (Stopped x s t) n i e = let z : _≡_ {A = ℕ} 0 1 = cc in absurd (omega arith)
 refused-known (Ended w s t) n i e = let z : _≡_ {A = ℕ} 0 1 = cc in absurd (omega arith)
 
--- answers r and r′ of the calls solve(sheet, first, second) and solve(sheet, first′, second′), as their contracts have them
-module _ (sheet first second first′ second′ : Bytes) (r r′ : Solved)
-    (contract : solved-answer r ≡ (solve-call narrow sheet first second) .answer)
-    (contract′ : solved-answer r′ ≡ (solve-call narrow sheet first′ second′) .answer) where
+-- answers r and r′ of two calls of Solve on a format's sheet, as their contracts have them
+module _ (F : Format) (sheet first second first′ second′ : Bytes) (r r′ : Solved)
+    (contract : solved-answer r ≡ (solve-call F sheet first second) .answer)
+    (contract′ : solved-answer r′ ≡ (solve-call F sheet first′ second′) .answer) where
   -- whichever buffers they have, two verdicts are the same one, with the same counts
   pub one-word : {v v′ : Verdict} {settled settled′ expanded expanded′ : ℕ} → r ≡ Ended v settled expanded → r′ ≡ Ended v′ settled′ expanded′
       → r ≡ r′
   one-word {v} {v′} {settled} {settled′} {expanded} {expanded′} e e′ =
-      let same = both-ended narrow sheet first second first′ second′ (sym contract ∙ ap solved-answer e) (sym contract′ ∙ ap solved-answer e′) in
+      let same = both-ended F sheet first second first′ second′ (sym contract ∙ ap solved-answer e) (sym contract′ ∙ ap solved-answer e′) in
       e ∙ sym (ended-known r′ v settled expanded (ap solved-answer e′ ∙ sym same))
 
   module _ (longer : length first ≤ length first′) (longer′ : length second ≤ length second′) where
-    both : Longer narrow sheet first second first′ second′
-    both = longer-buffers narrow sheet first second first′ second′ longer longer′
+    both : Longer F sheet first second first′ second′
+    both = longer-buffers F sheet first second first′ second′ longer longer′
 
     -- a verdict stays, with its counts, and the same sheet is reached
     pub verdict-stays : {v : Verdict} {settled expanded : ℕ} → r ≡ Ended v settled expanded → r′ ≡ Ended v settled expanded
@@ -95,15 +95,15 @@ module _ (sheet first second first′ second′ : Bytes) (r r′ : Solved)
         ended-known r′ v settled expanded
         (contract′ ∙ both .on-ended (verdict-of v) settled expanded (sym contract ∙ ap solved-answer e) .same-answer)
 
-    pub sheet-stays : (held held′ : Bytes) → held ≡ (solve-call narrow sheet first second) .first
-        → held′ ≡ (solve-call narrow sheet first′ second′) .first → {v : Verdict} {settled expanded : ℕ} → r ≡ Ended v settled expanded
-        → (f : Formula) × (held ≡ padded (length first) (sheet-of narrow f)) × (held′ ≡ padded (length first′) (sheet-of narrow f))
+    pub sheet-stays : (held held′ : Bytes) → held ≡ (solve-call F sheet first second) .first
+        → held′ ≡ (solve-call F sheet first′ second′) .first → {v : Verdict} {settled expanded : ℕ} → r ≡ Ended v settled expanded
+        → (f : Formula) × (held ≡ padded (length first) (sheet-of F f)) × (held′ ≡ padded (length first′) (sheet-of F f))
     sheet-stays held held′ holds holds′ {v} {settled} {expanded} e =
         let same = both .on-ended (verdict-of v) settled expanded (sym contract ∙ ap solved-answer e) in
         (same .reached, holds ∙ same .in-first, holds′ ∙ same .in-first′)
 
     -- the second call makes exactly the first one's steps first
-    pub steps-first : IsPrefix (solve-states narrow sheet first second) (solve-states narrow sheet first′ second′)
+    pub steps-first : IsPrefix (solve-states F sheet first second) (solve-states F sheet first′ second′)
     steps-first = both .begins
 
     -- refusals 1 to 8 stay; a refusal was one before, so no answer turns into one

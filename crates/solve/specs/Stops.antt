@@ -6,16 +6,16 @@ use mathlib.Core.Option.{some}
 use Prim.Native.Nat.{ℕ}
 use lib.ListN.{length}
 use Rattle.formula.specs.Solve.{State}
-use Rattle.sheet.specs.Format.{Bytes, narrow}
+use Rattle.sheet.specs.Format.{Bytes, Format}
 use Rattle.sheet.specs.Sheet.{sheet}
 use Rattle.sheet.specs.Operations.{padded}
 use Rattle.sheet.specs.Trace.{solve-states}
 
--- The last state of the call solve(b, first, second), with the counts answered; its sheet stands in the first buffer, which now holds
+-- The last state of a call of Solve on b, of a format's sheets, with these two buffers, with the counts answered; its sheet stands in the first buffer, which now holds
 -- the bytes held.
-pub record Stop (b first second held : Bytes) (settled expanded : ℕ) : Type 0 where
+pub record Stop (F : Format) (b first second held : Bytes) (settled expanded : ℕ) : Type 0 where
   pub state : State
-  pub is-last : getLast? (solve-states narrow b first second) ≡ some state
+  pub is-last : getLast? (solve-states F b first second) ≡ some state
   pub its-settled : state .settles ≡ settled
   pub its-expanded : state .expands ≡ expanded
-  pub its-sheet : held ≡ padded (length first) (sheet narrow (state .formula))
+  pub its-sheet : held ≡ padded (length first) (sheet F (state .formula))
