@@ -81,6 +81,41 @@ stored-pair d at value inside =
     none : (n : ℕ) → n ≡ n + 0
     none n = omega arith
 
+-- four bytes, written by pairs
+pub stored-quad : (d : Bytes) (at value : ℕ) → at + 4 ≤ length d → {mid new : Bytes}
+    → mid ≡ take at d ++ digits 2 value ++ drop (at + 2) d
+    → new ≡ take (at + 2) mid ++ digits 2 (value / 65536) ++ drop (at + 2 + 2) mid
+    → new ≡ take at d ++ digits 4 value ++ drop (at + 4) d
+unfolding digits
+stored-quad d at value inside {mid} {new} e₁ e₂ =
+    e₂ ∙ ap₂ (λ l r. l ++ digits 2 (value / 65536) ++ r) front back ∙
+    append-assoc (take at d ++ digits 2 value) (digits 2 (value / 65536)) (drop (at + 4) d) ∙
+    append-assoc (take at d) (digits 2 value) _ ∙ ap₂ (λ p q. take at d ++ (value % 256 ∷ value / 256 % 256 ∷ p % 256 ∷ q % 256 ∷ drop (at + 4) d)) third fourth ∙
+    sym (append-assoc (take at d) (digits 4 value) (drop (at + 4) d))
+  where
+    done : Bytes
+    done = take at d ++ digits 2 value
+
+    counted : length done ≡ at + 2
+    counted = length-append (take at d) (digits 2 value) ∙ ap₂ _+_ (length-take-le at d (omega arith)) (length-digits 2 value)
+
+    front : take (at + 2) mid ≡ done
+    front = ap (take (at + 2)) e₁ ∙ take-at done (drop (at + 2) d) (at + 2) counted
+
+    back : drop (at + 2 + 2) mid ≡ drop (at + 4) d
+    back =
+        ap (drop (at + 2 + 2)) e₁ ∙ ap (λ n. drop (n + 2) (done ++ drop (at + 2) d)) (sym counted) ∙
+        drop-append-add done (drop (at + 2) d) 2 ∙ drop-drop 2 (at + 2) d ∙ ap (λ n. drop n d) (behind at)
+      where
+        behind : (n : ℕ) → n + 2 + 2 ≡ n + 4
+        behind n = omega arith
+
+    third : value / 65536 ≡ value / 256 / 256
+    third = omega arith
+
+    fourth : value / 65536 / 256 ≡ value / 256 / 256 / 256
+    fourth = omega arith
+
 -- the argument's bytes in place of row r's
 abbrev argument-put : ℕ → ℕ → ℕ → Bytes → Bytes
 argument-put w r a ds = take (w * r) ds ++ (digits w a ++ drop (w * r + w) ds)

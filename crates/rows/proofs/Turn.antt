@@ -1,6 +1,6 @@
 -- A number read from its last byte to its first.
 -- Assumes nothing.
-use mathlib.Core.Path.{_≡_, sym, ap, _∙_}
+use mathlib.Core.Path.{_≡_, refl, sym, ap, _∙_}
 use Prim.Native.Nat.{ℕ, suc, _+_, _*_, _-_, _^_, _≤_, _<_}
 use native.Mathlib.Nat.{pow-suc, pow-le-pow-right, lt-of-lt-of-le}
 use native.Mathlib.Omega.{arith}
@@ -80,3 +80,33 @@ two-bytes b at inside {low} {high} el eh =
   where
     zero-behind : (n : ℕ) → n + 0 ≡ n
     zero-behind n = omega arith
+
+-- four bytes, by their pairs
+pub four-bytes : (b : Bytes) (at : ℕ) → at + 4 ≤ length b → {low high : ℕ} → low ≡ number (take 2 (drop at b))
+    → high ≡ number (take 2 (drop (at + 2) b)) → low + 65536 * high ≡ number (take 4 (drop at b))
+unfolding number
+four-bytes b at inside {low} {high} el eh =
+    let l = two-bytes b at (omega arith) {low = getD b at 0} {high = getD b (at + 1) 0} refl refl in
+    let h = two-bytes b (at + 2) (omega arith) {low = getD b (at + 2) 0} {high = getD b (at + 3) 0} refl (ap (λ i. getD b i 0) (third at)) in
+    omega (
+      arith,
+      el,
+      eh,
+      l,
+      h,
+      number-cons b at 4 inside 0 (omega arith),
+      number-cons b at 4 inside 1 (omega arith),
+      number-cons b at 4 inside 2 (omega arith),
+      number-cons b at 4 inside 3 (omega arith),
+      ap (λ i. getD b i 0) (zero-behind at),
+      number-none,
+    )
+  where
+    third : (n : ℕ) → n + 3 ≡ n + 2 + 1
+    third n = omega arith
+
+    zero-behind : (n : ℕ) → n + 0 ≡ n
+    zero-behind n = omega arith
+
+    number-none : number (drop 4 (part b at 4 inside)) ≡ 0
+    number-none = ap number (ap (λ n. drop n (part b at 4 inside)) (sym (length-part b at 4 inside)) ∙ drop-length (part b at 4 inside))

@@ -14,13 +14,26 @@ fn put_pair(b: &mut [u8], at: usize, value: usize)
     b[at + 1] = (value / 256 % 256) as u8;
 }
 
-// Writes a number to the `width` bytes at `at`, low byte first; two bytes without a loop.
+// Writes a number to the four bytes at `at`, low byte first.
+fn put_quad(b: &mut [u8], at: usize, value: usize)
+    requires { ⌜ at + 4 ≤ length (now b) ⌝ }
+    ensures { λ _. ⌜ now (b .exit) ≡ take at (now (b .entry)) ++ digits 4 value ++ drop (at + 4) (now (b .entry)) ⌝ }
+{
+    put_pair(b, at, value);
+    put_pair(b, at + 2, value / 65536);
+}
+
+// Writes a number to the `width` bytes at `at`, low byte first; two bytes or four without a loop.
 pub fn put_number(b: &mut [u8], at: usize, width: usize, value: usize)
     requires { ⌜ at + width ≤ length (now b) ⌝ }
     ensures { λ _. ⌜ now (b .exit) ≡ take at (now (b .entry)) ++ digits width value ++ drop (at + width) (now (b .entry)) ⌝ }
 {
     if width == 2 {
         put_pair(b, at, value);
+        return;
+    }
+    if width == 4 {
+        put_quad(b, at, value);
         return;
     }
     let mut rest = value;

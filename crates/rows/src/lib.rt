@@ -75,18 +75,32 @@ pub fn wide(b: u8) -> usize
 // The number of two bytes that stands at `at`, low byte first.
 fn pair_at(b: &[u8], at: usize) -> usize
     requires { ⌜ at + 2 ≤ length (now b) ⌝ }
-    ensures { λ r. ⌜ (r ≡ number (take 2 (drop at (now (b .entry))))) × (r < 2 ^ 32) ⌝ }
+    ensures { λ r. ⌜ (r ≡ number (take 2 (drop at (now (b .entry))))) × (r < 2 ^ 16) ⌝ }
 {
     wide(b[at]) + 256 * wide(b[at + 1])
 }
 
-// The number of `width` bytes that stands at `at`, low byte first. Two bytes, the narrow width, are read without a loop.
+// The number of four bytes that stands at `at`, low byte first.
+fn quad_at(b: &[u8], at: usize) -> usize
+    requires { ⌜ at + 4 ≤ length (now b) ⌝ }
+    ensures { λ r. ⌜ (r ≡ number (take 4 (drop at (now (b .entry))))) × (r < 2 ^ 32) ⌝ }
+{
+    let low = pair_at(b, at);
+    let high = pair_at(b, at + 2);
+    low + 65536 * high
+}
+
+// The number of `width` bytes that stands at `at`, low byte first. The widths of the two formats, two bytes and four, are read
+// without a loop.
 pub fn number_at(b: &[u8], at: usize, width: usize) -> usize
     requires { ⌜ (at + width ≤ length (now b)) × (width ≤ 4) ⌝ }
     ensures { λ r. ⌜ (r ≡ number (take width (drop at (now (b .entry))))) × (r < 2 ^ 32) ⌝ }
 {
     if width == 2 {
         return pair_at(b, at);
+    }
+    if width == 4 {
+        return quad_at(b, at);
     }
     let mut value: usize = 0;
     let mut i = width;

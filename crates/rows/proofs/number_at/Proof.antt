@@ -1,4 +1,4 @@
--- `rows::number_at` meets its contract: two bytes at once; else from the last byte to the first, the value is the number
+-- `rows::number_at` meets its contract: two bytes or four at once; else from the last byte to the first, the value is the number
 -- of the bytes read.
 -- Assumes nothing.
 use mathlib.Core.Path.{sym, ap, _∙_}
@@ -23,11 +23,22 @@ returns c =
     let two = c .before in
     let a = two .before .before in (
       c .pair-at .ensures .0 ∙ ap (λ w. number (take w (drop (a .args .at) (a .args .b .now)))) (sym (two .if1 .taken)),
-      c .pair-at .ensures .1,
+      omega (arith, c .pair-at .ensures .1),
+    )
+
+quad-at-requires : tie.Need-quad-at-requires Inv-loop μ-loop
+quad-at-requires c κs = omega arith
+
+returns-2 : tie.Need-returns-2 Inv-loop μ-loop
+returns-2 c =
+    let four = c .before in
+    let a = four .before .before .before in (
+      c .quad-at .ensures .0 ∙ ap (λ w. number (take w (drop (a .args .at) (a .args .b .now)))) (sym (four .if2 .taken)),
+      c .quad-at .ensures .1,
     )
 
 loop-holds : tie.Need-loop-holds Inv-loop μ-loop
-loop-holds c = let a = c .before .before in read-none (a .args .b .now) (a .args .at) (a .args .width) (a .pre .0)
+loop-holds c = let a = c .before .before .before in read-none (a .args .b .now) (a .args .at) (a .args .width) (a .pre .0)
 
 sub-i : tie.Need-sub-i Inv-loop μ-loop
 sub-i c = omega arith
@@ -54,13 +65,13 @@ loop-less c = omega arith
 loop-again : tie.Need-loop-again Inv-loop μ-loop
 loop-again c =
     let head = c .before .before .before in
-    let a = head .before .before .before in
+    let a = head .before .before .before .before in
     read-byte (a .args .b .now) (a .args .at) (a .args .width) (a .pre .0) (omega arith) (head .loop .inv)
     (c .wide .ensures .0) (c .wide .ensures .1)
 
-returns-2 : tie.Need-returns-2 Inv-loop μ-loop
-returns-2 c =
-    let a = c .before .before .before .before in
+returns-3 : tie.Need-returns-3 Inv-loop μ-loop
+returns-3 c =
+    let a = c .before .before .before .before .before in
     read-all (a .args .b .now) (a .args .at) (a .args .width) (a .pre .0) (a .pre .1) (c .loop-test .left) (c .before .loop .inv)
 
 pub number-at-spec : {M : Type 1} → statement M
@@ -71,6 +82,8 @@ number-at-spec =
     μ-loop
     pair-at-requires
     returns
+    quad-at-requires
+    returns-2
     loop-holds
     sub-i
     mul-value
@@ -80,4 +93,4 @@ number-at-spec =
     add-value
     loop-less
     loop-again
-    returns-2)
+    returns-3)

@@ -1,4 +1,4 @@
--- `rows::bytes::put_number` meets its contract: two bytes at once; else low byte first, a byte a turn. Assumes nothing.
+-- `rows::bytes::put_number` meets its contract: two bytes or four at once; else low byte first, a byte a turn. Assumes nothing.
 use mathlib.Core.Path.{sym, ap, _∙_}
 use mathlib.Core.List.{_++_}
 use Prim.Native.Nat.{_+_, _-_}
@@ -29,8 +29,22 @@ returns c =
     pair .put-pair .ensures ∙
     ap (λ w. take (a .args .at) (a .args .b .now) ++ digits w (a .args .value) ++ drop (a .args .at + w) (a .args .b .now)) (sym (two .if1 .taken))
 
+put-quad-requires : tie.Need-put-quad-requires Inv-loop μ-loop
+put-quad-requires c κs = omega arith
+
+same-length-2 : tie.Need-same-length-2 Inv-loop μ-loop
+same-length-2 c = c .before .before .put-quad .kept .0
+
+returns-2 : tie.Need-returns-2 Inv-loop μ-loop
+returns-2 c =
+    let quad = c .before .before in
+    let four = quad .before .before in
+    let a = four .before .before .before in
+    quad .put-quad .ensures ∙
+    ap (λ w. take (a .args .at) (a .args .b .now) ++ digits w (a .args .value) ++ drop (a .args .at + w) (a .args .b .now)) (sym (four .if2 .taken))
+
 loop-holds : tie.Need-loop-holds Inv-loop μ-loop
-loop-holds c = stored-none _ _ _ _ (c .before .before .pre)
+loop-holds c = stored-none _ _ _ _ (c .before .before .before .pre)
 
 cast-b : tie.Need-cast-b Inv-loop μ-loop
 cast-b c = omega arith
@@ -48,13 +62,13 @@ loop-less : tie.Need-loop-less Inv-loop μ-loop
 loop-less c = omega arith
 
 loop-again : tie.Need-loop-again Inv-loop μ-loop
-loop-again c = stored-byte _ _ _ _ (c .before .before .before .before .pre) (c .loop-test .taken) (c .before .loop .inv)
+loop-again c = stored-byte _ _ _ _ (c .before .before .before .before .before .pre) (c .loop-test .taken) (c .before .loop .inv)
 
-same-length-2 : tie.Need-same-length-2 Inv-loop μ-loop
-same-length-2 c = c .before .loop .inv .same-length
+same-length-3 : tie.Need-same-length-3 Inv-loop μ-loop
+same-length-3 c = c .before .loop .inv .same-length
 
-returns-2 : tie.Need-returns-2 Inv-loop μ-loop
-returns-2 c = stored-all _ _ _ _ (c .before .before .before .before .pre) (c .loop-test .left) (c .before .loop .inv)
+returns-3 : tie.Need-returns-3 Inv-loop μ-loop
+returns-3 c = stored-all _ _ _ _ (c .before .before .before .before .before .pre) (c .loop-test .left) (c .before .loop .inv)
 
 pub put-number-spec : {M : Type 1} → statement M
 put-number-spec =
@@ -65,6 +79,9 @@ put-number-spec =
     put-pair-requires
     same-length
     returns
+    put-quad-requires
+    same-length-2
+    returns-2
     loop-holds
     cast-b
     add-b
@@ -72,5 +89,5 @@ put-number-spec =
     add-i
     loop-less
     loop-again
-    same-length-2
-    returns-2)
+    same-length-3
+    returns-3)
