@@ -3,11 +3,11 @@
 use mathlib.Core.Path.{_≡_, refl, sym, ap, ap₂, _∙_, subst}
 use mathlib.Core.Bool.{Bool, true, false, not, _&&_, _||_, or-assoc}
 use mathlib.Core.List.{List, [], _∷_, _++_, map}
-use Prim.Native.Nat.{ℕ, suc, _≤_, _<_}
+use Prim.Native.Nat.{ℕ, suc, _≤_}
 use native.Mathlib.Omega.{arith}
 use lib.Dec.{eqb, ltb, leb}
 use lib.ListN.{length, take, take-append-drop}
-use borrow.Author.Tests.{not-true, not-false, ltb-false, lt-ltb, le-ltb}
+use borrow.Author.Tests.{not-true, not-false, ltb-false, le-ltb}
 use Rattle.formula.specs.Tree.{and, or, Quantifier, Prefix, Formula}
 use Rattle.formula.specs.Truth.{truth}
 use Rattle.formula.proofs.Booleans.{and-parts, or-parts, or-none}
@@ -110,28 +110,7 @@ module _ (F G : Format) (b : Bytes) (h : passes (check-tests F b) ≡ true) wher
       by true e = refl
       by false e = nodes-below (variables F b) (node-rows F b) (prefix-below e) (passed F b h .node-kinds)
 
-  above-numbered : (p : Prefix) → numbered G p ≡ true → above most (map binding-row p) ≡ false
-  unfolding above binding-row
-  above-numbered [] n = refl
-  above-numbered (z ∷ p) n =
-      let few = numbered-∷ G z p n in
-      or-none (by (leb (quantifier-kind (z .quantifier)) 4) (le-ltb most (z .variable) (few .0))) (above-numbered p (few .1))
-    where
-      by : (t : Bool) {a : Bool} → a ≡ false → (t && a) ≡ false
-      by true e = e
-      by false e = refl
-
-  -- 24 refuses no formula within the other format's limits
-  pub within-passes : Within G (formula F b) → beyond F G b ≡ false
-  unfolding beyond formula
-  within-passes w =
-      let q = passed-quantifiers F (prefix-rows F b) (passed F b h .quantifiers) in
-      or-none
-      (or-none (le-ltb most (variables F b) (omega (arith, w .few-variables, accepted-variables F b h)))
-      (le-ltb (G .most-nodes) (nodes F b) (omega (arith, w .few-nodes, accepted-nodes F b h))))
-      (above-prefix ∙ ap (above most) (sym (q .rows-of-prefix)) ∙ above-numbered (map binding (prefix-rows F b)) (w .is-numbered))
-
-  -- and 24 passed: the formula is within the other format's limits
+  -- 24 passed: the formula is within the other format's limits
   pub within-passed : beyond F G b ≡ false → Within G (formula F b)
   unfolding beyond formula
   within-passed e =
@@ -145,6 +124,27 @@ module _ (F G : Format) (b : Bytes) (h : passes (check-tests F b) ≡ true) wher
         is-distinct = w .is-distinct;
         is-closed = w .is-closed;
       }
+
+  above-numbered : (p : Prefix) → numbered G p ≡ true → above most (map binding-row p) ≡ false
+  unfolding above binding-row
+  above-numbered [] n = refl
+  above-numbered (z ∷ p) n =
+      let few = numbered-∷ G z p n in
+      or-none (by (leb (quantifier-kind (z .quantifier)) 4) (le-ltb most (z .variable) (few .0))) (above-numbered p (few .1))
+    where
+      by : (t : Bool) {a : Bool} → a ≡ false → (t && a) ≡ false
+      by true e = e
+      by false e = refl
+
+  -- and 24 refuses no formula within the other format's limits
+  pub within-passes : Within G (formula F b) → beyond F G b ≡ false
+  unfolding beyond formula
+  within-passes w =
+      let q = passed-quantifiers F (prefix-rows F b) (passed F b h .quantifiers) in
+      or-none
+      (or-none (le-ltb most (variables F b) (omega (arith, w .few-variables, accepted-variables F b h)))
+      (le-ltb (G .most-nodes) (nodes F b) (omega (arith, w .few-nodes, accepted-nodes F b h))))
+      (above-prefix ∙ ap (above most) (sym (q .rows-of-prefix)) ∙ above-numbered (map binding (prefix-rows F b)) (w .is-numbered))
 
 -- a sheet of one format whose formula is within the limits of another
 
@@ -176,7 +176,7 @@ module _ (F G : Format) (sound : Sound G) (b : Bytes) (h : passes (check-tests F
 -- the calls
 
 module _ (b : Bytes) where
-  widen-within : passes (check-tests narrow b) ≡ true → Within wide (formula narrow b)
+  pub widen-within : passes (check-tests narrow b) ≡ true → Within wide (formula narrow b)
   widen-within h = within-wider narrow wide (formula narrow b) (omega arith) (omega arith) (accepted-within narrow b h)
 
   module _ (out : Bytes) where
@@ -234,10 +234,6 @@ module _ (b out : Bytes) where
   bring-back-unchecked e = write-refused _ (length (carried wide narrow b)) _ out (refused-first (check-tests wide b) _ _ _ e)
 
   module _ (h : passes (check-tests narrow b) ≡ true) where
-    pub widen-short : length out < sheet-length wide (variables narrow b) (nodes narrow b) → Refuses (widen-call b out) 13 0 out
-    unfolding widen-call widen-tests answer
-    widen-short l = write-behind (check-tests narrow b) _ _ out 13 0 h (rw (lt-ltb (length out) _ l))
-
     pub widen-holds : sheet-length wide (variables narrow b) (nodes narrow b) ≤ length out
         → widen-call b out ≡ holds (carried narrow wide b) out
     unfolding widen-call widen-tests passes
@@ -249,15 +245,10 @@ module _ (b out : Bytes) where
     unfolding bring-back-call bring-back-tests answer
     bring-back-beyond e = write-behind (check-tests wide b) _ _ out 24 0 h (rw e)
 
-    module _ (below : beyond wide narrow b ≡ false) where
-      pub bring-back-short : length out < sheet-length narrow (variables wide b) (nodes wide b) → Refuses (bring-back-call b out) 13 0 out
-      unfolding bring-back-call bring-back-tests answer
-      bring-back-short l = write-behind (check-tests wide b) _ _ out 13 0 h (rw (below, lt-ltb (length out) _ l))
-
-      pub bring-back-holds : sheet-length narrow (variables wide b) (nodes wide b) ≤ length out
-          → bring-back-call b out ≡ holds (carried wide narrow b) out
-      unfolding bring-back-call bring-back-tests passes
-      bring-back-holds room = write-holds _ _ out (passes-++ (check-tests wide b) _ ∙ rw (h, below, le-ltb (length out) _ room))
+    pub bring-back-holds : beyond wide narrow b ≡ false → sheet-length narrow (variables wide b) (nodes wide b) ≤ length out
+        → bring-back-call b out ≡ holds (carried wide narrow b) out
+    unfolding bring-back-call bring-back-tests passes
+    bring-back-holds below room = write-holds _ _ out (passes-++ (check-tests wide b) _ ∙ rw (h, below, le-ltb (length out) _ room))
 
 -- Over and back restores the bytes, and so does back and over, whatever the outputs held: the second one need only be as long as the
 -- first sheet.

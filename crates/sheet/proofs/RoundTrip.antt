@@ -98,7 +98,7 @@ module _ (F : Format) (s : Sound F) where
     literal-fits : (t : Bool) (v : ℕ) → not (binds (f .prefix) v) ≡ false → v < 256 ^ F .width
     literal-fits t v e = omega (arith, binds-numbered F (f .prefix) v (h .is-numbered) (not-false _ e))
 
-    arguments-fit : Every (ArgumentFits (F .width)) (formula-rows f)
+    pub arguments-fit : Every (ArgumentFits (F .width)) (formula-rows f)
     unfolding formula-rows closed
     arguments-fit =
         every-++ (ArgumentFits (F .width)) (map binding-row (f .prefix)) (tree-rows (f .matrix))

@@ -1,0 +1,43 @@
+-- Rows that are written in numbers of another width.
+-- Assumes nothing.
+use mathlib.Core.Path.{_≡_}
+use mathlib.Core.List.{[], _∷_}
+use Prim.Native.Nat.{ℕ, _+_, _^_, _≤_, _<_}
+use lib.ListN.{length, getD}
+use Rattle.sheet.specs.Format.{Bytes, Format, row, sheet-length}
+use Rattle.sheet.specs.Sheet.{formula}
+use Rattle.sheet.specs.Operations.{Written, write}
+use Rattle.sheet.specs.Carrying.{carried, carried-room-test}
+use Rattle.sheet.specs.Limits.{Sound, Within}
+use Rattle.rows.specs.Layouts.{total, rows-in, Room}
+use Rattle.rows.specs.Formulas.{formula-in, Readable}
+use Rattle.rows.specs.declared.Layout.{Layout}
+use Rattle.checking.specs.Limits.{Manageable, Sheet}
+
+-- the rows of s can be read from b, as many of t have their place in len bytes, and every argument fits a number there
+pub record RowsFit (s : Layout) (b : Bytes) (t : Layout) (len : ℕ) : Type 0 where
+  pub source : Room s (length b)
+  pub few-rows : total s < 2 ^ 32
+  pub room : Room t len
+  pub as-many : total t ≡ total s
+  pub arguments-fit : (r : ℕ) → r < total s → (getD (rows-in s b) r (row 0 0)) .argument < 256 ^ t .width
+
+-- the formula whose rows stand in b is within the limits of the format G, and its sheet has its place in len bytes
+pub record Carriable (s : Layout) (b : Bytes) (G : Format) (len : ℕ) : Type 0 where
+  pub readable : Readable s b
+  pub few-bytes : G .width ≤ 4
+  pub sound : Sound G
+  pub within : Within G (formula-in s b)
+  pub has-room : sheet-length G (s .variables) (s .nodes) ≤ len
+
+-- a sheet of the format F that Check accepts, of layout s, and within the limits of the format G
+pub record Ready (F G : Format) (b : Bytes) (s : Layout) : Type 0 where
+  pub manageable : Manageable F
+  pub accepted : Sheet F b s
+  pub few-bytes : G .width ≤ 4
+  pub sound : Sound G
+  pub within : Within G (formula F b)
+
+-- what 13 leaves of an operation that carries a sheet over
+abbrev pub room-call : Format → Format → Bytes → Bytes → Written
+room-call F G b out = write (carried-room-test F G b (length out) ∷ []) (carried F G b) out
