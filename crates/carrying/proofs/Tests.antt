@@ -1,25 +1,24 @@
 -- The tests behind Check's, and the calls once they are decided.
 -- Assumes nothing.
 use mathlib.Core.Path.{_≡_, refl, sym, ap, ap₂, _∙_, subst, subst₂}
-use mathlib.Core.Bool.{Bool, true, false, _||_, cond}
+use mathlib.Core.Bool.{Bool, true, false, _||_}
 use mathlib.Core.List.{List, [], _∷_, _++_}
-use Prim.Native.Nat.{ℕ, _+_, _≤_, _<_}
+use Prim.Native.Nat.{ℕ, _≤_, _<_}
 use native.Mathlib.Omega.{arith}
 use lib.Dec.{ltb}
 use lib.ListN.{length, take}
 use borrow.Author.Tests.{lt-ltb, le-ltb}
-use Rattle.sheet.specs.Format.{Bytes, Format, narrow, wide, sheet-length, variables, nodes, all-rows, prefix-rows}
-use Rattle.sheet.specs.Sheet.{formula, sheet}
+use Rattle.sheet.specs.Format.{Bytes, Format, narrow, wide, sheet-length, variables, nodes, prefix-rows}
+use Rattle.sheet.specs.Sheet.{sheet}
 use Rattle.sheet.specs.Check.{Answer, refused, accepted, Test, test, answer, passes, check-tests}
-use Rattle.sheet.specs.Operations.{padded, Written, output-after, write}
-use Rattle.sheet.specs.Limits.{Sound, Within}
+use Rattle.sheet.specs.Operations.{padded, output-after, write}
 use Rattle.sheet.specs.Carrying.{carried, above, beyond, carried-room-test, widen-tests, widen-call, bring-back-tests, bring-back-call}
 use Rattle.sheet.proofs.Tests.{answer-++}
 use Rattle.sheet.proofs.Writing.{write-refused, write-accepted}
 use Rattle.sheet.proofs.Limits.{narrow-sound, wide-sound}
 use Rattle.sheet.proofs.Carrying.{above-prefix, within-passed, widen-within, bring-back-beyond}
 use Rattle.rows.specs.Layouts.{rows-in}
-use Rattle.rows.specs.Formulas.{formula-in, layout-of}
+use Rattle.rows.specs.Formulas.{formula-in}
 use Rattle.rows.specs.declared.Layout.{Layout}
 use Rattle.rows.proofs.Layouts.{all-rows-in}
 use Rattle.checking.specs.Limits.{Sheet}

@@ -1,17 +1,16 @@
 -- A row a turn: all rows written, and the quantifier rows looked at.
 -- Assumes nothing.
 use mathlib.Core.Path.{_≡_, refl, sym, ap, ap₂, _∙_, subst}
-use mathlib.Core.Bool.{Bool, true, false, _&&_, _||_}
+use mathlib.Core.Bool.{true, false, _&&_, _||_}
 use mathlib.Core.List.{List, [], _∷_, _++_, map}
 use Prim.Native.Nat.{ℕ, zero, suc, _+_, _≤_, _<_}
 use native.Mathlib.Numerals.{add-one}
 use native.Mathlib.Omega.{arith}
 use lib.Dec.{ltb, leb}
 use lib.ListN.{length, getD, set, take, drop, drop-of-length-le}
-use lib.Seq.{take-all, take-suc, take-suc-set, drop-cons, getD-take, length-take-le}
-use borrow.Author.Tests.{lt-ltb, le-ltb, le-leb}
+use lib.Seq.{take-all, take-suc, take-suc-set, getD-take, length-take-le}
+use borrow.Author.Tests.{lt-ltb, le-ltb}
 use Rattle.formula.specs.Tree.{and, or, Quantifier, Prefix}
-use Rattle.formula.proofs.Booleans.{or-none}
 use Rattle.sheet.specs.Format.{Bytes, Row, row}
 use Rattle.sheet.specs.Sheet.{quantifier-kind, binding-row}
 use Rattle.sheet.specs.Carrying.{above}
