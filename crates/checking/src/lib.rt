@@ -19,7 +19,7 @@ ghost use mathlib.Core.Bool.{false};
 ghost use mathlib.Core.List.{[]};
 ghost use Prim.Native.Nat.{_≤_, _<_};
 ghost use lib.ListN.{length, getD, drop};
-ghost use Rattle.sheet.specs.Format.{row, narrow};
+ghost use Rattle.sheet.specs.Format.{row, narrow, wide};
 ghost use Rattle.sheet.specs.Check.{accepted, check};
 ghost use Rattle.rows.specs.Layouts.{total, rows-in, Room};
 ghost use Rattle.rows.specs.Formats.{format-of};
@@ -246,4 +246,11 @@ pub fn check(sheet: &[u8]) -> Checked
     ensures { λ r. ⌜ checked-answer r ≡ check narrow (now (sheet .entry)) ⌝ }
 {
     check_in(sheet, rows::narrow())
+}
+
+// Checks a wide sheet (N11): accepted with V and N, or refused with number and place.
+pub fn check_wide(sheet: &[u8]) -> Checked
+    ensures { λ r. ⌜ checked-answer r ≡ check wide (now (sheet .entry)) ⌝ }
+{
+    check_in(sheet, rows::wider())
 }

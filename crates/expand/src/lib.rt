@@ -10,7 +10,7 @@ use rows::fit::fits;
 use stepping::expanding::Expanding;
 use stepping::expanding::expand_into;
 ghost use mathlib.Core.Path.{_≡_};
-ghost use Rattle.sheet.specs.Format.{narrow};
+ghost use Rattle.sheet.specs.Format.{narrow, wide};
 ghost use Rattle.sheet.specs.Operations.{expand-call, execute-call};
 ghost use Rattle.rows.specs.Formats.{format-of};
 ghost use Rattle.checking.specs.Answers.{written-answer};
@@ -83,6 +83,14 @@ pub fn execute(sheet: &[u8], x: usize, ceiling: usize, out: &mut [u8]) -> Writte
     execute_in(sheet, rows::narrow(), x, ceiling, out)
 }
 
+// Carries a quote out in a wide sheet (N11) in the same way.
+pub fn execute_wide(sheet: &[u8], x: usize, ceiling: usize, out: &mut [u8]) -> Written
+    ensures { λ r. ⌜ written-answer r ≡ (execute-call wide (now (sheet .entry)) x ceiling (now (out .entry))) .answer ⌝ }
+    ensures { λ _. ⌜ now (out .exit) ≡ (execute-call wide (now (sheet .entry)) x ceiling (now (out .entry))) .output ⌝ }
+{
+    execute_in(sheet, rows::wider(), x, ceiling, out)
+}
+
 // Expands `x` in a sheet of document 01: the new sheet stands at the front of `out` with zeros behind it, and its length is returned;
 // or the call is refused with number and place, and `out` is left as it was.
 pub fn expand(sheet: &[u8], x: usize, out: &mut [u8]) -> Written
@@ -90,4 +98,12 @@ pub fn expand(sheet: &[u8], x: usize, out: &mut [u8]) -> Written
     ensures { λ _. ⌜ now (out .exit) ≡ (expand-call narrow (now (sheet .entry)) x (now (out .entry))) .output ⌝ }
 {
     expand_in(sheet, rows::narrow(), x, out)
+}
+
+// Expands `x` in a wide sheet (N11) in the same way.
+pub fn expand_wide(sheet: &[u8], x: usize, out: &mut [u8]) -> Written
+    ensures { λ r. ⌜ written-answer r ≡ (expand-call wide (now (sheet .entry)) x (now (out .entry))) .answer ⌝ }
+    ensures { λ _. ⌜ now (out .exit) ≡ (expand-call wide (now (sheet .entry)) x (now (out .entry))) .output ⌝ }
+{
+    expand_in(sheet, rows::wider(), x, out)
 }

@@ -9,7 +9,7 @@ use stepping::admission::Admission;
 use stepping::admission::Binding;
 use stepping::admission::admit;
 ghost use mathlib.Core.Path.{_≡_};
-ghost use Rattle.sheet.specs.Format.{narrow};
+ghost use Rattle.sheet.specs.Format.{narrow, wide};
 ghost use Rattle.sheet.specs.Operations.{quote-call};
 ghost use Rattle.rows.specs.Formats.{format-of};
 ghost use Rattle.checking.specs.Limits.{Countable};
@@ -54,4 +54,11 @@ pub fn quote(sheet: &[u8], x: usize) -> Quoted
     ensures { λ r. ⌜ quoted-answer r ≡ quote-call narrow (now (sheet .entry)) x ⌝ }
 {
     quote_in(sheet, rows::narrow(), x)
+}
+
+// Quotes the expansion of `x` in a wide sheet (N11) in the same way.
+pub fn quote_wide(sheet: &[u8], x: usize) -> Quoted
+    ensures { λ r. ⌜ quoted-answer r ≡ quote-call wide (now (sheet .entry)) x ⌝ }
+{
+    quote_in(sheet, rows::wider(), x)
 }

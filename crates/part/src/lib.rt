@@ -4,7 +4,7 @@ use rows::Format;
 use rows::Layout;
 use rows::places::kind_place;
 ghost use mathlib.Core.Path.{_≡_};
-ghost use Rattle.sheet.specs.Format.{narrow};
+ghost use Rattle.sheet.specs.Format.{narrow, wide};
 ghost use Rattle.sheet.specs.Operations.{part-call};
 ghost use Rattle.rows.specs.Formats.{format-of};
 ghost use Rattle.checking.specs.Limits.{Manageable};
@@ -38,4 +38,11 @@ pub fn part<'a>(sheet: &'a [u8], node: usize) -> &'a [u8]
     ensures { λ r. ⌜ now r ≡ part-call narrow (now (sheet .entry)) node ⌝ }
 {
     part_in(sheet, rows::narrow(), node)
+}
+
+// The same of a wide sheet (N11).
+pub fn part_wide<'a>(sheet: &'a [u8], node: usize) -> &'a [u8]
+    ensures { λ r. ⌜ now r ≡ part-call wide (now (sheet .entry)) node ⌝ }
+{
+    part_in(sheet, rows::wider(), node)
 }

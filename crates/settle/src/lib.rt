@@ -5,7 +5,7 @@ use checking::Written;
 use rows::Format;
 use stepping::settling::settle_into;
 ghost use mathlib.Core.Path.{_≡_};
-ghost use Rattle.sheet.specs.Format.{narrow};
+ghost use Rattle.sheet.specs.Format.{narrow, wide};
 ghost use Rattle.sheet.specs.Operations.{settle-call};
 ghost use Rattle.rows.specs.Formats.{format-of};
 ghost use Rattle.checking.specs.Answers.{written-answer};
@@ -33,4 +33,12 @@ pub fn settle(sheet: &[u8], x: usize, out: &mut [u8]) -> Written
     ensures { λ _. ⌜ now (out .exit) ≡ (settle-call narrow (now (sheet .entry)) x (now (out .entry))) .output ⌝ }
 {
     settle_in(sheet, rows::narrow(), x, out)
+}
+
+// Settles `x` in a wide sheet (N11) in the same way.
+pub fn settle_wide(sheet: &[u8], x: usize, out: &mut [u8]) -> Written
+    ensures { λ r. ⌜ written-answer r ≡ (settle-call wide (now (sheet .entry)) x (now (out .entry))) .answer ⌝ }
+    ensures { λ _. ⌜ now (out .exit) ≡ (settle-call wide (now (sheet .entry)) x (now (out .entry))) .output ⌝ }
+{
+    settle_in(sheet, rows::wider(), x, out)
 }

@@ -13,7 +13,7 @@ ghost use mathlib.Core.Path.{_≡_};
 ghost use Prim.Native.Nat.{min};
 ghost use lib.ListN.{length, replicate};
 ghost use Rattle.formula.specs.Solve.{solve};
-ghost use Rattle.sheet.specs.Format.{narrow};
+ghost use Rattle.sheet.specs.Format.{narrow, wide};
 ghost use Rattle.sheet.specs.Operations.{solve-call};
 ghost use Rattle.sheet.specs.Trace.{room};
 ghost use Rattle.rows.specs.Formats.{format-of};
@@ -149,4 +149,13 @@ pub fn solve(sheet: &[u8], first: &mut [u8], second: &mut [u8]) -> Solved
     ensures { λ _. ⌜ now (second .exit) ≡ (solve-call narrow (now (sheet .entry)) (now (first .entry)) (now (second .entry))) .second ⌝ }
 {
     solve_in(sheet, rows::narrow(), first, second)
+}
+
+// Solves a wide sheet (N11) in the same way.
+pub fn solve_wide(sheet: &[u8], first: &mut [u8], second: &mut [u8]) -> Solved
+    ensures { λ r. ⌜ solved-answer r ≡ (solve-call wide (now (sheet .entry)) (now (first .entry)) (now (second .entry))) .answer ⌝ }
+    ensures { λ _. ⌜ now (first .exit) ≡ (solve-call wide (now (sheet .entry)) (now (first .entry)) (now (second .entry))) .first ⌝ }
+    ensures { λ _. ⌜ now (second .exit) ≡ (solve-call wide (now (sheet .entry)) (now (first .entry)) (now (second .entry))) .second ⌝ }
+{
+    solve_in(sheet, rows::wider(), first, second)
 }

@@ -12,7 +12,7 @@ ghost use Prim.Native.Nat.{_≤_};
 ghost use lib.ListN.{length, drop};
 ghost use Rattle.formula.specs.Tidy.{tidied};
 ghost use Rattle.sheet.specs.Sheet.{formula, sheet};
-ghost use Rattle.sheet.specs.Format.{narrow};
+ghost use Rattle.sheet.specs.Format.{narrow, wide};
 ghost use Rattle.sheet.specs.Operations.{padded, tidy-call};
 ghost use Rattle.rows.specs.Formats.{format-of};
 ghost use Rattle.rows.specs.Formulas.{formula-in};
@@ -96,4 +96,12 @@ pub fn tidy(sheet: &[u8], out: &mut [u8]) -> Written
     ensures { λ _. ⌜ now (out .exit) ≡ (tidy-call narrow (now (sheet .entry)) (now (out .entry))) .output ⌝ }
 {
     tidy_in(sheet, rows::narrow(), out)
+}
+
+// Tidies a wide sheet (N11) in the same way.
+pub fn tidy_wide(sheet: &[u8], out: &mut [u8]) -> Written
+    ensures { λ r. ⌜ written-answer r ≡ (tidy-call wide (now (sheet .entry)) (now (out .entry))) .answer ⌝ }
+    ensures { λ _. ⌜ now (out .exit) ≡ (tidy-call wide (now (sheet .entry)) (now (out .entry))) .output ⌝ }
+{
+    tidy_in(sheet, rows::wider(), out)
 }

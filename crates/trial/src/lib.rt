@@ -11,7 +11,7 @@ ghost use Prim.Native.Nat.{_+_, _^_, _≤_, _<_};
 ghost use lib.Dec.{eqb};
 ghost use lib.ListN.{length, getD};
 ghost use Rattle.formula.specs.Truth.{eval};
-ghost use Rattle.sheet.specs.Format.{narrow, row};
+ghost use Rattle.sheet.specs.Format.{narrow, wide, row};
 ghost use Rattle.sheet.specs.Operations.{trial-call};
 ghost use Rattle.rows.specs.Formats.{format-of};
 ghost use Rattle.rows.specs.Formulas.{node-rows-in, matrix-in, Readable};
@@ -305,4 +305,11 @@ pub fn trial(sheet: &[u8]) -> Tried
     ensures { λ r. ⌜ tried-answer r ≡ trial-call narrow (now (sheet .entry)) ⌝ }
 {
     trial_in(sheet, rows::narrow())
+}
+
+// Decides a wide sheet (N11) by trying values.
+pub fn trial_wide(sheet: &[u8]) -> Tried
+    ensures { λ r. ⌜ tried-answer r ≡ trial-call wide (now (sheet .entry)) ⌝ }
+{
+    trial_in(sheet, rows::wider())
 }
