@@ -4,7 +4,12 @@
  * Every operation is tested on a stack of 1 MiB.
  *
  * An answer is one number. Bits 0 to 7: the refusal number of document 01, 0 if accepted. Bits 8 to 15: a word. Bits 16 to 31 and
- * 32 to 63: two values; a refusal has its place in the first. */
+ * 32 to 63: two values; a refusal has its place in the first.
+ *
+ * A sheet is narrow (numbers of 16 bits, up to 256 variables and 4,096 nodes) or wide (32 bits, 1,024 and 8,192); functions on wide sheets
+ * end in _wide. Both pack their answers alike, since the larger numbers fit too: in LOW V is up to 1,024 and a place, the row of a sheet,
+ * up to 9,216; in HIGH N is up to 8,192 and a length up to 46,088; the counts of Solve and the variable where it stopped, up to 1,024, have
+ * 16 bits each. */
 #ifndef PLUMANCHOR_H
 #define PLUMANCHOR_H
 
@@ -47,5 +52,17 @@ uint64_t plumanchor_execute(const uint8_t *sheet, size_t length, size_t x, size_
  * then holds the sheet reached and zeros, the second only zeros. Refused: no byte changes. */
 uint64_t plumanchor_solve(const uint8_t *sheet, size_t length, uint8_t *first, size_t first_room, uint8_t *second,
                           size_t second_room);
+
+/* The same operations on wide sheets. Part's kind bytes stand from sheet + 8 + V + node on. */
+uint64_t plumanchor_check_wide(const uint8_t *sheet, size_t length);
+uint64_t plumanchor_trial_wide(const uint8_t *sheet, size_t length);
+size_t plumanchor_part_wide(const uint8_t *sheet, size_t length, size_t node);
+uint64_t plumanchor_tidy_wide(const uint8_t *sheet, size_t length, uint8_t *output, size_t room);
+uint64_t plumanchor_settle_wide(const uint8_t *sheet, size_t length, size_t x, uint8_t *output, size_t room);
+uint64_t plumanchor_expand_wide(const uint8_t *sheet, size_t length, size_t x, uint8_t *output, size_t room);
+uint64_t plumanchor_quote_wide(const uint8_t *sheet, size_t length, size_t x);
+uint64_t plumanchor_execute_wide(const uint8_t *sheet, size_t length, size_t x, size_t ceiling, uint8_t *output, size_t room);
+uint64_t plumanchor_solve_wide(const uint8_t *sheet, size_t length, uint8_t *first, size_t first_room, uint8_t *second,
+                               size_t second_room);
 
 #endif

@@ -1,4 +1,6 @@
--- An answer in 64 bits: the refusal number (0: accepted), a word, and two values. Every value of document 01 fits its place.
+-- An answer in 64 bits: the refusal number (0: accepted), a word, and two values. Every value of both formats fits its place: in the first
+-- value, of 16 bits, variables and counts go up to 1,024 and places, which count rows, up to 9,216; in the second, of 32 bits, nodes go up
+-- to 8,192, lengths up to 46,088, and raw rows and leaves not much further.
 -- Assumes nothing.
 use mathlib.Core.Bool.{Bool, true, false}
 use Prim.Native.Nat.{ℕ, _+_, _*_, _^_, _%_}

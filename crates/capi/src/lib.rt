@@ -4,9 +4,13 @@ ghost use lib.ListN.{length};
 ghost use Rattle.sheet.specs.Format.{narrow};
 ghost use Rattle.sheet.specs.Check.{check};
 ghost use Rattle.sheet.specs.Operations.{trial-call, part-call, tidy-call, settle-call, expand-call, quote-call, execute-call, solve-call};
-ghost use Rattle.checking.specs.Answers.{written-answer};
+ghost use Rattle.checking.specs.Answers.{checked-answer, written-answer};
+ghost use Rattle.trial.specs.Answers.{tried-answer};
+ghost use Rattle.expand.specs.Answers.{quoted-answer};
 ghost use Rattle.solve.specs.Answers.{verdict-of, solved-answer};
 ghost use Rattle.capi.specs.Packed.{packed, packed-check, packed-trial, verdict-word, packed-written, packed-quote, packed-solved};
+
+pub mod wide;
 
 // An answer in one number: refusal number, word and two values.
 fn pack(number: usize, word: usize, low: usize, high: u64) -> u64
@@ -18,14 +22,31 @@ fn pack(number: usize, word: usize, low: usize, high: u64) -> u64
     n + 256 * w + 65536 * l + 4294967296 * (high % 4294967296)
 }
 
+// What Check answers: refusal number and place, or V and N.
+pub fn pack_checked(answer: checking::Checked) -> u64
+    ensures { λ r. ⌜ r ≡ packed-check (checked-answer answer) ⌝ }
+{
+    match answer {
+        checking::Checked::Accepted(v, n) => pack(0, 0, v, n as u64),
+        checking::Checked::Refused(number, place) => pack(number, 0, place, 0),
+    }
+}
+
 // Check: refusal number and place, or V and N.
 #[no_mangle]
 pub extern "C" fn plumanchor_check(sheet: &[u8]) -> u64
     ensures { λ r. ⌜ r ≡ packed-check (check narrow (now (sheet .entry))) ⌝ }
 {
-    match checking::check(sheet) {
-        checking::Checked::Accepted(v, n) => pack(0, 0, v, n as u64),
-        checking::Checked::Refused(number, place) => pack(number, 0, place, 0),
+    pack_checked(checking::check(sheet))
+}
+
+// What Trial answers: refusal number and place, or the verdict and the leaves tried.
+pub fn pack_tried(answer: trial::Tried) -> u64
+    ensures { λ r. ⌜ r ≡ packed-trial (tried-answer answer) ⌝ }
+{
+    match answer {
+        trial::Tried::Answered(verdict, leaves) => pack(0, verdict as usize, 0, leaves),
+        trial::Tried::Refused(number, place) => pack(number, 0, place, 0),
     }
 }
 
@@ -34,10 +55,7 @@ pub extern "C" fn plumanchor_check(sheet: &[u8]) -> u64
 pub extern "C" fn plumanchor_trial(sheet: &[u8]) -> u64
     ensures { λ r. ⌜ r ≡ packed-trial (trial-call narrow (now (sheet .entry))) ⌝ }
 {
-    match trial::trial(sheet) {
-        trial::Tried::Answered(verdict, leaves) => pack(0, verdict as usize, 0, leaves),
-        trial::Tried::Refused(number, place) => pack(number, 0, place, 0),
-    }
+    pack_tried(trial::trial(sheet))
 }
 
 // How many kind bytes the subtree at `node` covers; they stand at 4 + V + node. 0 if the sheet or the node is bad.
@@ -49,7 +67,7 @@ pub extern "C" fn plumanchor_part(sheet: &[u8], node: usize) -> usize
 }
 
 // What an operation that writes a sheet answers: refusal number and place, or the new sheet's length.
-fn pack_written(answer: checking::Written) -> u64
+pub fn pack_written(answer: checking::Written) -> u64
     ensures { λ r. ⌜ r ≡ packed-written (written-answer answer) ⌝ }
 {
     match answer {
@@ -85,15 +103,22 @@ pub extern "C" fn plumanchor_expand(sheet: &[u8], x: usize, out: &mut [u8]) -> u
     pack_written(expand::expand(sheet, x, out))
 }
 
+// What Quote answers: refusal number and place, or the raw row count.
+pub fn pack_quoted(answer: expand::quote::Quoted) -> u64
+    ensures { λ r. ⌜ r ≡ packed-quote (quoted-answer answer) ⌝ }
+{
+    match answer {
+        expand::quote::Quoted::Rows(count) => pack(0, 0, 0, count as u64),
+        expand::quote::Quoted::Refused(number, place) => pack(number, 0, place, 0),
+    }
+}
+
 // Quote: refusal number and place, or the raw row count.
 #[no_mangle]
 pub extern "C" fn plumanchor_quote(sheet: &[u8], x: usize) -> u64
     ensures { λ r. ⌜ r ≡ packed-quote (quote-call narrow (now (sheet .entry)) x) ⌝ }
 {
-    match expand::quote::quote(sheet, x) {
-        expand::quote::Quoted::Rows(count) => pack(0, 0, 0, count as u64),
-        expand::quote::Quoted::Refused(number, place) => pack(number, 0, place, 0),
-    }
+    pack_quoted(expand::quote::quote(sheet, x))
 }
 
 // Execute: refusal number and place, or the new sheet's length.
@@ -116,7 +141,7 @@ fn word_for(verdict: solve::Verdict) -> usize
 }
 
 // What Solve answers: refusal number and place; or a word, the number settled, the number expanded and the variable stopped at.
-fn pack_solved(answer: solve::Solved) -> u64
+pub fn pack_solved(answer: solve::Solved) -> u64
     ensures { λ r. ⌜ r ≡ packed-solved (solved-answer answer) ⌝ }
 {
     match answer {
