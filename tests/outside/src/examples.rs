@@ -1,11 +1,12 @@
 //! The sheets of `examples/`: document 01's formulas, some that are refused or
 //! stopped at, and a question of the print works, each with the program's line.
+//! All are wide, as the program reads them, but for those of `examples/narrow`.
 
 use crate::formulas::*;
 use crate::reference::{Format, Node, Quantifier};
 use Quantifier::{Exists, ForAll};
 
-const NARROW: Format = Format::NARROW;
+const WIDE: Format = Format::WIDE;
 
 pub struct Example {
     pub name: &'static str,
@@ -27,47 +28,69 @@ fn guards() -> Node {
     and(follows.into_iter().chain(differs).collect())
 }
 
+/// Signal 1, then valve 2, then signal 3, then valve 4.
+fn press_line(format: Format) -> Vec<u8> {
+    sheet(format, &[(ForAll, 1), (Exists, 2), (ForAll, 3), (Exists, 4)], guards())
+}
+
+fn equal_after(format: Format) -> Vec<u8> {
+    sheet(format, &[(ForAll, 2), (Exists, 1)], equal_pair())
+}
+
 /// Signals 2 to 12, with a valve 1 that every guard needs. Two copies of the guards have more rows than a sheet may have.
 fn crowded() -> Vec<u8> {
-    let guards = (0..600i32).map(|i| {
+    let guards = (0..1200i32).map(|i| {
         let sign = |bit: i32| if i >> bit & 1 == 1 { 1 } else { -1 };
         clause(&[sign(0), sign(1) * (2 + i % 5), sign(2) * (7 + i % 6)])
     });
     let mut prefix: Vec<_> = (2..=12).map(|x| (ForAll, x)).collect();
     prefix.push((Exists, 1));
-    sheet(NARROW, &prefix, and(guards.collect()))
+    sheet(WIDE, &prefix, and(guards.collect()))
 }
 
 pub fn examples() -> Vec<Example> {
-    let pair = |first, second| sheet(NARROW, &[first, second], equal_pair());
     vec![
-        example("and-of-nothing", "true 0 0 0", "no variable, AND of nothing", sheet(NARROW, &[], and(vec![]))),
-        example("or-of-nothing", "false 0 0 0", "no variable, OR of nothing", sheet(NARROW, &[], or(vec![]))),
-        example("one-tautology", "true 0 0 0", "for all 1: 1 or not 1", sheet(NARROW, &all(ForAll, 1), clause(&[1, -1]))),
-        example("two-tautology", "true 0 1 0", "for all 1, 2: one of the four cases holds", sheet(NARROW, &all(ForAll, 2), four_cubes())),
-        example("semantic-tree", "false 1 2 0", "document 001, figure 1", NARROW.encode(&semantic_tree_figure())),
-        example("nnf-exists", "true 1 0 0", "document 000, figure 1, all exists", sheet(NARROW, &all(Exists, 4), nnf_tree_figure())),
-        example("nnf-for-all", "false 3 0 0", "document 000, figure 1, all for-all", sheet(NARROW, &all(ForAll, 4), nnf_tree_figure())),
-        example("equal-after", "true 0 1 0", "for all 2, exists 1: both are equal", pair((ForAll, 2), (Exists, 1))),
-        example("equal-before", "false 0 1 0", "exists 1, for all 2: both are equal", pair((Exists, 1), (ForAll, 2))),
+        example("and-of-nothing", "true 0 0 0", "no variable, AND of nothing", sheet(WIDE, &[], and(vec![]))),
+        example("or-of-nothing", "false 0 0 0", "no variable, OR of nothing", sheet(WIDE, &[], or(vec![]))),
+        example("one-tautology", "true 0 0 0", "for all 1: 1 or not 1", sheet(WIDE, &all(ForAll, 1), clause(&[1, -1]))),
+        example("two-tautology", "true 0 1 0", "for all 1, 2: one of the four cases holds", sheet(WIDE, &all(ForAll, 2), four_cubes())),
+        example("semantic-tree", "false 1 2 0", "document 001, figure 1", WIDE.encode(&semantic_tree_figure())),
+        example("nnf-exists", "true 1 0 0", "document 000, figure 1, all exists", sheet(WIDE, &all(Exists, 4), nnf_tree_figure())),
+        example("nnf-for-all", "false 3 0 0", "document 000, figure 1, all for-all", sheet(WIDE, &all(ForAll, 4), nnf_tree_figure())),
+        example("equal-after", "true 0 1 0", "for all 2, exists 1: both are equal", equal_after(WIDE)),
+        example("equal-before", "false 0 1 0", "exists 1, for all 2: both are equal", sheet(WIDE, &[(Exists, 1), (ForAll, 2)], equal_pair())),
         example(
             "press-line",
             "true 0 3 0",
             "signal 1, then valve 2, then signal 3, then valve 4: 2 follows 1, and 4 is open exactly if one of 1 and 3 is on",
-            sheet(NARROW, &[(ForAll, 1), (Exists, 2), (ForAll, 3), (Exists, 4)], guards()),
+            press_line(WIDE),
         ),
         example(
             "press-line-early",
             "false 0 3 0",
             "the same with valve 4 set before signal 3",
-            sheet(NARROW, &[(ForAll, 1), (Exists, 2), (Exists, 4), (ForAll, 3)], guards()),
+            sheet(WIDE, &[(ForAll, 1), (Exists, 2), (Exists, 4), (ForAll, 3)], guards()),
         ),
-        example("crowded", "stopped 0 0 1", "exists 1 innermost, in 600 guards: two copies have too many rows", crowded()),
-        example("too-many-variables", "refused 0 0 2", "V = 257", NARROW.sheet_of(257, &vec![(1, 1); 258])),
+        example("crowded", "stopped 0 0 1", "exists 1 innermost, in 1,200 guards: two copies have too many rows", crowded()),
+        example("too-many-variables", "refused 0 0 2", "V = 1,025", WIDE.sheet_of(1025, &vec![(1, 1); 1026])),
         example("cut-short", "refused 0 0 3", "the last byte is missing", {
-            let mut bytes = pair((ForAll, 2), (Exists, 1));
+            let mut bytes = equal_after(WIDE);
             bytes.pop();
             bytes
         }),
+    ]
+}
+
+/// Sheets of 16-bit numbers, each with the line of `solve --from narrow`. The
+/// program itself refuses them.
+pub fn narrow_examples() -> Vec<Example> {
+    vec![
+        example(
+            "equal-after",
+            "true 0 1 0",
+            "for all 2, exists 1: both are equal",
+            equal_after(Format::NARROW),
+        ),
+        example("press-line", "true 0 3 0", "the press line", press_line(Format::NARROW)),
     ]
 }
