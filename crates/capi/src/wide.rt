@@ -1,4 +1,4 @@
-// The operations on wide sheets (N11), packed as those of document 01's sheets are.
+// The operations on wide sheets (N11), packed as those of document 01's sheets are, and the way from one format to the other.
 use crate::pack_checked;
 use crate::pack_quoted;
 use crate::pack_solved;
@@ -9,6 +9,7 @@ ghost use lib.ListN.{length};
 ghost use Rattle.sheet.specs.Format.{wide};
 ghost use Rattle.sheet.specs.Check.{check};
 ghost use Rattle.sheet.specs.Operations.{trial-call, part-call, tidy-call, settle-call, expand-call, quote-call, execute-call, solve-call};
+ghost use Rattle.sheet.specs.Carrying.{widen-call, bring-back-call};
 ghost use Rattle.capi.specs.Packed.{packed-check, packed-trial, packed-written, packed-quote, packed-solved};
 
 // Check: refusal number and place, or V and N.
@@ -92,4 +93,22 @@ pub extern "C" fn plumanchor_solve_wide(sheet: &[u8], first: &mut [u8], second: 
     ensures { λ _. ⌜ now (second .exit) ≡ (solve-call wide (now (sheet .entry)) (now (first .entry)) (now (second .entry))) .second ⌝ }
 {
     pack_solved(solve::solve_wide(sheet, first, second))
+}
+
+// Carrying over: refusal number and place, or the wide sheet's length.
+#[no_mangle]
+pub extern "C" fn plumanchor_widen(sheet: &[u8], out: &mut [u8]) -> u64
+    ensures { λ r. ⌜ r ≡ packed-written ((widen-call (now (sheet .entry)) (now (out .entry))) .answer) ⌝ }
+    ensures { λ _. ⌜ now (out .exit) ≡ (widen-call (now (sheet .entry)) (now (out .entry))) .output ⌝ }
+{
+    pack_written(carrying::widen(sheet, out))
+}
+
+// Bringing back: refusal number and place, or the narrow sheet's length.
+#[no_mangle]
+pub extern "C" fn plumanchor_narrow(sheet: &[u8], out: &mut [u8]) -> u64
+    ensures { λ r. ⌜ r ≡ packed-written ((bring-back-call (now (sheet .entry)) (now (out .entry))) .answer) ⌝ }
+    ensures { λ _. ⌜ now (out .exit) ≡ (bring-back-call (now (sheet .entry)) (now (out .entry))) .output ⌝ }
+{
+    pack_written(carrying::bring_back(sheet, out))
 }

@@ -1,0 +1,108 @@
+// The operations on wide sheets (N11), by capitals: each is called and its line written, but for the line's end.
+use crate::ROOM;
+use crate::answers::print_checked;
+use crate::answers::print_kinds;
+use crate::answers::print_quoted;
+use crate::answers::print_solved;
+use crate::answers::print_tried;
+use crate::answers::print_written;
+use crate::outputs::fill;
+use printing::print_number;
+
+fn run_tidy(sheet: &[u8], out: &mut [u8]) {
+    io::write_all(1, b"tidy");
+    let answer = tidying::tidy_wide(sheet, out);
+    print_written(answer, out);
+}
+
+fn run_settle(sheet: &[u8], x: usize, out: &mut [u8]) {
+    io::write_all(1, b"settle");
+    print_number(x);
+    let answer = settle::settle_wide(sheet, x, out);
+    print_written(answer, out);
+}
+
+fn run_expand(sheet: &[u8], x: usize, out: &mut [u8]) {
+    io::write_all(1, b"expand");
+    print_number(x);
+    let answer = expand::expand_wide(sheet, x, out);
+    print_written(answer, out);
+}
+
+// The ceiling is the number that the list begins with.
+fn run_execute(sheet: &[u8], x: usize, list: &[u8], out: &mut [u8]) {
+    if list.len() < 4 {
+        return;
+    }
+    let ceiling = rows::number_at(list, 0, 4);
+    io::write_all(1, b"execute");
+    print_number(x);
+    print_number(ceiling);
+    let answer = expand::execute_wide(sheet, x, ceiling, out);
+    print_written(answer, out);
+}
+
+fn solve_in_buffers(sheet: &[u8], first: &mut [u8], second: &mut [u8]) {
+    fill(second);
+    io::write_all(1, b"solve");
+    let answer = solve::solve_wide(sheet, first, second);
+    print_solved(answer, rows::wider(), first, second);
+}
+
+// Solves with a second buffer of `length` bytes.
+fn run_solve(sheet: &[u8], first: &mut [u8], length: usize) {
+    let mut space = [0u8; ROOM];
+    if ROOM < length {
+        return;
+    }
+    let second = &mut space[..length];
+    solve_in_buffers(sheet, first, second);
+}
+
+fn run_writing(operation: u8, number: usize, sheet: &[u8], list: &[u8], out: &mut [u8]) {
+    fill(out);
+    if operation == b'D' {
+        run_tidy(sheet, out);
+        return;
+    }
+    if operation == b'S' {
+        run_settle(sheet, number, out);
+        return;
+    }
+    if operation == b'E' {
+        run_expand(sheet, number, out);
+        return;
+    }
+    if operation == b'X' {
+        run_execute(sheet, number, list, out);
+        return;
+    }
+    run_solve(sheet, out, number);
+}
+
+// Calls the operation of this capital.
+pub fn run_wide(operation: u8, number: usize, sheet: &[u8], list: &[u8], out: &mut [u8]) {
+    io::write_all(1, b"wide ");
+    if operation == b'C' {
+        io::write_all(1, b"check");
+        print_checked(checking::check_wide(sheet));
+        return;
+    }
+    if operation == b'T' {
+        io::write_all(1, b"trial");
+        print_tried(trial::trial_wide(sheet));
+        return;
+    }
+    if operation == b'P' {
+        io::write_all(1, b"part");
+        print_kinds(part::part_wide(sheet, number));
+        return;
+    }
+    if operation == b'Q' {
+        io::write_all(1, b"quote");
+        print_number(number);
+        print_quoted(expand::quote::quote_wide(sheet, number));
+        return;
+    }
+    run_writing(operation, number, sheet, list, out);
+}
