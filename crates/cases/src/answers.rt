@@ -7,6 +7,7 @@ use checking::Written;
 use expand::quote::Quoted;
 use printing::print_count;
 use printing::print_number;
+use rows::Format;
 use solve::Solved;
 use trial::Tried;
 
@@ -79,10 +80,10 @@ pub fn print_quoted(answer: Quoted) {
     }
 }
 
-pub fn print_solved(answer: Solved, first: &[u8], second: &[u8]) {
+pub fn print_solved(answer: Solved, f: Format, first: &[u8], second: &[u8]) {
     io::write_all(1, b" ");
     printing::print_line(solve::line::line_for(answer));
     print_sum(first);
     print_sum(second);
-    print_reached(first);
+    print_reached(first, f);
 }

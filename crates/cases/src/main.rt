@@ -6,13 +6,17 @@
 // Letters: c Check, t Trial, p Part, q Quote, d Tidy, s Settle, e Expand, x Execute with its ceiling as the list, o Solve. Of the last
 // five a line tells the answer (of Solve: the program's line), a sum over each whole output and, if it is short, the new sheet in
 // hexadecimal. Outputs are filled with one byte before, so that the sums tell zeros and bytes left alone too.
+//
+// The same letters as capitals take the sheet for a wide one (N11), and their lines begin with that word. W carries a narrow sheet over to
+// the wide format, N brings a wide one back.
 mod answers;
 mod input;
 mod operations;
 mod outputs;
+mod wide;
 
 // The longest output and the longest list of a call: each holds any sheet.
-pub const ROOM: usize = 13060;
+pub const ROOM: usize = 46088;
 
 // More than a sheet may have, for those that are refused for their length.
 const SHEET_ROOM: usize = 65535;

@@ -7,6 +7,7 @@ use crate::answers::print_solved;
 use crate::answers::print_tried;
 use crate::answers::print_written;
 use crate::outputs::fill;
+use crate::wide::run_capital;
 use printing::print_number;
 
 fn run_check(sheet: &[u8]) {
@@ -82,7 +83,7 @@ fn solve_in_buffers(sheet: &[u8], first: &mut [u8], second: &mut [u8]) {
     fill(second);
     io::write_all(1, b"solve");
     let answer = solve::solve(sheet, first, second);
-    print_solved(answer, first, second);
+    print_solved(answer, rows::narrow(), first, second);
 }
 
 // Solves with a second buffer of `length` bytes.
@@ -119,6 +120,10 @@ pub fn run(operation: u8, number: usize, sheet: &[u8], list: &[u8], out: &mut [u
     }
     if operation == b'x' {
         run_execute(sheet, number, list, out);
+        return;
+    }
+    if operation < b'a' {
+        run_capital(operation, number, sheet, list, out);
         return;
     }
     run_writing(operation, number, sheet, out);

@@ -1,5 +1,6 @@
 // Outputs: what they are filled with before a call, and what a line tells of them after it.
 use printing::print_number;
+use rows::Format;
 
 const FILLING: u8 = 165;
 
@@ -51,11 +52,15 @@ pub fn print_short(out: &[u8], length: usize) {
 }
 
 // Writes the sheet at the front of Solve's first buffer if it is short; the filling that a refused call leaves has no small sizes.
-pub fn print_reached(first: &[u8]) {
-    if first.len() < 4 {
+pub fn print_reached(first: &[u8], f: Format) {
+    let width = f.width;
+    if 4 < width {
         return;
     }
-    let variables = rows::number_at(first, 0, 2);
-    let nodes = rows::number_at(first, 2, 2);
-    print_short(first, 4 + 3 * (variables + nodes));
+    if first.len() < 2 * width {
+        return;
+    }
+    let variables = rows::number_at(first, 0, width);
+    let nodes = rows::number_at(first, width, width);
+    print_short(first, rows::fit::sheet_length(f, variables, nodes));
 }

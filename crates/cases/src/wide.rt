@@ -1,4 +1,5 @@
-// The operations on wide sheets (N11), by capitals: each is called and its line written, but for the line's end.
+// The operations on wide sheets (N11), and the way from one format to the other, by capitals: each is called and its line written, but for
+// the line's end.
 use crate::ROOM;
 use crate::answers::print_checked;
 use crate::answers::print_kinds;
@@ -80,8 +81,22 @@ fn run_writing(operation: u8, number: usize, sheet: &[u8], list: &[u8], out: &mu
     run_solve(sheet, out, number);
 }
 
-// Calls the operation of this capital.
-pub fn run_wide(operation: u8, number: usize, sheet: &[u8], list: &[u8], out: &mut [u8]) {
+fn run_widen(sheet: &[u8], out: &mut [u8]) {
+    fill(out);
+    io::write_all(1, b"widen");
+    let answer = carrying::widen(sheet, out);
+    print_written(answer, out);
+}
+
+fn run_bring_back(sheet: &[u8], out: &mut [u8]) {
+    fill(out);
+    io::write_all(1, b"bring back");
+    let answer = carrying::bring_back(sheet, out);
+    print_written(answer, out);
+}
+
+// Calls the operation of this capital, which takes a wide sheet.
+fn run_wide(operation: u8, number: usize, sheet: &[u8], list: &[u8], out: &mut [u8]) {
     io::write_all(1, b"wide ");
     if operation == b'C' {
         io::write_all(1, b"check");
@@ -105,4 +120,17 @@ pub fn run_wide(operation: u8, number: usize, sheet: &[u8], list: &[u8], out: &m
         return;
     }
     run_writing(operation, number, sheet, list, out);
+}
+
+// Calls the operation of this capital.
+pub fn run_capital(operation: u8, number: usize, sheet: &[u8], list: &[u8], out: &mut [u8]) {
+    if operation == b'W' {
+        run_widen(sheet, out);
+        return;
+    }
+    if operation == b'N' {
+        run_bring_back(sheet, out);
+        return;
+    }
+    run_wide(operation, number, sheet, list, out);
 }

@@ -3,6 +3,7 @@
 //! What an operation depends on is what it is a method of: `Format` reads and
 //! writes sheets, `Rules` works on formulas, and a `Reading` has both.
 
+mod carrying;
 mod expand;
 mod format;
 mod part;
@@ -15,6 +16,7 @@ mod tidy;
 mod tree;
 mod trial;
 
+pub use carrying::{bring_back, widen};
 pub use expand::{raw_expansion, raw_rows, Expansion};
 pub use format::Format;
 pub use rules::Rules;

@@ -5,13 +5,10 @@
 mod lines;
 mod list;
 
-use crate::reference::{Format, Reading};
+use crate::reference::Reading;
 
 pub use lines::lines;
 pub use list::cases;
-
-const READING: Reading = Reading::NARROW;
-const FORMAT: Format = READING.format;
 
 /// The longest sheet that a line tells whole.
 const SHORT: usize = 64;
@@ -22,7 +19,7 @@ pub struct Case {
     pub calls: Vec<Call>,
 }
 
-/// An operation, by the letter that the test program knows it by.
+/// An operation, by the letter that the test program knows it by; on wide sheets by the capital.
 #[derive(Clone, Copy, PartialEq, Eq)]
 #[repr(u8)]
 pub enum Letter {
@@ -35,6 +32,9 @@ pub enum Letter {
     Quote = b'q',
     Execute = b'x',
     Solve = b'o',
+    /// These two have a capital only.
+    Widen = b'W',
+    BringBack = b'N',
 }
 
 /// A letter, a number (the node of Part, the variable of a step or a
@@ -47,12 +47,14 @@ pub struct Call {
     pub number: usize,
     pub room: usize,
     pub list: Vec<u8>,
+    /// Whether the sheet is taken for a wide one.
+    pub wide: bool,
 }
 
 impl Call {
     /// A call of an operation that takes no list.
     pub const fn new(letter: Letter, number: usize, room: usize) -> Call {
-        Call { letter, number, room, list: Vec::new() }
+        Call { letter, number, room, list: Vec::new(), wide: false }
     }
 
     /// Execute with a ceiling, which stands in the list.
@@ -73,9 +75,24 @@ impl Call {
         Call::new(Letter::Solve, second, first)
     }
 
+    /// The same call on wide sheets.
+    pub fn on_wide(self) -> Call {
+        Call { wide: true, ..self }
+    }
+
+    /// What the sheet is taken for.
+    fn reading(&self) -> Reading {
+        if self.wide {
+            Reading::WIDE
+        } else {
+            Reading::NARROW
+        }
+    }
+
     /// The letter, the number, the output's length, the list's length, the list.
     fn encode(&self, bytes: &mut Vec<u8>) {
-        bytes.push(self.letter as u8);
+        let letter = self.letter as u8;
+        bytes.push(if self.wide { letter.to_ascii_uppercase() } else { letter });
         push_number(self.number, bytes);
         push_number(self.room, bytes);
         push_number(self.list.len(), bytes);

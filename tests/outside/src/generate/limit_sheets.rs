@@ -40,6 +40,42 @@ pub fn limit_sheets(format: Format) -> Vec<LimitSheet> {
         let sheet = format.sheet_of(1, &[(1, 1), (5, count), (3, 1), (3, 1)]);
         add(format!("two children said to be {count}"), sheet, refusal);
     }
+    // Sizes whose sum is 1 if its upper bits are lost, with the length of one row.
+    for v in [highest, highest - 1, highest / 2 + 1, 2, 3] {
+        let mut sheet = Vec::new();
+        format.push_number(v, &mut sheet);
+        format.push_number(highest - v + 2, &mut sheet);
+        sheet.resize(format.sheet_length(0, 1), 5);
+        add(format!("V = {v}, V+N = {}", highest + 2), sheet, 2);
+    }
+    for (name, sheet, refusal) in upper_bytes(format) {
+        add(name, sheet, refusal);
+    }
+    sheets
+}
+
+/// "exists 1: 1 and 1" with a byte above the lowest set in each of its numbers
+/// in turn, with Check's number: every byte counts.
+fn upper_bytes(format: Format) -> Vec<(String, Vec<u8>, u8)> {
+    let good = format.sheet_of(1, &[(1, 1), (5, 2), (3, 1), (3, 1)]);
+    let argument = |row| format.argument_at(4, row);
+    let places = [0, format.width, argument(0), argument(1), argument(3)];
+    let mut sheets = Vec::new();
+    for byte in 1..format.width {
+        let added = 1 << (8 * byte);
+        let refusals = [
+            if 1 + added > format.most_variables { 2 } else { 3 },
+            if 3 + added > format.most_nodes { 2 } else { 3 },
+            if 1 + added > format.most_variables { 5 } else { 7 },
+            8,
+            7,
+        ];
+        for (place, refusal) in places.into_iter().zip(refusals) {
+            let mut sheet = good.clone();
+            sheet[place + byte] = 1;
+            sheets.push((format!("{added} more in the number at {place}"), sheet, refusal));
+        }
+    }
     sheets
 }
 

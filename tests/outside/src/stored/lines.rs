@@ -1,48 +1,61 @@
 //! The line of each call.
 
-use super::{Call, Case, Letter, FORMAT, READING, SHORT};
-use crate::reference::{line_of, Answer};
+use super::{Call, Case, Letter, SHORT};
+use crate::reference::{bring_back, line_of, widen, Answer, Reading};
 
 /// Every output is filled with this byte before a call.
 const FILLING: u8 = 165;
 
 pub fn lines(cases: &[Case]) -> String {
     let of = |case: &Case| -> String {
-        case.calls.iter().map(|call| line(&case.sheet, call) + "\n").collect()
+        case.calls.iter().map(|call| named_line(&case.sheet, call) + "\n").collect()
     };
     cases.iter().map(of).collect()
 }
 
-fn line(sheet: &[u8], call: &Call) -> String {
+/// A line of a wide sheet begins with that word.
+fn named_line(sheet: &[u8], call: &Call) -> String {
+    let line = line(call.reading(), sheet, call);
+    if call.wide {
+        format!("wide {line}")
+    } else {
+        line
+    }
+}
+
+fn line(reading: Reading, sheet: &[u8], call: &Call) -> String {
     let Call { letter, number, room, .. } = *call;
+    let format = reading.format;
     match letter {
         Letter::Check => {
-            told("check", FORMAT.check(sheet).into(), |(v, n)| format!("accepted {v} {n}"))
+            told("check", format.check(sheet).into(), |(v, n)| format!("accepted {v} {n}"))
         }
         Letter::Trial => {
-            told("trial", FORMAT.trial(sheet), |(verdict, leaves)| format!("{verdict} {leaves}"))
+            told("trial", format.trial(sheet), |(verdict, leaves)| format!("{verdict} {leaves}"))
         }
         Letter::Part => {
-            let kinds = FORMAT.part(sheet, number).iter();
+            let kinds = format.part(sheet, number).iter();
             format!("part{}", kinds.map(|kind| format!(" {kind}")).collect::<String>())
         }
-        Letter::Tidy => written_line("tidy", room, |output| READING.tidy(sheet, output)),
+        Letter::Tidy => written_line("tidy", room, |output| reading.tidy(sheet, output)),
         Letter::Settle => written_line(&format!("settle {number}"), room, |output| {
-            READING.settle(sheet, number, output)
+            reading.settle(sheet, number, output)
         }),
         Letter::Expand => written_line(&format!("expand {number}"), room, |output| {
-            READING.expand(sheet, number, output)
+            reading.expand(sheet, number, output)
         }),
-        Letter::Quote => told(&format!("quote {number}"), READING.quote(sheet, number), |rows| {
+        Letter::Quote => told(&format!("quote {number}"), reading.quote(sheet, number), |rows| {
             format!("rows {rows}")
         }),
         Letter::Execute => {
             let ceiling = call.first_of_list();
             written_line(&format!("execute {number} {ceiling}"), room, |output| {
-                READING.execute(sheet, number, ceiling, output)
+                reading.execute(sheet, number, ceiling, output)
             })
         }
-        Letter::Solve => solve_line(sheet, room, number),
+        Letter::Solve => solve_line(reading, sheet, room, number),
+        Letter::Widen => written_line("widen", room, |output| widen(sheet, output)),
+        Letter::BringBack => written_line("bring back", room, |output| bring_back(sheet, output)),
     }
 }
 
@@ -66,12 +79,12 @@ fn written_line(name: &str, room: usize, write: impl Fn(&mut [u8]) -> Answer<usi
 }
 
 /// The program's line, a sum over each buffer, and the sheet reached if it is short.
-fn solve_line(sheet: &[u8], first: usize, second: usize) -> String {
+fn solve_line(reading: Reading, sheet: &[u8], first: usize, second: usize) -> String {
     let (mut first, mut second) = (vec![FILLING; first], vec![FILLING; second]);
-    let answer = READING.solve(sheet, &mut first, &mut second);
+    let answer = reading.solve(sheet, &mut first, &mut second);
     let reached = match answer.counts() {
         None => String::new(),
-        Some(_) => short_sheet(FORMAT.front(&first)),
+        Some(_) => short_sheet(reading.format.front(&first)),
     };
     format!("solve {} sum {} sum {}{reached}", line_of(&answer), sum(&first), sum(&second))
 }

@@ -1,13 +1,12 @@
 //! The list of cases.
 
-use super::{Call, Case, Letter, FORMAT, READING, SHORT};
+use super::{Call, Case, Letter, SHORT};
 use crate::formulas::*;
-use crate::generate::{deep_formula, ladder_formula, limit_sheets, wide_formula};
-use crate::reference::{raw_rows, Formula, Move, Node, Operation, Quantifier, Row, Variable};
+use crate::generate::{deep_formula, ladder_formula, limit_sheets, wide_formula, with_variables};
+use crate::reference::{
+    raw_rows, Format, Formula, Move, Node, Operation, Quantifier, Reading, Row, Variable,
+};
 use Quantifier::{Exists, ForAll};
-
-/// The program's buffers.
-const LONGEST: usize = FORMAT.longest_sheet();
 
 const CHECK: Call = Call::new(Letter::Check, 0, 0);
 const TRIAL: Call = Call::new(Letter::Trial, 0, 0);
@@ -18,10 +17,10 @@ fn part_call(node: usize) -> Call {
 
 /// Solve with the program's buffers, with buffers of the sheet's length, and
 /// with the first or the second a byte shorter than the sheet.
-fn solve_calls(formula: &Formula) -> Vec<Call> {
-    let length = FORMAT.encode(formula).len();
+fn solve_calls(format: Format, formula: &Formula) -> Vec<Call> {
+    let (longest, length) = (format.longest_sheet(), format.encode(formula).len());
     vec![
-        Call::solve(LONGEST, LONGEST),
+        Call::solve(longest, longest),
         Call::solve(length, length),
         Call::solve(length - 1, length),
         Call::solve(length, length - 1),
@@ -33,17 +32,17 @@ fn at_limit(letter: Letter, number: usize, room: usize) -> [Call; 2] {
     [room, room - 1].map(|room| Call::new(letter, number, room))
 }
 
-fn tidy_calls(formula: &Formula) -> Vec<Call> {
-    at_limit(Letter::Tidy, 0, FORMAT.encode(formula).len()).into()
+fn tidy_calls(format: Format, formula: &Formula) -> Vec<Call> {
+    at_limit(Letter::Tidy, 0, format.encode(formula).len()).into()
 }
 
 /// Settle and Expand of these variables.
-fn step_calls(formula: &Formula, variables: &[Variable]) -> Vec<Call> {
+fn step_calls(format: Format, formula: &Formula, variables: &[Variable]) -> Vec<Call> {
     let steps = [(Letter::Settle, Operation::Settle), (Letter::Expand, Operation::Expand)];
     let mut calls = Vec::new();
     for &x in variables {
         for (letter, operation) in steps {
-            let room = FORMAT.least_output(operation, formula, x).min(LONGEST);
+            let room = format.least_output(operation, formula, x).min(format.longest_sheet());
             calls.extend(at_limit(letter, x, room));
         }
     }
@@ -52,9 +51,9 @@ fn step_calls(formula: &Formula, variables: &[Variable]) -> Vec<Call> {
 
 /// Quote, and Execute with the raw rows as its ceiling and with one less, in an
 /// output that suffices and in none.
-fn quote_calls(formula: &Formula, x: Variable) -> Vec<Call> {
+fn quote_calls(format: Format, formula: &Formula, x: Variable) -> Vec<Call> {
     let raw = raw_rows(formula, x);
-    let room = FORMAT.least_output(Operation::Expand, formula, x).min(LONGEST);
+    let room = format.least_output(Operation::Expand, formula, x).min(format.longest_sheet());
     let mut calls = vec![Call::new(Letter::Quote, x, 0)];
     for ceiling in [raw, raw - 1] {
         calls.extend([room, 0].map(|room| Call::execute(x, ceiling, room)));
@@ -63,16 +62,16 @@ fn quote_calls(formula: &Formula, x: Variable) -> Vec<Call> {
 }
 
 /// Tidy, and the steps and quotes of every variable and of two other numbers.
-fn writing_calls(formula: &Formula) -> Vec<Call> {
+fn writing_calls(format: Format, formula: &Formula) -> Vec<Call> {
     let mut variables = formula.variables();
     variables.extend([0, 300]);
-    let quotes = variables.iter().flat_map(|&x| quote_calls(formula, x)).collect();
-    [tidy_calls(formula), step_calls(formula, &variables), quotes].concat()
+    let quotes = variables.iter().flat_map(|&x| quote_calls(format, formula, x)).collect();
+    [tidy_calls(format, formula), step_calls(format, formula, &variables), quotes].concat()
 }
 
 /// The single calls that Solve is made of, each on the sheet that the last one left.
-fn solving_calls(formula: &Formula) -> Vec<Case> {
-    let rules = READING.rules;
+fn solving_calls(reading: Reading, formula: &Formula) -> Vec<Case> {
+    let Reading { format, rules } = reading;
     let mut held = rules.tidy_formula(formula);
     let mut cases = Vec::new();
     loop {
@@ -81,54 +80,106 @@ fn solving_calls(formula: &Formula) -> Vec<Case> {
             Move::Settle(x, value) => (Letter::Settle, x, rules.settle_formula(&held, x, value)),
             Move::Expand(x) => (Letter::Expand, x, rules.expand_formula(&held, x)),
         };
-        let calls = vec![Call::new(letter, number, LONGEST)];
-        cases.push(Case { sheet: FORMAT.encode(&held), calls });
+        let calls = vec![Call::new(letter, number, format.longest_sheet())];
+        cases.push(Case { sheet: format.encode(&held), calls });
         held = next;
     }
 }
 
+/// The same list for both formats, and sheets carried over and back.
 pub fn cases() -> Vec<Case> {
+    let mut cases = cases_of(Reading::NARROW);
+    for Case { sheet, calls } in cases_of(Reading::WIDE) {
+        cases.push(Case { sheet, calls: calls.into_iter().map(Call::on_wide).collect() });
+    }
+    cases.extend(carried());
+    cases
+}
+
+fn cases_of(reading: Reading) -> Vec<Case> {
+    let format = reading.format;
     let mut cases = Vec::new();
-    for sheet in refused_sheets() {
+    for sheet in refused_sheets(format) {
         let mut calls = vec![CHECK, TRIAL, part_call(0)];
         let writing = [Letter::Tidy, Letter::Settle, Letter::Expand];
         calls.extend(writing.map(|letter| Call::new(letter, 1, SHORT)));
         calls.extend([Call::solve(SHORT, SHORT), Call::solve(0, 0)]);
         cases.push(Case { sheet, calls });
     }
-    for limit in limit_sheets(FORMAT) {
-        let room = limit.sheet.len().min(LONGEST);
+    for limit in limit_sheets(format) {
+        let longest = format.longest_sheet();
+        let room = limit.sheet.len().min(longest);
         let tidy = Call::new(Letter::Tidy, 0, room);
-        let calls = vec![CHECK, tidy, Call::solve(room, LONGEST)];
+        let calls = vec![CHECK, tidy, Call::solve(room, longest)];
         cases.push(Case { sheet: limit.sheet, calls });
     }
     for (formula, _) in tried_by_hand() {
         let mut calls = vec![CHECK, TRIAL];
         calls.extend((0..=formula.matrix.rows()).map(part_call));
-        calls.extend(writing_calls(&formula));
-        calls.extend(solve_calls(&formula));
-        cases.push(Case { sheet: FORMAT.encode(&formula), calls });
-        cases.extend(solving_calls(&formula));
+        calls.extend(writing_calls(format, &formula));
+        calls.extend(solve_calls(format, &formula));
+        cases.push(Case { sheet: format.encode(&formula), calls });
+        cases.extend(solving_calls(reading, &formula));
     }
-    cases.push(four_cubes_at_limit());
+    cases.push(four_cubes_at_limit(format));
     for formula in traps() {
-        let calls = [writing_calls(&formula), solve_calls(&formula)].concat();
-        cases.push(Case { sheet: FORMAT.encode(&formula), calls });
-        cases.extend(solving_calls(&formula));
+        let calls = [writing_calls(format, &formula), solve_calls(format, &formula)].concat();
+        cases.push(Case { sheet: format.encode(&formula), calls });
+        cases.extend(solving_calls(reading, &formula));
     }
     for (quantifier, count) in [(Exists, 20), (ForAll, 20), (Exists, 21)] {
-        let sheet = sheet(FORMAT, &all(quantifier, count), and(vec![]));
+        let sheet = sheet(format, &all(quantifier, count), and(vec![]));
         cases.push(Case { sheet, calls: vec![TRIAL] });
     }
-    cases.extend(largest());
+    cases.extend(largest(format));
     cases
 }
 
-/// The raw sheet of the four cubes has 88 bytes; the tidied one would fit 87 too.
-fn four_cubes_at_limit() -> Case {
-    let lengths = [(88, 88), (88, 87), (87, 88), (87, 87)];
+/// The raw sheet of the four cubes has 88 bytes, wide 148; the tidied one would fit a byte less too.
+fn four_cubes_at_limit(format: Format) -> Case {
+    let room = format.sheet_length(1, 27);
+    let lengths = [(room, room), (room, room - 1), (room - 1, room), (room - 1, room - 1)];
     let calls = lengths.map(|(first, second)| Call::solve(first, second)).into();
-    Case { sheet: sheet(FORMAT, &all(ForAll, 2), four_cubes()), calls }
+    Case { sheet: sheet(format, &all(ForAll, 2), four_cubes()), calls }
+}
+
+/// Carrying over and bringing back, with outputs that suffice and that lack a byte.
+fn carried() -> Vec<Case> {
+    let (narrow, wide) = (Format::NARROW, Format::WIDE);
+    let case = |letter: Letter, sheet: Vec<u8>, room: usize| {
+        let calls = [room, room - 1, 0, wide.longest_sheet()];
+        Case { sheet, calls: calls.map(|room| Call::new(letter, 0, room)).into() }
+    };
+    let mut formulas: Vec<Formula> = tried_by_hand().into_iter().map(|tried| tried.0).collect();
+    formulas.extend([deep_formula(256, 4096), wide_formula(4096)]);
+    let mut cases = Vec::new();
+    for formula in formulas {
+        let (short, long) = (narrow.encode(&formula), wide.encode(&formula));
+        cases.push(case(Letter::Widen, short.clone(), long.len()));
+        cases.push(case(Letter::BringBack, long, short.len()));
+    }
+    // Bytes that are no sheet of the format they are taken for, and wide sheets past a narrow limit.
+    for sheet in refused_sheets(narrow) {
+        cases.push(case(Letter::Widen, sheet, SHORT));
+    }
+    for sheet in refused_sheets(wide) {
+        cases.push(case(Letter::BringBack, sheet, SHORT));
+    }
+    for sheet in beyond_narrow() {
+        cases.push(case(Letter::BringBack, sheet, SHORT));
+    }
+    cases
+}
+
+/// Good wide sheets with a size or a number above the narrow limits. A child count is neither.
+fn beyond_narrow() -> Vec<Vec<u8>> {
+    let wide = Format::WIDE;
+    let formulas = [with_variables(257), wide_formula(4097), deep_formula(257, 4096)];
+    let mut sheets: Vec<Vec<u8>> = formulas.iter().map(|formula| wide.encode(formula)).collect();
+    let rows: [&[Row]; 3] =
+        [&[(1, 257), (3, 257)], &[(2, 1024), (5, 0)], &[(1, 256), (5, 1), (4, 256)]];
+    sheets.extend(rows.map(|rows| wide.sheet_of(1, rows)));
+    sheets
 }
 
 /// What document 01's traps would get wrong, beside the formulas of its list.
@@ -165,43 +216,47 @@ fn traps() -> Vec<Formula> {
 }
 
 /// The deepest and the widest sheets, untidy and tidy.
-fn largest() -> Vec<Case> {
+fn largest(format: Format) -> Vec<Case> {
+    let Format { most_variables, most_nodes: n, .. } = format;
     let mut cases = Vec::new();
-    for formula in [deep_formula(1, 4096), wide_formula(4096), deep_formula(256, 4096)] {
+    for formula in [deep_formula(1, n), wide_formula(n), deep_formula(most_variables, n)] {
         let mut calls = vec![TRIAL];
-        calls.extend([4090, 4095, 4096, 65535].map(part_call));
-        calls.extend([tidy_calls(&formula), step_calls(&formula, &[1])].concat());
-        calls.extend(solve_calls(&formula));
-        cases.push(Case { sheet: FORMAT.encode(&formula), calls });
+        calls.extend([n - 6, n - 1, n, format.highest_number()].map(part_call));
+        calls.extend([tidy_calls(format, &formula), step_calls(format, &formula, &[1])].concat());
+        calls.extend(solve_calls(format, &formula));
+        cases.push(Case { sheet: format.encode(&formula), calls });
     }
-    // Of the second ladder the raw rows are 4,095 with one literal of 1; of the third, with all rows copied.
+    // Of the second ladder the raw rows are one less than the most with one literal of 1; of the third, with all rows copied.
     for formula in [
-        ladder_formula(FORMAT, 4095, 1),
-        ladder_formula(FORMAT, 4093, 1),
-        ladder_formula(FORMAT, 2047, 2),
-        clauses(1365),
-        clauses(682),
+        ladder_formula(format, n - 1, 1),
+        ladder_formula(format, n - 3, 1),
+        ladder_formula(format, n / 2 - 1, 2),
+        clauses(format, (n - 1) / 3),
+        clauses(format, n / 6),
     ] {
-        let steps = step_calls(&formula, &[1, 2, 256]);
-        let quotes = quote_calls(&formula, 1);
-        let calls = [tidy_calls(&formula), steps, quotes, solve_calls(&formula)].concat();
-        cases.push(Case { sheet: FORMAT.encode(&formula), calls });
+        let steps = step_calls(format, &formula, &[1, 2, most_variables]);
+        let quotes = quote_calls(format, &formula, 1);
+        let (tidy, solve) = (tidy_calls(format, &formula), solve_calls(format, &formula));
+        let calls = [tidy, steps, quotes, solve].concat();
+        cases.push(Case { sheet: format.encode(&formula), calls });
     }
-    cases.extend(largest_expansions());
+    cases.extend(largest_expansions(format));
     cases
 }
 
-/// Solve begins with an expansion. Its 4,087 raw rows just fit the buffers or
-/// lack a byte; of the last two sheets 4,095 fit, and 4,101 are too many rows
-/// for any buffer.
-fn largest_expansions() -> Vec<Case> {
-    let room = FORMAT.sheet_length(FORMAT.most_variables - 1, 4087);
+/// Solve begins with an expansion. Its raw rows, nine less than the most, just
+/// fit the buffers or lack a byte; of the last two sheets the raw rows of the
+/// first fit, and those of the second are too many for any buffer.
+fn largest_expansions(format: Format) -> Vec<Case> {
+    let n = format.most_nodes;
+    let room = format.sheet_length(255, n - 9);
     let lengths = [(room, room), (room - 1, room), (room, room - 1)];
     let calls = lengths.map(|(first, second)| Call::solve(first, second)).into();
-    let mut cases = vec![Case { sheet: FORMAT.encode(&two_ladders(1019)), calls }];
-    for count in [682, 683] {
-        let sheet = FORMAT.encode(&two_variable_clauses(count));
-        cases.push(Case { sheet, calls: vec![Call::solve(LONGEST, LONGEST)] });
+    let mut cases = vec![Case { sheet: format.encode(&two_ladders(n / 4 - 5)), calls }];
+    let longest = format.longest_sheet();
+    for count in [(n - 3) / 6, (n - 3) / 6 + 1] {
+        let sheet = format.encode(&two_variable_clauses(count));
+        cases.push(Case { sheet, calls: vec![Call::solve(longest, longest)] });
     }
     cases
 }
@@ -214,12 +269,13 @@ fn two_variable_clauses(count: usize) -> Formula {
 }
 
 /// 1 and a ladder of so many rows, or else not 1 and that ladder with all signs
-/// turned: each variable has both signs, and no literal stands under the root.
+/// turned: each of 256 variables has both signs, and no literal stands under the
+/// root.
 fn two_ladders(rows: usize) -> Formula {
-    let ladder = ladder_formula(FORMAT, rows, 1).matrix;
+    let ladder = ladder_formula(Format::NARROW, rows, 1).matrix;
     let turned = with_signs_turned(&ladder);
     let matrix = or(vec![and(vec![lit(1), ladder]), and(vec![lit(-1), turned])]);
-    formula(&all(ForAll, FORMAT.most_variables), matrix)
+    formula(&all(ForAll, 256), matrix)
 }
 
 fn with_signs_turned(node: &Node) -> Node {
@@ -232,38 +288,49 @@ fn with_signs_turned(node: &Node) -> Node {
 }
 
 /// AND of clauses of three rows, each with a literal of 1, in both signs.
-fn clauses(count: usize) -> Formula {
+fn clauses(format: Format, count: usize) -> Formula {
+    let others = format.most_variables - 1;
     let of =
-        |at: usize| clause(&[if at.is_multiple_of(2) { 1 } else { -1 }, 2 + (at % 255) as i32]);
-    formula(&all(Exists, 256), and((0..count).map(of).collect()))
+        |at: usize| clause(&[if at.is_multiple_of(2) { 1 } else { -1 }, 2 + (at % others) as i32]);
+    formula(&all(Exists, format.most_variables), and((0..count).map(of).collect()))
 }
 
 /// Each refusal of Check, with rows before and behind the bad one.
-fn refused_sheets() -> Vec<Vec<u8>> {
+fn refused_sheets(format: Format) -> Vec<Vec<u8>> {
+    let Format { most_variables, most_nodes, .. } = format;
+    let (past, highest) = (most_variables + 1, format.highest_number());
+    let sizes = |v: usize, n: usize| {
+        let mut bytes = Vec::new();
+        format.push_number(v, &mut bytes);
+        format.push_number(n, &mut bytes);
+        bytes
+    };
+    let short = sizes(0, 1)[..2 * format.width - 1].to_vec();
+    let long = [format.sheet_of(0, &[(5, 0)]), vec![0]].concat();
     let mut sheets = vec![
         vec![],
-        vec![0, 0, 1],
-        vec![1, 1, 1, 0],
-        vec![0, 0, 0, 0],
-        vec![0, 0, 1, 16],
-        vec![0, 0, 1, 0],
-        vec![0, 0, 1, 0, 5, 0, 0, 0],
+        short,
+        sizes(past, 1),
+        sizes(0, 0),
+        sizes(0, most_nodes + 1),
+        sizes(0, 1),
+        long,
     ];
     let variables_and_rows: [(usize, &[Row]); 13] = [
         (1, &[(0, 1), (5, 0)]),
         (1, &[(1, 1), (7, 0)]),
         (1, &[(1, 1), (2, 1)]),
         (2, &[(1, 1), (2, 0), (5, 0)]),
-        (2, &[(1, 1), (2, 257), (5, 0)]),
+        (2, &[(1, 1), (2, past), (5, 0)]),
         (3, &[(1, 1), (2, 2), (2, 1), (5, 0)]),
         (1, &[(1, 1), (6, 2), (3, 1), (4, 2)]),
-        (1, &[(1, 1), (4, 257)]),
+        (1, &[(1, 1), (4, past)]),
         (1, &[(1, 1), (5, 0), (3, 2)]),
         (0, &[(5, 0), (5, 0)]),
         (1, &[(1, 1), (3, 1), (3, 1), (3, 1)]),
         (1, &[(1, 1), (5, 2), (3, 1)]),
-        (1, &[(1, 1), (5, 65535)]),
+        (1, &[(1, 1), (5, highest)]),
     ];
-    sheets.extend(variables_and_rows.map(|(v, rows)| FORMAT.sheet_of(v, rows)));
+    sheets.extend(variables_and_rows.map(|(v, rows)| format.sheet_of(v, rows)));
     sheets
 }

@@ -7,7 +7,7 @@ use Rattle.cases.proofs.input.run_calls.Statement.{statement}
 use Rattle.cases.proofs.input.run_calls.Tie as tie
 
 abbrev Inv-loop : tie.InvT-loop
-Inv-loop sheet calls space₀ left₀ space left = length space ≡ 13060
+Inv-loop sheet calls space₀ left₀ space left = length space ≡ 46088
 
 abbrev μ-loop : tie.MeasureT-loop
 μ-loop sheet calls space₀ left₀ space left = left
