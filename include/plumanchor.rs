@@ -35,6 +35,18 @@ pub const NARROW: Entries = Entries {
     solve: plumanchor_solve,
 };
 
+pub const WIDE: Entries = Entries {
+    check: plumanchor_check_wide,
+    trial: plumanchor_trial_wide,
+    part: plumanchor_part_wide,
+    tidy: plumanchor_tidy_wide,
+    settle: plumanchor_settle_wide,
+    expand: plumanchor_expand_wide,
+    quote: plumanchor_quote_wide,
+    execute: plumanchor_execute_wide,
+    solve: plumanchor_solve_wide,
+};
+
 extern "C" {
     fn plumanchor_check(sheet: Bytes, length: usize) -> u64;
     fn plumanchor_trial(sheet: Bytes, length: usize) -> u64;
@@ -54,6 +66,44 @@ extern "C" {
         room: usize,
     ) -> u64;
     fn plumanchor_solve(
+        sheet: Bytes,
+        length: usize,
+        first: Output,
+        first_room: usize,
+        second: Output,
+        second_room: usize,
+    ) -> u64;
+}
+
+extern "C" {
+    fn plumanchor_check_wide(sheet: Bytes, length: usize) -> u64;
+    fn plumanchor_trial_wide(sheet: Bytes, length: usize) -> u64;
+    fn plumanchor_part_wide(sheet: Bytes, length: usize, node: usize) -> usize;
+    fn plumanchor_tidy_wide(sheet: Bytes, length: usize, output: Output, room: usize) -> u64;
+    fn plumanchor_settle_wide(
+        sheet: Bytes,
+        length: usize,
+        x: usize,
+        output: Output,
+        room: usize,
+    ) -> u64;
+    fn plumanchor_expand_wide(
+        sheet: Bytes,
+        length: usize,
+        x: usize,
+        output: Output,
+        room: usize,
+    ) -> u64;
+    fn plumanchor_quote_wide(sheet: Bytes, length: usize, x: usize) -> u64;
+    fn plumanchor_execute_wide(
+        sheet: Bytes,
+        length: usize,
+        x: usize,
+        ceiling: usize,
+        output: Output,
+        room: usize,
+    ) -> u64;
+    fn plumanchor_solve_wide(
         sheet: Bytes,
         length: usize,
         first: Output,

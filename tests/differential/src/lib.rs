@@ -15,9 +15,10 @@ pub struct Library {
 }
 
 pub const NARROW: Library = Library { reading: Reading::NARROW, entries: foreign::NARROW };
+pub const WIDE: Library = Library { reading: Reading::WIDE, entries: foreign::WIDE };
 
 /// One for each format that has entry points; every comparison runs on all.
-pub const LIBRARIES: [Library; 1] = [NARROW];
+pub const LIBRARIES: [Library; 2] = [NARROW, WIDE];
 
 /// An answer's four parts.
 struct Packed {

@@ -120,7 +120,7 @@ fn lists_of_calls_past_spare_rows() {
 fn lists_of_calls_on_large_sheets() {
     with_deep_stack(|| {
         let mut accepted = 0;
-        cases(250, |library, rng| {
+        cases(100, |library, rng| {
             let format = library.reading.format;
             for limits in [Limits::medium(format), Limits::full(format)] {
                 let first = generate::tidy_formula(rng, limits);
@@ -131,7 +131,7 @@ fn lists_of_calls_on_large_sheets() {
                 accepted += run.accepted;
             }
         });
-        assert!(accepted > 3_000, "{accepted}");
+        assert!(accepted > 2_000, "{accepted}");
     });
 }
 
@@ -206,7 +206,7 @@ fn solve_by_calls(rng: &mut Rng, library: &Library, formula: &Formula) -> Option
 fn verdicts_are_those_of_a_solver_from_outside() {
     with_deep_stack(|| {
         let mut compared = 0;
-        cases(1_500, |library, rng| {
+        cases(800, |library, rng| {
             let format = library.reading.format;
             let formula = generate::solver_formula(rng, format);
             let mine = solve_by_calls(rng, library, &formula);

@@ -2,7 +2,7 @@
 //! from outside. A disagreement prints the sheet in hexadecimal and both answers.
 
 use differential::compare::{cases, hexadecimal, limit_sheets};
-use differential::{Library, LIBRARIES};
+use differential::{Library, LIBRARIES, WIDE};
 use outside::formulas::tried_by_hand;
 use outside::generate::{self, Family, Limits, Rng};
 use outside::reference::*;
@@ -148,7 +148,7 @@ fn large_sheets() {
         limit_sheets(|library, sheet| {
             agree_in_full(&mut rng, library, sheet);
         });
-        cases(100, |library, rng| {
+        cases(40, |library, rng| {
             let format = library.reading.format;
             for limits in [Limits::medium(format), Limits::full(format)] {
                 let sheet = generate::sheet(rng, limits);
@@ -202,7 +202,7 @@ fn verdicts_are_those_of_a_solver_from_outside() {
         // By Solve: false, true, stopped; of those with a verdict, how many depqbf decided.
         let mut answers = [0; 3];
         let (mut compared, mut expansions) = (0, 0);
-        cases(4_000, |library, rng| {
+        cases(2_000, |library, rng| {
             let formula = generate::solver_formula(rng, library.reading.format);
             let sheet = library.reading.format.encode(&formula);
             match agree_in_full(rng, library, &sheet) {
@@ -222,5 +222,47 @@ fn verdicts_are_those_of_a_solver_from_outside() {
         assert!(answers[0] > 1_000 && answers[1] > 1_000, "{answers:?}");
         assert!(answers[2] < 600, "{answers:?}");
         assert!(compared > 3_000, "{compared} compared");
+    });
+}
+
+/// A formula that no narrow sheet holds: more variables than 256, and often more
+/// nodes than 4,096.
+fn beyond_narrow(rng: &mut Rng) -> Formula {
+    let family = rng.pick(&[
+        Family::Clauses,
+        Family::LooseClauses,
+        Family::Tidy,
+        Family::Ladder,
+        Family::Parity,
+        Family::Untidy,
+    ]);
+    let Format { most_variables, most_nodes, .. } = Format::WIDE;
+    let variables = rng.between(257, most_variables);
+    let nodes = (variables * rng.between(3, 10)).min(most_nodes);
+    generate::alternating_formula(rng, family, Limits { format: Format::WIDE, variables, nodes })
+}
+
+#[test]
+fn verdicts_beyond_the_narrow_limits_are_those_of_a_solver_from_outside() {
+    with_deep_stack(|| {
+        // False and true; of them with more nodes than a narrow sheet has.
+        let (mut compared, mut larger) = ([0; 2], 0);
+        let longest = Format::WIDE.longest_sheet();
+        generate::cases(150, |rng| {
+            let formula = beyond_narrow(rng);
+            let sheet = Format::WIDE.encode(&formula);
+            let (mut first, mut second) =
+                (generate::dirty(rng, longest), generate::dirty(rng, longest));
+            if let SolveAnswer::Ended { verdict, .. } = WIDE.solve(&sheet, &mut first, &mut second)
+            {
+                if let Some(theirs) = depqbf::verdict(&formula) {
+                    assert_eq!(verdict, theirs, "{}", hexadecimal(&sheet));
+                    compared[usize::from(verdict)] += 1;
+                    larger += usize::from(formula.matrix.rows() > Format::NARROW.most_nodes);
+                }
+            }
+        });
+        println!("false, true: {compared:?}; {larger} with more nodes");
+        assert!(compared.iter().all(|&count| count > 20) && larger > 15, "{compared:?} {larger}");
     });
 }
