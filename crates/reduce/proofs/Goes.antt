@@ -1,30 +1,18 @@
-N8: laws over formulas that code will need, proved as crates/formula/proofs/ReducePlaces.antt; not in the crate yet, since place stands in prefixes too.
 -- Which literals go, by places in the prefix: a universal one goes exactly if it stands behind the clause's last existential one.
 -- Assumes nothing.
 use mathlib.Core.Path.{_≡_, refl, sym, _∙_, ap, ap₂}
-use mathlib.Core.Bool.{Bool, true, false, not, _&&_, _||_, cond, or-false, and-false, false≢true, true≢false}
+use mathlib.Core.Bool.{Bool, true, false, not, _&&_, _||_, cond, and-false, false≢true, true≢false}
 use mathlib.Core.List.{[], _∷_}
-use Prim.Native.Nat.{ℕ, zero, suc, max, _≤_, _<_}
+use Prim.Native.Nat.{ℕ, suc, max}
 use native.Mathlib.Omega.{arith}
 use lib.Dec.{eqb, ltb, leb·suc-suc}
 use borrow.Author.Tests.{eqb-true, eq-eqb, not-true, lt-ltb, le-ltb, ltb-true, ltb-false}
 use Rattle.formula.specs.Tree.{same-op, exists, for-all, Tree, lit, node, Forest, ∅, _▸_, Binding, Prefix, binds, quantifier-of, distinct, of, has, has-any, some-child}
 use Rattle.formula.specs.Expand.{after, occurs}
-use Rattle.formula.specs.Reduce.{is-literal, is-clause, has-existential, goes}
-use Rattle.formula.proofs.Booleans.{and-parts, or-parts, or-none}
-
--- the row of x, or how many rows there are
-unfoldable pub place : ℕ → Prefix → ℕ
-place x [] = 0
-place x (z ∷ p) = cond (eqb (z .variable) x) 0 (suc (place x p))
-
--- v is bound by an existential row
-unfoldable pub existential : Prefix → ℕ → Bool
-existential p v = binds p v && same-op exists (quantifier-of p v)
-
--- the row behind it, and 0 for all others
-unfoldable pub behind : Prefix → ℕ → ℕ
-behind p v = cond (existential p v) (suc (place v p)) 0
+use Rattle.formula.specs.Reduce.{is-literal, has-existential, goes}
+use Rattle.formula.proofs.Booleans.{and-parts, or-parts}
+use Rattle.prefixes.specs.Places.{place}
+use Rattle.reduce.specs.Inner.Places.{existential, behind}
 
 -- the row behind the last existential literal of a clause
 unfoldable pub last : Prefix → Forest → ℕ

@@ -1,0 +1,7 @@
+mod Goes
+mod Table
+mod Standing
+mod Blanked
+mod Turn
+mod InnerAnd
+mod Deciding

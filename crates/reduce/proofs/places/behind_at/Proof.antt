@@ -1,0 +1,30 @@
+-- `reduce::places::behind_at` meets its contract. Assumes nothing.
+use borrow.Author.Needs.{needs}
+use Rattle.reduce.proofs.Table.{behind-existential, behind-universal}
+use Rattle.reduce.proofs.places.behind_at.Statement.{statement}
+use Rattle.reduce.proofs.places.behind_at.Tie as tie
+
+place-at-requires : tie.Need-place-at-requires
+place-at-requires c κs = search needs
+
+is-existential-requires : tie.Need-is-existential-requires
+is-existential-requires c κs = search needs
+
+add-result : tie.Need-add-result
+add-result c = search needs
+
+returns : tie.Need-returns
+returns c =
+    let i = c .before .before in
+    let a = i .before .before .before in
+    behind-existential (a .args .b .now) (a .pre .0) (a .pre .1) (i .place-at .ensures .0) (c .before .is-existential .ensures) (c .if1 .taken)
+
+returns-2 : tie.Need-returns-2
+returns-2 c =
+    let i = c .before .before in
+    let a = i .before .before .before in
+    behind-universal (a .args .b .now) (a .pre .0) (a .pre .1) (i .place-at .ensures .0) (c .before .is-existential .ensures) (c .if1 .left)
+
+pub behind-at-spec : {M : Type 1} → statement M
+behind-at-spec =
+    tie.close (tie.spec place-at-requires is-existential-requires add-result returns returns-2)

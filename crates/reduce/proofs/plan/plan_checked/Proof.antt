@@ -1,0 +1,72 @@
+-- `reduce::plan::plan_checked` meets its contract: 9, 20 and 13 in this order. Assumes nothing.
+use borrow.Author.Needs.{needs}
+use native.Mathlib.Omega.{arith}
+use Rattle.checking.proofs.CheckedSheets.{sheet-readable}
+use Rattle.reduce.proofs.Deciding.{not-tidy, not-clauses, no-room, planned}
+use Rattle.reduce.proofs.plan.plan_checked.Statement.{statement}
+use Rattle.reduce.proofs.plan.plan_checked.Tie as tie
+
+slice-aggregate-fill-ends : tie.Need-slice-aggregate-fill-ends
+slice-aggregate-fill-ends c = search needs
+
+fill-ends-requires : tie.Need-fill-ends-requires
+fill-ends-requires c κs =
+    let a = c .before .before in
+    let ok = sheet-readable (a .pre .1) (a .pre .0) in
+    (ok, omega (arith, ok .few-nodes))
+
+slice-aggregate-first-fault : tie.Need-slice-aggregate-first-fault
+slice-aggregate-first-fault c = search needs
+
+first-fault-requires : tie.Need-first-fault-requires
+first-fault-requires c κs = search needs
+
+add-t13 : tie.Need-add-t13
+add-t13 c = search needs
+
+returns : tie.Need-returns
+returns c =
+    let fault = c .before .before .before in
+    let a = fault .before .before .before .before .before .before in
+    not-tidy (a .pre .0) (a .pre .1) (a .args .room) (fault .first-fault .ensures) (c .before .if1 .taken)
+
+has-inner-and-requires : tie.Need-has-inner-and-requires
+has-inner-and-requires c κs = search needs
+
+returns-2 : tie.Need-returns-2
+returns-2 c =
+    let inner = c .before in
+    let fault = inner .before .before .before in
+    let a = fault .before .before .before .before .before .before in
+    not-clauses (a .pre .0) (a .pre .1) (a .args .room) (fault .first-fault .ensures) (inner .before .if1 .left) (inner .has-inner-and .ensures) (c .if2 .taken)
+
+returns-3 : tie.Need-returns-3
+returns-3 c =
+    let inner = c .before .before in
+    let fault = inner .before .before .before in
+    let a = fault .before .before .before .before .before .before in
+    no-room (a .pre .0) (a .pre .1) (a .args .room) (fault .first-fault .ensures) (inner .before .if1 .left) (inner .has-inner-and .ensures)
+    (c .before .if2 .left) (c .if3 .taken)
+
+returns-4 : tie.Need-returns-4
+returns-4 c =
+    let inner = c .before .before in
+    let fault = inner .before .before .before in
+    let a = fault .before .before .before .before .before .before in
+    planned (a .pre .0) (a .pre .1) (a .args .room) (fault .first-fault .ensures) (inner .before .if1 .left) (inner .has-inner-and .ensures)
+    (c .before .if2 .left) (c .if3 .left)
+
+pub plan-checked-spec : {M : Type 1} → statement M
+plan-checked-spec =
+    tie.close
+    (tie.spec
+    slice-aggregate-fill-ends
+    fill-ends-requires
+    slice-aggregate-first-fault
+    first-fault-requires
+    add-t13
+    returns
+    has-inner-and-requires
+    returns-2
+    returns-3
+    returns-4)

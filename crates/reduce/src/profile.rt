@@ -1,0 +1,24 @@
+// The clause profile of a tidy tree: no operator but the root is AND. A tidy OR has no OR among its children, so under one that is not
+// AND either, all are literals.
+use rows::AND;
+use rows::Layout;
+use rows::read::kind_at;
+ghost use mathlib.Core.Path.{_≡_};
+ghost use Rattle.formula.proofs.Reduce.{and-below};
+ghost use Rattle.rows.specs.Formulas.{matrix-in, Readable};
+
+// Whether a node row but the first is AND.
+pub fn has_inner_and(b: &[u8], s: Layout) -> bool
+    requires { ⌜ Readable s (now b) ⌝ }
+    ensures { λ r. ⌜ r ≡ and-below (matrix-in s (now (b .entry))) ⌝ }
+{
+    let end = s.variables + s.nodes;
+    let mut r = s.variables + 1;
+    while r < end {
+        if kind_at(b, s, r) == AND {
+            return true;
+        }
+        r += 1;
+    }
+    false
+}
