@@ -47,6 +47,10 @@ uint64_t plumanchor_quote(const uint8_t *sheet, size_t length, size_t x);
 /* Execute: Expand x if the raw sheet has at most so many node rows as the ceiling, any number, and else refuse with 19. */
 uint64_t plumanchor_execute(const uint8_t *sheet, size_t length, size_t x, size_t ceiling, uint8_t *output, size_t room);
 
+/* Reduce: from each clause of a tidy AND of clauses the universal literals that no existential one of it stands behind, in the same way. */
+uint64_t plumanchor_reduce(const uint8_t *sheet, size_t length, uint8_t *output, size_t room);
+uint64_t plumanchor_reduce_wide(const uint8_t *sheet, size_t length, uint8_t *output, size_t room);
+
 /* Solve, in two work buffers; none of the three may overlap. Not refused: WORD is 1 for true, 0 for false and 2 for stopped, LOW the
  * number settled, HIGH the number expanded in its lower 16 bits and, where stopped, the variable in its upper ones. The first buffer
  * then holds the sheet reached and zeros, the second only zeros. Refused: no byte changes. */

@@ -16,6 +16,7 @@ pub struct Entries {
     pub trial: Reads,
     pub part: Finds,
     pub tidy: Writes,
+    pub reduce: Writes,
     pub settle: Steps,
     pub expand: Steps,
     pub quote: Quotes,
@@ -28,6 +29,7 @@ pub const NARROW: Entries = Entries {
     trial: plumanchor_trial,
     part: plumanchor_part,
     tidy: plumanchor_tidy,
+    reduce: plumanchor_reduce,
     settle: plumanchor_settle,
     expand: plumanchor_expand,
     quote: plumanchor_quote,
@@ -40,6 +42,7 @@ pub const WIDE: Entries = Entries {
     trial: plumanchor_trial_wide,
     part: plumanchor_part_wide,
     tidy: plumanchor_tidy_wide,
+    reduce: plumanchor_reduce_wide,
     settle: plumanchor_settle_wide,
     expand: plumanchor_expand_wide,
     quote: plumanchor_quote_wide,
@@ -52,6 +55,7 @@ extern "C" {
     fn plumanchor_trial(sheet: Bytes, length: usize) -> u64;
     fn plumanchor_part(sheet: Bytes, length: usize, node: usize) -> usize;
     fn plumanchor_tidy(sheet: Bytes, length: usize, output: Output, room: usize) -> u64;
+    fn plumanchor_reduce(sheet: Bytes, length: usize, output: Output, room: usize) -> u64;
     fn plumanchor_settle(sheet: Bytes, length: usize, x: usize, output: Output, room: usize)
         -> u64;
     fn plumanchor_expand(sheet: Bytes, length: usize, x: usize, output: Output, room: usize)
@@ -80,6 +84,7 @@ extern "C" {
     fn plumanchor_trial_wide(sheet: Bytes, length: usize) -> u64;
     fn plumanchor_part_wide(sheet: Bytes, length: usize, node: usize) -> usize;
     fn plumanchor_tidy_wide(sheet: Bytes, length: usize, output: Output, room: usize) -> u64;
+    fn plumanchor_reduce_wide(sheet: Bytes, length: usize, output: Output, room: usize) -> u64;
     fn plumanchor_settle_wide(
         sheet: Bytes,
         length: usize,

@@ -8,6 +8,7 @@ mod expand;
 mod explain;
 mod part;
 mod quote;
+mod reduce;
 mod settle;
 mod show;
 mod solve;
@@ -30,4 +31,5 @@ pub static COMMANDS: &[Command] = &[
     expand::COMMAND,
     quote::COMMAND,
     execute::COMMAND,
+    reduce::COMMAND,
 ];

@@ -94,6 +94,13 @@ impl Sheet {
         })
     }
 
+    /// The sheet after universal reduction, in the same way.
+    pub fn reduce(&self, room: usize) -> Result<Sheet, Refusal> {
+        self.writes(room, |sheet, length, output, room| unsafe {
+            (self.format.entries.reduce)(sheet, length, output, room)
+        })
+    }
+
     /// The sheet with `x` settled, in the same way.
     pub fn settle(&self, x: usize, room: usize) -> Result<Sheet, Refusal> {
         self.writes(room, |sheet, length, output, room| unsafe {

@@ -46,6 +46,7 @@ impl Refusal {
             13 => "a buffer has too little room",
             14 => "the sheet has more than 20 variables",
             19 => "the raw rows are above the ceiling",
+            20 => "the tree is not AND of literals and of ORs of literals",
             _ => "see documents 01 and 02",
         }
     }

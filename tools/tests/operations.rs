@@ -49,6 +49,7 @@ fn all_operations(sheet: &[u8], rng: &mut Rng) {
     let step = |operation| written(|output| READING.step(operation, sheet, x, output));
     let told = |kind: &str| outcome(&[kind, &x_word], sheet);
     assert_eq!(outcome(&["tidy"], sheet), written(|output| READING.tidy(sheet, output)));
+    assert_eq!(outcome(&["reduce"], sheet), written(|output| READING.reduce(sheet, output)));
     assert_eq!(told("settle"), step(Operation::Settle));
     assert_eq!(told("expand"), step(Operation::Expand));
     assert_eq!(told("quote"), line(map(READING.quote(sheet, x), |raw| raw.to_string())));

@@ -1,9 +1,9 @@
 // The operations for callers in C and Rust, thin over the proved ones. include/plumanchor.h declares them.
 ghost use mathlib.Core.Path.{_≡_};
 ghost use lib.ListN.{length};
-ghost use Rattle.sheet.specs.Format.{narrow};
+ghost use Rattle.sheet.specs.Format.{narrow, wide};
 ghost use Rattle.sheet.specs.Check.{check};
-ghost use Rattle.sheet.specs.Operations.{trial-call, part-call, tidy-call, settle-call, expand-call, quote-call, execute-call, solve-call};
+ghost use Rattle.sheet.specs.Operations.{trial-call, part-call, tidy-call, settle-call, expand-call, quote-call, execute-call, reduce-call, solve-call};
 ghost use Rattle.checking.specs.Answers.{checked-answer, written-answer};
 ghost use Rattle.trial.specs.Answers.{tried-answer};
 ghost use Rattle.expand.specs.Answers.{quoted-answer};
@@ -128,6 +128,24 @@ pub extern "C" fn plumanchor_execute(sheet: &[u8], x: usize, ceiling: usize, out
     ensures { λ _. ⌜ now (out .exit) ≡ (execute-call narrow (now (sheet .entry)) x ceiling (now (out .entry))) .output ⌝ }
 {
     pack_written(expand::execute(sheet, x, ceiling, out))
+}
+
+// Reduce: refusal number and place, or the new sheet's length.
+#[no_mangle]
+pub extern "C" fn plumanchor_reduce(sheet: &[u8], out: &mut [u8]) -> u64
+    ensures { λ r. ⌜ r ≡ packed-written ((reduce-call narrow (now (sheet .entry)) (now (out .entry))) .answer) ⌝ }
+    ensures { λ _. ⌜ now (out .exit) ≡ (reduce-call narrow (now (sheet .entry)) (now (out .entry))) .output ⌝ }
+{
+    pack_written(reduce::reduce(sheet, out))
+}
+
+// The same of a wider sheet.
+#[no_mangle]
+pub extern "C" fn plumanchor_reduce_wide(sheet: &[u8], out: &mut [u8]) -> u64
+    ensures { λ r. ⌜ r ≡ packed-written ((reduce-call wide (now (sheet .entry)) (now (out .entry))) .answer) ⌝ }
+    ensures { λ _. ⌜ now (out .exit) ≡ (reduce-call wide (now (sheet .entry)) (now (out .entry))) .output ⌝ }
+{
+    pack_written(reduce::reduce_wide(sheet, out))
 }
 
 // A verdict's word: 1 true, 0 false.

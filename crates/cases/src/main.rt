@@ -3,8 +3,8 @@
 // the output (of Solve: its first buffer), the length of a list and the list, for operations that take values, a second sheet or further
 // numbers. Numbers have four bytes, low byte first. A line is written for each call.
 //
-// Letters: c Check, t Trial, p Part, q Quote, d Tidy, s Settle, e Expand, x Execute with its ceiling as the list, o Solve. Of the last
-// five a line tells the answer (of Solve: the program's line), a sum over each whole output and, if it is short, the new sheet in
+// Letters: c Check, t Trial, p Part, q Quote, d Tidy, r Reduce, s Settle, e Expand, x Execute with its ceiling as the list, o Solve. Of
+// the last six a line tells the answer (of Solve: the program's line), a sum over each whole output and, if it is short, the new sheet in
 // hexadecimal. Outputs are filled with one byte before, so that the sums tell zeros and bytes left alone too.
 //
 // The same letters as capitals take the sheet for a wide one (N11), and their lines begin with that word. W carries a narrow sheet over to

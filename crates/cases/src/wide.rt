@@ -16,6 +16,12 @@ fn run_tidy(sheet: &[u8], out: &mut [u8]) {
     print_written(answer, out);
 }
 
+fn run_reduce(sheet: &[u8], out: &mut [u8]) {
+    io::write_all(1, b"reduce");
+    let answer = reduce::reduce_wide(sheet, out);
+    print_written(answer, out);
+}
+
 fn run_settle(sheet: &[u8], x: usize, out: &mut [u8]) {
     io::write_all(1, b"settle");
     print_number(x);
@@ -64,6 +70,10 @@ fn run_writing(operation: u8, number: usize, sheet: &[u8], list: &[u8], out: &mu
     fill(out);
     if operation == b'D' {
         run_tidy(sheet, out);
+        return;
+    }
+    if operation == b'R' {
+        run_reduce(sheet, out);
         return;
     }
     if operation == b'S' {

@@ -31,7 +31,7 @@ use Rattle.checking.specs.Limits.{Manageable, Countable, Sheet}
 use Rattle.checking.proofs.CheckedSheets.{sheet-right, sheet-readable, sheet-formula-in}
 use Rattle.subtrees.specs.Subtrees.{top}
 use Rattle.subtrees.proofs.Forest.{tree-rows-top}
-use Rattle.tidiness.proofs.Tidiness.{tidy-by, fault-by}
+use Rattle.tidiness.proofs.Tidiness.{fault-within, tidy-by, fault-by}
 use Rattle.tidying.specs.Limits.{Raw}
 use Rattle.tidying.proofs.Raw.{few-rows, raw-rows, raw-output, raw-length}
 use Rattle.reduce.specs.Inner.Places.{Numbered, Placed}
@@ -67,6 +67,15 @@ module _ {F : Format} {b : Bytes} {s : Layout} (m : Manageable F) (h : Sheet F b
   unfolding reduce-tests own-tests
   passing =
       passes-++ (check-tests F b) own-tests ∙ ap (λ c. c && passes own-tests) (h .tests-pass) ∙ ap passes (sym same-tests)
+
+  -- the row told is a node row, or the one behind the last
+  pub fault-most : {fault : ℕ} → fault ≡ cond (is-tidy t) (s .nodes) (first-fault t) → fault ≤ s .nodes
+  fault-most {fault} told = go (is-tidy t) refl
+    where
+      go : (c : Bool) → is-tidy t ≡ c → fault ≤ s .nodes
+      go true e = omega (arith, told ∙ ap (λ c. cond c (s .nodes) (first-fault t)) e)
+      go false e =
+          omega (arith, told ∙ ap (λ c. cond c (s .nodes) (first-fault t)) e, fault-within t e, rows-nodes b (sheet-readable h m))
 
   -- 9 not tidy, at the row of the first operator at fault
   pub not-tidy : {fault : ℕ} → fault ≡ cond (is-tidy t) (s .nodes) (first-fault t) → fault < s .nodes

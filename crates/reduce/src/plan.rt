@@ -24,10 +24,13 @@ fn plan_checked(sheet: &[u8], f: Format, s: Layout, room: usize) -> Plan
     let mut ends = [0u16; ROWS];
     fill_ends(sheet, s, &mut ends);
     let fault = first_fault(sheet, s, &ends);
-    if fault < s.nodes {
-        return Plan::Refused(9, s.variables + fault);
+    let place = s.variables + fault;
+    let untidy = fault < s.nodes;
+    let inner = has_inner_and(sheet, s);
+    if untidy {
+        return Plan::Refused(9, place);
     }
-    if has_inner_and(sheet, s) {
+    if inner {
         return Plan::Refused(20, 0);
     }
     if room < sheet.len() {

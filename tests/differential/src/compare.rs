@@ -58,7 +58,7 @@ impl<T: Debug, const N: usize> Outcome<T, N> {
 
 /// One call on both, with equal buffers before it; what is left in them is
 /// compared too.
-fn agree<T: PartialEq + Debug, const N: usize>(
+pub(crate) fn agree<T: PartialEq + Debug, const N: usize>(
     what: &str,
     sheet: &[u8],
     before: [&[u8]; N],
@@ -102,6 +102,16 @@ impl Library {
             [before],
             |[output]| self.tidy(sheet, output),
             |[output]| self.reading.tidy(sheet, output),
+        )
+    }
+
+    pub fn agree_on_reduce(&self, sheet: &[u8], before: &[u8]) -> Written {
+        agree(
+            "reduce",
+            sheet,
+            [before],
+            |[output]| self.reduce(sheet, output),
+            |[output]| self.reading.reduce(sheet, output),
         )
     }
 

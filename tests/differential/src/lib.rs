@@ -82,6 +82,11 @@ impl Library {
         written(unsafe { (self.entries.tidy)(sheet.as_ptr(), sheet.len(), out, room) })
     }
 
+    pub fn reduce(&self, sheet: &[u8], output: &mut [u8]) -> Answer<usize> {
+        let (out, room) = (output.as_mut_ptr(), output.len());
+        written(unsafe { (self.entries.reduce)(sheet.as_ptr(), sheet.len(), out, room) })
+    }
+
     pub fn step(
         &self,
         operation: Operation,

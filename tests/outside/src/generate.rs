@@ -6,6 +6,7 @@ mod damage;
 mod families;
 mod limit_sheets;
 mod prefix;
+mod profile;
 mod random;
 mod trees;
 
@@ -18,4 +19,5 @@ pub use families::{
 pub use limit_sheets::{
     deep_formula, ladder_formula, limit_sheets, wide_formula, with_variables, LimitSheet,
 };
+pub use profile::{clause_formula, near_miss};
 pub use random::{cases, run_seed, Rng};

@@ -7,6 +7,7 @@ mod carrying;
 mod expand;
 mod format;
 mod part;
+mod reduce;
 mod rules;
 mod settle;
 mod sheet;

@@ -27,6 +27,7 @@ pub enum Letter {
     Trial = b't',
     Part = b'p',
     Tidy = b'd',
+    Reduce = b'r',
     Settle = b's',
     Expand = b'e',
     Quote = b'q',

@@ -38,6 +38,7 @@ fn line(reading: Reading, sheet: &[u8], call: &Call) -> String {
             format!("part{}", kinds.map(|kind| format!(" {kind}")).collect::<String>())
         }
         Letter::Tidy => written_line("tidy", room, |output| reading.tidy(sheet, output)),
+        Letter::Reduce => written_line("reduce", room, |output| reading.reduce(sheet, output)),
         Letter::Settle => written_line(&format!("settle {number}"), room, |output| {
             reading.settle(sheet, number, output)
         }),

@@ -36,6 +36,10 @@ fn tidy_calls(format: Format, formula: &Formula) -> Vec<Call> {
     at_limit(Letter::Tidy, 0, format.encode(formula).len()).into()
 }
 
+fn reduce_calls(format: Format, formula: &Formula) -> Vec<Call> {
+    at_limit(Letter::Reduce, 0, format.encode(formula).len()).into()
+}
+
 /// Settle and Expand of these variables.
 fn step_calls(format: Format, formula: &Formula, variables: &[Variable]) -> Vec<Call> {
     let steps = [(Letter::Settle, Operation::Settle), (Letter::Expand, Operation::Expand)];
@@ -101,7 +105,7 @@ fn cases_of(reading: Reading) -> Vec<Case> {
     let mut cases = Vec::new();
     for sheet in refused_sheets(format) {
         let mut calls = vec![CHECK, TRIAL, part_call(0)];
-        let writing = [Letter::Tidy, Letter::Settle, Letter::Expand];
+        let writing = [Letter::Tidy, Letter::Reduce, Letter::Settle, Letter::Expand];
         calls.extend(writing.map(|letter| Call::new(letter, 1, SHORT)));
         calls.extend([Call::solve(SHORT, SHORT), Call::solve(0, 0)]);
         cases.push(Case { sheet, calls });
@@ -117,9 +121,14 @@ fn cases_of(reading: Reading) -> Vec<Case> {
         let mut calls = vec![CHECK, TRIAL];
         calls.extend((0..=formula.matrix.rows()).map(part_call));
         calls.extend(writing_calls(format, &formula));
+        calls.extend(reduce_calls(format, &formula));
         calls.extend(solve_calls(format, &formula));
         cases.push(Case { sheet: format.encode(&formula), calls });
         cases.extend(solving_calls(reading, &formula));
+    }
+    for formula in clause_traps() {
+        let calls = reduce_calls(format, &formula);
+        cases.push(Case { sheet: format.encode(&formula), calls });
     }
     cases.push(four_cubes_at_limit(format));
     for formula in traps() {
@@ -215,6 +224,34 @@ fn traps() -> Vec<Formula> {
     formulas
 }
 
+/// What Reduce could get wrong: each has one reading that is right.
+fn clause_traps() -> Vec<Formula> {
+    let prefix = [(ForAll, 1), (Exists, 2), (ForAll, 3), (Exists, 4), (ForAll, 5), (ForAll, 6)];
+    let matrices = [
+        // 1 stays before 2, and 3 goes behind it; in another clause 3 stays before 4.
+        and(vec![clause(&[1, 2, 3]), clause(&[2, 3, -4]), clause(&[5, 4, -6])]),
+        // A clause without an existential literal loses all, and the sheet is false.
+        and(vec![clause(&[1, -3]), clause(&[2, 4])]),
+        // A literal child is a clause: an existential one stays, a universal one makes the sheet false.
+        and(vec![lit(2), clause(&[-2, 5])]),
+        and(vec![lit(2), lit(5)]),
+        // A root OR is one clause, a root literal too, and empty roots pass.
+        clause(&[1, 2, 3]),
+        clause(&[1, 3]),
+        lit(4),
+        lit(-5),
+        and(vec![]),
+        or(vec![]),
+        // Near-misses: an AND below the root, under the root AND's OR or under a root OR.
+        and(vec![lit(1), or(vec![lit(2), and(vec![lit(3), lit(4)])])]),
+        or(vec![lit(2), and(vec![lit(3), lit(4)])]),
+        // Not tidy, and an AND below the root: 9 comes before 20.
+        and(vec![lit(1), or(vec![and(vec![])])]),
+        and(vec![clause(&[1, 2]), clause(&[3])]),
+    ];
+    matrices.map(|matrix| formula(&prefix, matrix)).into()
+}
+
 /// The deepest and the widest sheets, untidy and tidy.
 fn largest(format: Format) -> Vec<Case> {
     let Format { most_variables, most_nodes: n, .. } = format;
@@ -236,8 +273,9 @@ fn largest(format: Format) -> Vec<Case> {
     ] {
         let steps = step_calls(format, &formula, &[1, 2, most_variables]);
         let quotes = quote_calls(format, &formula, 1);
+        let reduce = reduce_calls(format, &formula);
         let (tidy, solve) = (tidy_calls(format, &formula), solve_calls(format, &formula));
-        let calls = [tidy, steps, quotes, solve].concat();
+        let calls = [tidy, reduce, steps, quotes, solve].concat();
         cases.push(Case { sheet: format.encode(&formula), calls });
     }
     cases.extend(largest_expansions(format));

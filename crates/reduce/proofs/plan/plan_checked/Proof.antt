@@ -1,8 +1,9 @@
 -- `reduce::plan::plan_checked` meets its contract: 9, 20 and 13 in this order. Assumes nothing.
 use borrow.Author.Needs.{needs}
 use native.Mathlib.Omega.{arith}
+use borrow.Author.Tests.{ltb-true, ltb-false}
 use Rattle.checking.proofs.CheckedSheets.{sheet-readable}
-use Rattle.reduce.proofs.Deciding.{not-tidy, not-clauses, no-room, planned}
+use Rattle.reduce.proofs.Deciding.{fault-most, not-tidy, not-clauses, no-room, planned}
 use Rattle.reduce.proofs.plan.plan_checked.Statement.{statement}
 use Rattle.reduce.proofs.plan.plan_checked.Tie as tie
 
@@ -21,40 +22,46 @@ slice-aggregate-first-fault c = search needs
 first-fault-requires : tie.Need-first-fault-requires
 first-fault-requires c κs = search needs
 
-add-t13 : tie.Need-add-t13
-add-t13 c = search needs
-
-returns : tie.Need-returns
-returns c =
-    let fault = c .before .before .before in
+add-place : tie.Need-add-place
+add-place c =
+    let fault = c .before in
     let a = fault .before .before .before .before .before .before in
-    not-tidy (a .pre .0) (a .pre .1) (a .args .room) (fault .first-fault .ensures) (c .before .if1 .taken)
+    let ok = sheet-readable (a .pre .1) (a .pre .0) in
+    omega (arith, ok .few-variables, ok .few-nodes, fault-most (a .pre .0) (a .pre .1) (a .args .room) (fault .first-fault .ensures))
 
 has-inner-and-requires : tie.Need-has-inner-and-requires
 has-inner-and-requires c κs = search needs
 
-returns-2 : tie.Need-returns-2
-returns-2 c =
+returns : tie.Need-returns
+returns c =
     let inner = c .before in
     let fault = inner .before .before .before in
     let a = fault .before .before .before .before .before .before in
-    not-clauses (a .pre .0) (a .pre .1) (a .args .room) (fault .first-fault .ensures) (inner .before .if1 .left) (inner .has-inner-and .ensures) (c .if2 .taken)
+    not-tidy (a .pre .0) (a .pre .1) (a .args .room) (fault .first-fault .ensures) (ltb-true _ _ (c .if1 .taken))
+
+returns-2 : tie.Need-returns-2
+returns-2 c =
+    let inner = c .before .before in
+    let fault = inner .before .before .before in
+    let a = fault .before .before .before .before .before .before in
+    not-clauses (a .pre .0) (a .pre .1) (a .args .room) (fault .first-fault .ensures) (ltb-false _ _ (c .before .if1 .left))
+    (inner .has-inner-and .ensures) (c .if2 .taken)
 
 returns-3 : tie.Need-returns-3
 returns-3 c =
-    let inner = c .before .before in
+    let inner = c .before .before .before in
     let fault = inner .before .before .before in
     let a = fault .before .before .before .before .before .before in
-    no-room (a .pre .0) (a .pre .1) (a .args .room) (fault .first-fault .ensures) (inner .before .if1 .left) (inner .has-inner-and .ensures)
-    (c .before .if2 .left) (c .if3 .taken)
+    no-room (a .pre .0) (a .pre .1) (a .args .room) (fault .first-fault .ensures) (ltb-false _ _ (c .before .before .if1 .left))
+    (inner .has-inner-and .ensures) (c .before .if2 .left) (c .if3 .taken)
 
 returns-4 : tie.Need-returns-4
 returns-4 c =
-    let inner = c .before .before in
+    let inner = c .before .before .before in
     let fault = inner .before .before .before in
     let a = fault .before .before .before .before .before .before in
-    planned (a .pre .0) (a .pre .1) (a .args .room) (fault .first-fault .ensures) (inner .before .if1 .left) (inner .has-inner-and .ensures)
-    (c .before .if2 .left) (c .if3 .left)
+    planned (a .pre .0) (a .pre .1) (a .args .room) (fault .first-fault .ensures) (ltb-false _ _ (c .before .before .if1 .left))
+    (inner .has-inner-and .ensures) (c .before .if2 .left) (c .if3 .left)
 
 pub plan-checked-spec : {M : Type 1} → statement M
 plan-checked-spec =
@@ -64,9 +71,9 @@ plan-checked-spec =
     fill-ends-requires
     slice-aggregate-first-fault
     first-fault-requires
-    add-t13
-    returns
+    add-place
     has-inner-and-requires
+    returns
     returns-2
     returns-3
     returns-4)
