@@ -13,3 +13,4 @@ pub mod Solve
 pub mod Longer
 pub mod Trial
 pub mod Reduce
+pub mod ReduceAgain

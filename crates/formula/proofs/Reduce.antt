@@ -73,7 +73,7 @@ bind-universal z p c c′ k q h h′ own both ρ =
 
 -- one variable's literals in a clause without two literals of one variable
 
-members : Tree → Forest
+unfoldable pub members : Tree → Forest
 members (lit s v) = lit s v ▸ ∅
 members (node o ts) = ts
 
@@ -186,21 +186,21 @@ both-values z ts l d ρ = by (sign .0) (sign .1)
 
 -- clauses
 
-record Clean (c : Tree) : Type 0 where
-  clause : is-clause c ≡ true
-  no-two : some-two same-variable (members c) ≡ false
+pub record Clean (c : Tree) : Type 0 where
+  pub clause : is-clause c ≡ true
+  pub no-two : some-two same-variable (members c) ≡ false
 
-data Cleans : Forest → Type 0 where
+pub data Cleans : Forest → Type 0 where
   no-clause : Cleans ∅
   one-more : {t : Tree} {ts : Forest} → Clean t → Cleans ts → Cleans (t ▸ ts)
 
-members-literals : (c : Tree) → is-clause c ≡ true → some-child (λ t. not (is-literal t)) (members c) ≡ false
+pub members-literals : (c : Tree) → is-clause c ≡ true → some-child (λ t. not (is-literal t)) (members c) ≡ false
 unfolding is-clause members some-child is-literal
 members-literals (lit s v) h = refl
 members-literals (node and ts) h = absurd (false≢true h)
 members-literals (node or ts) h = not-true (some-child (λ t. not (is-literal t)) ts) h
 
-occurs-members : (c : Tree) (x : ℕ) → occurs c x ≡ has-any (of x) (members c)
+pub occurs-members : (c : Tree) (x : ℕ) → occurs c x ≡ has-any (of x) (members c)
 unfolding has members
 occurs-members (lit s v) x = sym (or-false (eqb v x))
 occurs-members (node o ts) x = refl
@@ -432,7 +432,7 @@ single p c d w ρ =
 
 -- a tidy matrix of the profile is clean
 
-lone-literal : (s : Bool) (v : ℕ) → Clean (lit s v)
+pub lone-literal : (s : Bool) (v : ℕ) → Clean (lit s v)
 unfolding is-clause members some-two some-child
 lone-literal s v = record { clause = refl; no-two = refl }
 
@@ -444,7 +444,7 @@ clean-below (node or ts) h f =
     let broken = or-parts (childless ts) (breaks or ts) (or-parts (childless ts || breaks or ts) (any (faults-all ts)) f .0) .1 in
     record { clause = h; no-two = or-parts (alone ts || some-child (is-op or) ts) (some-two same-variable ts) broken .1 }
 
-cleans-below : (ts : Forest) → some-child (λ t. not (is-clause t)) ts ≡ false → any (faults-all ts) ≡ false → Cleans ts
+pub cleans-below : (ts : Forest) → some-child (λ t. not (is-clause t)) ts ≡ false → any (faults-all ts) ≡ false → Cleans ts
 unfolding some-child faults any
 cleans-below ∅ h f = no-clause
 cleans-below (t ▸ ts) h f =
@@ -452,7 +452,7 @@ cleans-below (t ▸ ts) h f =
     let rest = or-parts (any (faults t)) (any (faults-all ts)) (sym (any-++ (faults t) (faults-all ts)) ∙ f) in
     one-more (clean-below t (not-false (is-clause t) (parts .0)) (rest .0)) (cleans-below ts (parts .1) (rest .1))
 
-clean-root : (t : Tree) → is-clause t ≡ true → is-tidy t ≡ true → Clean t
+pub clean-root : (t : Tree) → is-clause t ≡ true → is-tidy t ≡ true → Clean t
 unfolding is-clause is-tidy root-faults any members some-two some-child breaks
 clean-root (lit s v) h n = lone-literal s v
 clean-root (node and ts) h n = absurd (false≢true h)

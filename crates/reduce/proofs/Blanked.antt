@@ -13,7 +13,7 @@ use Rattle.formula.specs.Expand.{occurs}
 use Rattle.formula.specs.Reduce.{is-literal, is-clause, goes, stays}
 use Rattle.formula.proofs.Booleans.{or-parts}
 use Rattle.formula.proofs.Closed.{unbound}
-use Rattle.formula.proofs.Reduce.{blank, blank-forest, blank-clause, blank-all}
+use Rattle.formula.proofs.Reduce.{members, members-literals, occurs-members, blank, blank-forest, blank-clause, blank-all}
 use Rattle.sheet.specs.Format.{Row, row, children}
 use Rattle.sheet.specs.Sheet.{literal-kind, operator-kind, tree-rows, forest-rows}
 use Rattle.subtrees.specs.Subtrees.{top}
@@ -24,22 +24,6 @@ use Rattle.reduce.proofs.Goes.{last, goes-place}
 -- no member of the list is an operator
 abbrev pub literals : Forest → Bool
 literals ts = some-child (λ t. not (is-literal t)) ts
-
--- the literals of a clause
-abbrev pub members : Tree → Forest
-members (lit s v) = lit s v ▸ ∅
-members (node o ts) = ts
-
-pub members-literals : (c : Tree) → is-clause c ≡ true → literals (members c) ≡ false
-unfolding is-clause some-child is-literal
-members-literals (lit s v) h = refl
-members-literals (node and ts) h = absurd (false≢true h)
-members-literals (node or ts) h = not-true (literals ts) h
-
-occurs-members : (c : Tree) (x : ℕ) → occurs c x ≡ has-any (of x) (members c)
-unfolding has
-occurs-members (lit s v) x = sym (or-false (eqb v x))
-occurs-members (node o ts) x = refl
 
 last-rows : (p : Prefix) (ts : Forest) → literals ts ≡ false → last-existential p (forest-rows ts) ≡ last p ts
 unfolding last-existential last forest-rows some-child is-literal
@@ -69,7 +53,7 @@ head (lit s v) = []
 head (node o ts) = top (node o ts) ∷ []
 
 pub clause-rows : (c : Tree) → tree-rows c ≡ head c ++ forest-rows (members c)
-unfolding tree-rows
+unfolding tree-rows members
 clause-rows (lit s v) = refl
 clause-rows (node o ts) = refl
 
@@ -81,7 +65,7 @@ head-length (node or ts) = refl
 
 -- a clause ends behind its children
 pub clause-length : (c : Tree) → is-clause c ≡ true → length (head c) + length (forest-rows (members c)) ≡ suc (children (top c))
-unfolding children forest-rows is-clause
+unfolding children forest-rows is-clause members
 clause-length (lit true v) h = omega arith
 clause-length (lit false v) h = omega arith
 clause-length (node and ts) h = absurd (false≢true h)
@@ -98,7 +82,7 @@ count-blank-all p ∅ = refl
 count-blank-all p (t ▸ ts) = ap suc (count-blank-all p ts)
 
 blank-shape : (p : Prefix) (c : Tree) → tree-rows (blank-clause p c) ≡ head c ++ forest-rows (blank-forest p c (members c))
-unfolding blank-clause blank-forest tree-rows
+unfolding blank-clause blank-forest tree-rows members
 blank-shape p (lit s v) = sym (append-nil (tree-rows (blank p (lit s v) (lit s v))))
 blank-shape p (node o ts) =
     ap (λ (n : ℕ). row (operator-kind o) n ∷ forest-rows (blank-forest p (node o ts) ts)) (count-blank p (node o ts) ts)

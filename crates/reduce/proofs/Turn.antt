@@ -14,7 +14,7 @@ use Rattle.formula.specs.Tree.{and, or, Tree, lit, node, Forest, ∅, _▸_, Pr
 use Rattle.formula.specs.Reduce.{is-literal, is-clause, in-profile}
 use Rattle.formula.proofs.Booleans.{or-parts, or-none}
 use Rattle.formula.proofs.Closed.{unbound}
-use Rattle.formula.proofs.Reduce.{blank-clause, blank-all, blank-tree}
+use Rattle.formula.proofs.Reduce.{members, members-literals, blank-clause, blank-all, blank-tree}
 use Rattle.sheet.specs.Format.{Bytes, Row, row, children}
 use Rattle.sheet.specs.Sheet.{binding-row, tree-rows, forest-rows, formula-rows}
 use Rattle.subtrees.specs.Subtrees.{top}
@@ -27,7 +27,7 @@ use Rattle.rows.proofs.Layouts.{length-rows-in}
 use Rattle.reduce.specs.Inner.Places.{behind, variable-of, Placed, Bound}
 use Rattle.reduce.specs.Inner.Clauses.{last-existential, goes-row, blank-row, blank-rows, Literals, Blanks, Clausal, blanked}
 use Rattle.reduce.proofs.Standing.{drop-later, middle, middle-row, Standing, stand-as, stand-put, stand-rest, stand-all, stand-many}
-use Rattle.reduce.proofs.Blanked.{members, members-literals, head, clause-rows, head-length, clause-length, bound-rows, blanked-rows, length-blanked, count-blank-all}
+use Rattle.reduce.proofs.Blanked.{head, clause-rows, head-length, clause-length, bound-rows, blanked-rows, length-blanked, count-blank-all}
 
 -- the last existential literal, from row r on
 
@@ -217,7 +217,7 @@ record Opened (p : Prefix) (R T D : List Row) (r : ℕ) : Type 0 where
   standing : Standing R T D r (tree-rows (blank-clause p clause) ++ forest-rows (blank-all p others))
 
 has-members : (p : Prefix) (c : Tree) → has (unbound p) c ≡ false → has-any (unbound p) (members c) ≡ false
-unfolding has
+unfolding has members
 has-members p (lit s v) h = or-none h refl
 has-members p (node o ts) h = h
 

@@ -1,4 +1,5 @@
--- Universal reduction on sheets: what an accepted call writes is a tidy sheet of the same prefix and the same truth (N8).
+-- Universal reduction on sheets: what an accepted call writes is a tidy sheet of the same prefix and the same truth, of the clause
+-- profile again, which reducing once more doesn't change (N8).
 -- Assumes nothing.
 use mathlib.Core.Path.{_≡_, sym, _∙_, ap, subst}
 use mathlib.Core.Bool.{true, not}
@@ -13,6 +14,7 @@ use Rattle.formula.specs.Tidy.{is-tidy}
 use Rattle.formula.specs.Reduce.{in-profile, reduced}
 use Rattle.formula.proofs.Steps.{Proper}
 use Rattle.formula.proofs.Reduce.{truth-reduced, rows-reduced, proper-reduced}
+use Rattle.formula.proofs.ReduceAgain.{reduced-profile, reduced-again}
 use Rattle.sheet.specs.Format.{Bytes, Format}
 use Rattle.sheet.specs.Sheet.{formula, sheet}
 use Rattle.sheet.specs.Check.{accepted, passes, check-tests}
@@ -29,6 +31,8 @@ pub record Reduced (F : Format) (b b′ : Bytes) : Type 0 where
   pub same-prefix : (formula F b′) .prefix ≡ (formula F b) .prefix
   pub same-truth : truth (formula F b′) ≡ truth (formula F b)
   pub no-more-rows : rows ((formula F b′) .matrix) ≤ rows ((formula F b) .matrix)
+  pub profile-again : in-profile ((formula F b′) .matrix) ≡ true
+  pub fixed-point : reduced (formula F b′) ≡ formula F b′
 
 pub reduce-right : (F : Format) → Sound F → (b out : Bytes) (n : ℕ) → (reduce-call F b out) .answer ≡ accepted n
     → Reduced F b (take n ((reduce-call F b out) .output))
@@ -62,4 +66,6 @@ reduce-right F sound b out n h =
       same-prefix = ap (λ (k : Formula). k .prefix) back;
       same-truth = ap truth back ∙ truth-reduced f (within .is-distinct) profile neat;
       no-more-rows = subst (λ (k : Formula). rows (k .matrix) ≤ rows (f .matrix)) (sym back) (rows-reduced f);
+      profile-again = ap (λ (k : Formula). in-profile (k .matrix)) back ∙ reduced-profile f (within .is-distinct) profile neat;
+      fixed-point = ap reduced back ∙ reduced-again f (within .is-distinct) profile neat ∙ sym back;
     })

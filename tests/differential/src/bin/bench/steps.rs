@@ -1,7 +1,8 @@
-//! Tidy, Settle and Expand over rows: flat, random and chain-shaped sheets of
+//! Tidy, Reduce, Settle and Expand over rows: flat, random and chain-shaped sheets of
 //! 128 to 4,096 rows, and how the time grows with each doubling.
 
 use crate::{ratio, time_of};
+use differential::reduce::REDUCERS;
 use differential::NARROW;
 use outside::formulas::{all, and, clause, formula, lit};
 use outside::generate::{self, ladder_formula, Family, Limits, Rng};
@@ -39,6 +40,10 @@ type Both = (Writes, Writes);
 const TIDY: Both = (
     |sheet, _, output| NARROW.tidy(sheet, output),
     |sheet, _, output| NARROW.reading.tidy(sheet, output),
+);
+const REDUCE: Both = (
+    |sheet, _, output| REDUCERS[0].reduce(sheet, output),
+    |sheet, _, output| NARROW.reading.reduce(sheet, output),
 );
 const SETTLE: Both = (
     |sheet, x, output| NARROW.step(Operation::Settle, sheet, x, output),
@@ -91,6 +96,18 @@ fn mixed(rows: usize) -> Formula {
     let clauses = (0..rows / 6).map(|at| clause(&[1 + (at % 128) as i32, 129 + (at % 127) as i32]));
     let literals = (0..rows / 2).map(|at| lit(1 + (at % 256) as i32));
     formula(&all(Exists, 256), and(clauses.chain(literals).collect()))
+}
+
+/// Clauses of four literals over a prefix whose quantifiers alternate: of each
+/// the last literal goes if it is universal.
+fn alternating_clauses(rows: usize) -> Formula {
+    let quantifier = |x: usize| if x.is_multiple_of(2) { ForAll } else { Exists };
+    let prefix: Vec<Binding> = (1..=FORMAT.most_variables).map(|x| (quantifier(x), x)).collect();
+    let of = |at: usize| {
+        let first = 1 + (7 * at % 250) as i32;
+        clause(&[first, -first - 1, first + 2, first + 3])
+    };
+    formula(&prefix, and((0..rows / 5).map(of).collect()))
 }
 
 /// A chain of one-child operators.
@@ -157,6 +174,7 @@ pub fn report() {
     series("tidy, random", TIDY, |n| Sheet::new(random(Family::Untidy, n), 1));
     series("tidy, chain", TIDY, |n| Sheet::new(one_child_chain(n), 1));
     series("tidy, ladder", TIDY, |n| Sheet::new(ladder(n, 1), 1));
+    series("reduce, clauses", REDUCE, |n| Sheet::new(alternating_clauses(n), 1));
     series("settle, flat", SETTLE, |n| Sheet::new(flat_clauses(n, 4, false), 1));
     series("settle, random", SETTLE, random_to_settle);
     series("settle, ladder", SETTLE, |n| Sheet::new(ladder(n, 1), 1));
