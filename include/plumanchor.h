@@ -47,7 +47,8 @@ uint64_t plumanchor_quote(const uint8_t *sheet, size_t length, size_t x);
 /* Execute: Expand x if the raw sheet has at most so many node rows as the ceiling, any number, and else refuse with 19. */
 uint64_t plumanchor_execute(const uint8_t *sheet, size_t length, size_t x, size_t ceiling, uint8_t *output, size_t room);
 
-/* Reduce: from each clause of a tidy AND of clauses the universal literals that no existential one of it stands behind, in the same way. */
+/* Reduce, in the same way: from each clause of a tidy AND of clauses the universal literals go that have no existential literal of that
+ * clause after them in the prefix. The second function is for wider sheets. */
 uint64_t plumanchor_reduce(const uint8_t *sheet, size_t length, uint8_t *output, size_t room);
 uint64_t plumanchor_reduce_wide(const uint8_t *sheet, size_t length, uint8_t *output, size_t room);
 

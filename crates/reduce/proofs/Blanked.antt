@@ -1,16 +1,15 @@
 -- The rows of a clause whose literals are blanked.
 -- Assumes nothing.
-use mathlib.Core.Path.{_≡_, refl, sym, ap, ap₂, _∙_}
-use mathlib.Core.Bool.{Bool, true, false, not, _&&_, _||_, cond, or-false, false≢true, true≢false}
+use mathlib.Core.Path.{_≡_, refl, sym, ap, _∙_}
+use mathlib.Core.Bool.{Bool, true, false, not, cond, false≢true, true≢false}
 use mathlib.Core.List.{List, [], _∷_, _++_, append-nil, map}
 use Prim.Native.Nat.{ℕ, zero, suc, max, _+_, _<_}
 use native.Mathlib.Omega.{arith}
-use lib.Dec.{eqb, leb}
+use lib.Dec.{leb}
 use lib.ListN.{length, getD, length-map}
-use borrow.Author.Tests.{not-true, not-false}
-use Rattle.formula.specs.Tree.{and, or, Tree, lit, node, Forest, ∅, _▸_, Prefix, binds, distinct, of, has, has-any, count, some-child}
-use Rattle.formula.specs.Expand.{occurs}
-use Rattle.formula.specs.Reduce.{is-literal, is-clause, goes, stays}
+use borrow.Author.Tests.{not-false}
+use Rattle.formula.specs.Tree.{and, or, Tree, lit, node, Forest, ∅, _▸_, Prefix, binds, distinct, has, has-any, count, some-child}
+use Rattle.formula.specs.Reduce.{is-literal, is-clause, stays}
 use Rattle.formula.proofs.Booleans.{or-parts}
 use Rattle.formula.proofs.Closed.{unbound}
 use Rattle.formula.proofs.Reduce.{members, members-literals, occurs-members, blank, blank-forest, blank-clause, blank-all}

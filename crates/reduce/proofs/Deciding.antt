@@ -9,12 +9,12 @@ use lib.Dec.{eqb, ltb}
 use lib.ListN.{length, getD, drop, length-append, length-drop, length-map}
 use lib.Seq.{getD-append-seam}
 use borrow.Author.Tests.{lt-ltb, le-ltb, not-true}
-use Rattle.formula.specs.Tree.{Tree, Formula, Prefix, binds, distinct, closed, has}
+use Rattle.formula.specs.Tree.{Tree, Formula, binds, distinct, closed, has}
 use Rattle.formula.specs.Tidy.{tidied, is-tidy, first-fault}
 use Rattle.formula.specs.Reduce.{in-profile, reduced}
 use Rattle.formula.proofs.Closed.{unbound}
-use Rattle.formula.proofs.Reduce.{and-below, profile-and-below, blank-tree, tidy-blank-tree}
-use Rattle.sheet.specs.Format.{Bytes, Format, Row, row, sheet-length, variables}
+use Rattle.formula.proofs.Reduce.{and-below, profile-and-below, tidy-blank-tree}
+use Rattle.sheet.specs.Format.{Bytes, Format, Row, row, variables}
 use Rattle.sheet.specs.Sheet.{binding-row, tree-rows, formula-rows, formula, sheet}
 use Rattle.sheet.specs.Check.{refused, accepted, Test, test, answer, passes, check-tests}
 use Rattle.sheet.specs.Operations.{padded, tidiness-test, reduce-tests, reduce-call}
@@ -22,10 +22,10 @@ use Rattle.sheet.proofs.Limits.{binds-numbered}
 use Rattle.sheet.proofs.Accepted.{accepted-within}
 use Rattle.sheet.proofs.Tests.{passes-++, answer-++}
 use Rattle.sheet.proofs.Writing.{write-refused, write-accepted}
-use Rattle.rows.specs.Layouts.{total, rows-in, Room}
+use Rattle.rows.specs.Layouts.{rows-in, Room}
 use Rattle.rows.specs.Formulas.{prefix-in, matrix-in, formula-in}
 use Rattle.rows.specs.declared.Layout.{Layout}
-use Rattle.rows.proofs.Layouts.{length-rows-in, rows-in-++}
+use Rattle.rows.proofs.Layouts.{rows-in-++}
 use Rattle.rows.proofs.Formulas.{length-prefix, rows-nodes}
 use Rattle.checking.specs.Limits.{Manageable, Countable, Sheet}
 use Rattle.checking.proofs.CheckedSheets.{sheet-right, sheet-readable, sheet-formula-in}

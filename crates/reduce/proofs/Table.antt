@@ -9,11 +9,11 @@ use native.Mathlib.Omega.{arith}
 use lib.Dec.{eqb, ltb, leb}
 use lib.ListN.{length, getD, set, drop, length-set}
 use lib.Seq.{getD-set-same, getD-set-other}
-use borrow.Author.Tests.{eqb-true, eqb-false, eq-eqb, ltb-true, lt-ltb, le-ltb, le-leb, lt-leb, ltb-false}
+use borrow.Author.Tests.{eqb-true, eqb-false, eq-eqb, ltb-true, le-leb, lt-leb, ltb-false}
 use Rattle.formula.specs.Tree.{and, or, Quantifier, same-op, exists, for-all, Binding, Prefix, binds, quantifier-of}
-use Rattle.sheet.specs.Format.{Bytes, Row, row}
+use Rattle.sheet.specs.Format.{Bytes, row}
 use Rattle.rows.specs.Layouts.{rows-in}
-use Rattle.rows.specs.Formulas.{prefix-in, Readable}
+use Rattle.rows.specs.Formulas.{prefix-in}
 use Rattle.rows.specs.declared.Layout.{Layout}
 use Rattle.rows.proofs.Formulas.{length-prefix}
 use Rattle.prefixes.specs.Places.{place, binding-at, binding-in}

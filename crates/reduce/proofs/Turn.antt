@@ -1,30 +1,29 @@
 -- The turns of the loops over a clause's literals and over the clauses.
 -- Assumes nothing.
 use mathlib.Core.Path.{_≡_, refl, sym, ap, ap₂, _∙_}
-use mathlib.Core.Bool.{Bool, true, false, not, _||_, cond}
+use mathlib.Core.Bool.{Bool, true, false, not, cond}
 use mathlib.Core.List.{List, [], _∷_, _++_, append-assoc, append-nil, map}
 use Prim.Native.Nat.{ℕ, suc, max, _+_, _-_, _≤_, _<_}
 use native.Mathlib.Nat.{add-zero}
 use native.Mathlib.Omega.{arith}
 use lib.Dec.{eqb, leb}
 use lib.ListN.{length, getD, take, drop, set, length-append, length-drop, take-append-drop, drop-of-length-le}
-use lib.Seq.{length-take-le, slice, slice-empty, slice-cons, set-getD, getD-drop, drop-cons, drop-at, take-at, getD-append-seam, drop-append-add, take-append-add, take-append-seam, append-snoc}
+use lib.Seq.{length-take-le, slice, slice-empty, slice-cons, set-getD, getD-drop, drop-at, take-at, drop-append-add, take-append-add, take-append-seam, append-snoc}
 use borrow.Author.Tests.{not-true, not-false}
-use Rattle.formula.specs.Tree.{and, or, Tree, lit, node, Forest, ∅, _▸_, Prefix, Formula, binds, distinct, closed, has, has-any, count, some-child}
-use Rattle.formula.specs.Reduce.{is-literal, is-clause, in-profile}
+use Rattle.formula.specs.Tree.{and, or, Tree, lit, node, Forest, ∅, _▸_, Prefix, binds, distinct, has, has-any, count, some-child}
+use Rattle.formula.specs.Reduce.{is-clause, in-profile}
 use Rattle.formula.proofs.Booleans.{or-parts, or-none}
 use Rattle.formula.proofs.Closed.{unbound}
 use Rattle.formula.proofs.Reduce.{members, members-literals, blank-clause, blank-all, blank-tree}
 use Rattle.sheet.specs.Format.{Bytes, Row, row, children}
-use Rattle.sheet.specs.Sheet.{binding-row, tree-rows, forest-rows, formula-rows}
+use Rattle.sheet.specs.Sheet.{tree-rows, forest-rows, formula-rows}
 use Rattle.subtrees.specs.Subtrees.{top}
 use Rattle.subtrees.proofs.Forest.{tree-rows-top}
 use Rattle.rows.specs.Layouts.{total, rows-in, Room}
-use Rattle.rows.specs.Formulas.{prefix-in, matrix-in, formula-in, Readable}
+use Rattle.rows.specs.Formulas.{prefix-in, formula-in}
 use Rattle.rows.specs.declared.Layout.{Layout}
-use Rattle.rows.proofs.Formulas.{length-prefix}
 use Rattle.rows.proofs.Layouts.{length-rows-in}
-use Rattle.reduce.specs.Inner.Places.{behind, variable-of, Placed, Bound}
+use Rattle.reduce.specs.Inner.Places.{behind, variable-of}
 use Rattle.reduce.specs.Inner.Clauses.{last-existential, goes-row, blank-row, blank-rows, Literals, Blanks, Clausal, blanked}
 use Rattle.reduce.proofs.Standing.{drop-later, middle, middle-row, Standing, stand-as, stand-put, stand-rest, stand-all, stand-many}
 use Rattle.reduce.proofs.Blanked.{head, clause-rows, head-length, clause-length, bound-rows, blanked-rows, length-blanked, count-blank-all}
@@ -124,9 +123,6 @@ module _ {s : Layout} (b old : Bytes) (source : Room s (length b)) (room : Room 
   module _ {last r : ℕ} {new : Bytes} (h : r < to) (l : Blanking s b old new from to last r) where
     pub new-room : Room s (length new)
     new-room = rw (l .same-length) room
-
-    pub blank-row-left : drop r (rows-in s new) ≡ drop r R
-    blank-row-left = l .standing .left
 
     pub blank-literal-on : {next : ℕ} {new′ : Bytes} → next ≡ suc r → rows-in s new′ ≡ set (rows-in s new) r (f last (getD R r (row 0 0)))
         → length new′ ≡ length new → Blanking s b old new′ from to last next

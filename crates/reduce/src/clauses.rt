@@ -23,7 +23,7 @@ ghost use Rattle.reduce.specs.Inner.Places.{Placed, Bound};
 ghost use Rattle.reduce.specs.Inner.Clauses.{last-existential, goes-row, blank-row, Literals, Blanks, Clausal, blanked};
 
 // The greater of two numbers.
-pub fn later(a: usize, b: usize) -> usize
+fn later(a: usize, b: usize) -> usize
     ensures { λ r. ⌜ r ≡ max a b ⌝ }
 {
     if a < b {
@@ -33,7 +33,7 @@ pub fn later(a: usize, b: usize) -> usize
 }
 
 // The prefix row behind that of the last existential literal among the rows of a clause, and 0 if there is none.
-pub fn last_existential(b: &[u8], s: Layout, places: &[u16], from: usize, to: usize) -> usize
+fn last_existential(b: &[u8], s: Layout, places: &[u16], from: usize, to: usize) -> usize
     requires { ⌜ Placed s (now b) (now places) × Literals s (now b) from to ⌝ }
     ensures { λ n. ⌜ n ≡ last-existential (prefix-in s (now (b .entry))) (slice from to (rows-in s (now (b .entry)))) ⌝ }
 {
@@ -47,7 +47,7 @@ pub fn last_existential(b: &[u8], s: Layout, places: &[u16], from: usize, to: us
 }
 
 // Whether the literal at row `r` goes: it is universal, and the last existential one of its clause doesn't stand behind it.
-pub fn goes_at(b: &[u8], s: Layout, places: &[u16], r: usize, last: usize) -> bool
+fn goes_at(b: &[u8], s: Layout, places: &[u16], r: usize, last: usize) -> bool
     requires { ⌜ Placed s (now b) (now places) × Bound s (now b) r ⌝ }
     ensures { λ g. ⌜ g ≡ goes-row (prefix-in s (now (b .entry))) last (getD (rows-in s (now (b .entry))) r (row 0 0)) ⌝ }
 {
@@ -59,7 +59,7 @@ pub fn goes_at(b: &[u8], s: Layout, places: &[u16], r: usize, last: usize) -> bo
 }
 
 // Makes the literal at row `r` of the copy OR of nothing, if it goes.
-pub fn blank_literal(b: &[u8], s: Layout, places: &[u16], r: usize, last: usize, out: &mut [u8])
+fn blank_literal(b: &[u8], s: Layout, places: &[u16], r: usize, last: usize, out: &mut [u8])
     requires { ⌜ Placed s (now b) (now places) × Bound s (now b) r × Room s (length (now out)) × (drop r (rows-in s (now out)) ≡ drop r (rows-in s (now b))) ⌝ }
     ensures { λ _. ⌜ rows-in s (now (out .exit)) ≡ set (rows-in s (now (out .entry))) r (blank-row (prefix-in s (now (b .entry))) last (getD (rows-in s (now (b .entry))) r (row 0 0))) ⌝ }
 {
@@ -69,7 +69,7 @@ pub fn blank_literal(b: &[u8], s: Layout, places: &[u16], r: usize, last: usize,
 }
 
 // Blanks the literals that go among the rows of a clause.
-pub fn blank_literals(b: &[u8], s: Layout, places: &[u16], from: usize, to: usize, out: &mut [u8])
+fn blank_literals(b: &[u8], s: Layout, places: &[u16], from: usize, to: usize, out: &mut [u8])
     requires { ⌜ Placed s (now b) (now places) × Literals s (now b) from to × Room s (length (now out)) × (drop from (rows-in s (now out)) ≡ drop from (rows-in s (now b))) ⌝ }
     ensures { λ _. ⌜ Blanks s (now (b .entry)) (now (out .entry)) (now (out .exit)) from to ⌝ }
 {
@@ -82,7 +82,7 @@ pub fn blank_literals(b: &[u8], s: Layout, places: &[u16], from: usize, to: usiz
 }
 
 // The row of the first clause: behind a root that is AND, and else the root itself, as a single clause.
-pub fn first_clause(b: &[u8], s: Layout) -> usize
+fn first_clause(b: &[u8], s: Layout) -> usize
     requires { ⌜ Room s (length (now b)) × (s .variables < total s) ⌝ }
     ensures { λ r. ⌜ r ≡ s .variables + cond (eqb ((getD (rows-in s (now (b .entry))) (s .variables) (row 0 0)) .kind) 5) 1 0 ⌝ }
 {
@@ -93,7 +93,7 @@ pub fn first_clause(b: &[u8], s: Layout) -> usize
 }
 
 // The row of the first literal of the clause at row `r`: its own, or the one behind an OR.
-pub fn first_literal(b: &[u8], s: Layout, r: usize) -> usize
+fn first_literal(b: &[u8], s: Layout, r: usize) -> usize
     requires { ⌜ Room s (length (now b)) × (r < total s) × (total s ≤ 9216) ⌝ }
     ensures { λ i. ⌜ i ≡ r + cond (leb ((getD (rows-in s (now (b .entry))) r (row 0 0)) .kind) 4) 0 1 ⌝ }
 {

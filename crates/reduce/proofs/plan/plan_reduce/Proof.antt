@@ -1,14 +1,8 @@
 -- `reduce::plan::plan_reduce` meets its contract. Assumes nothing.
 use borrow.Author.Needs.{needs}
 use mathlib.Core.Path.{sym, ap, _∙_}
-use mathlib.Core.Bool.{not}
-use mathlib.Core.List.{[], _∷_}
-use lib.Dec.{ltb}
-use lib.ListN.{length}
-use Rattle.formula.specs.Reduce.{in-profile}
-use Rattle.sheet.specs.Sheet.{formula}
-use Rattle.sheet.specs.Check.{test, check, check-tests}
-use Rattle.sheet.specs.Operations.{tidiness-test, reduce-tests}
+use Rattle.sheet.specs.Check.{check, check-tests}
+use Rattle.sheet.specs.Operations.{reduce-tests}
 use Rattle.sheet.proofs.Tests.{refused-first}
 use Rattle.rows.specs.Formats.{format-of}
 use Rattle.checking.specs.Answers.{checked-answer}
