@@ -10,7 +10,7 @@ ghost use lib.ListN.{length, set};
 ghost use Rattle.changing.specs.Changes.{entry, put-entry, numbers, putting};
 
 // Makes every variable stay.
-fn keep_all(table: &mut [u16])
+pub fn keep_all(table: &mut [u16])
     requires { ⌜ length (now table) ≤ 65536 ⌝ }
     ensures { λ _. ⌜ now (table .exit) ≡ numbers (length (now (table .entry))) ⌝ }
 {
@@ -22,7 +22,7 @@ fn keep_all(table: &mut [u16])
 }
 
 // Puts a value in for `x`.
-fn put(table: &mut [u16], x: usize, value: bool)
+pub fn put(table: &mut [u16], x: usize, value: bool)
     requires { ⌜ x < length (now table) ⌝ }
     ensures { λ _. ⌜ now (table .exit) ≡ set (now (table .entry)) x (put-entry value) ⌝ }
 {

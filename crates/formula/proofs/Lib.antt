@@ -14,3 +14,4 @@ pub mod Longer
 pub mod Trial
 pub mod Reduce
 pub mod ReduceAgain
+pub mod Force

@@ -8,4 +8,5 @@ pub mod Solve
 pub mod Trace
 pub mod Trial
 pub mod Reduce
+pub mod Force
 pub mod Right

@@ -12,6 +12,7 @@ pub mod Starred
 pub mod Calls
 pub mod Quote
 pub mod Reduction
+pub mod Force
 pub mod Verdicts
 pub mod Refusals
 pub mod Longer

@@ -7,5 +7,6 @@ pub mod Carrying
 pub mod Trace
 pub mod Calls
 pub mod Limits
+pub mod Force
 pub mod Reliance
 pub mod Starred
