@@ -2,7 +2,7 @@
 pub mod Laws
 mod Cuts
 mod Around
-mod Source
+pub mod Source
 mod Copies
 mod Turn
 pub mod Raws

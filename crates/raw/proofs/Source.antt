@@ -70,7 +70,7 @@ module _ (s : Layout) (b : Bytes) (ok : Readable s b) (t : List ℕ) where
   length-R = length-rows-in b (ok .room)
 
   -- a part of the prefix
-  copied-prefix : (from to : ℕ) → to ≤ s .variables → copied t from to R ≡ map binding-row (drop from (take to p))
+  pub copied-prefix : (from to : ℕ) → to ≤ s .variables → copied t from to R ≡ map binding-row (drop from (take to p))
   unfolding copied
   copied-prefix from to h =
       ap (λ l. map (changed-row t) (drop from l))

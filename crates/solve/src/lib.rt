@@ -45,7 +45,8 @@ pub struct State {
     pub expanded: usize,
 }
 
-fn shorter(a: usize, b: usize) -> usize
+// The smaller of two lengths.
+pub fn shorter(a: usize, b: usize) -> usize
     ensures { λ r. ⌜ r ≡ min a b ⌝ }
 {
     if a < b {

@@ -1,0 +1,157 @@
+-- A value's raw sheet in the first buffer: its rows are those of the formula under the values given and tried, so the run from there is
+-- Solve's on that formula.
+-- Assumes nothing.
+use mathlib.Core.Path.{_≡_, sym, ap, ap₂, _∙_, subst}
+use mathlib.Core.Bool.{Bool}
+use mathlib.Core.List.{List, [], _∷_, _++_}
+use Prim.Native.Nat.{ℕ, _+_, _-_, _*_, _≤_, min}
+use native.Mathlib.Nat.{mul-le-mul-left}
+use native.Mathlib.Omega.{arith}
+use lib.ListN.{length, drop, length-append, length-drop, length-map}
+use Rattle.formula.specs.Tree.{Prefix, Tree, Formula}
+use Rattle.formula.specs.Solve.{State, End, ended, stopped, solve}
+use Rattle.formula.specs.Force.{tried, judged}
+use Rattle.formula.proofs.Force.{prefix-given}
+use Rattle.sheet.specs.Format.{Bytes, Format, row, sheet-length, fits}
+use Rattle.sheet.specs.Sheet.{binding, formula, formula-rows}
+use Rattle.sheet.specs.Operations.{is-refused, is-stopped, is-ended, solved}
+use Rattle.sheet.specs.Limits.{Within}
+use Rattle.sheet.specs.Trace.{room}
+use Rattle.sheet.specs.Force.{value-of, values-of}
+use Rattle.sheet.proofs.Accepted.{accepted-within}
+use Rattle.sheet.proofs.Refusals.{solved-not-refused}
+use Rattle.sheet.proofs.Limits.{numbered-at, binds-numbered}
+use Rattle.sheet.proofs.Force.{within-given}
+use Rattle.rows.specs.Layouts.{total, size, rows-in, Room}
+use Rattle.rows.specs.Formulas.{prefix-in, matrix-in, formula-in, Readable}
+use Rattle.rows.specs.declared.Layout.{Layout}
+use Rattle.rows.proofs.Formulas.{length-prefix, formula-written}
+use Rattle.checking.proofs.CheckedSheets.{sheet-right, sheet-readable, sheet-formula-in}
+use Rattle.prefixes.specs.Places.{binding-at}
+use Rattle.raw.specs.Formulas.{Raw}
+use Rattle.tidying.proofs.Raw.{few-rows, raw-rows}
+use Rattle.solve.specs.Inner.Running.{RawReady, solution}
+use Rattle.force.specs.Inner.Moves.{Numbered, moves, behind-raw, layout-behind}
+use Rattle.force.specs.Inner.Judging.{Judgeable}
+use Rattle.force.proofs.Tables.{Small, moves-given}
+
+-- the end of a run, from its answer
+
+pub refused-ending : (e : End) (s : State) {x place : ℕ} → is-refused x place ≡ solved e s → stopped x ≡ e
+refused-ending e s h = absurd (solved-not-refused e s (sym h))
+
+pub stopped-ending : (e : End) (s : State) {x settled expanded : ℕ} → is-stopped x settled expanded ≡ solved e s → stopped x ≡ e
+unfolding solved
+stopped-ending (ended v) s h = let z : _≡_ {A = ℕ} 0 1 = cc in absurd (omega arith)
+stopped-ending (stopped y) s {x} h = let k : x ≡ y = cc in ap stopped k
+
+pub ended-ending : (e : End) (s : State) {v : Bool} {settled expanded : ℕ} → is-ended v settled expanded ≡ solved e s → ended v ≡ e
+unfolding solved
+ended-ending (ended w) s {v} h = let k : v ≡ w = cc in ap ended k
+ended-ending (stopped y) s h = let z : _≡_ {A = ℕ} 0 1 = cc in absurd (omega arith)
+
+module _ {F : Format} {s : Layout} {b vs : Bytes} {len : ℕ} (j : Judgeable F s b vs len) where
+  abbrev p : Prefix
+  p = prefix-in s b
+
+  pub readable : Readable s b
+  readable = sheet-readable (j .checked) (j .countable .manageable)
+
+  same-formula : formula-in s b ≡ formula F b
+  same-formula = sheet-formula-in (j .checked)
+
+  within : Within F (formula-in s b)
+  within = subst (Within F) (sym same-formula) (accepted-within F b (j .checked .tests-pass))
+
+  width-is : s .width ≡ F .width
+  width-is = ap (λ (t : Layout). t .width) (j .checked .layout-is)
+
+  pub two-bytes : 2 ≤ s .width
+  two-bytes = omega (arith, width-is, j .countable .two-bytes)
+
+  pub numbered : Numbered s b
+  unfolding binding-at formula-in
+  numbered i h =
+      omega (
+        arith,
+        numbered-at F p i (binding (row 0 0)) (within .is-numbered) (omega (arith, length-prefix b readable)),
+        j .countable .manageable .few-variables,
+      )
+
+  small : Small p
+  unfolding formula-in
+  small v h = omega (arith, binds-numbered F p v (within .is-numbered) h, j .countable .manageable .few-variables)
+
+  -- the sheet left is no longer than the one given
+  pub left-short : (k : ℕ) → size (layout-behind s k) ≤ len
+  unfolding sheet-length
+  left-short k =
+      let r = sheet-right (j .checked) in
+      omega (
+        arith,
+        mul-le-mul-left {m = total (layout-behind s k)} {n = total s} (1 + s .width) (omega arith),
+        ap (λ (w : ℕ). 2 * w + (1 + w) * total s) width-is,
+        r .right-length,
+        j .has-room,
+      )
+
+  pub left-room : (k : ℕ) {n : ℕ} → len ≤ n → Room (layout-behind s k) n
+  left-room k h = record { few-bytes = readable .room .few-bytes; holds = omega (arith, left-short k) }
+
+  module _ (c : Bool) where
+    abbrev bs : List Bool
+    bs = values-of vs ++ (c ∷ [])
+
+    abbrev k : ℕ
+    k = length vs + 1
+
+    abbrev g : Formula
+    g = tried (values-of vs) c (formula F b)
+
+    abbrev t : Layout
+    t = layout-behind s k
+
+    count-moves : length bs ≡ k
+    count-moves = length-append (values-of vs) (c ∷ []) ∙ omega (arith, length-map vs value-of)
+
+    raw-is : {table : List ℕ} → table ≡ moves bs p → behind-raw k table (formula-in s b) ≡ g
+    unfolding behind-raw formula-in
+    raw-is {table} e =
+        ap (λ (u : List ℕ). behind-raw k u (formula-in s b)) e ∙
+        ap₂ (λ (q : Prefix) (u : Tree). record { prefix = q; matrix = u })
+        (ap (λ (n : ℕ). drop n p) (sym count-moves) ∙ sym (prefix-given bs p (matrix-in s b)))
+        (moves-given bs p (matrix-in s b) (within .is-distinct) small) ∙
+        ap (λ (f : Formula). tried (values-of vs) c f) same-formula
+
+    module _ {table : List ℕ} (filled : table ≡ moves bs p) {old new : Bytes} (second : Bytes) (same : length new ≡ length old)
+        (shorter : len ≡ room old second) (w : Raw t old new (behind-raw k table (formula-in s b))) where
+      rows-are : rows-in t new ≡ formula-rows g
+      rows-are = w .all-rows ∙ ap formula-rows (raw-is filled)
+
+      prefix-count : length (g .prefix) ≡ t .variables
+      unfolding formula-in
+      prefix-count =
+          ap (λ (f : Formula). length ((tried (values-of vs) c f) .prefix)) (sym same-formula) ∙
+          ap length (prefix-given bs p (matrix-in s b)) ∙ length-drop (length bs) p ∙
+          omega (arith, count-moves, length-prefix b readable)
+
+      written : formula-in t new ≡ g
+      written = formula-written t new g rows-are prefix-count
+
+      pub raw-ready : RawReady F t new second
+      raw-ready =
+          let r = sheet-right (j .checked) in
+          record {
+            countable = j .countable;
+            raw =
+                raw-rows F t new g rows-are prefix-count width-is (left-room k (omega arith))
+                (few-rows (j .countable) t width-is (omega (arith, r .few-variables)) (r .few-nodes));
+            within =
+                subst (Within F) (sym written)
+                (within-given F bs (formula F b) (accepted-within F b (j .checked .tests-pass)));
+            has-room = omega (arith, left-short k);
+          }
+
+      pub run-is : solution F t new second ≡ judged (fits F len) (values-of vs) c (formula F b)
+      run-is =
+          ap₂ (λ (n : ℕ) (f : Formula). solve (fits F n) f) (ap (λ (n : ℕ). min n (length second)) same ∙ sym shorter) written

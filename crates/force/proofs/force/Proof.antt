@@ -1,0 +1,37 @@
+-- `force::force` meets its contract. Assumes nothing.
+use mathlib.Core.Path.{ap, _∙_}
+use Rattle.sheet.specs.Force.{force-call}
+use Rattle.checking.proofs.CheckedSheets.{narrow-countable}
+use borrow.Author.Needs.{needs}
+use Rattle.force.proofs.force.Statement.{statement}
+use Rattle.force.proofs.force.Tie as tie
+
+narrow-requires : tie.Need-narrow-requires
+narrow-requires c κs = search needs
+
+force-in-requires : tie.Need-force-in-requires
+force-in-requires c κs =
+    rw (c .before .before .narrow .ensures) narrow-countable
+
+same-length : tie.Need-same-length
+same-length c = search needs
+
+same-length-2 : tie.Need-same-length-2
+same-length-2 c = search needs
+
+returns : tie.Need-returns
+returns c =
+    let call = c .before .before .before .before in
+    let format = call .before .before .before in
+    let a = format .before .before .before .before .before .args in
+    let e = format .narrow .ensures in (
+      call .force-in .ensures .0 ∙ ap (λ F. (force-call F (a .sheet .now) (a .values .now) (a .first .now) (a .second .now)) .answer) e,
+      (
+        call .force-in .ensures .1 .0 ∙ ap (λ F. (force-call F (a .sheet .now) (a .values .now) (a .first .now) (a .second .now)) .first) e,
+        call .force-in .ensures .1 .1 ∙ ap (λ F. (force-call F (a .sheet .now) (a .values .now) (a .first .now) (a .second .now)) .second) e,
+      ),
+    )
+
+pub force-spec : {M : Type 1} → statement M
+force-spec =
+    tie.close (tie.spec narrow-requires force-in-requires same-length same-length-2 returns)

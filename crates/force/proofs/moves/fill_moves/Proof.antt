@@ -1,0 +1,110 @@
+-- `force::moves::fill_moves` meets its contract: the values from row i on are left to put in. Assumes nothing.
+use mathlib.Core.Path.{sym, ap, _∙_}
+use Prim.Native.Nat.{_-_}
+use native.Mathlib.Omega.{arith}
+use lib.ListN.{length}
+use Rattle.rows.specs.Formulas.{prefix-in}
+use Rattle.changing.specs.Changes.{numbers}
+use Rattle.rows.proofs.Formulas.{length-prefix}
+use Rattle.force.proofs.Filling.{Filled, filled-none, filled-next, filled-all}
+use Rattle.force.proofs.moves.fill_moves.Statement.{statement}
+use Rattle.force.proofs.moves.fill_moves.Tie as tie
+
+abbrev Inv-loop : tie.InvT-loop
+Inv-loop b s values tried table₀ i₀ table i = Filled (prefix-in s b) values tried table i
+
+abbrev μ-loop : tie.MeasureT-loop
+μ-loop b s values tried table₀ i₀ table i = length values - i
+
+keep-all-requires : tie.Need-keep-all-requires Inv-loop μ-loop
+keep-all-requires c κs = omega arith
+
+loop-holds : tie.Need-loop-holds Inv-loop μ-loop
+loop-holds c =
+    let kept = c .before .before in
+    let a = c .before .before .before .before .before .before .before in
+    filled-none (prefix-in (a .args .s) (a .args .b .now)) (a .args .values .now) (a .args .tried)
+    (kept .keep-all .ensures ∙ ap numbers (a .pre .3)) (kept .keep-all .kept .0 ∙ a .pre .3)
+
+variable-at-requires : tie.Need-variable-at-requires Inv-loop μ-loop
+variable-at-requires c κs =
+    let a = c .before .before .before .before .before .before .before .before .before .before in
+    (a .pre .0, omega (arith, c .before .loop-test .taken, a .pre .2))
+
+shared-slice-read-put : tie.Need-shared-slice-read-put Inv-loop μ-loop
+shared-slice-read-put c = omega arith
+
+put-requires : tie.Need-put-requires Inv-loop μ-loop
+put-requires c κs =
+    let head = c .before .before .before .before in
+    let a = head .before .before .before .before .before .before .before .before in
+    omega (
+      arith,
+      c .before .variable-at .ensures .0,
+      a .pre .1 (head .loop .i) (omega (arith, c .before .before .before .loop-test .taken, a .pre .2)),
+      head .loop .inv .long,
+    )
+
+add-i : tie.Need-add-i Inv-loop μ-loop
+add-i c = omega arith
+
+loop-less : tie.Need-loop-less Inv-loop μ-loop
+loop-less c = omega arith
+
+loop-again : tie.Need-loop-again Inv-loop μ-loop
+loop-again c =
+    let done = c .before .before in
+    let head = c .before .before .before .before .before .before .before in
+    let a = head .before .before .before .before .before .before .before .before in
+    filled-next (prefix-in (a .args .s) (a .args .b .now)) (a .args .values .now) (a .args .tried)
+    (omega (arith, length-prefix (a .args .b .now) (a .pre .0), a .pre .2)) (done .before .before .before .before .loop-test .taken)
+    (done .before .before .variable-at .ensures .0) (done .put .ensures) (head .loop .inv)
+
+variable-at-requires-2 : tie.Need-variable-at-requires-2 Inv-loop μ-loop
+variable-at-requires-2 c κs =
+    let a = c .before .before .before .before .before .before .before .before .before .before in
+    (a .pre .0, omega (arith, c .before .before .loop .inv .within, a .pre .2))
+
+put-requires-2 : tie.Need-put-requires-2 Inv-loop μ-loop
+put-requires-2 c κs =
+    let head = c .before .before .before in
+    let a = head .before .before .before .before .before .before .before .before in
+    omega (
+      arith,
+      c .variable-at2 .ensures .0,
+      a .pre .1 (head .loop .i) (omega (arith, head .loop .inv .within, a .pre .2)),
+      head .loop .inv .long,
+    )
+
+same-length : tie.Need-same-length Inv-loop μ-loop
+same-length c =
+    let a = c .before .before .before .before .before .before .before .before .before .before .before .before .before .before in
+    c .before .before .put2 .kept .0 ∙ c .before .before .before .before .before .before .loop .inv .long ∙ sym (a .pre .3)
+
+returns : tie.Need-returns Inv-loop μ-loop
+returns c =
+    let done = c .before .before in
+    let head = c .before .before .before .before .before .before in
+    let a = head .before .before .before .before .before .before .before .before in
+    filled-all (prefix-in (a .args .s) (a .args .b .now)) (a .args .values .now) (a .args .tried)
+    (omega (arith, length-prefix (a .args .b .now) (a .pre .0), a .pre .2)) (done .before .before .before .loop-test .left)
+    (done .before .variable-at2 .ensures .0) (done .put2 .ensures) (head .loop .inv)
+
+pub fill-moves-spec : {M : Type 1} → statement M
+fill-moves-spec =
+    tie.close
+    (tie.spec
+    Inv-loop
+    μ-loop
+    keep-all-requires
+    loop-holds
+    variable-at-requires
+    shared-slice-read-put
+    put-requires
+    add-i
+    loop-less
+    loop-again
+    variable-at-requires-2
+    put-requires-2
+    same-length
+    returns)
