@@ -9,8 +9,8 @@ use lib.Seq.{drop-cons}
 use Rattle.formula.specs.Tree.{Quantifier, and, or, same-op, exists, for-all, Formula}
 use Rattle.formula.specs.Solve.{End, ended, stopped}
 use Rattle.formula.specs.Force.{owner, turn-after, wanted, Forced, stopped-at, which, forced-by, forced}
-use Rattle.formula.proofs.Force.{prefix-given}
-use Rattle.sheet.specs.Format.{Bytes, Format}
+use Rattle.formula.proofs.Force.{prefix-given, first-stop, second-stop}
+use Rattle.sheet.specs.Format.{Bytes, Format, fits}
 use Rattle.sheet.specs.Sheet.{formula}
 use Rattle.sheet.specs.Check.{Answer, refused, accepted, answer}
 use Rattle.sheet.specs.Trace.{room}
@@ -48,28 +48,25 @@ module _ {F : Format} {s : Layout} {b vs : Bytes} {len : ℕ} (j : Judgeable F s
       ap (λ (n : ℕ). owner (drop n (prefix-in s b))) (length-map vs value-of) ∙
       ap owner (drop-cons (prefix-in s b) (length vs) _ (omega (arith, length-prefix b (readable j), j .fewer))))
 
-  module _ {existential : Bool} (is : existential ≡ same-op exists ((binding-in s b (length vs)) .quantifier)) where
-    abbrev wish : Bool
-    wish = wanted (turn-after (values-of vs) (formula F b))
+  pub stopped-0 : {x : ℕ} → stopped x ≡ end-in F b vs false len → stopped-at x ≡ outcome-in F b vs len
+  stopped-0 e = sym (first-stop (fits F len) (values-of vs) (formula F b) (sym e))
 
-    wants : existential ≡ wish
-    wants = is ∙ wanted-is ((binding-in s b (length vs)) .quantifier) ∙ ap wanted turn-is
+  pub stopped-1 : {x : ℕ} {v : Bool} → ended v ≡ end-in F b vs false len → stopped x ≡ end-in F b vs true len
+      → stopped-at x ≡ outcome-in F b vs len
+  stopped-1 e₀ e₁ = sym (second-stop (fits F len) (values-of vs) (formula F b) (sym e₀) (sym e₁))
 
-    -- value 0's stop is the outcome, whatever 1 would say
-    pub first-stop : {x : ℕ} → stopped x ≡ end-in F b vs false len → stopped-at x ≡ outcome-in F b vs len
-    unfolding forced forced-by
-    first-stop e = ap (λ (n : End). forced-by wish n (end-in F b vs true len)) e
+  pub both-ended : {existential : Bool} → existential ≡ same-op exists ((binding-in s b (length vs)) .quantifier)
+      → {v₀ v₁ w₀ w₁ : Bool} → ended v₀ ≡ end-in F b vs false len → ended v₁ ≡ end-in F b vs true len
+      → w₀ ≡ Bool·beq existential v₀ → w₁ ≡ Bool·beq existential v₁ → which w₀ w₁ ≡ outcome-in F b vs len
+  unfolding forced forced-by
+  both-ended {existential} is {v₀} {v₁} e₀ e₁ k₀ k₁ =
+      ap₂ which k₀ k₁ ∙ ap (λ (w : Bool). forced-by w (ended v₀) (ended v₁)) wants ∙ ap₂ (λ (n m : End). forced-by wish n m) e₀ e₁
+    where
+      wish : Bool
+      wish = wanted (turn-after (values-of vs) (formula F b))
 
-    pub second-stop : {x : ℕ} {v : Bool} → ended v ≡ end-in F b vs false len → stopped x ≡ end-in F b vs true len
-        → stopped-at x ≡ outcome-in F b vs len
-    unfolding forced forced-by
-    second-stop e₀ e₁ = ap₂ (λ (n m : End). forced-by wish n m) e₀ e₁
-
-    pub no-stop : {v₀ v₁ w₀ w₁ : Bool} → ended v₀ ≡ end-in F b vs false len → ended v₁ ≡ end-in F b vs true len
-        → w₀ ≡ Bool·beq existential v₀ → w₁ ≡ Bool·beq existential v₁ → which w₀ w₁ ≡ outcome-in F b vs len
-    unfolding forced forced-by
-    no-stop {v₀} {v₁} e₀ e₁ k₀ k₁ =
-        ap₂ which k₀ k₁ ∙ ap (λ (w : Bool). forced-by w (ended v₀) (ended v₁)) wants ∙ ap₂ (λ (n m : End). forced-by wish n m) e₀ e₁
+      wants : existential ≡ wish
+      wants = is ∙ wanted-is ((binding-in s b (length vs)) .quantifier) ∙ ap wanted turn-is
 
 -- what is left after a call with this answer
 pub record Left (s : Forcing) (a : Answer Panel) (first second : Bytes) : Type 0 where

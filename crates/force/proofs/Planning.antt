@@ -1,19 +1,19 @@
 -- The refusals of Force, and what a plan tells.
 -- Assumes nothing.
-use mathlib.Core.Path.{_≡_, refl, sym, ap, ap₂, _∙_}
-use mathlib.Core.Bool.{Bool, true, false, not, _&&_, cond}
-use mathlib.Core.List.{_++_}
+use mathlib.Core.Path.{_≡_, sym, ap, _∙_}
+use mathlib.Core.Bool.{Bool, true, false, not, _&&_}
 use Prim.Native.Nat.{ℕ, suc, _+_, _≤_, _<_}
 use native.Mathlib.Numerals.{add-one}
 use native.Mathlib.Omega.{arith}
-use lib.Dec.{ltb, leb}
+use lib.Dec.{leb}
 use lib.ListN.{length, getD, drop}
 use lib.Seq.{drop-cons, drop-length}
-use borrow.Author.Tests.{lt-ltb, le-ltb, lt-leb, le-leb, not-true, not-false}
+use borrow.Author.Tests.{lt-leb, le-leb, not-true, not-false}
 use Rattle.sheet.specs.Format.{Bytes, Format, variables}
-use Rattle.sheet.specs.Check.{Answer, refused, accepted, answer, passes, check-tests, check}
+use Rattle.sheet.specs.Check.{Answer, refused, answer, check-tests, check}
 use Rattle.sheet.specs.Force.{are-values, force-tests, Panel, panel}
-use Rattle.sheet.proofs.Tests.{answer-++, refused-first, passes-++}
+use Rattle.sheet.proofs.Tests.{refused-first}
+use Rattle.sheet.proofs.Force.{refused-21, refused-22, refused-13, none-fails}
 use Rattle.rows.specs.declared.Layout.{Layout}
 use Rattle.checking.specs.Limits.{Countable, Sheet}
 use Rattle.checking.proofs.CheckedSheets.{sheet-right}
@@ -51,48 +51,30 @@ module _ (F : Format) (b vs : Bytes) (room : ℕ) where
   unfolding check force-tests
   unchecked e = refused-first (check-tests F b) _ _ _ e
 
-  module _ {s : Layout} (h : Sheet F b s) where
-    abbrev by-tests : Bool → Bool → Bool → Answer Panel
-    by-tests ok few long =
-        cond (not ok) (refused 21 0) (cond (not few) (refused 22 0) (cond long (refused 13 0) (accepted (panel F b vs room))))
+  module _ {s : Layout} (h : Sheet F b s) {ok : Bool} (e : ok ≡ are-values vs) where
+    variables-are : s .variables ≡ variables F b
+    variables-are = sheet-right h .variables-are
 
-    same : {ok few long : Bool} → are-values vs ≡ ok → ltb (length vs) (variables F b) ≡ few → ltb room (length b) ≡ long
-        → by-tests ok few long ≡ whole
-    unfolding force-tests answer
-    same {ok} {few} {long} e₁ e₂ e₃ =
-        sym
-        (answer-++ (check-tests F b) _ (panel F b vs room) (h .tests-pass) ∙
-        ap (λ o. by-tests o (ltb (length vs) (variables F b)) (ltb room (length b))) e₁ ∙
-        ap₂ (λ f l. by-tests ok f l) e₂ e₃)
+    pub not-values : not ok ≡ true → refused 21 0 ≡ whole
+    not-values n = sym (refused-21 F b vs room (h .tests-pass) (sym e ∙ not-true ok n))
 
-    few-is : {m : Bool} → ltb (length vs) (s .variables) ≡ m → ltb (length vs) (variables F b) ≡ m
-    few-is e = ap (ltb (length vs)) (sym (sheet-right h .variables-are)) ∙ e
-
-    -- 21 a value isn't 0 or 1
-    pub not-values : {ok : Bool} → ok ≡ are-values vs → not ok ≡ true → refused 21 0 ≡ whole
-    not-values {ok} e n = same (sym e ∙ not-true ok n) refl refl
-
-    module _ {ok : Bool} (e : ok ≡ are-values vs) (n : not ok ≡ false) where
+    module _ (n : not ok ≡ false) where
       good : are-values vs ≡ true
       good = sym e ∙ not-false ok n
 
-      -- 22 the values are as many as V or more
       pub many-values : s .variables ≤ length vs → refused 22 0 ≡ whole
-      many-values l = same good (few-is (le-ltb (length vs) (s .variables) l)) refl
+      many-values l = sym (refused-22 F b vs room (h .tests-pass) good (omega (arith, variables-are)))
 
       module _ (fewer : length vs < s .variables) where
-        -- 13 a work buffer shorter than the sheet
+        few : length vs < variables F b
+        few = omega (arith, variables-are)
+
         pub no-room : room < length b → refused 13 0 ≡ whole
-        no-room l = same good (few-is (lt-ltb (length vs) (s .variables) fewer)) (lt-ltb room (length b) l)
+        no-room l = sym (refused-13 F b vs room (h .tests-pass) good few l)
 
         pub plan-made : Countable F → length b ≤ room → Planned F b vs room s
-        unfolding force-tests passes
         plan-made k l =
             record {
-              tests-pass =
-                  passes-++ (check-tests F b) _ ∙
-                  ap₂ _&&_ (h .tests-pass)
-                  (ap₂ (λ m o. not (not m) && (not (not o) && (not (ltb room (length b)) && true))) good (few-is (lt-ltb (length vs) (s .variables) fewer)) ∙
-                  ap (λ m. not m && true) (le-ltb room (length b) l));
+              tests-pass = none-fails F b vs room (h .tests-pass) good few l;
               judgeable = record { countable = k; checked = h; fewer = fewer; has-room = l };
             }

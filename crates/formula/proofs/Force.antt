@@ -4,7 +4,7 @@
 use mathlib.Core.Path.{_≡_, refl, sym, _∙_, ap, ap₂}
 use mathlib.Core.Bool.{Bool, true, false, not, _||_, cond, Bool·beq, true≢false}
 use mathlib.Core.List.{List, [], _∷_, _++_}
-use Prim.Native.Nat.{_<_}
+use Prim.Native.Nat.{ℕ, _<_}
 use native.Mathlib.Omega.{arith}
 use lib.ListN.{length, drop}
 use borrow.Author.Tests.{eq-eqb, not-true}
@@ -96,6 +96,22 @@ wins-join or true c = refl
 wins-join or false c = refl
 wins-join and true c = refl
 wins-join and false c = refl
+
+-- which stop is named
+
+module _ (fits : Fits) (bs : List Bool) (f : Formula) where
+  -- value 0's, whatever 1 would say
+  pub first-stop : {x : ℕ} → (judged fits bs false f) .end ≡ stopped x → forced fits bs f ≡ stopped-at x
+  unfolding forced forced-by
+  first-stop e = ap (λ (n : End). forced-by (wanted (turn-after bs f)) n ((judged fits bs true f) .end)) e
+
+  -- value 1's, if 0's run ended
+  pub second-stop : {v : Bool} {x : ℕ} → (judged fits bs false f) .end ≡ ended v → (judged fits bs true f) .end ≡ stopped x
+      → forced fits bs f ≡ stopped-at x
+  unfolding forced forced-by
+  second-stop e₀ e₁ = ap₂ (λ (n m : End). forced-by (wanted (turn-after bs f)) n m) e₀ e₁
+
+-- no run stops
 
 module _ (fits : Fits) (bs : List Bool) (f : Formula) (d : distinct (f .prefix) ≡ true) (c : closed f ≡ true) where
   -- a verdict on a value is the truth of the formula so reduced

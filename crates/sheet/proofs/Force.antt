@@ -1,25 +1,25 @@
 -- Force on bytes: an answer says exactly which values win, with no value given it is the sheet's verdict, and its buffers are zeros;
 -- refused, no byte changes.
 -- Assumes nothing.
-use mathlib.Core.Path.{_≡_, sym, _∙_, ap, subst}
-use mathlib.Core.Bool.{Bool, true, not}
+use mathlib.Core.Path.{_≡_, refl, sym, _∙_, ap, ap₂, subst}
+use mathlib.Core.Bool.{Bool, true, false, not, cond}
 use mathlib.Core.List.{List, [], _∷_, _++_}
-use Prim.Native.Nat.{ℕ, zero, suc, _<_}
+use Prim.Native.Nat.{ℕ, zero, suc, _<_, _≤_}
 use native.Mathlib.Omega.{arith}
 use lib.Dec.{ltb}
 use lib.ListN.{length, drop, replicate, length-drop, length-map}
-use borrow.Author.Tests.{not-false, ltb-true}
+use borrow.Author.Tests.{not-false, ltb-true, lt-ltb, le-ltb}
 use Rattle.formula.specs.Tree.{exists, for-all, Prefix, Formula}
 use Rattle.formula.specs.Truth.{truth}
 use Rattle.formula.specs.Force.{given-by, given, owner, turn-after, Forced, allows-some, Told, ForceRight}
 use Rattle.formula.proofs.Force.{prefix-given, rows-given, distinct-given, closed-given, forced-right, neither-none, neither-allows, exists-verdict, for-all-verdict}
 use Rattle.sheet.specs.Format.{Bytes, Format, fits, variables}
 use Rattle.sheet.specs.Sheet.{formula}
-use Rattle.sheet.specs.Check.{Answer, refused, accepted, answer, check-tests}
+use Rattle.sheet.specs.Check.{Answer, refused, accepted, answer, passes, check-tests}
 use Rattle.sheet.specs.Limits.{numbered, Within}
 use Rattle.sheet.specs.Trace.{room}
-use Rattle.sheet.specs.Force.{value-of, values-of, force-tests, Panel, panel, buffer-after, force-call, Ties}
-use Rattle.sheet.proofs.Tests.{passed-∷, passed-++, accepted-passes}
+use Rattle.sheet.specs.Force.{are-values, value-of, values-of, force-tests, Panel, panel, buffer-after, force-call, Ties}
+use Rattle.sheet.proofs.Tests.{passed-∷, passed-++, answer-++, accepted-passes}
 use Rattle.sheet.proofs.Limits.{numbered-∷}
 use Rattle.sheet.proofs.Accepted.{accepted-within, accepted-variables}
 
@@ -40,6 +40,41 @@ within-given F bs f w =
       is-distinct = distinct-given bs (f .prefix) (f .matrix) (w .is-distinct);
       is-closed = closed-given bs (f .prefix) (f .matrix) (w .is-closed);
     }
+
+-- after 8: 21, then 22, then 13
+
+module _ (F : Format) (b vs : Bytes) (len : ℕ) (checked : passes (check-tests F b) ≡ true) where
+  abbrev answered : Answer Panel
+  answered = answer (force-tests F b vs len) (panel F b vs len)
+
+  abbrev by-tests : Bool → Bool → Bool → Answer Panel
+  by-tests values few short =
+      cond (not values) (refused 21 0) (cond (not few) (refused 22 0) (cond short (refused 13 0) (accepted (panel F b vs len))))
+
+  tested : {values few short : Bool} → are-values vs ≡ values → ltb (length vs) (variables F b) ≡ few → ltb len (length b) ≡ short
+      → answered ≡ by-tests values few short
+  unfolding force-tests answer
+  tested {values} e₁ e₂ e₃ =
+      answer-++ (check-tests F b) _ (panel F b vs len) checked ∙
+      ap (λ (v : Bool). by-tests v (ltb (length vs) (variables F b)) (ltb len (length b))) e₁ ∙
+      ap₂ (λ (f s : Bool). by-tests values f s) e₂ e₃
+
+  pub refused-21 : are-values vs ≡ false → answered ≡ refused 21 0
+  refused-21 e = tested e refl refl
+
+  module _ (e : are-values vs ≡ true) where
+    pub refused-22 : variables F b ≤ length vs → answered ≡ refused 22 0
+    refused-22 l = tested e (le-ltb (length vs) (variables F b) l) refl
+
+    module _ (few : length vs < variables F b) where
+      pub refused-13 : len < length b → answered ≡ refused 13 0
+      refused-13 l = tested e (lt-ltb (length vs) (variables F b) few) (lt-ltb len (length b) l)
+
+      pub none-fails : length b ≤ len → passes (force-tests F b vs len) ≡ true
+      none-fails l = accepted-passes (force-tests F b vs len) (panel F b vs len) (panel F b vs len) all .0
+        where
+          all : answered ≡ accepted (panel F b vs len)
+          all = tested e (lt-ltb (length vs) (variables F b) few) (le-ltb len (length b) l)
 
 module _ (F : Format) (b vs first second : Bytes) where
   -- refusing alters no byte, and an answer leaves zeros

@@ -58,10 +58,12 @@ same-length-2 c = search needs
 
 returns-2 : tie.Need-returns-2
 returns-2 c =
-    let tried = c .before .before .before .before .try-both .ensures in
-    let a = c .before .before .before .before .before .before .before .before .before .before .before .before .before .before .before .before .before .args in
-    let l = answered-call (format-of (a .f)) (a .sheet .now) (a .values .now) (a .first .now) (a .second .now) refl (planned (c .before .before .before .before .before .before .before .before .before))
-    (c .before .before .before .before .before .before .before .turn-at .ensures) (tried .0) (tried .1 .0) (tried .1 .1) in
+    let tried = c .before .before .before .before in
+    let turned = tried .before .before .before in
+    let told = turned .before .before in
+    let a = told .before .before .before .before .before .before .before .before .args in
+    let l = answered-call (format-of (a .f)) (a .sheet .now) (a .values .now) (a .first .now) (a .second .now) refl (planned told)
+    (turned .turn-at .ensures) (tried .try-both .ensures .0) (tried .try-both .ensures .1 .0) (tried .try-both .ensures .1 .1) in
     (l .answers, (l .in-first, l .in-second))
 
 pub force-in-spec : {M : Type 1} → statement M

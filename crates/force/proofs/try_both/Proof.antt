@@ -7,7 +7,7 @@ use Rattle.rows.specs.Formats.{format-of}
 use borrow.Author.Needs.{needs}
 use Rattle.force.specs.Inner.Judging.{end-of, end-in}
 use Rattle.force.proofs.Judging.{readable}
-use Rattle.force.proofs.Answering.{first-stop, second-stop, no-stop}
+use Rattle.force.proofs.Answering.{stopped-0, stopped-1, both-ended}
 use Rattle.force.proofs.try_both.Statement.{statement}
 use Rattle.force.proofs.try_both.Tie as tie
 
@@ -52,8 +52,8 @@ same-length-2 c = search needs
 returns : tie.Need-returns
 returns c =
     let judged = c .before .before .before .before .before .before .before in
-    let a = c .before .before .before .before .before .before .before .before .before .before .before .before .before .before .before in (
-      first-stop (a .pre) (c .before .before .before .before .before .before .before .before .before .before .is-existential .ensures) (sym (ap end-of (c .before .j .given .1)) ∙ judged .judge .ensures .0),
+    let a = judged .before .before .before .before .before .before .before .before in (
+      stopped-0 (a .pre) (sym (ap end-of (c .before .j .given .1)) ∙ judged .judge .ensures .0),
       (judged .judge .ensures .1 .0, judged .judge .ensures .1 .1),
     )
 
@@ -66,11 +66,12 @@ same-length-4 c = search needs
 returns-2 : tie.Need-returns-2
 returns-2 c =
     let again = c .before .before .before .before .before .before .before in
-    let judged = c .before .before .before .before .before .before .before .before .before .before .before .before .before .before .before .before .before in
-    let a = c .before .before .before .before .before .before .before .before .before .before .before .before .before .before .before .before .before .before .before .before .before .before .before .before .before in
+    let told = again .before .before .before .before in
+    let judged = told .before .before .before .before .before .before in
+    let a = judged .before .before .before .before .before .before .before .before in
     let first = judged .judge .kept .1 .1 .1 .0 in
     let second = judged .judge .kept .1 .1 .1 .1 .0 in (
-      second-stop (a .pre) (c .before .before .before .before .before .before .before .before .before .before .before .before .before .before .before .before .before .before .before .before .is-existential .ensures) (sym (ap end-of (c .before .before .before .before .before .before .before .before .before .before .before .j2 .given .1)) ∙ judged .judge .ensures .0)
+      stopped-1 (a .pre) (sym (ap end-of (told .j2 .given .1)) ∙ judged .judge .ensures .0)
           (sym (ap end-of (c .before .k .given .1)) ∙ again .judge2 .ensures .0 ∙
           ap₂ (λ (n m : ℕ). end-in (format-of (a .args .f)) (a .args .sheet .now) (a .args .values .now) true (min n m)) first second),
       (
@@ -87,14 +88,17 @@ same-length-6 c = search needs
 
 returns-3 : tie.Need-returns-3
 returns-3 c =
-    let again = c .before .before .before .before .before .before .before .before .before .before in
-    let judged = c .before .before .before .before .before .before .before .before .before .before .before .before .before .before .before .before .before .before .before .before in
-    let a = c .before .before .before .before .before .before .before .before .before .before .before .before .before .before .before .before .before .before .before .before .before .before .before .before .before .before .before .before in
+    let again-told = c .before .before .before .before in
+    let again = again-told .before .before .before .before .before .before in
+    let told = again .before .before .before .before in
+    let judged = told .before .before .before .before .before .before in
+    let asked = judged .before .before .before in
+    let a = asked .before .before .before .before .before in
     let first = judged .judge .kept .1 .1 .1 .0 in
     let second = judged .judge .kept .1 .1 .1 .1 .0 in (
       c .outcome-for .ensures ∙
-          no-stop (a .pre) (c .before .before .before .before .before .before .before .before .before .before .before .before .before .before .before .before .before .before .before .before .before .before .before .is-existential .ensures) (sym (ap end-of (c .before .before .before .before .before .before .before .before .before .before .before .before .before .before .j2 .given .1)) ∙ judged .judge .ensures .0)
-          (sym (ap end-of (c .before .before .before .before .k2 .given .1)) ∙ again .judge2 .ensures .0 ∙
+          both-ended (a .pre) (asked .is-existential .ensures) (sym (ap end-of (told .j2 .given .1)) ∙ judged .judge .ensures .0)
+          (sym (ap end-of (again-told .k2 .given .1)) ∙ again .judge2 .ensures .0 ∙
           ap₂ (λ (n m : ℕ). end-in (format-of (a .args .f)) (a .args .sheet .now) (a .args .values .now) true (min n m)) first second)
           (c .before .before .is-wanted .ensures) (c .before .is-wanted2 .ensures),
       (

@@ -34,7 +34,8 @@ loop-less c = omega arith
 loop-again : tie.Need-loop-again Inv-loop μ-loop
 loop-again c =
     let head = c .before .before .before in
-    (omega arith, value-next (head .before .args .values .now) (c .before .before .loop-test .taken) (head .loop .inv .1) (omega (arith, c .if1 .left)))
+    let values = head .before .args .values .now in
+    (omega arith, value-next values (c .before .before .loop-test .taken) (head .loop .inv .1) (omega (arith, c .if1 .left)))
 
 returns-2 : tie.Need-returns-2 Inv-loop μ-loop
 returns-2 c =

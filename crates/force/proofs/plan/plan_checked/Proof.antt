@@ -12,8 +12,8 @@ are-values-requires c κs = search needs
 returns : tie.Need-returns
 returns c =
     let a = c .before .before .before .before in
-    not-values (format-of (a .args .f)) (a .args .sheet .now) (a .args .values .now) (a .args .room) (a .pre .1) (c .before .are-values .ensures)
-    (c .if1 .taken)
+    not-values (format-of (a .args .f)) (a .args .sheet .now) (a .args .values .now) (a .args .room) (a .pre .1)
+    (c .before .are-values .ensures) (c .if1 .taken)
 
 returns-2 : tie.Need-returns-2
 returns-2 c =
