@@ -78,4 +78,14 @@ uint64_t plumanchor_widen(const uint8_t *sheet, size_t length, uint8_t *output, 
  * limits, before 13. */
 uint64_t plumanchor_narrow(const uint8_t *sheet, size_t length, uint8_t *output, size_t room);
 
+/* Force: with values for the first variables of the prefix, a byte each, whose turn is next and with which of 0 and 1 its owner forces
+ * the outcome wanted, true for exists, false for all; in two work buffers, none of the four may overlap. Accepted: WORD is 0 for
+ * neither, 1 for value 0, 2 for value 1, 3 for both and 4 for stopped; LOW is the turn, 1 exists, 2 for all; HIGH, where stopped, the
+ * variable. Both buffers then hold zeros. Refused (21 a value isn't 0 or 1, 22 the values are as many as V or more): no byte changes.
+ * plumanchor_force_wide takes a wide sheet. */
+uint64_t plumanchor_force(const uint8_t *sheet, size_t length, const uint8_t *values, size_t count, uint8_t *first,
+                          size_t first_room, uint8_t *second, size_t second_room);
+uint64_t plumanchor_force_wide(const uint8_t *sheet, size_t length, const uint8_t *values, size_t count, uint8_t *first,
+                               size_t first_room, uint8_t *second, size_t second_room);
+
 #endif

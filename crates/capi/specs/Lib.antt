@@ -1,2 +1,3 @@
 -- Answers as numbers, for callers in C.
 pub mod Packed
+pub mod Panel

@@ -10,6 +10,7 @@ ghost use Rattle.expand.specs.Answers.{quoted-answer};
 ghost use Rattle.solve.specs.Answers.{verdict-of, solved-answer};
 ghost use Rattle.capi.specs.Packed.{packed, packed-check, packed-trial, verdict-word, packed-written, packed-quote, packed-solved};
 
+mod panel;
 pub mod wide;
 
 // An answer in one number: refusal number, word and two values.
