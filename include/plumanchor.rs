@@ -11,6 +11,17 @@ type Quotes = unsafe extern "C" fn(Bytes, usize, usize) -> u64;
 type Executes = unsafe extern "C" fn(Bytes, usize, usize, usize, Output, usize) -> u64;
 type Solves = unsafe extern "C" fn(Bytes, usize, Output, usize, Output, usize) -> u64;
 
+type Forces = unsafe extern "C" fn(
+    Bytes,
+    usize,
+    Bytes,
+    usize,
+    Output,
+    usize,
+    Output,
+    usize,
+) -> u64;
+
 pub struct Entries {
     pub check: Reads,
     pub trial: Reads,
@@ -22,6 +33,7 @@ pub struct Entries {
     pub quote: Quotes,
     pub execute: Executes,
     pub solve: Solves,
+    pub force: Forces,
 }
 
 pub const NARROW: Entries = Entries {
@@ -35,6 +47,7 @@ pub const NARROW: Entries = Entries {
     quote: plumanchor_quote,
     execute: plumanchor_execute,
     solve: plumanchor_solve,
+    force: plumanchor_force,
 };
 
 pub const WIDE: Entries = Entries {
@@ -48,6 +61,7 @@ pub const WIDE: Entries = Entries {
     quote: plumanchor_quote_wide,
     execute: plumanchor_execute_wide,
     solve: plumanchor_solve_wide,
+    force: plumanchor_force_wide,
 };
 
 extern "C" {
@@ -111,6 +125,29 @@ extern "C" {
     fn plumanchor_solve_wide(
         sheet: Bytes,
         length: usize,
+        first: Output,
+        first_room: usize,
+        second: Output,
+        second_room: usize,
+    ) -> u64;
+}
+
+extern "C" {
+    fn plumanchor_force(
+        sheet: Bytes,
+        length: usize,
+        values: Bytes,
+        count: usize,
+        first: Output,
+        first_room: usize,
+        second: Output,
+        second_room: usize,
+    ) -> u64;
+    fn plumanchor_force_wide(
+        sheet: Bytes,
+        length: usize,
+        values: Bytes,
+        count: usize,
         first: Output,
         first_room: usize,
         second: Output,

@@ -6,6 +6,7 @@ mod draw;
 mod execute;
 mod expand;
 mod explain;
+mod force;
 mod part;
 mod quote;
 mod reduce;
@@ -32,4 +33,5 @@ pub static COMMANDS: &[Command] = &[
     quote::COMMAND,
     execute::COMMAND,
     reduce::COMMAND,
+    force::COMMAND,
 ];

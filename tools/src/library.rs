@@ -33,6 +33,16 @@ impl Solved {
     }
 }
 
+/// With which values the owner of a turn gets the outcome wanted.
+pub enum Outcome {
+    Neither,
+    Zero,
+    One,
+    Both,
+    /// The variable that a value's run stopped at.
+    Stopped(usize),
+}
+
 /// An accepted call's word and two values; include/plumanchor.h has their places.
 struct Accepted {
     word: u8,
@@ -127,6 +137,26 @@ impl Sheet {
         let (bytes, length) = (self.bytes.as_ptr(), self.bytes.len());
         let answer = unsafe { (self.format.entries.quote)(bytes, length, x) };
         self.accepted(answer).map(|answer| answer.high)
+    }
+
+    /// Whether the next turn under the values is an existential one, and with which values its
+    /// owner wins; in two buffers of so many bytes.
+    pub fn force(&self, values: &[u8], room: usize) -> Result<(bool, Outcome), Refusal> {
+        let (bytes, length) = (self.bytes.as_ptr(), self.bytes.len());
+        let (given, count) = (values.as_ptr(), values.len());
+        let (mut first, mut second) = (vec![0; room], vec![0; room]);
+        let (one, two) = (first.as_mut_ptr(), second.as_mut_ptr());
+        let force = self.format.entries.force;
+        let answer = unsafe { force(bytes, length, given, count, one, room, two, room) };
+        let Accepted { word, low, high } = self.accepted(answer)?;
+        let outcome = match word {
+            0 => Outcome::Neither,
+            1 => Outcome::Zero,
+            2 => Outcome::One,
+            3 => Outcome::Both,
+            _ => Outcome::Stopped(high),
+        };
+        Ok((low == 1, outcome))
     }
 
     /// Solve in two buffers of so many bytes.

@@ -47,6 +47,8 @@ impl Refusal {
             14 => "the sheet has more than 20 variables",
             19 => "the raw rows are above the ceiling",
             20 => "the tree is not AND of literals and of ORs of literals",
+            21 => "a value is neither 0 nor 1",
+            22 => "there are as many values as variables, or more",
             _ => "see documents 01 and 02",
         }
     }

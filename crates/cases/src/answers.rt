@@ -5,6 +5,9 @@ use crate::outputs::print_sum;
 use checking::Checked;
 use checking::Written;
 use expand::quote::Quoted;
+use force::Forced;
+use force::Outcome;
+use force::Turn;
 use printing::print_count;
 use printing::print_number;
 use rows::Format;
@@ -86,4 +89,44 @@ pub fn print_solved(answer: Solved, f: Format, first: &[u8], second: &[u8]) {
     print_sum(first);
     print_sum(second);
     print_reached(first, f);
+}
+
+fn print_turn(turn: Turn) {
+    match turn {
+        Turn::Exists => {
+            io::write_all(1, b" exists");
+        }
+        Turn::ForAll => {
+            io::write_all(1, b" for-all");
+        }
+    }
+}
+
+fn print_outcome(outcome: Outcome) {
+    match outcome {
+        Outcome::Neither => {
+            io::write_all(1, b" neither");
+        }
+        Outcome::Zero => print_number(0),
+        Outcome::One => print_number(1),
+        Outcome::Both => {
+            io::write_all(1, b" both");
+        }
+        Outcome::Stopped(x) => {
+            io::write_all(1, b" stopped");
+            print_number(x);
+        }
+    }
+}
+
+pub fn print_forced(answer: Forced, first: &[u8], second: &[u8]) {
+    match answer {
+        Forced::Refused(number, place) => print_refused(number, place),
+        Forced::Answered(turn, outcome) => {
+            print_turn(turn);
+            print_outcome(outcome);
+        }
+    }
+    print_sum(first);
+    print_sum(second);
 }

@@ -1,6 +1,7 @@
 // The operations: each is called and its line written, but for the line's end.
 use crate::ROOM;
 use crate::answers::print_checked;
+use crate::answers::print_forced;
 use crate::answers::print_kinds;
 use crate::answers::print_quoted;
 use crate::answers::print_solved;
@@ -106,6 +107,24 @@ fn run_solve(sheet: &[u8], first: &mut [u8], length: usize) {
     solve_in_buffers(sheet, first, second);
 }
 
+fn force_in_buffers(sheet: &[u8], values: &[u8], first: &mut [u8], second: &mut [u8]) {
+    fill(first);
+    fill(second);
+    io::write_all(1, b"force");
+    let answer = force::force(sheet, values, first, second);
+    print_forced(answer, first, second);
+}
+
+// Force with the list as values and a second buffer of `length` bytes.
+fn run_force(sheet: &[u8], values: &[u8], first: &mut [u8], length: usize) {
+    let mut space = [0u8; ROOM];
+    if ROOM < length {
+        return;
+    }
+    let second = &mut space[..length];
+    force_in_buffers(sheet, values, first, second);
+}
+
 // Calls the operation of this letter.
 pub fn run(operation: u8, number: usize, sheet: &[u8], list: &[u8], out: &mut [u8]) {
     if operation == b'c' {
@@ -130,6 +149,10 @@ pub fn run(operation: u8, number: usize, sheet: &[u8], list: &[u8], out: &mut [u
     }
     if operation == b'x' {
         run_execute(sheet, number, list, out);
+        return;
+    }
+    if operation == b'f' {
+        run_force(sheet, list, out, number);
         return;
     }
     if operation < b'a' {

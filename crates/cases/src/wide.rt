@@ -2,6 +2,7 @@
 // the line's end.
 use crate::ROOM;
 use crate::answers::print_checked;
+use crate::answers::print_forced;
 use crate::answers::print_kinds;
 use crate::answers::print_quoted;
 use crate::answers::print_solved;
@@ -66,6 +67,23 @@ fn run_solve(sheet: &[u8], first: &mut [u8], length: usize) {
     solve_in_buffers(sheet, first, second);
 }
 
+fn force_in_buffers(sheet: &[u8], values: &[u8], first: &mut [u8], second: &mut [u8]) {
+    fill(second);
+    io::write_all(1, b"force");
+    let answer = force::force_wide(sheet, values, first, second);
+    print_forced(answer, first, second);
+}
+
+// Asks with a second buffer of `length` bytes.
+fn run_force(sheet: &[u8], values: &[u8], first: &mut [u8], length: usize) {
+    let mut space = [0u8; ROOM];
+    if ROOM < length {
+        return;
+    }
+    let second = &mut space[..length];
+    force_in_buffers(sheet, values, first, second);
+}
+
 fn run_writing(operation: u8, number: usize, sheet: &[u8], list: &[u8], out: &mut [u8]) {
     fill(out);
     if operation == b'D' {
@@ -86,6 +104,10 @@ fn run_writing(operation: u8, number: usize, sheet: &[u8], list: &[u8], out: &mu
     }
     if operation == b'X' {
         run_execute(sheet, number, list, out);
+        return;
+    }
+    if operation == b'F' {
+        run_force(sheet, list, out, number);
         return;
     }
     run_solve(sheet, out, number);

@@ -4,6 +4,7 @@ use outside::reference::{Answer, Operation, Reading, Refusal, SolveAnswer, Varia
 use std::ops::Range;
 
 pub mod compare;
+pub mod force;
 #[path = "../../../include/plumanchor.rs"]
 mod foreign;
 

@@ -5,6 +5,7 @@
 
 mod carrying;
 mod expand;
+mod force;
 mod format;
 mod part;
 mod reduce;
@@ -19,6 +20,7 @@ mod trial;
 
 pub use carrying::{bring_back, widen};
 pub use expand::{raw_expansion, raw_rows, Expansion};
+pub use force::Forced;
 pub use format::Format;
 pub use rules::Rules;
 pub use settle::settle_value;

@@ -33,6 +33,7 @@ pub enum Letter {
     Quote = b'q',
     Execute = b'x',
     Solve = b'o',
+    Force = b'f',
     /// These two have a capital only.
     Widen = b'W',
     BringBack = b'N',
@@ -88,6 +89,11 @@ impl Call {
         } else {
             Reading::NARROW
         }
+    }
+
+    /// Force with these values and buffers of these lengths.
+    pub fn force(values: &[u8], first: usize, second: usize) -> Call {
+        Call { list: values.to_vec(), ..Call::new(Letter::Force, second, first) }
     }
 
     /// The letter, the number, the output's length, the list's length, the list.

@@ -1,7 +1,7 @@
 //! The line of each call.
 
 use super::{Call, Case, Letter, SHORT};
-use crate::reference::{bring_back, line_of, widen, Answer, Reading};
+use crate::reference::{bring_back, line_of, widen, Answer, Forced, Quantifier, Reading};
 
 /// Every output is filled with this byte before a call.
 const FILLING: u8 = 165;
@@ -55,6 +55,7 @@ fn line(reading: Reading, sheet: &[u8], call: &Call) -> String {
             })
         }
         Letter::Solve => solve_line(reading, sheet, room, number),
+        Letter::Force => force_line(reading, sheet, &call.list, room, number),
         Letter::Widen => written_line("widen", room, |output| widen(sheet, output)),
         Letter::BringBack => written_line("bring back", room, |output| bring_back(sheet, output)),
     }
@@ -88,6 +89,26 @@ fn solve_line(reading: Reading, sheet: &[u8], first: usize, second: usize) -> St
         Some(_) => short_sheet(reading.format.front(&first)),
     };
     format!("solve {} sum {} sum {}{reached}", line_of(&answer), sum(&first), sum(&second))
+}
+
+/// The turn, the outcome, and a sum over each buffer.
+fn force_line(reading: Reading, sheet: &[u8], values: &[u8], first: usize, second: usize) -> String {
+    let (mut first, mut second) = (vec![FILLING; first], vec![FILLING; second]);
+    let answer = reading.force(sheet, values, &mut first, &mut second);
+    let answer = told("force", answer, |(turn, forced)| {
+        let turn = match turn {
+            Quantifier::Exists => "exists",
+            Quantifier::ForAll => "for-all",
+        };
+        match forced {
+            Forced::Neither => format!("{turn} neither"),
+            Forced::Zero => format!("{turn} 0"),
+            Forced::One => format!("{turn} 1"),
+            Forced::Both => format!("{turn} both"),
+            Forced::Stopped(variable) => format!("{turn} stopped {variable}"),
+        }
+    });
+    format!("{answer} sum {} sum {}", sum(&first), sum(&second))
 }
 
 /// A sum that depends on each byte and on its place.

@@ -90,6 +90,25 @@ fn solving_calls(reading: Reading, formula: &Formula) -> Vec<Case> {
     }
 }
 
+/// Force with every beginning of values of up to three rows, with values that
+/// are too many or none, and with buffers of the sheet's length and a byte less.
+fn force_calls(format: Format, formula: &Formula) -> Vec<Call> {
+    let length = format.encode(formula).len();
+    let longest = format.longest_sheet();
+    let mut calls = Vec::new();
+    for given in 0..=formula.prefix.len().min(3) {
+        for bits in 0..1u8 << given {
+            let values: Vec<u8> = (0..given).map(|row| bits >> row & 1).collect();
+            calls.push(Call::force(&values, longest, longest));
+            if bits == 0 {
+                calls.extend([length, length - 1].map(|room| Call::force(&values, room, length)));
+                calls.push(Call::force(&[&values[..], &[2]].concat(), length, longest));
+            }
+        }
+    }
+    calls
+}
+
 /// The same list for both formats, and sheets carried over and back.
 pub fn cases() -> Vec<Case> {
     let mut cases = cases_of(Reading::NARROW);
@@ -108,6 +127,7 @@ fn cases_of(reading: Reading) -> Vec<Case> {
         let writing = [Letter::Tidy, Letter::Reduce, Letter::Settle, Letter::Expand];
         calls.extend(writing.map(|letter| Call::new(letter, 1, SHORT)));
         calls.extend([Call::solve(SHORT, SHORT), Call::solve(0, 0)]);
+        calls.push(Call::force(&[0, 2], SHORT, SHORT));
         cases.push(Case { sheet, calls });
     }
     for limit in limit_sheets(format) {
@@ -123,6 +143,7 @@ fn cases_of(reading: Reading) -> Vec<Case> {
         calls.extend(writing_calls(format, &formula));
         calls.extend(reduce_calls(format, &formula));
         calls.extend(solve_calls(format, &formula));
+        calls.extend(force_calls(format, &formula));
         cases.push(Case { sheet: format.encode(&formula), calls });
         cases.extend(solving_calls(reading, &formula));
     }
@@ -132,7 +153,8 @@ fn cases_of(reading: Reading) -> Vec<Case> {
     }
     cases.push(four_cubes_at_limit(format));
     for formula in traps() {
-        let calls = [writing_calls(format, &formula), solve_calls(format, &formula)].concat();
+        let (writing, solve) = (writing_calls(format, &formula), solve_calls(format, &formula));
+        let calls = [writing, solve, force_calls(format, &formula)].concat();
         cases.push(Case { sheet: format.encode(&formula), calls });
         cases.extend(solving_calls(reading, &formula));
     }
