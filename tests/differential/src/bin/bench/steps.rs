@@ -2,7 +2,6 @@
 //! 128 to 4,096 rows, and how the time grows with each doubling.
 
 use crate::{ratio, time_of};
-use differential::reduce::REDUCERS;
 use differential::NARROW;
 use outside::formulas::{all, and, clause, formula, lit};
 use outside::generate::{self, ladder_formula, Family, Limits, Rng};
@@ -42,7 +41,7 @@ const TIDY: Both = (
     |sheet, _, output| NARROW.reading.tidy(sheet, output),
 );
 const REDUCE: Both = (
-    |sheet, _, output| REDUCERS[0].reduce(sheet, output),
+    |sheet, _, output| NARROW.reduce(sheet, output),
     |sheet, _, output| NARROW.reading.reduce(sheet, output),
 );
 const SETTLE: Both = (
