@@ -33,6 +33,8 @@ pub struct Entries {
     pub quote: Quotes,
     pub execute: Executes,
     pub solve: Solves,
+    /// The rows of a sheet of the other format, as a sheet of this one.
+    pub carry: Writes,
     pub force: Forces,
 }
 
@@ -47,6 +49,7 @@ pub const NARROW: Entries = Entries {
     quote: plumanchor_quote,
     execute: plumanchor_execute,
     solve: plumanchor_solve,
+    carry: plumanchor_narrow,
     force: plumanchor_force,
 };
 
@@ -61,6 +64,7 @@ pub const WIDE: Entries = Entries {
     quote: plumanchor_quote_wide,
     execute: plumanchor_execute_wide,
     solve: plumanchor_solve_wide,
+    carry: plumanchor_widen,
     force: plumanchor_force_wide,
 };
 
@@ -130,6 +134,8 @@ extern "C" {
         second: Output,
         second_room: usize,
     ) -> u64;
+    fn plumanchor_widen(sheet: Bytes, length: usize, output: Output, room: usize) -> u64;
+    fn plumanchor_narrow(sheet: Bytes, length: usize, output: Output, room: usize) -> u64;
 }
 
 extern "C" {

@@ -3,7 +3,7 @@
 
 use crate::{Library, LIBRARIES};
 use outside::generate::{self, Call, Rng};
-use outside::reference::{Answer, Refusal, SolveAnswer, Variable};
+use outside::reference::{bring_back, widen, Answer, Format, Refusal, SolveAnswer, Variable};
 use std::fmt::Debug;
 
 /// Runs `test` on `count` seeded generators for each library.
@@ -112,6 +112,18 @@ impl Library {
             [before],
             |[output]| self.reduce(sheet, output),
             |[output]| self.reading.reduce(sheet, output),
+        )
+    }
+
+    /// Carrying over to this format, or bringing back to it.
+    pub fn agree_on_carry(&self, sheet: &[u8], before: &[u8]) -> Written {
+        let carry = if self.reading.format == Format::WIDE { widen } else { bring_back };
+        agree(
+            "carry",
+            sheet,
+            [before],
+            |[output]| self.carry(sheet, output),
+            |[output]| carry(sheet, output),
         )
     }
 

@@ -107,6 +107,12 @@ impl Library {
         })
     }
 
+    /// The rows of a sheet of the other format, as a sheet of this one.
+    pub fn carry(&self, sheet: &[u8], output: &mut [u8]) -> Answer<usize> {
+        let (out, room) = (output.as_mut_ptr(), output.len());
+        written(unsafe { (self.entries.carry)(sheet.as_ptr(), sheet.len(), out, room) })
+    }
+
     /// The raw rows of an expansion.
     pub fn quote(&self, sheet: &[u8], x: Variable) -> Answer<usize> {
         written(unsafe { (self.entries.quote)(sheet.as_ptr(), sheet.len(), x) })

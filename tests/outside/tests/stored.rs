@@ -6,7 +6,8 @@ use outside::reference::{Format, Quantifier};
 use outside::{stored, with_deep_stack};
 use std::fs;
 
-const NARROW: Format = Format::NARROW;
+/// Both formats, each with the length of the four cubes' raw sheet.
+const FORMATS: [(Format, usize); 2] = [(Format::NARROW, 88), (Format::WIDE, 148)];
 
 fn read(name: &str) -> Vec<u8> {
     let folder = concat!(env!("CARGO_MANIFEST_DIR"), "/../../crates/cases");
@@ -24,31 +25,37 @@ fn stored_cases_are_current() {
 
 #[test]
 fn stored_lines_of_the_formulas_tried() {
-    let longest = NARROW.longest_sheet();
-    for (formula, line) in tried_by_hand() {
-        assert_eq!(stored_line(&NARROW.encode(&formula), longest, longest), line);
+    for (format, _) in FORMATS {
+        let longest = format.longest_sheet();
+        for (formula, line) in tried_by_hand() {
+            assert_eq!(stored_line(format, &format.encode(&formula), longest, longest), line);
+        }
     }
 }
 
 #[test]
 fn stored_lines_of_the_four_cubes() {
-    let sheet = sheet(NARROW, &all(Quantifier::ForAll, 2), four_cubes());
-    assert_eq!(stored_line(&sheet, 88, 88), "true 0 1 0");
-    for (first, second) in [(88, 87), (87, 88), (87, 87)] {
-        assert_eq!(stored_line(&sheet, first, second), "stopped 0 0 1");
+    for (format, room) in FORMATS {
+        let sheet = sheet(format, &all(Quantifier::ForAll, 2), four_cubes());
+        assert_eq!(stored_line(format, &sheet, room, room), "true 0 1 0");
+        for (first, second) in [(room, room - 1), (room - 1, room), (room - 1, room - 1)] {
+            assert_eq!(stored_line(format, &sheet, first, second), "stopped 0 0 1");
+        }
     }
 }
 
 /// The program's line in the stored one for Solve with buffers of these lengths.
-fn stored_line(sheet: &[u8], first: usize, second: usize) -> String {
+fn stored_line(format: Format, sheet: &[u8], first: usize, second: usize) -> String {
     let stored = String::from_utf8(read("stdout")).expect("text");
     let wanted = stored::Call::solve(first, second);
+    let (wanted, name) =
+        if format == Format::WIDE { (wanted.on_wide(), "wide solve ") } else { (wanted, "solve ") };
     let cases = with_deep_stack(stored::cases);
     let calls = cases.iter().flat_map(|case| case.calls.iter().map(|call| (&case.sheet, call)));
     let mut lines = calls.zip(stored.lines());
     let (_, line) = lines
         .find(|((of, call), _)| of.as_slice() == sheet && **call == wanted)
         .expect("a stored call");
-    let words = line.strip_prefix("solve ").expect("a line of Solve").split(' ');
+    let words = line.strip_prefix(name).expect("a line of Solve").split(' ');
     words.take(4).collect::<Vec<_>>().join(" ")
 }

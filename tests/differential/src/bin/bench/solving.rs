@@ -1,8 +1,9 @@
-//! Solve over growing sheets: through the static library beside the independent
-//! reading, and the program's process beside that of a solver from outside.
+//! Solve over growing sheets, wide as the program reads them: through the static
+//! library beside the independent reading, and the program's process beside that
+//! of a solver from outside.
 
 use crate::{ratio, time_of};
-use differential::NARROW;
+use differential::WIDE;
 use outside::depqbf;
 use outside::generate::{self, Family, Limits, Rng};
 use outside::qdimacs::translate;
@@ -13,11 +14,19 @@ use std::time::{Duration, Instant};
 
 const PROGRAM: &str = concat!(env!("CARGO_MANIFEST_DIR"), "/../../target/bin/plumanchor");
 
-const FORMAT: Format = NARROW.reading.format;
+const FORMAT: Format = WIDE.reading.format;
 
 /// Variables and rows.
-const SIZES: [(usize, usize); 7] =
-    [(20, 100), (40, 250), (60, 500), (80, 800), (120, 1500), (160, 2500), (200, 4000)];
+const SIZES: [(usize, usize); 8] = [
+    (20, 100),
+    (40, 250),
+    (60, 500),
+    (80, 800),
+    (120, 1500),
+    (160, 2500),
+    (200, 4000),
+    (400, 8000),
+];
 
 const FAMILIES: [Family; 5] =
     [Family::Clauses, Family::Tidy, Family::Parity, Family::Ladder, Family::Untidy];
@@ -62,13 +71,13 @@ fn row(family: Family, formula: &Formula, before: Option<Point>) -> Point {
     let sheet = FORMAT.encode(formula);
     let (mut first, mut second) =
         (vec![0; FORMAT.longest_sheet()], vec![0; FORMAT.longest_sheet()]);
-    let answer = NARROW.solve(&sheet, &mut first, &mut second);
+    let answer = WIDE.solve(&sheet, &mut first, &mut second);
     let line = line_of(&answer);
     let library = time_of(|| {
-        NARROW.solve(&sheet, &mut first, &mut second);
+        WIDE.solve(&sheet, &mut first, &mut second);
     });
     let reading = time_of(|| {
-        NARROW.reading.solve(&sheet, &mut first, &mut second);
+        WIDE.reading.solve(&sheet, &mut first, &mut second);
     });
     let program = time_of_process(|| run_program(&sheet));
     let text = translate(formula).text();

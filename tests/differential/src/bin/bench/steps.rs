@@ -1,75 +1,97 @@
 //! Tidy, Reduce, Settle and Expand over rows: flat, random and chain-shaped sheets of
-//! 128 to 4,096 rows, and how the time grows with each doubling.
+//! 128 to 4,096 rows, narrow, and of 4,096 and 8,192 rows, wide, and how the
+//! time grows with each doubling.
 
 use crate::{ratio, time_of};
-use differential::NARROW;
+use differential::{Library, NARROW, WIDE};
 use outside::formulas::{all, and, clause, formula, lit};
 use outside::generate::{self, ladder_formula, Family, Limits, Rng};
 use outside::reference::*;
 use std::time::Duration;
 use Quantifier::{Exists, ForAll};
 
-const FORMAT: Format = NARROW.reading.format;
+/// A format's sheets, and how many rows they have.
+struct Sizes {
+    library: Library,
+    rows: &'static [usize],
+}
 
-const ROWS: [usize; 6] = [128, 256, 512, 1024, 2048, 4096];
+const NARROW_SIZES: Sizes = Sizes { library: NARROW, rows: &[128, 256, 512, 1024, 2048, 4096] };
 
-/// One sheet of about `rows` rows, with the variable to settle or to expand.
+/// A step at 8,192 rows is to take at most 2.2 times as long as at 4,096.
+const WIDE_SIZES: Sizes = Sizes { library: WIDE, rows: &[4096, 8192] };
+
+/// A formula of about so many rows, with the variable to settle or to expand.
 struct Sheet {
-    sheet: Vec<u8>,
+    formula: Formula,
     rows: usize,
     x: Variable,
 }
 
 impl Sheet {
     fn new(formula: Formula, x: Variable) -> Sheet {
-        Sheet { sheet: FORMAT.encode(&formula), rows: formula.matrix.rows(), x }
+        Sheet { rows: formula.matrix.rows(), formula, x }
     }
 
     /// For Expand the rows that are written count.
     fn raw(formula: Formula, x: Variable) -> Sheet {
-        Sheet { sheet: FORMAT.encode(&formula), rows: raw_rows(&formula, x), x }
+        Sheet { rows: raw_rows(&formula, x), formula, x }
     }
 }
 
-type Writes = fn(&[u8], Variable, &mut [u8]) -> Answer<usize>;
+type Writes = fn(&Library, &[u8], Variable, &mut [u8]) -> Answer<usize>;
 
 /// An operation as proved and as read.
 type Both = (Writes, Writes);
 
 const TIDY: Both = (
-    |sheet, _, output| NARROW.tidy(sheet, output),
-    |sheet, _, output| NARROW.reading.tidy(sheet, output),
+    |library, sheet, _, output| library.tidy(sheet, output),
+    |library, sheet, _, output| library.reading.tidy(sheet, output),
 );
 const REDUCE: Both = (
-    |sheet, _, output| NARROW.reduce(sheet, output),
-    |sheet, _, output| NARROW.reading.reduce(sheet, output),
+    |library, sheet, _, output| library.reduce(sheet, output),
+    |library, sheet, _, output| library.reading.reduce(sheet, output),
 );
 const SETTLE: Both = (
-    |sheet, x, output| NARROW.step(Operation::Settle, sheet, x, output),
-    |sheet, x, output| NARROW.reading.settle(sheet, x, output),
+    |library, sheet, x, output| library.step(Operation::Settle, sheet, x, output),
+    |library, sheet, x, output| library.reading.settle(sheet, x, output),
 );
 const EXPAND: Both = (
-    |sheet, x, output| NARROW.step(Operation::Expand, sheet, x, output),
-    |sheet, x, output| NARROW.reading.expand(sheet, x, output),
+    |library, sheet, x, output| library.step(Operation::Expand, sheet, x, output),
+    |library, sheet, x, output| library.reading.expand(sheet, x, output),
 );
 
-/// One operation on one shape, over all sizes.
-fn series(name: &str, (proved, reference): Both, sheet_of: impl Fn(usize) -> Sheet) {
+/// One operation on one shape, over all sizes of both formats.
+fn series(name: &str, both: Both, sheet_of: impl Fn(Format, usize) -> Sheet) {
+    for sizes in [NARROW_SIZES, WIDE_SIZES] {
+        series_in(&sizes, name, both, &sheet_of);
+    }
+}
+
+fn series_in(
+    sizes: &Sizes,
+    name: &str,
+    (proved, reference): Both,
+    sheet_of: impl Fn(Format, usize) -> Sheet,
+) {
+    let (library, format) = (&sizes.library, sizes.library.reading.format);
+    let name = if format == Format::WIDE { format!("{name}, wide") } else { name.to_string() };
     let mut last: Option<Duration> = None;
-    for target in ROWS {
-        let Sheet { sheet, rows, x } = sheet_of(target);
-        let mut output = vec![0; FORMAT.longest_sheet()];
-        let accepted = matches!(proved(&sheet, x, &mut output), Answer::Accepted(_));
+    for &target in sizes.rows {
+        let Sheet { formula, rows, x } = sheet_of(format, target);
+        let sheet = format.encode(&formula);
+        let mut output = vec![0; format.longest_sheet()];
+        let accepted = matches!(proved(library, &sheet, x, &mut output), Answer::Accepted(_));
         let mine = time_of(|| {
-            proved(&sheet, x, &mut output);
+            proved(library, &sheet, x, &mut output);
         });
         let theirs = time_of(|| {
-            reference(&sheet, x, &mut output);
+            reference(library, &sheet, x, &mut output);
         });
         let growth = last.map_or("-".to_string(), |last| format!("{:.2}", ratio(mine, last)));
         let (mine_ns, theirs_ns, ratio) = (mine.as_nanos(), theirs.as_nanos(), ratio(mine, theirs));
         let note = if accepted { "" } else { "  refused" };
-        println!("{name:<28}{rows:>6}{mine_ns:>11}{growth:>8}{theirs_ns:>11}{ratio:>8.2}{note}");
+        println!("{name:<34}{rows:>6}{mine_ns:>11}{growth:>8}{theirs_ns:>11}{ratio:>8.2}{note}");
         last = Some(mine);
     }
 }
@@ -115,27 +137,27 @@ fn one_child_chain(rows: usize) -> Formula {
 }
 
 /// A ladder of an odd number of rows.
-fn ladder(rows: usize, literals_of_1: usize) -> Formula {
-    ladder_formula(FORMAT, rows - 1 + rows % 2, literals_of_1)
+fn ladder(format: Format, rows: usize, literals_of_1: usize) -> Formula {
+    ladder_formula(format, rows - 1 + rows % 2, literals_of_1)
 }
 
 /// A ladder of 1 and 2 with all other rows of the prefix spare and in between.
-fn ladder_past_spare_rows(rows: usize) -> Formula {
+fn ladder_past_spare_rows(format: Format, rows: usize) -> Formula {
     let mut matrix = clause(&[1, 2]);
     for rung in 1..rows / 2 {
         let literal = Node::Lit { positive: rung % 4 < 2, var: 1 + rung % 2 };
         let kind = if rung.is_multiple_of(2) { Kind::Or } else { Kind::And };
         matrix = Node::Op { kind, children: vec![literal, matrix] };
     }
-    let spare = (3..=FORMAT.most_variables).map(|x| (ForAll, x));
+    let spare = (3..=format.most_variables).map(|x| (ForAll, x));
     let prefix: Vec<Binding> =
         [(Exists, 1)].into_iter().chain(spare).chain([(Exists, 2)]).collect();
     formula(&prefix, matrix)
 }
 
 /// Of a hundred random formulas of a family the one with the most rows.
-fn random(family: Family, rows: usize) -> Formula {
-    let limits = Limits { nodes: rows, ..Limits::full(FORMAT) };
+fn random(format: Format, family: Family, rows: usize) -> Formula {
+    let limits = Limits { nodes: rows, ..Limits::full(format) };
     let mut rng = Rng::new(generate::run_seed());
     let formulas = (0..100).map(|_| generate::formula_of(&mut rng, family, limits));
     formulas.max_by_key(|formula| formula.matrix.rows()).expect("a hundred formulas")
@@ -146,17 +168,17 @@ fn settleable(formula: &Formula) -> Option<Variable> {
     formula.variables().into_iter().find(|&x| settle_value(formula, x).is_some())
 }
 
-fn random_to_settle(rows: usize) -> Sheet {
-    let formula = random(Family::Tidy, rows);
+fn random_to_settle(format: Format, rows: usize) -> Sheet {
+    let formula = random(format, Family::Tidy, rows);
     let x = settleable(&formula).unwrap_or(1);
     Sheet::new(formula, x)
 }
 
 /// The variable of the innermost block with the most raw rows that fit.
-fn random_to_expand(rows: usize) -> Sheet {
-    let formula = random(Family::Tidy, rows / 2);
+fn random_to_expand(format: Format, rows: usize) -> Sheet {
+    let formula = random(format, Family::Tidy, rows / 2);
     let block = NARROW.reading.rules.innermost_block(&formula).into_iter();
-    let fitting = block.filter(|&x| raw_rows(&formula, x) <= FORMAT.most_nodes);
+    let fitting = block.filter(|&x| raw_rows(&formula, x) <= format.most_nodes);
     let x = fitting.max_by_key(|&x| raw_rows(&formula, x)).unwrap_or(1);
     Sheet::raw(formula, x)
 }
@@ -164,22 +186,24 @@ fn random_to_expand(rows: usize) -> Sheet {
 pub fn report() {
     println!();
     println!(
-        "{:<28}{:>6}{:>11}{:>8}{:>11}{:>8}",
+        "{:<34}{:>6}{:>11}{:>8}{:>11}{:>8}",
         "operation and shape", "rows", "ns", "growth", "reference", "ratio"
     );
-    series("tidy, flat", TIDY, |n| Sheet::new(flat_literals(n), 1));
-    series("tidy, flat clauses", TIDY, |n| Sheet::new(flat_clauses(n, 4, true), 1));
-    series("tidy, mixed", TIDY, |n| Sheet::new(mixed(n), 1));
-    series("tidy, random", TIDY, |n| Sheet::new(random(Family::Untidy, n), 1));
-    series("tidy, chain", TIDY, |n| Sheet::new(one_child_chain(n), 1));
-    series("tidy, ladder", TIDY, |n| Sheet::new(ladder(n, 1), 1));
-    series("reduce, clauses", REDUCE, |n| Sheet::new(alternating_clauses(n), 1));
-    series("settle, flat", SETTLE, |n| Sheet::new(flat_clauses(n, 4, false), 1));
+    series("tidy, flat", TIDY, |_, n| Sheet::new(flat_literals(n), 1));
+    series("tidy, flat clauses", TIDY, |_, n| Sheet::new(flat_clauses(n, 4, true), 1));
+    series("tidy, mixed", TIDY, |_, n| Sheet::new(mixed(n), 1));
+    series("tidy, random", TIDY, |f, n| Sheet::new(random(f, Family::Untidy, n), 1));
+    series("tidy, chain", TIDY, |_, n| Sheet::new(one_child_chain(n), 1));
+    series("tidy, ladder", TIDY, |f, n| Sheet::new(ladder(f, n, 1), 1));
+    series("reduce, clauses", REDUCE, |_, n| Sheet::new(alternating_clauses(n), 1));
+    series("settle, flat", SETTLE, |_, n| Sheet::new(flat_clauses(n, 4, false), 1));
     series("settle, random", SETTLE, random_to_settle);
-    series("settle, ladder", SETTLE, |n| Sheet::new(ladder(n, 1), 1));
-    series("expand, flat", EXPAND, |n| Sheet::raw(flat_clauses(n / 2, 1, true), 1));
+    series("settle, ladder", SETTLE, |f, n| Sheet::new(ladder(f, n, 1), 1));
+    series("expand, flat", EXPAND, |_, n| Sheet::raw(flat_clauses(n / 2, 1, true), 1));
     series("expand, random", EXPAND, random_to_expand);
-    series("expand, ladder copied", EXPAND, |n| Sheet::raw(ladder(n / 2, 2), 1));
-    series("expand, past spare rows", EXPAND, |n| Sheet::raw(ladder_past_spare_rows(n / 2 - 1), 1));
-    series("expand, ladder, one literal", EXPAND, |n| Sheet::raw(ladder(n - 3, 1), 1));
+    series("expand, ladder copied", EXPAND, |f, n| Sheet::raw(ladder(f, n / 2, 2), 1));
+    series("expand, past spare rows", EXPAND, |f, n| {
+        Sheet::raw(ladder_past_spare_rows(f, n / 2 - 1), 1)
+    });
+    series("expand, ladder, one literal", EXPAND, |f, n| Sheet::raw(ladder(f, n - 3, 1), 1));
 }
