@@ -10,17 +10,7 @@ type Steps = unsafe extern "C" fn(Bytes, usize, usize, Output, usize) -> u64;
 type Quotes = unsafe extern "C" fn(Bytes, usize, usize) -> u64;
 type Executes = unsafe extern "C" fn(Bytes, usize, usize, usize, Output, usize) -> u64;
 type Solves = unsafe extern "C" fn(Bytes, usize, Output, usize, Output, usize) -> u64;
-
-type Forces = unsafe extern "C" fn(
-    Bytes,
-    usize,
-    Bytes,
-    usize,
-    Output,
-    usize,
-    Output,
-    usize,
-) -> u64;
+type Forces = unsafe extern "C" fn(Bytes, usize, Bytes, usize, Output, usize, Output, usize) -> u64;
 
 pub struct Entries {
     pub check: Reads,

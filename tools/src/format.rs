@@ -20,11 +20,19 @@ pub static NARROW: Format = Format {
     entries: foreign::NARROW,
 };
 
+pub static WIDE: Format = Format {
+    name: "wide",
+    width: 4,
+    most_variables: 1024,
+    most_nodes: 8192,
+    entries: foreign::WIDE,
+};
+
 /// Every format of sheets.
-pub static FORMATS: [&Format; 1] = [&NARROW];
+pub static FORMATS: [&Format; 2] = [&WIDE, &NARROW];
 
 /// What a sheet is in unless `--from` says otherwise, as for the program.
-pub static DEFAULT: &Format = &NARROW;
+pub static DEFAULT: &Format = &WIDE;
 
 impl Format {
     /// Where the kinds begin.

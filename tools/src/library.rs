@@ -65,11 +65,16 @@ impl Sheet {
         Ok(Formula::decode(self.format, &self.bytes))
     }
 
-    /// The same rows in a format.
-    pub fn carried(self, format: &Format) -> Result<Sheet, Refusal> {
-        self.check()?;
-        assert_eq!(self.format.name, format.name, "there is one format of sheets");
-        Ok(self)
+    /// The same rows in a format, carried over or brought back by the proved operation.
+    pub fn carried(self, format: &'static Format) -> Result<Sheet, Refusal> {
+        if format.name == self.format.name {
+            self.check()?;
+            return Ok(self);
+        }
+        let carried = self.writes(format.longest(), |sheet, length, output, room| unsafe {
+            (format.entries.carry)(sheet, length, output, room)
+        });
+        Ok(Sheet { format, ..carried? })
     }
 
     /// The verdict, and how many leaves were tried.

@@ -137,13 +137,11 @@ fn a_run_in_words() {
 #[test]
 fn a_stop_says_why() {
     let crowded = text(answered(&["explain"], &example_bytes("crowded")));
-    if READING.format.most_nodes < 4803 {
-        let most = READING.format.most_nodes;
-        let told = format!(
-            "Stopped at 1: exists, 4803 raw rows; a sheet has at most {most}.\nstopped 0 0 1\n"
-        );
-        assert!(crowded.ends_with(&told), "{crowded}");
-    }
+    let most = READING.format.most_nodes;
+    let told = format!(
+        "Stopped at 1: exists, 9603 raw rows; a sheet has at most {most}.\nstopped 0 0 1\n"
+    );
+    assert!(crowded.ends_with(&told), "{crowded}");
     let sheet = example_bytes("two-tautology");
     let needed = READING.format.sheet_length(1, 27);
     let room = (needed - 1).to_string();

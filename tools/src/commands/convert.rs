@@ -10,11 +10,12 @@ pub const COMMAND: Command = Command {
     name: "convert",
     purpose: "a sheet from another format, or to another",
     help: "Usage: plumanchor convert [--from FORMAT] [--to FORMAT] [FILE] > RESULT\n\n\
-           FORMAT is 'narrow', sheets of 16-bit numbers, or 'qcir', texts in QCIR-G14; without the\n\
-           option it is the program's own format. Of a circuit a tree is written: shared gates are\n\
-           copied, negation is pushed to the literals, xor and ite are written out, and free variables\n\
-           are exists rows in front. Variables keep their numbers if all are called by numbers that\n\
-           the sheet can have, and are else numbered from 1 in their order; '--to names' writes a\n\
+           FORMAT is 'wide', sheets of 32-bit numbers, 'narrow', those of 16 bits, or 'qcir', texts in\n\
+           QCIR-G14; without the option it is 'wide', the program's own format. Between the formats of\n\
+           sheets the rows are carried by the proved operations. Of a circuit a tree is written: shared\n\
+           gates are copied, negation is pushed to the literals, xor and ite are written out, and free\n\
+           variables are exists rows in front. Variables keep their numbers if all are called by numbers\n\
+           that the sheet can have, and are else numbered from 1 in their order; '--to names' writes a\n\
            number and a name a line.\n",
     options: &["from", "to"],
     run,

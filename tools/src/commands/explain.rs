@@ -19,7 +19,7 @@ pub const COMMAND: Command = Command {
            Writes which variable is settled or expanded in each step and why, with the rows and\n\
            variables that are left; the last line is the program's. Each step is made by the proved\n\
            Settle or Expand, and the line is compared with the proved Solve's.\n\n  \
-             --from FORMAT   what the sheet is written in\n  \
+             --from FORMAT   what the sheet is written in; the run is that of the program's format\n  \
              --names FILE    call variables by names: a number and a name a line\n  \
              --room BYTES    the length of the work buffers, if not the program's\n  \
              --sheets DIR    keep the sheet after each step in a folder\n",
@@ -31,6 +31,10 @@ fn run(mut arguments: Arguments) -> Result<Answer, Failure> {
     let room = arguments.number_option("room")?;
     let folder = arguments.option("sheets");
     let Input { sheet, names } = input::input(arguments, DEFAULT)?;
+    let sheet = match sheet.carried(DEFAULT) {
+        Ok(sheet) => sheet,
+        Err(refusal) => return Ok(Answer::of_run(String::new(), Err(refusal))),
+    };
     let room = sheet.room(room);
     let solved = match sheet.solve(room) {
         Ok(solved) => solved,

@@ -7,7 +7,7 @@ use std::io::{Cursor, Write};
 use std::process::{Command, Stdio};
 
 /// The format that the tool and the program read by default.
-pub const READING: Reading = Reading::NARROW;
+pub const READING: Reading = Reading::WIDE;
 
 /// One call of the program.
 pub fn spawned(arguments: &[&str], input: &[u8]) -> Ended {

@@ -123,7 +123,7 @@ fn mixed(rows: usize) -> Formula {
 /// the last literal goes if it is universal.
 fn alternating_clauses(rows: usize) -> Formula {
     let quantifier = |x: usize| if x.is_multiple_of(2) { ForAll } else { Exists };
-    let prefix: Vec<Binding> = (1..=FORMAT.most_variables).map(|x| (quantifier(x), x)).collect();
+    let prefix: Vec<Binding> = (1..=256).map(|x| (quantifier(x), x)).collect();
     let of = |at: usize| {
         let first = 1 + (7 * at % 250) as i32;
         clause(&[first, -first - 1, first + 2, first + 3])
