@@ -13,14 +13,13 @@ ghost use mathlib.Core.Path.{_≡_};
 ghost use mathlib.Core.Bool.{cond};
 ghost use Prim.Native.Nat.{_+_, _≤_, _<_, max};
 ghost use lib.Dec.{eqb, leb};
-ghost use lib.ListN.{length, getD, set, drop};
+ghost use lib.ListN.{length, set};
 ghost use lib.Seq.{slice};
-ghost use Rattle.sheet.specs.Format.{row};
 ghost use Rattle.sheet.specs.Sheet.{formula-rows};
 ghost use Rattle.rows.specs.Layouts.{total, rows-in, Room};
 ghost use Rattle.rows.specs.Formulas.{prefix-in, formula-in};
-ghost use Rattle.reduce.specs.Inner.Places.{Placed, Bound};
-ghost use Rattle.reduce.specs.Inner.Clauses.{last-existential, goes-row, blank-row, Literals, Blanks, Clausal, blanked};
+ghost use Rattle.reduce.specs.Inner.Places.{Placed, row-of, Bound};
+ghost use Rattle.reduce.specs.Inner.Clauses.{last-existential, goes-row, blank-row, Literals, Copy, Blanks, Clausal, blanked};
 
 // The greater of two numbers.
 fn later(a: usize, b: usize) -> usize
@@ -49,7 +48,7 @@ fn last_existential(b: &[u8], s: Layout, places: &[u16], from: usize, to: usize)
 // Whether the literal at row `r` goes: it is universal, and the last existential one of its clause doesn't stand behind it.
 fn goes_at(b: &[u8], s: Layout, places: &[u16], r: usize, last: usize) -> bool
     requires { ⌜ Placed s (now b) (now places) × Bound s (now b) r ⌝ }
-    ensures { λ g. ⌜ g ≡ goes-row (prefix-in s (now (b .entry))) last (getD (rows-in s (now (b .entry))) r (row 0 0)) ⌝ }
+    ensures { λ g. ⌜ g ≡ goes-row (prefix-in s (now (b .entry))) last (row-of s (now (b .entry)) r) ⌝ }
 {
     let i = place_at(b, s, places, r);
     if is_existential(b, s, i) {
@@ -60,8 +59,8 @@ fn goes_at(b: &[u8], s: Layout, places: &[u16], r: usize, last: usize) -> bool
 
 // Makes the literal at row `r` of the copy OR of nothing, if it goes.
 fn blank_literal(b: &[u8], s: Layout, places: &[u16], r: usize, last: usize, out: &mut [u8])
-    requires { ⌜ Placed s (now b) (now places) × Bound s (now b) r × Room s (length (now out)) × (drop r (rows-in s (now out)) ≡ drop r (rows-in s (now b))) ⌝ }
-    ensures { λ _. ⌜ rows-in s (now (out .exit)) ≡ set (rows-in s (now (out .entry))) r (blank-row (prefix-in s (now (b .entry))) last (getD (rows-in s (now (b .entry))) r (row 0 0))) ⌝ }
+    requires { ⌜ Placed s (now b) (now places) × Bound s (now b) r × Copy s (now b) (now out) r ⌝ }
+    ensures { λ _. ⌜ rows-in s (now (out .exit)) ≡ set (rows-in s (now (out .entry))) r (blank-row (prefix-in s (now (b .entry))) last (row-of s (now (b .entry)) r)) ⌝ }
 {
     if goes_at(b, s, places, r, last) {
         set_row(out, s, r, OR, 0);
@@ -70,7 +69,7 @@ fn blank_literal(b: &[u8], s: Layout, places: &[u16], r: usize, last: usize, out
 
 // Blanks the literals that go among the rows of a clause.
 fn blank_literals(b: &[u8], s: Layout, places: &[u16], from: usize, to: usize, out: &mut [u8])
-    requires { ⌜ Placed s (now b) (now places) × Literals s (now b) from to × Room s (length (now out)) × (drop from (rows-in s (now out)) ≡ drop from (rows-in s (now b))) ⌝ }
+    requires { ⌜ Placed s (now b) (now places) × Literals s (now b) from to × Copy s (now b) (now out) from ⌝ }
     ensures { λ _. ⌜ Blanks s (now (b .entry)) (now (out .entry)) (now (out .exit)) from to ⌝ }
 {
     let last = last_existential(b, s, places, from, to);
@@ -84,7 +83,7 @@ fn blank_literals(b: &[u8], s: Layout, places: &[u16], from: usize, to: usize, o
 // The row of the first clause: behind a root that is AND, and else the root itself, as a single clause.
 fn first_clause(b: &[u8], s: Layout) -> usize
     requires { ⌜ Room s (length (now b)) × (s .variables < total s) ⌝ }
-    ensures { λ r. ⌜ r ≡ s .variables + cond (eqb ((getD (rows-in s (now (b .entry))) (s .variables) (row 0 0)) .kind) 5) 1 0 ⌝ }
+    ensures { λ r. ⌜ r ≡ s .variables + cond (eqb ((row-of s (now (b .entry)) (s .variables)) .kind) 5) 1 0 ⌝ }
 {
     if kind_at(b, s, s.variables) == AND {
         return s.variables + 1;
@@ -95,7 +94,7 @@ fn first_clause(b: &[u8], s: Layout) -> usize
 // The row of the first literal of the clause at row `r`: its own, or the one behind an OR.
 fn first_literal(b: &[u8], s: Layout, r: usize) -> usize
     requires { ⌜ Room s (length (now b)) × (r < total s) × (total s ≤ 9216) ⌝ }
-    ensures { λ i. ⌜ i ≡ r + cond (leb ((getD (rows-in s (now (b .entry))) r (row 0 0)) .kind) 4) 0 1 ⌝ }
+    ensures { λ i. ⌜ i ≡ r + cond (leb ((row-of s (now (b .entry)) r) .kind) 4) 0 1 ⌝ }
 {
     if kind_at(b, s, r) <= NEGATIVE {
         return r;

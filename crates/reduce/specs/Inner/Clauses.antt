@@ -5,13 +5,13 @@ use mathlib.Core.Bool.{Bool, true, false, not, _&&_, _||_, cond}
 use mathlib.Core.List.{List, [], _∷_, _++_, map}
 use Prim.Native.Nat.{ℕ, suc, max, _≤_, _<_}
 use lib.Dec.{eqb, ltb}
-use lib.ListN.{take, drop}
+use lib.ListN.{length, take, drop}
 use lib.Seq.{slice}
 use Rattle.formula.specs.Tree.{same-op, for-all, Prefix, Formula, distinct, closed, quantifier-of}
 use Rattle.formula.specs.Reduce.{in-profile}
 use Rattle.formula.proofs.Reduce.{blank-tree}
 use Rattle.sheet.specs.Format.{Bytes, Row, row}
-use Rattle.rows.specs.Layouts.{total, rows-in}
+use Rattle.rows.specs.Layouts.{total, rows-in, Room}
 use Rattle.rows.specs.Formulas.{prefix-in, formula-in}
 use Rattle.rows.specs.declared.Layout.{Layout}
 use Rattle.prefixes.specs.Places.{place}
@@ -43,6 +43,11 @@ pub record Literals (s : Layout) (b : Bytes) (from to : ℕ) : Type 0 where
   pub ordered : from ≤ to
   pub inside : to ≤ total s
   pub are-bound : (r : ℕ) → from ≤ r → r < to → Bound s b r
+
+-- the rows have their place in an output, and from row r on it has those of the sheet
+pub record Copy (s : Layout) (b out : Bytes) (r : ℕ) : Type 0 where
+  pub room : Room s (length out)
+  pub same : drop r (rows-in s out) ≡ drop r (rows-in s b)
 
 -- a clause's literals blanked, and no other row changed
 abbrev pub Blanks : Layout → Bytes → Bytes → Bytes → ℕ → ℕ → Type 0

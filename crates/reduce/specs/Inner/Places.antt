@@ -6,7 +6,7 @@ use mathlib.Core.List.{List}
 use Prim.Native.Nat.{ℕ, suc, _≤_, _<_}
 use lib.ListN.{length, getD}
 use Rattle.formula.specs.Tree.{same-op, exists, Prefix, binds, quantifier-of}
-use Rattle.sheet.specs.Format.{Bytes, row}
+use Rattle.sheet.specs.Format.{Bytes, Row, row}
 use Rattle.rows.specs.Layouts.{total, rows-in}
 use Rattle.rows.specs.Formulas.{prefix-in, Readable}
 use Rattle.rows.specs.declared.Layout.{Layout}
@@ -23,9 +23,12 @@ pub record Placed (s : Layout) (b : Bytes) (places : List ℕ) : Type 0 where
   pub size : length places ≡ 1025
   pub is-place : (x : ℕ) → binds (prefix-in s b) x ≡ true → getD places x 0 ≡ place x (prefix-in s b)
 
--- the variable of row r
+-- row r, and its variable
+abbrev pub row-of : Layout → Bytes → ℕ → Row
+row-of s b r = getD (rows-in s b) r (row 0 0)
+
 abbrev pub variable-of : Layout → Bytes → ℕ → ℕ
-variable-of s b r = (getD (rows-in s b) r (row 0 0)) .argument
+variable-of s b r = (row-of s b r) .argument
 
 -- row r has a variable that is bound
 pub record Bound (s : Layout) (b : Bytes) (r : ℕ) : Type 0 where

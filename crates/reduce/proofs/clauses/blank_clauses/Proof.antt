@@ -58,8 +58,10 @@ blank-literals-requires c κs =
     let from = first .first-literal .ensures in (
       a .pre .0 .placed,
       clause-literals (a .args .b .now) (a .pre .0) (a .args .out .now) (head .loop .out) (a .pre .1) (inv .1) (inv .0) h from to,
-      new-rows (a .args .b .now) (a .pre .0) (a .args .out .now) (head .loop .out) (a .pre .1) (inv .1) (inv .0),
-      clause-left (a .args .b .now) (a .pre .0) (a .args .out .now) (head .loop .out) (a .pre .1) (inv .1) (inv .0) h from to,
+      record {
+        room = new-rows (a .args .b .now) (a .pre .0) (a .args .out .now) (head .loop .out) (a .pre .1) (inv .1) (inv .0);
+        same = clause-left (a .args .b .now) (a .pre .0) (a .args .out .now) (head .loop .out) (a .pre .1) (inv .1) (inv .0) h from to;
+      },
     )
 
 loop-less : tie.Need-loop-less Inv-loop μ-loop

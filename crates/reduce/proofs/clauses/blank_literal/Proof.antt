@@ -14,7 +14,7 @@ goes-at-requires c κs = search needs
 set-row-requires : tie.Need-set-row-requires
 set-row-requires c κs =
     let a = c .before .before .before .before .before .before in
-    (a .pre .2, a .pre .1 .inside, one-le-pow (a .args .s .width) 256 (omega arith))
+    (a .pre .2 .room, a .pre .1 .inside, one-le-pow (a .args .s .width) 256 (omega arith))
 
 same-length : tie.Need-same-length
 same-length c = search needs
@@ -31,7 +31,7 @@ returns-2 : tie.Need-returns-2
 returns-2 c =
     let a = c .before .before .before .before .before in
     literal-stays (prefix-in (a .args .s) (a .args .b .now)) (a .args .last) (a .args .r) (rows-in (a .args .s) (a .args .out .now))
-    (rows-in (a .args .s) (a .args .b .now)) (c .before .goes-at .ensures) (c .if1 .left) (a .pre .3)
+    (rows-in (a .args .s) (a .args .b .now)) (c .before .goes-at .ensures) (c .if1 .left) (a .pre .2 .same)
 
 pub blank-literal-spec : {M : Type 1} → statement M
 blank-literal-spec =

@@ -17,7 +17,7 @@ last-existential-requires c κs = (c .before .before .before .pre .0, c .before 
 loop-holds : tie.Need-loop-holds Inv-loop μ-loop
 loop-holds c =
     let a = c .before .before .before .before in
-    blank-none (a .args .b .now) (a .args .out .now) (a .pre .0 .numbered .readable .room) (a .pre .2) (a .pre .1) (a .pre .3)
+    blank-none (a .args .b .now) (a .args .out .now) (a .pre .0 .numbered .readable .room) (a .pre .2 .room) (a .pre .1) (a .pre .2 .same)
     (c .last-existential .ensures)
 
 blank-literal-requires : tie.Need-blank-literal-requires Inv-loop μ-loop
@@ -28,9 +28,11 @@ blank-literal-requires c κs =
     let l = head .loop .inv in (
       a .pre .0,
       a .pre .1 .are-bound (head .loop .r) (l .start) (turn .loop-test .taken),
-      new-room (a .args .b .now) (a .args .out .now) (a .pre .0 .numbered .readable .room) (a .pre .2) (a .pre .1) (a .pre .3)
-          (turn .loop-test .taken) l,
-      l .standing .left,
+      record {
+        room = new-room (a .args .b .now) (a .args .out .now) (a .pre .0 .numbered .readable .room) (a .pre .2 .room) (a .pre .1) (a .pre .2 .same)
+            (turn .loop-test .taken) l;
+        same = l .standing .left;
+      },
     )
 
 add-r : tie.Need-add-r Inv-loop μ-loop
@@ -45,7 +47,7 @@ loop-again c =
     let turn = call .before .before in
     let head = turn .before in
     let a = head .before .before .before .before .before in
-    blank-literal-on (a .args .b .now) (a .args .out .now) (a .pre .0 .numbered .readable .room) (a .pre .2) (a .pre .1) (a .pre .3)
+    blank-literal-on (a .args .b .now) (a .args .out .now) (a .pre .0 .numbered .readable .room) (a .pre .2 .room) (a .pre .1) (a .pre .2 .same)
     (turn .loop-test .taken) (head .loop .inv) (omega arith) (call .blank-literal .ensures) (call .blank-literal .kept .1 .1 .1 .1 .1 .0)
 
 same-length : tie.Need-same-length Inv-loop μ-loop
@@ -54,7 +56,7 @@ same-length c = c .before .loop .inv .same-length
 returns : tie.Need-returns Inv-loop μ-loop
 returns c =
     let a = c .before .before .before .before .before .before in
-    blank-all-literals (a .args .b .now) (a .args .out .now) (a .pre .0 .numbered .readable .room) (a .pre .2) (a .pre .1) (a .pre .3)
+    blank-all-literals (a .args .b .now) (a .args .out .now) (a .pre .0 .numbered .readable .room) (a .pre .2 .room) (a .pre .1) (a .pre .2 .same)
     (c .loop-test .left) (c .before .loop .inv)
 
 pub blank-literals-spec : {M : Type 1} → statement M
