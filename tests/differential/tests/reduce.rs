@@ -5,8 +5,9 @@
 use differential::compare::{cases, hexadecimal, limit_sheets};
 use differential::Library;
 use outside::generate::{self, Limits, Rng};
+use outside::literature::LITERATURE;
 use outside::reference::{Answer, Formula};
-use outside::{truth, with_deep_stack};
+use outside::{depqbf, truth, with_deep_stack};
 
 /// One call with an output about as long as the sheet. Accepted, the sheet
 /// written is as true, and reducing it again changes nothing.
@@ -74,4 +75,32 @@ fn sheets_at_the_limits() {
             agree_around(&mut rng, library, sheet);
         });
     });
+}
+
+/// Families from the literature, some tidied first: their verdict is that of the
+/// reduced sheet too, as far as a solver from outside decides it.
+#[test]
+fn families_from_the_literature() {
+    let (mut reduced, mut decided) = (0, 0);
+    for reducer in &differential::reduce::REDUCERS {
+        let format = reducer.reading.format;
+        for family in &LITERATURE {
+            for n in 1..5 {
+                let formula = reducer.reading.rules.tidy_formula(&family.formula(n));
+                let sheet = format.encode(&formula);
+                let outcome = reducer.agree(&sheet, &vec![7; sheet.len()]);
+                let Some(written) = outcome.sheet() else {
+                    continue;
+                };
+                reduced += usize::from(written.len() < sheet.len());
+                let left = format.parse(written).expect("a sheet");
+                if let Some(verdict) = depqbf::verdict(&left) {
+                    assert_eq!(verdict, family.verdict, "{} {n}", family.name);
+                    decided += 1;
+                }
+            }
+        }
+    }
+    println!("{reduced} shorter, {decided} decided");
+    assert!(decided > 20, "{decided} decided");
 }
