@@ -14,7 +14,7 @@ use Rattle.formula.proofs.Evaluation.{eval-replace-all, eval-assigned, 
 
 -- forests divided by a test
 
-keep-none : (L : Literals) (ts : Forest) → count (keep (has L) ts) ≡ 0 → has-any L ts ≡ false
+pub keep-none : (L : Literals) (ts : Forest) → count (keep (has L) ts) ≡ 0 → has-any L ts ≡ false
 unfolding keep count has
 keep-none L ∅ h = refl
 keep-none L (t ▸ ts) h = by (has L t) h (keep-none L ts)
@@ -32,7 +32,7 @@ keep-all P (t ▸ ts) h =
     ap₂ (λ (m : Bool) (us : Forest). cond m (t ▸ us) us) (not-false (P t) (parts .0)) (keep-all P ts (parts .1))
 
 -- the children that fail the test have no literal of the set
-has-any-kept-out : (L : Literals) (ts : Forest) → has-any L (keep (λ t. not (has L t)) ts) ≡ false
+pub has-any-kept-out : (L : Literals) (ts : Forest) → has-any L (keep (λ t. not (has L t)) ts) ≡ false
 unfolding keep has
 has-any-kept-out L ∅ = refl
 has-any-kept-out L (t ▸ ts) = by (has L t) refl (has-any-kept-out L ts)
@@ -42,7 +42,7 @@ has-any-kept-out L (t ▸ ts) = by (has L t) refl (has-any-kept-out L ts)
     by true e rest = rest
     by false e rest = ap₂ _||_ e rest
 
-eval-divided : (P : Tree → Bool) (o : Op) (ρ : Assignment) (ts : Forest)
+pub eval-divided : (P : Tree → Bool) (o : Op) (ρ : Assignment) (ts : Forest)
     → eval-all ts o ρ ≡ join o (eval-all (keep P ts) o ρ) (eval-all (keep (λ t. not (P t)) ts) o ρ)
 unfolding eval keep
 eval-divided P o ρ ∅ = sym (join-unit o (unit o))

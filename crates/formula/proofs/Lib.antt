@@ -15,3 +15,4 @@ pub mod Trial
 pub mod Reduce
 pub mod ReduceAgain
 pub mod Force
+pub mod Outer

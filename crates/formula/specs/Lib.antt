@@ -9,4 +9,5 @@ pub mod Trace
 pub mod Trial
 pub mod Reduce
 pub mod Force
+pub mod Outer
 pub mod Right

@@ -1,0 +1,4 @@
+-- The laws of expansion one block out (N6).
+-- Assumes nothing.
+pub mod Part
+pub mod Apart
