@@ -108,6 +108,10 @@ pub or-cases : (a b : Bool) → (a || b) ≡ true → (a ≡ true) ⊎ (b ≡ tr
 or-cases true b h = inl refl
 or-cases false b h = inr h
 
+pub or-later : (a : Bool) {b : Bool} → b ≡ true → (a || b) ≡ true
+or-later true h = refl
+or-later false h = h
+
 -- both branches of a test
 pub cond-cases : {A : Type 0} (C : A → Type 0) (b : Bool) {x y : A} → (b ≡ true → C x) → (b ≡ false → C y) → C (cond b x y)
 cond-cases C true f g = f refl

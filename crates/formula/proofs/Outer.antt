@@ -2,3 +2,4 @@
 -- Assumes nothing.
 pub mod Part
 pub mod Apart
+pub mod Closure

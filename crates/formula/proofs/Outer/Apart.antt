@@ -11,16 +11,12 @@ use borrow.Author.Tests.{eqb-true, eqb-false, eq-eqb, ne-eqb, not-true}
 use Rattle.formula.specs.Tree.{Op, Tree, lit, node, Forest, ∅, _▸_, _⧺_, Literals, of, has, has-any, count, keep}
 use Rattle.formula.specs.Expand.{relevant, one-relevant}
 use Rattle.formula.specs.Outer.{within, within-below, touches}
-use Rattle.formula.proofs.Booleans.{and-parts, or-parts, or-cases}
+use Rattle.formula.proofs.Booleans.{and-parts, or-parts, or-cases, or-later}
 use Rattle.formula.proofs.Expand.{keep-none, one-first, one-later, one-counts, no-child}
 
 -- the literals of a set of variables
 abbrev pub members : (ℕ → Bool) → Literals
 members S s v = S v
-
-or-later : (a b : Bool) → b ≡ true → (a || b) ≡ true
-or-later true b h = refl
-or-later false b h = h
 
 -- what has a literal of the set has one of a member
 mutual
@@ -39,7 +35,7 @@ mutual
           → (has-any (members S) ts ≡ true → (y : ℕ) × (S y ≡ true) × (has-any (of y) ts ≡ true))
           → (y : ℕ) × (S y ≡ true) × ((has (of y) t || has-any (of y) ts) ≡ true)
       by true e k here later = let m = here e in (m .0, m .1, ap (λ (b : Bool). b || has-any (of (m .0)) ts) (m .2))
-      by false e k here later = let m = later k in (m .0, m .1, or-later (has (of (m .0)) t) (has-any (of (m .0)) ts) (m .2))
+      by false e k here later = let m = later k in (m .0, m .1, or-later (has (of (m .0)) t) (m .2))
 
 -- a member's literals are the set's
 mutual
@@ -98,7 +94,7 @@ has-keep-between M P (a ▸ us) c bs h k = by (P a) (has-keep-between M P us c b
   where
     by : (m : Bool) → has-any M (keep P (us ⧺ (c ▸ bs))) ≡ true
         → has-any M (cond m (a ▸ keep P (us ⧺ (c ▸ bs))) (keep P (us ⧺ (c ▸ bs)))) ≡ true
-    by true e = or-later (has M a) (has-any M (keep P (us ⧺ (c ▸ bs)))) e
+    by true e = or-later (has M a) e
     by false e = e
 
 has-keep : (M : Literals) (P : Tree → Bool) (ts : Forest) → has-any M (keep P ts) ≡ true → has-any M ts ≡ true
@@ -109,9 +105,9 @@ has-keep M P (t ▸ ts) h = by (P t) h (has-keep M P ts)
     by : (m : Bool) → has-any M (cond m (t ▸ keep P ts) (keep P ts)) ≡ true → (has-any M (keep P ts) ≡ true → has-any M ts ≡ true)
         → (has M t || has-any M ts) ≡ true
     by true k rest =
-        ⊎-elim (λ e. ap (λ (b : Bool). b || has-any M ts) e) (λ e. or-later (has M t) (has-any M ts) (rest e))
+        ⊎-elim (λ e. ap (λ (b : Bool). b || has-any M ts) e) (λ e. or-later (has M t) (rest e))
         (or-cases (has M t) (has-any M (keep P ts)) k)
-    by false k rest = or-later (has M t) (has-any M ts) (rest k)
+    by false k rest = or-later (has M t) (rest k)
 
 -- with no literal chosen, no child is relevant
 count-none : (A : Literals) (ts : Forest) → has-any A ts ≡ false → count (keep (has A) ts) ≡ 0
@@ -145,7 +141,7 @@ mutual
       by : (m : Bool) → cond m (within A M t) (within-below A M ts) ≡ true → (within A M t ≡ true → has M t ≡ true)
           → (within-below A M ts ≡ true → has-any M ts ≡ true) → (has M t || has-any M ts) ≡ true
       by true k here later = ap (λ (b : Bool). b || has-any M ts) (here k)
-      by false k here later = or-later (has M t) (has-any M ts) (later k)
+      by false k here later = or-later (has M t) (later k)
 
 within-skip : (A M : Literals) (us : Forest) (c : Tree) (bs : Forest) → has A c ≡ false
     → within-below A M (us ⧺ (c ▸ bs)) ≡ within-below A M (us ⧺ bs)
