@@ -3,3 +3,5 @@
 pub mod Part
 pub mod Apart
 pub mod Closure
+pub mod Witness
+pub mod Fresh
