@@ -5,3 +5,5 @@ pub mod Apart
 pub mod Closure
 pub mod Witness
 pub mod Fresh
+pub mod Mix
+pub mod Truth

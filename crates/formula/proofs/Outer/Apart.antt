@@ -143,6 +143,33 @@ mutual
       by true k here later = ap (λ (b : Bool). b || has-any M ts) (here k)
       by false k here later = or-later (has M t) (later k)
 
+-- a literal of a set within it is one of a member
+mutual
+  unfolding within
+
+  pub within-member : (A : Literals) (S : ℕ → Bool) (t : Tree) → within A (members S) t ≡ true
+      → (y : ℕ) × (S y ≡ true) × (within A (of y) t ≡ true)
+  within-member A S (lit s v) h = (v, h, eq-eqb v v refl)
+  within-member A S (node o ts) h = by (one-relevant A ts) h (λ k. within-below-member A S ts k)
+    where
+      by : (m : Bool) → cond m (within-below A (members S) ts) (has-any (members S) (relevant A ts)) ≡ true
+          → (within-below A (members S) ts ≡ true → (y : ℕ) × (S y ≡ true) × (within-below A (of y) ts ≡ true))
+          → (y : ℕ) × (S y ≡ true) × (cond m (within-below A (of y) ts) (has-any (of y) (relevant A ts)) ≡ true)
+      by true k below = below k
+      by false k below = has-any-member S (relevant A ts) k
+
+  within-below-member : (A : Literals) (S : ℕ → Bool) (ts : Forest) → within-below A (members S) ts ≡ true
+      → (y : ℕ) × (S y ≡ true) × (within-below A (of y) ts ≡ true)
+  within-below-member A S ∅ h = absurd (false≢true h)
+  within-below-member A S (t ▸ ts) h = by (has A t) h (λ k. within-member A S t k) (λ k. within-below-member A S ts k)
+    where
+      by : (m : Bool) → cond m (within A (members S) t) (within-below A (members S) ts) ≡ true
+          → (within A (members S) t ≡ true → (y : ℕ) × (S y ≡ true) × (within A (of y) t ≡ true))
+          → (within-below A (members S) ts ≡ true → (y : ℕ) × (S y ≡ true) × (within-below A (of y) ts ≡ true))
+          → (y : ℕ) × (S y ≡ true) × (cond m (within A (of y) t) (within-below A (of y) ts) ≡ true)
+      by true k here later = here k
+      by false k here later = later k
+
 within-skip : (A M : Literals) (us : Forest) (c : Tree) (bs : Forest) → has A c ≡ false
     → within-below A M (us ⧺ (c ▸ bs)) ≡ within-below A M (us ⧺ bs)
 unfolding within _⧺_

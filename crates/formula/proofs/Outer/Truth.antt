@@ -1,0 +1,115 @@
+-- The step one block out keeps the truth: from the values at x = 0 and at x = 1 to those of the two copies, block by block.
+-- Assumes nothing.
+use mathlib.Core.Path.{_≡_, refl, sym, _∙_, ap, ap₂, subst}
+use mathlib.Core.Bool.{Bool, true, false, not, _&&_, _||_, cond, Bool·beq, true≢false, false≢true}
+use mathlib.Core.List.{List, [], _∷_, _++_}
+use mathlib.Core.Logic.{⊎-elim}
+use Prim.Native.Nat.{ℕ, _≤_}
+use lib.Dec.{eqb}
+use lib.ListN.{length}
+use borrow.Author.Tests.{eqb-true, eq-eqb, ne-eqb, not-true, not-false}
+use Rattle.formula.specs.Tree.{Op, and, or, same-op, exists, for-all, Tree, Binding, Prefix, Literals, of, has, binds, distinct}
+use Rattle.formula.specs.Truth.{Assignment, put, join, eval, bind}
+use Rattle.formula.specs.Expand.{all-of, among, occurs}
+use Rattle.formula.specs.Outer.{universal-then-existential, existentials, within, renamed, chosen-by}
+use Rattle.formula.proofs.Booleans.{Leads, and-parts, or-parts, or-none, join-assoc, join-swap}
+use Rattle.formula.proofs.Binding.{same-op-eq}
+use Rattle.formula.proofs.Evaluation.{eval-same}
+use Rattle.formula.proofs.Closed.{unbound}
+use Rattle.formula.proofs.Outer.Witness.{Agree, witness, intro}
+use Rattle.formula.proofs.Outer.Fresh.{rows-of, renamed-other, placed, placed-other, placed-renamed}
+use Rattle.formula.proofs.Outer.Mix.{mixed, choose}
+
+-- rows put together
+
+binds-++ : (p q : Prefix) (v : ℕ) → binds (p ++ q) v ≡ (binds p v || binds q v)
+unfolding binds
+binds-++ [] q v = refl
+binds-++ (z ∷ p) q v = ap (λ (m : Bool). eqb (z .variable) v || m) (binds-++ p q v) ∙ again (eqb (z .variable) v) (binds p v) (binds q v)
+  where
+    again : (a b c : Bool) → (a || (b || c)) ≡ ((a || b) || c)
+    again true b c = refl
+    again false b c = refl
+
+all-of-++ : (q : Op) (p r : Prefix) → all-of q p ≡ true → all-of q r ≡ true → all-of q (p ++ r) ≡ true
+unfolding all-of
+all-of-++ q [] r h k = k
+all-of-++ q (z ∷ p) r h k =
+    let parts = and-parts (same-op q (z .quantifier)) (all-of q p) h in
+    ap₂ _&&_ (parts .0) (all-of-++ q p r (parts .1) k)
+
+all-existential : (ns : List ℕ) → all-of exists (rows-of ns) ≡ true
+unfolding all-of
+all-existential [] = refl
+all-existential (n ∷ ns) = all-existential ns
+
+-- A tree over a prefix, its existential block, x, the depending variables and their new numbers.
+pub record Setting (t : Tree) (p B : Prefix) (x : ℕ) (D : ℕ → Bool) (ys ns : List ℕ) : Type 0 where
+  pub is-closed : has (unbound p) t ≡ false
+  pub block-bound : (v : ℕ) → binds B v ≡ true → binds p v ≡ true
+  pub block-exists : all-of exists B ≡ true
+  pub in-block : (v : ℕ) → D v ≡ true → binds B v ≡ true
+  pub copied-are : (v : ℕ) → binds (rows-of ys) v ≡ D v
+  pub are-new : (v : ℕ) → binds (rows-of ns) v ≡ true → binds p v ≡ false
+  pub enough : length ys ≤ length ns
+  pub new-distinct : distinct (rows-of ns) ≡ true
+  pub free : (z : ℕ) → binds B z ≡ true → D z ≡ false → has (chosen-by x D) t ≡ true → within (chosen-by x D) (of z) t ≡ false
+
+module _ (t : Tree) (p B : Prefix) (x : ℕ) (D : ℕ → Bool) (ys ns : List ℕ) (set : Setting t p B x D ys ns) where
+  -- what the x = 1 copy sees of an assignment
+  abbrev pub copied : Assignment → Assignment
+  copied ρ v = cond (eqb v x) true (ρ (renamed ys ns v))
+
+  abbrev pub both : Assignment → Bool
+  both ρ = eval t (put ρ x false) && eval t (copied ρ)
+
+  abbrev pub at : Bool → Assignment → Bool
+  at b ρ = eval t (put ρ x b)
+
+  abbrev R : Prefix
+  R = rows-of ns
+
+  not-new : (v : ℕ) → binds p v ≡ true → binds R v ≡ false
+  not-new v h = by (binds R v) refl
+    where
+      by : (b : Bool) → binds R v ≡ b → b ≡ false
+      by true e = absurd (true≢false (sym h ∙ set .are-new v e))
+      by false e = refl
+
+  not-depending : (v : ℕ) → binds B v ≡ false → D v ≡ false
+  not-depending v h = by (D v) refl
+    where
+      by : (b : Bool) → D v ≡ b → b ≡ false
+      by true e = absurd (true≢false (sym (set .in-block v e) ∙ h))
+      by false e = refl
+
+  -- only values at bound variables count
+  eval-bound : (σ τ : Assignment) → ((v : ℕ) → binds p v ≡ true → σ v ≡ τ v) → eval t σ ≡ eval t τ
+  eval-bound σ τ h = eval-same (unbound p) σ τ (λ s v k. h v (not-false (binds p v) k)) t (set .is-closed)
+
+  -- both witnesses to one
+  forward : (ρ : Assignment) → bind B (at false) ρ ≡ true → bind B (at true) ρ ≡ true → bind (B ++ R) both ρ ≡ true
+  forward ρ h k =
+      let w₀ = witness B (at false) ρ (set .block-exists) h in
+      let w₁ = witness B (at true) ρ (set .block-exists) k in
+      let e : Assignment = w₀ .0 in
+      let d : Assignment = w₁ .0 in
+      let c = choose t B x D (set .free) e d (λ v n. w₀ .1 v n ∙ sym (w₁ .1 v n)) (w₀ .2) (w₁ .2) in
+      let base : Assignment = λ v. cond (D v) (e v) (c .0 v) in
+      let σ : Assignment = placed ys ns d base in
+      let old : (v : ℕ) → binds R v ≡ false → σ v ≡ base v = λ v n. placed-other ys ns d base v n in
+      let renew : (v : ℕ) → binds p v ≡ true → σ (renamed ys ns v) ≡ cond (D v) (d v) (c .0 v)
+      = λ v n. renewed d (c .0) e σ (λ u l. old u l) (λ u l. placed-renamed ys ns d base u (set .enough) (set .new-distinct) l) v n (D v) refl in
+      intro (B ++ R) both ρ σ (all-of-++ exists B R (set .block-exists) (all-existential ns))
+      (λ v n. let parts = or-parts (binds B v) (binds R v) (sym (binds-++ B R v) ∙ n) in
+      old v (parts .1) ∙ ap (λ (m : Bool). cond m (e v) (c .0 v)) (not-depending v (parts .0)) ∙ c .1 v (parts .0) ∙ w₁ .1 v (parts .0))
+      (ap₂ _&&_
+      (eval-bound (put σ x false) (mixed x D (c .0) e false) (λ v n. ap (cond (eqb v x) false) (old v (not-new v n))) ∙ c .2)
+      (eval-bound (copied σ) (mixed x D (c .0) d true) (λ v n. ap (cond (eqb v x) true) (renew v n)) ∙ c .3))
+    where
+      renewed : (d c e σ : Assignment) → ((v : ℕ) → binds R v ≡ false → σ v ≡ cond (D v) (e v) (c v))
+          → ((v : ℕ) → binds (rows-of ys) v ≡ true → σ (renamed ys ns v) ≡ d v) → (v : ℕ) → binds p v ≡ true → (m : Bool) → D v ≡ m
+          → σ (renamed ys ns v) ≡ cond m (d v) (c v)
+      renewed d c e σ old new v n true m = new v (set .copied-are v ∙ m)
+      renewed d c e σ old new v n false m =
+          ap σ (renamed-other ys ns v (set .copied-are v ∙ m)) ∙ old v (not-new v n) ∙ ap (λ (b : Bool). cond b (e v) (c v)) m
