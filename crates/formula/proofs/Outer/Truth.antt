@@ -113,3 +113,90 @@ module _ (t : Tree) (p B : Prefix) (x : ℕ) (D : ℕ → Bool) (ys ns : List �
       renewed d c e σ old new v n true m = new v (set .copied-are v ∙ m)
       renewed d c e σ old new v n false m =
           ap σ (renamed-other ys ns v (set .copied-are v ∙ m)) ∙ old v (not-new v n) ∙ ap (λ (b : Bool). cond b (e v) (c v)) m
+
+  -- and one to both
+  backward : (ρ : Assignment) (b : Bool) (seen : Assignment → Assignment) → ((σ : Assignment) → both σ ≡ true → eval t (seen σ) ≡ true)
+      → ((σ : Assignment) (v : ℕ) → binds B v ≡ false → binds p v ≡ true → seen σ v ≡ put σ x b v)
+      → ((σ : Assignment) (v : ℕ) → eqb v x ≡ true → seen σ v ≡ b)
+      → bind (B ++ R) both ρ ≡ true → bind B (at b) ρ ≡ true
+  backward ρ b seen true-of outside own h =
+      let w = witness (B ++ R) both ρ (all-of-++ exists B R (set .block-exists) (all-existential ns)) h in
+      let σ : Assignment = w .0 in
+      let e : Assignment = λ v. cond (binds B v) (seen σ v) (ρ v) in
+      intro B (at b) ρ e (set .block-exists) (λ v n. ap (λ (m : Bool). cond m (seen σ v) (ρ v)) n)
+      (eval-bound (put e x b) (seen σ) (λ v n. like σ (w .1) v n (eqb v x) refl (binds B v) refl) ∙ true-of σ (w .2))
+    where
+      like : (σ : Assignment) → Agree (B ++ R) σ ρ → (v : ℕ) → binds p v ≡ true → (m : Bool) → eqb v x ≡ m → (n : Bool) → binds B v ≡ n
+          → cond m b (cond n (seen σ v) (ρ v)) ≡ seen σ v
+      like σ g v k true l n q = sym (own σ v l)
+      like σ g v k false l true q = refl
+      like σ g v k false l false q =
+          sym (g v (binds-++ B R v ∙ or-none q (not-new v k))) ∙
+          sym (outside σ v q k ∙ ap (λ (m : Bool). cond m b (σ v)) l)
+
+  -- so at the block both values are that of the copies
+  pub block-both : (ρ : Assignment) → (bind B (at false) ρ && bind B (at true) ρ) ≡ bind (B ++ R) both ρ
+  block-both ρ =
+      by (bind B (at false) ρ) refl (bind B (at true) ρ) refl (bind (B ++ R) both ρ) refl
+    where
+      first : bind (B ++ R) both ρ ≡ true → bind B (at false) ρ ≡ true
+      first h =
+          backward ρ false (λ σ. put σ x false) (λ σ k. and-parts (eval t (put σ x false)) (eval t (copied σ)) k .0)
+          (λ σ v n k. refl) (λ σ v l. ap (λ (m : Bool). cond m false (σ v)) l) h
+
+      second : bind (B ++ R) both ρ ≡ true → bind B (at true) ρ ≡ true
+      second h =
+          backward ρ true copied (λ σ k. and-parts (eval t (put σ x false)) (eval t (copied σ)) k .1)
+          (λ σ v n k. ap (λ (u : ℕ). cond (eqb v x) true (σ u)) (renamed-other ys ns v (set .copied-are v ∙ not-depending v n)))
+          (λ σ v l. ap (λ (m : Bool). cond m true (σ (renamed ys ns v))) l) h
+
+      by : (a : Bool) → bind B (at false) ρ ≡ a → (b : Bool) → bind B (at true) ρ ≡ b → (c : Bool) → bind (B ++ R) both ρ ≡ c → (a && b) ≡ c
+      by true e true k true l = refl
+      by true e true k false l = sym (forward ρ e k) ∙ l
+      by true e false k true l = sym k ∙ second l
+      by true e false k false l = refl
+      by false e b k true l = sym e ∙ first l
+      by false e b k false l = refl
+
+  -- past universal rows
+  existentials-all : (q : Prefix) → all-of exists q ≡ true → existentials q ≡ q
+  unfolding existentials all-of
+  existentials-all [] h = refl
+  existentials-all (z ∷ q) h =
+      let parts = and-parts (same-op exists (z .quantifier)) (all-of exists q) h in
+      ap (λ (m : Bool). cond m (z ∷ existentials q) (existentials q)) (parts .0) ∙ ap (λ (r : Prefix). z ∷ r) (existentials-all q (parts .1))
+
+  pub rows-both : (q : Prefix) → universal-then-existential q ≡ true → existentials q ≡ B → (ρ : Assignment)
+      → (bind q (at false) ρ && bind q (at true) ρ) ≡ bind (q ++ R) both ρ
+  unfolding universal-then-existential existentials bind
+  rows-both [] h e ρ = absurd (false≢true h)
+  rows-both (z ∷ q) h e ρ = by (same-op exists (z .quantifier)) refl h e (λ k l σ. rows-both q k l σ)
+    where
+      crossed : (a b c d : Bool) → ((a && b) && (c && d)) ≡ ((a && c) && (b && d))
+      crossed true b c d = join-swap and b c d
+      crossed false b c d = refl
+
+      universal : (o : Op) → same-op exists o ≡ false → o ≡ and
+      universal and k = refl
+      universal or k = absurd (true≢false k)
+
+      by : (m : Bool) → same-op exists (z .quantifier) ≡ m → cond m (all-of exists q) (universal-then-existential q) ≡ true
+          → cond m (z ∷ existentials q) (existentials q) ≡ B
+          → (universal-then-existential q ≡ true → existentials q ≡ B → (σ : Assignment)
+          → (bind q (at false) σ && bind q (at true) σ) ≡ bind (q ++ R) both σ)
+          → (join (z .quantifier) (bind q (at false) (put ρ (z .variable) false)) (bind q (at false) (put ρ (z .variable) true)) &&
+          join (z .quantifier) (bind q (at true) (put ρ (z .variable) false)) (bind q (at true) (put ρ (z .variable) true))) ≡
+          join (z .quantifier) (bind (q ++ R) both (put ρ (z .variable) false)) (bind (q ++ R) both (put ρ (z .variable) true))
+      by true k l f more = last k l f
+        where
+          last : same-op exists (z .quantifier) ≡ true → all-of exists q ≡ true → (z ∷ existentials q) ≡ B
+              → (bind (z ∷ q) (at false) ρ && bind (z ∷ q) (at true) ρ) ≡ bind ((z ∷ q) ++ R) both ρ
+          last k l f =
+              subst (λ (r : Prefix). (bind r (at false) ρ && bind r (at true) ρ) ≡ bind (r ++ R) both ρ)
+              (sym f ∙ ap (λ (r : Prefix). z ∷ r) (existentials-all q l)) (block-both ρ)
+      by false k l f more =
+          let u = universal (z .quantifier) k in
+          rw u
+          (crossed (bind q (at false) (put ρ (z .variable) false)) (bind q (at false) (put ρ (z .variable) true))
+          (bind q (at true) (put ρ (z .variable) false)) (bind q (at true) (put ρ (z .variable) true)) ∙
+          ap₂ _&&_ (more l f (put ρ (z .variable) false)) (more l f (put ρ (z .variable) true)))
