@@ -1,23 +1,24 @@
 -- The step one block out keeps the truth: from the values at x = 0 and at x = 1 to those of the two copies, block by block.
 -- Assumes nothing.
 use mathlib.Core.Path.{_≡_, refl, sym, _∙_, ap, ap₂, subst}
-use mathlib.Core.Bool.{Bool, true, false, not, _&&_, _||_, cond, Bool·beq, true≢false, false≢true}
+use mathlib.Core.Bool.{Bool, true, false, not, _&&_, _||_, cond, or-false, true≢false, false≢true}
 use mathlib.Core.List.{List, [], _∷_, _++_}
 use mathlib.Core.Logic.{⊎-elim}
 use Prim.Native.Nat.{ℕ, _≤_}
 use lib.Dec.{eqb}
 use lib.ListN.{length}
 use borrow.Author.Tests.{eqb-true, eq-eqb, ne-eqb, not-true, not-false}
-use Rattle.formula.specs.Tree.{Op, and, or, same-op, exists, for-all, Tree, Binding, Prefix, Literals, of, has, binds, distinct}
+use Rattle.formula.specs.Tree.{Op, and, or, same-op, exists, for-all, Tree, Binding, Prefix, Literals, of, has, binds, quantifier-of, without, distinct}
 use Rattle.formula.specs.Truth.{Assignment, put, join, eval, bind}
-use Rattle.formula.specs.Expand.{all-of, among, occurs}
+use Rattle.formula.specs.Expand.{all-of, after, among, occurs}
 use Rattle.formula.specs.Outer.{universal-then-existential, existentials, within, renamed, chosen-by}
-use Rattle.formula.proofs.Booleans.{Leads, and-parts, or-parts, or-none, join-assoc, join-swap}
-use Rattle.formula.proofs.Binding.{same-op-eq}
-use Rattle.formula.proofs.Evaluation.{eval-same}
+use Rattle.formula.proofs.Booleans.{Leads, and-parts, or-parts, or-none, or-later, join-swap}
+use Rattle.formula.proofs.Binding.{Ignores, ignores-put, bind-put, bind-among}
+use Rattle.formula.proofs.Evaluation.{eval-same, has-cover}
+use Rattle.formula.proofs.Expand.{eval-ignores}
 use Rattle.formula.proofs.Closed.{unbound}
 use Rattle.formula.proofs.Outer.Witness.{Agree, witness, intro}
-use Rattle.formula.proofs.Outer.Fresh.{rows-of, renamed-other, placed, placed-other, placed-renamed}
+use Rattle.formula.proofs.Outer.Fresh.{rows-of, renamed-other, renamed-new, placed, placed-other, placed-renamed}
 use Rattle.formula.proofs.Outer.Mix.{mixed, choose}
 
 -- rows put together
@@ -42,6 +43,32 @@ all-existential : (ns : List ℕ) → all-of exists (rows-of ns) ≡ true
 unfolding all-of
 all-existential [] = refl
 all-existential (n ∷ ns) = all-existential ns
+
+among-++ : (P : ℕ → Bool) (p q : Prefix) → among P (p ++ q) ≡ (among P p ++ among P q)
+unfolding among
+among-++ P [] q = refl
+among-++ P (z ∷ p) q = by (P (z .variable)) (among-++ P p q)
+  where
+    by : (m : Bool) → among P (p ++ q) ≡ (among P p ++ among P q)
+        → cond m (z ∷ among P (p ++ q)) (among P (p ++ q)) ≡ (cond m (z ∷ among P p) (among P p) ++ among P q)
+    by true e = ap (λ (r : Prefix). z ∷ r) e
+    by false e = e
+
+among-same : (P Q : ℕ → Bool) (p : Prefix) → ((v : ℕ) → binds p v ≡ true → P v ≡ Q v) → among P p ≡ among Q p
+unfolding among binds
+among-same P Q [] h = refl
+among-same P Q (z ∷ p) h =
+    ap₂ (λ (m : Bool) (r : Prefix). cond m (z ∷ r) r)
+    (h (z .variable) (ap (λ (m : Bool). m || binds p (z .variable)) (eq-eqb (z .variable) (z .variable) refl)))
+    (among-same P Q p (λ v k. h v (or-later (eqb (z .variable) v) k)))
+
+among-all : (P : ℕ → Bool) (p : Prefix) → ((v : ℕ) → binds p v ≡ true → P v ≡ true) → among P p ≡ p
+unfolding among binds
+among-all P [] h = refl
+among-all P (z ∷ p) h =
+    ap₂ (λ (m : Bool) (r : Prefix). cond m (z ∷ r) r)
+    (h (z .variable) (ap (λ (m : Bool). m || binds p (z .variable)) (eq-eqb (z .variable) (z .variable) refl)))
+    (among-all P p (λ v k. h v (or-later (eqb (z .variable) v) k)))
 
 -- A tree over a prefix, its existential block, x, the depending variables and their new numbers.
 pub record Setting (t : Tree) (p B : Prefix) (x : ℕ) (D : ℕ → Bool) (ys ns : List ℕ) : Type 0 where
@@ -200,3 +227,60 @@ module _ (t : Tree) (p B : Prefix) (x : ℕ) (D : ℕ → Bool) (ys ns : List �
           (crossed (bind q (at false) (put ρ (z .variable) false)) (bind q (at false) (put ρ (z .variable) true))
           (bind q (at true) (put ρ (z .variable) false)) (bind q (at true) (put ρ (z .variable) true)) ∙
           ap₂ _&&_ (more l f (put ρ (z .variable) false)) (more l f (put ρ (z .variable) true)))
+
+  -- past rows without a literal
+
+  both-ignores : (v : ℕ) → (occurs t v || binds R v) ≡ false → Ignores both v
+  both-ignores v h ρ b =
+      let parts = or-parts (occurs t v) (binds R v) h in
+      ap₂ _&&_ (ignores-put (eval t) v x false (eval-ignores t v (parts .0)) ρ b)
+      (eval-same (sent v) (copied (put ρ v b)) (copied ρ)
+      (λ s u k. ap (λ (m : Bool). cond (eqb u x) true (cond m b (ρ (renamed ys ns u)))) k) t
+      (has-cover (of v) (unbound p) (sent v) (λ s u k l. apart u k (not-false (binds p u) l) (parts .1) (D u) refl) t (parts .0)
+      (set .is-closed)))
+    where
+      -- the literals that are renamed to v
+      sent : ℕ → Literals
+      sent v s u = eqb (renamed ys ns u) v
+
+      apart : (u : ℕ) → eqb u v ≡ false → binds p u ≡ true → binds R v ≡ false → (m : Bool) → D u ≡ m → eqb (renamed ys ns u) v ≡ false
+      apart u k l n true m =
+          ne-eqb (renamed ys ns u) v
+          (λ e. true≢false (sym (renamed-new ys ns u (set .enough) (set .copied-are u ∙ m)) ∙ ap (binds R) e ∙ n))
+      apart u k l n false m = ap (λ (w : ℕ). eqb w v) (renamed-other ys ns u (set .copied-are u ∙ m)) ∙ k
+
+  pub after-both : (q : Prefix) → ((v : ℕ) → binds q v ≡ true → binds p v ≡ true) → binds q x ≡ false
+      → universal-then-existential (among (occurs t) q) ≡ true → existentials (among (occurs t) q) ≡ B → (ρ : Assignment)
+      → (bind q (eval t) (put ρ x false) && bind q (eval t) (put ρ x true)) ≡ bind (q ++ R) both ρ
+  after-both q inside n h e ρ =
+      let K : Prefix = among (occurs t) q in
+      let one : (b : Bool) → bind q (eval t) (put ρ x b) ≡ bind K (at b) ρ
+      = λ b. bind-put q (eval t) x b ρ n ∙ bind-among (occurs t) q (at b) (λ v k. ignores-put (eval t) v x b (eval-ignores t v k)) ρ in
+      let P : ℕ → Bool = λ v. occurs t v || binds R v in
+      let rows : among P (q ++ R) ≡ (K ++ R)
+      = among-++ P q R ∙
+      ap₂ _++_ (among-same P (occurs t) q (λ v k. ap (λ (m : Bool). occurs t v || m) (not-new v (inside v k)) ∙ or-false (occurs t v)))
+      (among-all P R (λ v k. or-later (occurs t v) k)) in
+      ap₂ _&&_ (one false) (one true) ∙ rows-both K h e ρ ∙
+      sym (bind-among P (q ++ R) both both-ignores ρ ∙ ap (λ (r : Prefix). bind r both ρ) rows)
+
+-- the rows in front of x stay as they are
+pub bind-at : (p R : Prefix) (x : ℕ) (f g : Assignment → Bool) → binds p x ≡ true → quantifier-of p x ≡ for-all
+    → ((ρ : Assignment) → (bind (after x p) f (put ρ x false) && bind (after x p) f (put ρ x true)) ≡ bind (after x p ++ R) g ρ)
+    → (ρ : Assignment) → bind p f ρ ≡ bind (without x p ++ R) g ρ
+unfolding bind binds quantifier-of after without
+bind-at [] R x f g b q h ρ = absurd (false≢true b)
+bind-at (z ∷ p) R x f g b q h ρ = by (eqb (z .variable) x) refl b q h (λ k l m σ. bind-at p R x f g k l m σ)
+  where
+    by : (m : Bool) → eqb (z .variable) x ≡ m → (m || binds p x) ≡ true → cond m (z .quantifier) (quantifier-of p x) ≡ for-all
+        → ((ρ : Assignment)
+        → (bind (cond m p (after x p)) f (put ρ x false) && bind (cond m p (after x p)) f (put ρ x true)) ≡
+        bind (cond m p (after x p) ++ R) g ρ)
+        → (binds p x ≡ true → quantifier-of p x ≡ for-all
+        → ((ρ : Assignment) → (bind (after x p) f (put ρ x false) && bind (after x p) f (put ρ x true)) ≡ bind (after x p ++ R) g ρ)
+        → (σ : Assignment) → bind p f σ ≡ bind (without x p ++ R) g σ)
+        → join (z .quantifier) (bind p f (put ρ (z .variable) false)) (bind p f (put ρ (z .variable) true)) ≡
+        bind (cond m p (z ∷ without x p) ++ R) g ρ
+    by true e k l n more = rw (eqb-true (z .variable) x e, l) (n ρ)
+    by false e k l n more =
+        ap₂ (join (z .quantifier)) (more k l n (put ρ (z .variable) false)) (more k l n (put ρ (z .variable) true))
