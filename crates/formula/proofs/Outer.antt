@@ -7,3 +7,4 @@ pub mod Witness
 pub mod Fresh
 pub mod Mix
 pub mod Truth
+pub mod Step

@@ -45,7 +45,7 @@ unused-below p (suc n) i v h = by (binds p i) h (unused-below p n (suc i) v)
         ⊎-elim (λ e. let r = eqb-true i v e in omega (arith, r)) (λ e. let r = rest e in omega (arith, r))
         (or-cases (eqb i v) (binds (rows-of (unused p n (suc i))) v) k)
 
-unused-unbound : (p : Prefix) (n i : ℕ) (v : ℕ) → binds (rows-of (unused p n i)) v ≡ true → binds p v ≡ false
+pub unused-unbound : (p : Prefix) (n i : ℕ) (v : ℕ) → binds (rows-of (unused p n i)) v ≡ true → binds p v ≡ false
 unfolding unused binds
 unused-unbound p zero i v h = absurd (false≢true h)
 unused-unbound p (suc n) i v h = by (binds p i) refl h (unused-unbound p n (suc i) v)
@@ -56,7 +56,7 @@ unused-unbound p (suc n) i v h = by (binds p i) refl h (unused-unbound p n (suc 
     by false e k rest =
         ⊎-elim (λ q. ap (binds p) (sym (eqb-true i v q)) ∙ e) rest (or-cases (eqb i v) (binds (rows-of (unused p n (suc i))) v) k)
 
-unused-distinct : (p : Prefix) (n i : ℕ) → distinct (rows-of (unused p n i)) ≡ true
+pub unused-distinct : (p : Prefix) (n i : ℕ) → distinct (rows-of (unused p n i)) ≡ true
 unfolding unused distinct
 unused-distinct p zero i = refl
 unused-distinct p (suc n) i = by (binds p i) (unused-distinct p n (suc i))
@@ -72,7 +72,7 @@ unused-distinct p (suc n) i = by (binds p i) (unused-distinct p n (suc i))
 
 -- as many as are taken
 
-take-binds : (k : ℕ) (ns : List ℕ) (v : ℕ) → binds (rows-of (take k ns)) v ≡ true → binds (rows-of ns) v ≡ true
+pub take-binds : (k : ℕ) (ns : List ℕ) (v : ℕ) → binds (rows-of (take k ns)) v ≡ true → binds (rows-of ns) v ≡ true
 unfolding binds
 take-binds zero ns v h = absurd (false≢true h)
 take-binds (suc k) [] v h = absurd (false≢true h)
@@ -80,7 +80,7 @@ take-binds (suc k) (n ∷ ns) v h =
     ⊎-elim (λ e. ap (λ (m : Bool). m || binds (rows-of ns) v) e) (λ e. or-later (eqb n v) (take-binds k ns v e))
     (or-cases (eqb n v) (binds (rows-of (take k ns)) v) h)
 
-take-distinct : (k : ℕ) (ns : List ℕ) → distinct (rows-of ns) ≡ true → distinct (rows-of (take k ns)) ≡ true
+pub take-distinct : (k : ℕ) (ns : List ℕ) → distinct (rows-of ns) ≡ true → distinct (rows-of (take k ns)) ≡ true
 unfolding distinct
 take-distinct zero ns h = refl
 take-distinct (suc k) [] h = refl
