@@ -42,7 +42,7 @@ binds-without x v (z ∷ p) h = by (eqb (z .variable) x) refl (binds-without x v
     by true e rest = passed (eqb (z .variable) v) e refl
     by false e rest = ap (λ (b : Bool). eqb (z .variable) v || b) rest
 
-unbound-without : (x v : ℕ) (p : Prefix) → binds p v ≡ false → binds (without x p) v ≡ false
+pub unbound-without : (x v : ℕ) (p : Prefix) → binds p v ≡ false → binds (without x p) v ≡ false
 unfolding binds without
 unbound-without x v [] h = refl
 unbound-without x v (z ∷ p) h =

@@ -103,7 +103,6 @@ module _ (t : Tree) (p : Prefix) where
       both true b c k e = rw (k refl) e
       both false b c k e = absurd (false≢true e)
 
-
       first : D v ≡ true → (E v || (binds p v && some-row (λ y. E y && touches t y v) p)) ≡ true
       first e = ap (λ (m : Bool). m || (binds p v && some-row (λ y. E y && touches t y v) p)) (f v e)
 
@@ -211,8 +210,8 @@ module _ (t : Tree) (p : Prefix) where
           outside = ap₂ _||_ n d;
           untouched = λ y m. free y m (touches t y z) refl;
           connected =
-            λ P px pass y m. ⊎-elim (λ e. ap P (eqb-true y x e) ∙ px) (λ e. reached P px pass (length p) (λ v k. k) y e)
-            (or-cases (eqb y x) (D y) m);
+              λ P px pass y m. ⊎-elim (λ e. ap P (eqb-true y x e) ∙ px) (λ e. reached P px pass (length p) (λ v k. k) y e)
+              (or-cases (eqb y x) (D y) m);
         }
       where
         free : (y : ℕ) → S y ≡ true → (b : Bool) → touches t y z ≡ b → b ≡ false

@@ -6,9 +6,9 @@ use mathlib.Core.List.{List, [], _∷_, map}
 use mathlib.Core.Logic.{⊎-elim}
 use Prim.Native.Nat.{ℕ, zero, suc, _+_, _≤_, _<_}
 use native.Mathlib.Omega.{arith}
-use lib.Dec.{eqb}
+use lib.Dec.{eqb, ltb}
 use lib.ListN.{length, take}
-use borrow.Author.Tests.{eqb-true, eq-eqb, ne-eqb, not-true}
+use borrow.Author.Tests.{eqb-true, eqb-false, eq-eqb, ne-eqb, not-true, ltb-true, ltb-false}
 use Rattle.formula.specs.Tree.{Binding, Prefix, binds, distinct}
 use Rattle.formula.specs.Truth.{Assignment}
 use Rattle.formula.specs.Solve.{those}
@@ -69,6 +69,53 @@ unused-distinct p (suc n) i = by (binds p i) (unused-distinct p n (suc i))
         → distinct (rows-of (cond m (unused p n (suc i)) (i ∷ unused p n (suc i)))) ≡ true
     by true rest = rest
     by false rest = ap₂ (λ (a b : Bool). not a && b) (none (binds (rows-of (unused p n (suc i))) i) refl) rest
+
+-- of the numbers from 1 to the highest, those that a prefix without a number twice doesn't bind
+
+unused-past : (z : Binding) (p : Prefix) (n i : ℕ) → z .variable < i → unused (z ∷ p) n i ≡ unused p n i
+unfolding unused binds
+unused-past z p zero i h = refl
+unused-past z p (suc n) i h =
+    ap₂ (λ (m : Bool) (ns : List ℕ). cond m ns (i ∷ ns)) (ap (λ (m : Bool). m || binds p i) (ne-eqb (z .variable) i (λ e. omega (arith, e))))
+    (unused-past z p n (suc i) (omega arith))
+
+different : (v i : ℕ) → i ≤ v → (v ≡ i → ⊥) → suc i ≤ v
+different v i l n = by (ltb i v) refl
+  where
+    by : (b : Bool) → ltb i v ≡ b → suc i ≤ v
+    by true e = ltb-true i v e
+    by false e = absurd (n (let k = ltb-false i v e in omega (arith, k)))
+
+unused-none : (n i : ℕ) → length (unused [] n i) + 0 ≡ n
+unfolding unused binds
+unused-none zero i = refl
+unused-none (suc n) i = let r = unused-none n (suc i) in omega arith
+
+unused-less : (z : Binding) (p : Prefix) (n i : ℕ) → i ≤ z .variable → z .variable < i + n → binds p (z .variable) ≡ false
+    → suc (length (unused (z ∷ p) n i)) ≡ length (unused p n i)
+unfolding unused binds
+unused-less z p zero i l h f = absurd (omega arith)
+unused-less z p (suc n) i l h f = by (eqb (z .variable) i) refl (binds p i) refl (λ k. unused-less z p n (suc i) k (omega arith) f)
+  where
+    by : (m : Bool) → eqb (z .variable) i ≡ m → (k : Bool) → binds p i ≡ k
+        → (suc i ≤ z .variable → suc (length (unused (z ∷ p) n (suc i))) ≡ length (unused p n (suc i)))
+        → suc (length (cond (m || k) (unused (z ∷ p) n (suc i)) (i ∷ unused (z ∷ p) n (suc i)))) ≡
+        length (cond k (unused p n (suc i)) (i ∷ unused p n (suc i)))
+    by true e true q rest = absurd (true≢false (sym q ∙ ap (binds p) (sym (eqb-true (z .variable) i e)) ∙ f))
+    by true e false q rest = let r = eqb-true (z .variable) i e in ap (λ (ns : List ℕ). suc (length ns)) (unused-past z p n (suc i) (omega arith))
+    by false e true q rest = let r = eqb-false (z .variable) i e in rest (different (z .variable) i l r)
+    by false e false q rest = let r = eqb-false (z .variable) i e in ap suc (rest (different (z .variable) i l r))
+
+pub unused-many : (highest : ℕ) (p : Prefix) → distinct p ≡ true → ((v : ℕ) → binds p v ≡ true → (1 ≤ v) × (v ≤ highest))
+    → length (unused p highest 1) + length p ≡ highest
+unfolding binds distinct
+unused-many highest [] d h = unused-none highest 1
+unused-many highest (z ∷ p) d h =
+    let parts = and-parts (not (binds p (z .variable))) (distinct p) d in
+    let own = h (z .variable) (ap (λ (m : Bool). m || binds p (z .variable)) (eq-eqb (z .variable) (z .variable) refl)) in
+    let rest = unused-many highest p (parts .1) (λ v k. h v (or-later (eqb (z .variable) v) k)) in
+    let less = unused-less z p highest 1 (own .0) (omega (arith, own .1)) (not-true (binds p (z .variable)) (parts .0)) in
+    omega (arith, rest, less)
 
 -- as many as are taken
 

@@ -7,10 +7,10 @@ use mathlib.Core.Logic.{⊎-elim}
 use Prim.Native.Nat.{ℕ, zero, suc, _+_, _-_, _≤_}
 use native.Mathlib.Omega.{arith}
 use lib.Dec.{eqb, ltb}
-use lib.ListN.{length, take}
+use lib.ListN.{length, take, length-append, length-map}
 use lib.Seq.{length-take-le}
 use borrow.Author.Tests.{eqb-true, eq-eqb, ne-eqb, not-true, not-false, ltb-false}
-use Rattle.formula.specs.Tree.{Op, and, or, same-op, exists, for-all, Tree, lit, Binding, Prefix, Formula, Literals, of, rows, has, constant, binds, quantifier-of, without, distinct, closed}
+use Rattle.formula.specs.Tree.{Op, and, or, same-op, exists, for-all, Tree, lit, Binding, Prefix, Formula, Literals, of, rows, has, constant, assigned, binds, quantifier-of, without, distinct, closed}
 use Rattle.formula.specs.Truth.{Assignment, put, join, eval, truth}
 use Rattle.formula.specs.Tidy.{tidied}
 use Rattle.formula.specs.Solve.{those}
@@ -18,13 +18,14 @@ use Rattle.formula.specs.Expand.{all-of, after, among, occurs, occurring
 use Rattle.formula.specs.Outer.{universal-then-existential, one-block-out, existentials, block, within, depends, dependents, unused, copies-of, too-few, renamed, chosen-by, renaming, outer-copying, existential, raw-outer, outer-expanded, outer-rows}
 use Rattle.formula.proofs.Booleans.{and-parts, or-parts, or-cases, or-later, join-self}
 use Rattle.formula.proofs.Binding.{same-op-eq, bind-ext}
-use Rattle.formula.proofs.Evaluation.{eval-same, eval-assigned, eval-constant, put-other, rows-assigned}
+use Rattle.formula.proofs.Evaluation.{eval-same, eval-assigned, eval-constant, put-other, rows-assigned, has-cover, has-constant}
 use Rattle.formula.proofs.Expand.{Values, eval-expand, rows-expand}
-use Rattle.formula.proofs.Closed.{unbound}
-use Rattle.formula.proofs.Steps.{truth-tidied}
+use Rattle.formula.proofs.Closed.{unbound, length-without, binds-without, unbound-without, distinct-without, has-expand}
+use Rattle.formula.proofs.Tidy.Growth.{rows-tidy}
+use Rattle.formula.proofs.Steps.{Proper, truth-tidied, proper-tidied}
 use Rattle.formula.proofs.Outer.Closure.{stage-binds, block-apart}
-use Rattle.formula.proofs.Outer.Fresh.{rows-of, unused-unbound, unused-distinct, take-binds, take-distinct, renamed-other, those-binds}
-use Rattle.formula.proofs.Outer.Truth.{Setting, both, copied, after-both, bind-at}
+use Rattle.formula.proofs.Outer.Fresh.{rows-of, unused-unbound, unused-distinct, take-binds, take-distinct, renamed-other, renamed-new, those-binds}
+use Rattle.formula.proofs.Outer.Truth.{binds-++, Setting, both, copied, after-both, bind-at}
 
 -- rows after x, those of them with a literal, and the existential ones of these
 
@@ -83,6 +84,24 @@ existentials-exist (z ∷ p) = by (same-op exists (z .quantifier)) refl (existen
         → all-of exists (cond m (z ∷ existentials p) (existentials p)) ≡ true
     by true e rest = ap₂ _&&_ e rest
     by false e rest = rest
+
+distinct-++ : (p q : Prefix) → distinct p ≡ true → distinct q ≡ true → ((v : ℕ) → binds q v ≡ true → binds p v ≡ false)
+    → distinct (p ++ q) ≡ true
+unfolding distinct binds
+distinct-++ [] q d e h = e
+distinct-++ (z ∷ p) q d e h =
+    let parts = and-parts (not (binds p (z .variable))) (distinct p) d in
+    ap₂ (λ (a b : Bool). not a && b)
+    (binds-++ p q (z .variable) ∙ ap₂ _||_ (not-true (binds p (z .variable)) (parts .0)) (none (binds q (z .variable)) refl))
+    (distinct-++ p q (parts .1) e (λ v k. or-parts (eqb (z .variable) v) (binds p v) (h v k) .1))
+  where
+    none : (b : Bool) → binds q (z .variable) ≡ b → b ≡ false
+    none true k =
+        absurd
+        (true≢false
+        (sym (eq-eqb (z .variable) (z .variable) refl) ∙
+        or-parts (eqb (z .variable) (z .variable)) (binds p (z .variable)) (h (z .variable) k) .0))
+    none false k = refl
 
 module _ (highest x : ℕ) (f : Formula) where
   abbrev p : Prefix
@@ -210,3 +229,112 @@ module _ (highest x : ℕ) (f : Formula) where
       sym
       (bind-at p (rows-of ns) x (eval t) (both t p B x D ys ns set) (parts .0) (sym (same-op-eq for-all (quantifier-of p x) (more .0)))
       (after-both t p B x D ys ns set (after x p) (λ v k. after-binds x v p k) (after-own x p d) (more .1) refl) start)
+
+  -- the new formula is proper
+
+  new-prefix : Prefix
+  new-prefix = without x p ++ rows-of ns
+
+  stays-bound : (v : ℕ) → eqb v x ≡ false → binds p v ≡ true → binds new-prefix v ≡ true
+  unfolding new-prefix
+  stays-bound v n h =
+      binds-++ (without x p) (rows-of ns) v ∙ ap (λ (m : Bool). m || binds (rows-of ns) v) (binds-without x v p n ∙ h)
+
+  renamed-bound : too-few highest x f ≡ false → (v : ℕ) → eqb v x ≡ false → binds p v ≡ true → binds new-prefix (renamed ys ns v) ≡ true
+  unfolding new-prefix
+  renamed-bound e v n h = by (D v) refl
+    where
+      by : (m : Bool) → D v ≡ m → binds (without x p ++ rows-of ns) (renamed ys ns v) ≡ true
+      by true k =
+          binds-++ (without x p) (rows-of ns) (renamed ys ns v) ∙
+          or-later (binds (without x p) (renamed ys ns v))
+          (renamed-new ys ns v (let l = copies-many e in omega arith) (dependents-are v ∙ k))
+      by false k = ap (binds (without x p ++ rows-of ns)) (renamed-other ys ns v (dependents-are v ∙ k)) ∙ stays-bound v n h
+
+  -- literals that the old prefix doesn't bind, and those that the new one doesn't
+  abbrev old-unbound : Literals
+  old-unbound = unbound p
+
+  abbrev new-unbound : Literals
+  new-unbound = unbound new-prefix
+
+  apart-bound : (s : Bool) (v : ℕ) → chosen-by x D s v ≡ false → old-unbound s v ≡ false → new-unbound s v ≡ false
+  apart-bound s v h k = ap not (stays-bound v (or-parts (eqb v x) (D v) h .0) (not-false (binds p v) k))
+
+  first-bound : (s : Bool) (v : ℕ) → old-unbound s v ≡ false → has new-unbound (assigned x false s v) ≡ false
+  unfolding has
+  first-bound s v k = at (eqb v x) refl
+    where
+      at : (m : Bool) → eqb v x ≡ m → has new-unbound (cond m (constant (Bool·beq s false)) (lit s v)) ≡ false
+      at true q = has-constant new-unbound (Bool·beq s false)
+      at false q = ap not (stays-bound v q (not-false (binds p v) k))
+
+  second-bound : too-few highest x f ≡ false → (s : Bool) (v : ℕ) → old-unbound s v ≡ false → has new-unbound (renaming x ys ns s v) ≡ false
+  unfolding has
+  second-bound e s v k = at (eqb v x) refl
+    where
+      at : (m : Bool) → eqb v x ≡ m → has new-unbound (cond m (constant s) (lit s (renamed ys ns v))) ≡ false
+      at true q = has-constant new-unbound s
+      at false q = ap not (renamed-bound e v q (not-false (binds p v) k))
+
+  closed-raw-outer : closed f ≡ true → too-few highest x f ≡ false → closed (raw-outer highest x f) ≡ true
+  unfolding closed raw-outer raw-tree outer-copying new-prefix
+  closed-raw-outer c e = ap not (by (has (chosen-by x D) t) refl)
+    where
+      by : (m : Bool) → has (chosen-by x D) t ≡ m → has new-unbound (cond m (expand-tree (outer-copying highest x f) t) t) ≡ false
+      by true k =
+          has-expand (outer-copying highest x f) old-unbound new-unbound first-bound (second-bound e) apart-bound t
+          (not-true (has old-unbound t) c)
+      by false k = has-cover (chosen-by x D) old-unbound new-unbound apart-bound t k (not-true (has old-unbound t) c)
+
+  distinct-raw-outer : distinct p ≡ true → distinct (raw-outer highest x f .prefix) ≡ true
+  unfolding raw-outer
+  distinct-raw-outer d =
+      distinct-++ (without x p) (rows-of ns) (distinct-without x p d) copies-distinct
+      (λ v h. unbound-without x v p (copies-new v h))
+
+  -- the step
+
+  outer-tidied : outer-expanded highest x f ≡ tidied (raw-outer highest x f)
+  unfolding outer-expanded tidied
+  outer-tidied = refl
+
+  pub truth-outer : one-block-out x f ≡ true → distinct p ≡ true → closed f ≡ true → too-few highest x f ≡ false
+      → truth (outer-expanded highest x f) ≡ truth f
+  truth-outer h d c e = ap truth outer-tidied ∙ truth-tidied (raw-outer highest x f) ∙ truth-raw-outer h d c e
+
+  pub proper-outer : Proper f → too-few highest x f ≡ false → Proper (outer-expanded highest x f)
+  proper-outer r e =
+      rw outer-tidied (proper-tidied (raw-outer highest x f) (distinct-raw-outer (r .is-distinct)) (closed-raw-outer (r .is-closed) e))
+
+  -- variables left + 1 = variables before + copies
+  pub length-outer : binds p x ≡ true → suc (length (outer-expanded highest x f .prefix)) ≡ length p + length ns
+  unfolding outer-expanded raw-outer
+  length-outer h =
+      let l = length-without x p h in
+      let m = length-append (without x p) (rows-of ns) in
+      let n = length-map ns existential in
+      omega arith
+
+  -- the raw tree has as many rows as are counted, and tidying adds none
+  rows-renaming : (s : Bool) (v : ℕ) → rows (renaming x ys ns s v) ≡ 1
+  unfolding rows
+  rows-renaming s v = by (eqb v x) s
+    where
+      by : (m c : Bool) → rows (cond m (constant c) (lit s (renamed ys ns v))) ≡ 1
+      by true true = refl
+      by true false = refl
+      by false c = refl
+
+  pub rows-raw-outer : rows (raw-outer highest x f .matrix) ≡ outer-rows x f
+  unfolding raw-outer outer-rows raw-tree raw-rows outer-copying
+  rows-raw-outer = by (has (chosen-by x D) t) refl
+    where
+      by : (m : Bool) → has (chosen-by x D) t ≡ m
+          → rows (cond m (expand-tree (outer-copying highest x f) t) t) ≡ cond m (rows t + growth (chosen-by x D) t) (rows t)
+      by true e = rows-expand (outer-copying highest x f) (rows-assigned x false) rows-renaming t e
+      by false e = refl
+
+  pub rows-outer : rows (outer-expanded highest x f .matrix) ≤ outer-rows x f
+  unfolding outer-expanded
+  rows-outer = let e = rows-raw-outer in let l = rows-tidy (raw-outer highest x f .matrix) in omega arith

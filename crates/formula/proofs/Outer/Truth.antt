@@ -23,7 +23,7 @@ use Rattle.formula.proofs.Outer.Mix.{mixed, choose}
 
 -- rows put together
 
-binds-++ : (p q : Prefix) (v : ℕ) → binds (p ++ q) v ≡ (binds p v || binds q v)
+pub binds-++ : (p q : Prefix) (v : ℕ) → binds (p ++ q) v ≡ (binds p v || binds q v)
 unfolding binds
 binds-++ [] q v = refl
 binds-++ (z ∷ p) q v = ap (λ (m : Bool). eqb (z .variable) v || m) (binds-++ p q v) ∙ again (eqb (z .variable) v) (binds p v) (binds q v)
