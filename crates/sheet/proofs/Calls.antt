@@ -1,4 +1,4 @@
--- Demand 3: one theorem about a whole list of Settle, Expand and Execute calls.
+-- Demand 3: one theorem about a whole list of Settle, Expand, Execute and Outer calls.
 -- Assumes nothing.
 use mathlib.Core.Path.{_≡_, refl, sym, _∙_, ap, subst}
 use mathlib.Core.Bool.{Bool, true, false, false≢true}
@@ -6,7 +6,7 @@ use mathlib.Core.List.{List, [], _∷_, _++_}
 use mathlib.Core.Option.{Option, none, some, Option·getD}
 use Prim.Native.Nat.{ℕ, suc, _+_, _-_, _≤_}
 use native.Mathlib.Omega.{arith}
-use native.Mathlib.Nat.{le-trans, zero-add}
+use native.Mathlib.Nat.{le-trans, zero-add, add-zero, add-assoc}
 use lib.Dec.{leb}
 use lib.ListN.{length, take, replicate}
 use lib.Seq.{take-append-seam}
@@ -16,18 +16,21 @@ use Rattle.formula.specs.Truth.{truth}
 use Rattle.formula.specs.Tidy.{is-tidy, verdict}
 use Rattle.formula.specs.Settle.{may-settle, settled}
 use Rattle.formula.specs.Expand.{innermost, raw, raw-rows, expanded}
+use Rattle.formula.specs.Outer.{one-block-out, dependents, copies-of, too-few, outer-rows, outer-expanded}
 use Rattle.formula.specs.Solve.{is-some, fits-raw}
 use Rattle.formula.proofs.Booleans.{and-parts}
 use Rattle.formula.proofs.Closed.{length-without}
 use Rattle.formula.proofs.Steps.{Proper, truth-settled, proper-settled, rows-settled, truth-expanded, proper-expanded, rows-expanded, verdict-truth, decided-without-variables}
+use Rattle.formula.proofs.Outer.Step.{truth-outer, proper-outer, length-outer, copies-many, rows-outer}
 use Rattle.sheet.specs.Format.{Bytes, Format, fits, variables, nodes}
 use Rattle.sheet.specs.Sheet.{formula, sheet}
 use Rattle.sheet.specs.Check.{Answer, refused, accepted, Test, answer, passes, Sizes, check-tests, check}
 use Rattle.sheet.specs.Operations.{padded, output-after, write, tidy-and-bound-tests, settle-tests, settle-call, quote-tests, expand-tests, expand-call, execute-tests, execute-call}
-use Rattle.sheet.specs.Calls.{Call, settle, expand, execute, perform, Held, held-after, perform-all, held, sheet-verdict, Demand-3}
+use Rattle.sheet.specs.Calls.{Call, settle, expand, execute, outer, perform, copies-by, Held, held-after, perform-all, held, copies-after, copies-all, copies-made, sheet-verdict, Demand-3}
+use Rattle.sheet.specs.Outer.{copies, outer-tests, outer-call}
 use Rattle.sheet.proofs.Tests.{passed-∷, passed-++, answer-passes, accepted-passes}
-use Rattle.sheet.specs.Limits.{Sound}
-use Rattle.sheet.proofs.Limits.{within-step}
+use Rattle.sheet.specs.Limits.{Sound, Within}
+use Rattle.sheet.proofs.Limits.{within-step, within-outer}
 use Rattle.sheet.proofs.RoundTrip.{formula-sheet, passes-sheet}
 use Rattle.sheet.proofs.Accepted.{accepted-within, accepted-variables}
 
@@ -36,11 +39,11 @@ pub record Good (F : Format) (b : Bytes) : Type 0 where
   pub is-accepted : passes (check-tests F b) ≡ true
   pub is-neat : is-tidy ((formula F b) .matrix) ≡ true
 
--- one call: the sheet that an accepted one leaves
-record Stepped (F : Format) (b b′ : Bytes) : Type 0 where
+-- one call that makes k copies: the sheet that an accepted one leaves
+record Stepped (F : Format) (b : Bytes) (k : ℕ) (b′ : Bytes) : Type 0 where
   still-good : Good F b′
   same-truth : truth (formula F b′) ≡ truth (formula F b)
-  one-less : variables F b ≡ suc (variables F b′)
+  one-less : variables F b + k ≡ suc (variables F b′)
 
 -- the front of what an accepted call wrote is its new sheet
 pub front-written : (tests : List Test) (new out : Bytes) (n : ℕ) → (write tests new out) .answer ≡ accepted n
@@ -64,19 +67,15 @@ module _ (F : Format) (sound : Sound F) where
       let w = accepted-within F b (g .is-accepted) in
       record { is-distinct = w .is-distinct; is-closed = w .is-closed; is-neat = g .is-neat }
 
-  -- a proper formula within the limits, written as a sheet, in place of one with one variable more
-  stepped : (b : Bytes) (x : ℕ) (f : Formula) → Good F b → binds ((formula F b) .prefix) x ≡ true
-      → f .prefix ≡ without x ((formula F b) .prefix) → Proper f → rows (f .matrix) ≤ F .most-nodes → truth f ≡ truth (formula F b)
-      → Stepped F b (sheet F f)
-  stepped b x f g h e p l t =
-      let w = accepted-within F b (g .is-accepted) in
-      let shorter = length-without x ((formula F b) .prefix) h in
-      let within = within-step F (formula F b) f x w h e p l in
+  -- a proper formula within the limits, written as a sheet, in place of one with one variable more, but for its copies
+  written : (b : Bytes) (k : ℕ) (f : Formula) → Good F b → suc (length (f .prefix)) ≡ length ((formula F b) .prefix) + k → Within F f
+      → is-tidy (f .matrix) ≡ true → truth f ≡ truth (formula F b) → Stepped F b k (sheet F f)
+  written b k f g shorter within neat t =
       let back : formula F (sheet F f) ≡ f = formula-sheet F sound f within in
       let good : Good F (sheet F f)
       = record {
         is-accepted = passes-sheet F sound f within;
-        is-neat = ap (λ (k : Formula). is-tidy (k .matrix)) back ∙ p .is-neat;
+        is-neat = ap (λ (k : Formula). is-tidy (k .matrix)) back ∙ neat;
       } in
       record {
         still-good = good;
@@ -87,10 +86,16 @@ module _ (F : Format) (sound : Sound F) where
               accepted-variables F b (g .is-accepted),
               accepted-variables F (sheet F f) (good .is-accepted),
               shorter,
-              ap length e,
               ap (λ (k : Formula). length (k .prefix)) back,
             );
       }
+
+  stepped : (b : Bytes) (x : ℕ) (f : Formula) → Good F b → binds ((formula F b) .prefix) x ≡ true
+      → f .prefix ≡ without x ((formula F b) .prefix) → Proper f → rows (f .matrix) ≤ F .most-nodes → truth f ≡ truth (formula F b)
+      → Stepped F b 0 (sheet F f)
+  stepped b x f g h e p l t =
+      written b 0 f g (omega (arith, length-without x ((formula F b) .prefix) h, ap length e))
+      (within-step F (formula F b) f x (accepted-within F b (g .is-accepted)) h e p l) (p .is-neat) t
 
   -- refusals 9 and 10 passed: x is bound
   bound-passed : (b : Bytes) (x : ℕ) → passes (tidy-and-bound-tests F b x) ≡ true → binds ((formula F b) .prefix) x ≡ true
@@ -98,7 +103,7 @@ module _ (F : Format) (sound : Sound F) where
   bound-passed b x h = not-false (binds ((formula F b) .prefix) x) (passed-∷ _ _ (passed-∷ _ _ h .1) .0)
 
   settle-stepped : (b : Bytes) (x : ℕ) (out : Bytes) (n : ℕ) → Good F b → (settle-call F b x out) .answer ≡ accepted n
-      → Stepped F b (take n ((settle-call F b x out) .output))
+      → Stepped F b 0 (take n ((settle-call F b x out) .output))
   unfolding settle-call settle-tests settled
   settle-stepped b x out n g h =
       let f = formula F b in
@@ -108,14 +113,14 @@ module _ (F : Format) (sound : Sound F) where
       let bound = bound-passed b x (passed-++ (check-tests F b) (tidy-and-bound-tests F b x) (passed .0) .1) in
       let allowed : may-settle x f ≡ some v = some-value (may-settle x f) (not-false (is-some (may-settle x f)) (passed-∷ _ _ (passed .1) .0)) in
       let p = proper b g in
-      subst (Stepped F b) (sym (w .1))
+      subst (Stepped F b 0) (sym (w .1))
       (stepped b x (settled x v f) g bound refl (proper-settled x v f p)
       (le-trans (rows-settled x v f) (accepted-within F b (g .is-accepted) .few-nodes))
       (truth-settled x v f bound (p .is-distinct) allowed))
 
   -- the quote's tests passed, and the raw sheet fits some output
   expanded-stepped : (b : Bytes) (x len : ℕ) → Good F b → passes (quote-tests F b x) ≡ true
-      → fits-raw (fits F len) x (formula F b) ≡ true → Stepped F b (sheet F (expanded x (formula F b)))
+      → fits-raw (fits F len) x (formula F b) ≡ true → Stepped F b 0 (sheet F (expanded x (formula F b)))
   unfolding quote-tests expanded raw fits-raw fits
   expanded-stepped b x len g quoted fitting =
       let f = formula F b in
@@ -129,33 +134,58 @@ module _ (F : Format) (sound : Sound F) where
       (truth-expanded x f inside (p .is-distinct))
 
   expand-stepped : (b : Bytes) (x : ℕ) (out : Bytes) (n : ℕ) → Good F b → (expand-call F b x out) .answer ≡ accepted n
-      → Stepped F b (take n ((expand-call F b x out) .output))
+      → Stepped F b 0 (take n ((expand-call F b x out) .output))
   unfolding expand-call expand-tests
   expand-stepped b x out n g h =
       let w = front-written (expand-tests F b x (length out)) (sheet F (expanded x (formula F b))) out n h in
       let passed = passed-++ (quote-tests F b x) _ (w .0) in
-      subst (Stepped F b) (sym (w .1))
+      subst (Stepped F b 0) (sym (w .1))
       (expanded-stepped b x (length out) g (passed .0) (not-false (fits-raw (fits F (length out)) x (formula F b)) (passed-∷ _ _ (passed .1) .0)))
 
   execute-stepped : (b : Bytes) (x ceiling : ℕ) (out : Bytes) (n : ℕ) → Good F b → (execute-call F b x ceiling out) .answer ≡ accepted n
-      → Stepped F b (take n ((execute-call F b x ceiling out) .output))
+      → Stepped F b 0 (take n ((execute-call F b x ceiling out) .output))
   unfolding execute-call execute-tests
   execute-stepped b x ceiling out n g h =
       let w = front-written (execute-tests F b x ceiling (length out)) (sheet F (expanded x (formula F b))) out n h in
       let passed = passed-++ (quote-tests F b x) _ (w .0) in
       let room = passed-∷ _ _ (passed-∷ _ _ (passed .1) .1) .0 in
-      subst (Stepped F b) (sym (w .1))
+      subst (Stepped F b 0) (sym (w .1))
       (expanded-stepped b x (length out) g (passed .0) (not-false (fits-raw (fits F (length out)) x (formula F b)) room))
 
-  -- the sheet held after any calls, compared with the first one
-  record Well (b : Bytes) (h : Held) : Type 0 where
+  outer-stepped : (b : Bytes) (x : ℕ) (out : Bytes) (n : ℕ) → Good F b → (outer-call F b x out) .answer ≡ accepted n
+      → Stepped F b (copies F b x) (take n ((outer-call F b x out) .output))
+  unfolding outer-call outer-tests copies fits
+  outer-stepped b x out n g h =
+      let f = formula F b in
+      let H = F .most-variables in
+      let new = outer-expanded H x f in
+      let w = front-written (outer-tests F b x (length out)) (sheet F new) out n h in
+      let passed = passed-++ (check-tests F b ++ tidy-and-bound-tests F b x) _ (w .0) in
+      let bound = bound-passed b x (passed-++ (check-tests F b) (tidy-and-bound-tests F b x) (passed .0) .1) in
+      let first = passed-∷ _ _ (passed .1) in
+      let second = passed-∷ _ _ (first .1) in
+      let third = passed-∷ _ _ (second .1) in
+      let allowed = not-false (one-block-out x f) (first .0) in
+      let fitting = not-false (fits F (length out) (variables F b - 1 + length (dependents x f)) (outer-rows x f)) (third .0) in
+      let few = and-parts (leb (outer-rows x f) (F .most-nodes)) _ fitting .0 in
+      let p = proper b g in
+      let proper-new = proper-outer H x f p (second .0) in
+      let shorter = length-outer H x f bound ∙ ap (λ (k : ℕ). length (f .prefix) + k) (copies-many H x f (second .0)) in
+      subst (Stepped F b (length (dependents x f))) (sym (w .1))
+      (written b (length (dependents x f)) new g shorter
+      (within-outer F f x (accepted-within F b (g .is-accepted)) bound (second .0) proper-new
+      (le-trans (rows-outer H x f) (leb-true (outer-rows x f) (F .most-nodes) few))) (proper-new .is-neat)
+      (truth-outer H x f allowed (p .is-distinct) (p .is-closed) (second .0)))
+
+  -- the sheet held after any calls that made k copies, compared with the first one
+  record Well (b : Bytes) (k : ℕ) (h : Held) : Type 0 where
     is-good : Good F (h .sheet)
     same-truth : truth (formula F (h .sheet)) ≡ truth (formula F b)
-    counts : h .accepted-calls + variables F (h .sheet) ≡ variables F b
+    counts : h .accepted-calls + variables F (h .sheet) ≡ variables F b + k
 
-  well-stepped : (b : Bytes) (h : Held) (b′ : Bytes) → Well b h → Stepped F (h .sheet) b′
-      → Well b (record { sheet = b′; accepted-calls = suc (h .accepted-calls) })
-  well-stepped b h b′ w s =
+  well-stepped : (b : Bytes) (j : ℕ) (h : Held) (k : ℕ) (b′ : Bytes) → Well b j h → Stepped F (h .sheet) k b′
+      → Well b (j + k) (record { sheet = b′; accepted-calls = suc (h .accepted-calls) })
+  well-stepped b j h k b′ w s =
       record {
         is-good = s .still-good;
         same-truth = s .same-truth ∙ w .same-truth;
@@ -163,27 +193,35 @@ module _ (F : Format) (sound : Sound F) where
       }
 
   perform-stepped : (c : Call) (b : Bytes) (n : ℕ) → Good F b → (perform F c b) .answer ≡ accepted n
-      → Stepped F b (take n ((perform F c b) .output))
-  unfolding perform
+      → Stepped F b (copies-by F c b) (take n ((perform F c b) .output))
+  unfolding perform copies-by
   perform-stepped (settle x out) b n g h = settle-stepped b x out n g h
   perform-stepped (expand x out) b n g h = expand-stepped b x out n g h
   perform-stepped (execute x ceiling out) b n g h = execute-stepped b x ceiling out n g h
+  perform-stepped (outer x out) b n g h = outer-stepped b x out n g h
 
-  well-after : (b : Bytes) (h : Held) (c : Call) → Well b h
-      → Well b (held-after h ((perform F c (h .sheet)) .answer) ((perform F c (h .sheet)) .output))
-  unfolding held-after
-  well-after b h c w = by ((perform F c (h .sheet)) .answer) refl
+  well-after : (b : Bytes) (k : ℕ) (h : Held) (c : Call) → Well b k h
+      → Well b (k + copies-after ((perform F c (h .sheet)) .answer) (copies-by F c (h .sheet)))
+      (held-after h ((perform F c (h .sheet)) .answer) ((perform F c (h .sheet)) .output))
+  unfolding held-after copies-after
+  well-after b k h c w = by ((perform F c (h .sheet)) .answer) refl
     where
-      by : (a : Answer ℕ) → (perform F c (h .sheet)) .answer ≡ a → Well b (held-after h a ((perform F c (h .sheet)) .output))
-      by (refused n i) e = w
+      by : (a : Answer ℕ) → (perform F c (h .sheet)) .answer ≡ a
+          → Well b (k + copies-after a (copies-by F c (h .sheet))) (held-after h a ((perform F c (h .sheet)) .output))
+      by (refused n i) e = subst (λ (j : ℕ). Well b j h) (sym (add-zero k)) w
       by (accepted n) e =
-          well-stepped b h (take n ((perform F c (h .sheet)) .output)) w (perform-stepped c (h .sheet) n (w .is-good) e)
+          well-stepped b k h (copies-by F c (h .sheet)) (take n ((perform F c (h .sheet)) .output)) w
+          (perform-stepped c (h .sheet) n (w .is-good) e)
 
-  well-after-all : (b : Bytes) (cs : List Call) (h : Held) → Well b h → Well b (perform-all F cs h)
-  unfolding perform-all
-  well-after-all b [] h w = w
-  well-after-all b (c ∷ cs) h w =
-      well-after-all b cs (held-after h ((perform F c (h .sheet)) .answer) ((perform F c (h .sheet)) .output)) (well-after b h c w)
+  well-after-all : (b : Bytes) (cs : List Call) (k : ℕ) (h : Held) → Well b k h → Well b (k + copies-all F cs h) (perform-all F cs h)
+  unfolding perform-all copies-all
+  well-after-all b [] k h w = subst (λ (j : ℕ). Well b j h) (sym (add-zero k)) w
+  well-after-all b (c ∷ cs) k h w =
+      let p = perform F c (h .sheet) in
+      let made = copies-after (p .answer) (copies-by F c (h .sheet)) in
+      let h′ = held-after h (p .answer) (p .output) in
+      subst (λ (j : ℕ). Well b j (perform-all F cs h′)) (add-assoc k made (copies-all F cs h′))
+      (well-after-all b cs (k + made) h′ (well-after b k h c w))
 
 empty-prefix : (p : Prefix) → length p ≡ 0 → p ≡ []
 empty-prefix [] h = refl
@@ -192,7 +230,7 @@ empty-prefix (z ∷ p) h = absurd (omega arith)
 -- For every format whose numbers hold its sizes, every sheet that Check accepts and that is tidy, and every list of calls.
 pub demand-3 : (F : Format) → Sound F → (b : Bytes) (s : Sizes) → check F b ≡ accepted s → is-tidy ((formula F b) .matrix) ≡ true
     → (cs : List Call) → Demand-3 F b cs
-unfolding held check
+unfolding held check copies-made
 demand-3 F sound b s h t cs =
     record {
       is-accepted = (
@@ -216,10 +254,11 @@ demand-3 F sound b s h t cs =
     good : Good F b
     good = record { is-accepted = accepted-passes (check-tests F b) _ s h .0; is-neat = t }
 
-    well : (ds : List Call) → Well F sound b (end ds)
+    well : (ds : List Call) → Well F sound b (copies-all F ds (record { sheet = b; accepted-calls = 0 })) (end ds)
     well ds =
-        well-after-all F sound b ds (record { sheet = b; accepted-calls = 0 })
-        (record { is-good = good; same-truth = refl; counts = zero-add (variables F b) })
+        subst (λ (k : ℕ). Well F sound b k (end ds)) (zero-add (copies-all F ds (record { sheet = b; accepted-calls = 0 })))
+        (well-after-all F sound b ds 0 (record { sheet = b; accepted-calls = 0 })
+        (record { is-good = good; same-truth = refl; counts = omega arith }))
 
     true-verdict : (ds : List Call) (v : Bool) → sheet-verdict F (end ds .sheet) ≡ some v → v ≡ truth (formula F b)
     true-verdict ds v e = sym (verdict-truth (formula F (end ds .sheet)) v e) ∙ (well ds) .same-truth

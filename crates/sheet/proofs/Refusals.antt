@@ -7,6 +7,7 @@ use native.Mathlib.Omega.{arith}
 use Rattle.formula.specs.Solve.{State, End, ended, stopped, Run}
 use Rattle.sheet.specs.Format.{Bytes, Format}
 use Rattle.sheet.specs.Check.{Answer, refused, accepted, Test}
+use Rattle.sheet.specs.Outer.{outer-call}
 use Rattle.sheet.specs.Operations.{output-after, write, tidy-call, settle-call, expand-call, execute-call, reduce-call, is-refused, solved, solving, solve-call}
 
 pub written-refused : (tests : List Test) (new out : Bytes) (n i : ℕ) → (write tests new out) .answer ≡ refused n i → (write tests new out) .output ≡ out
@@ -47,6 +48,10 @@ module _ (F : Format) (b : Bytes) (n i : ℕ) where
         → (execute-call F b x ceiling out) .output ≡ out
     unfolding execute-call
     execute-refused ceiling h = written-refused _ _ out n i h
+
+    pub outer-refused : (outer-call F b x out) .answer ≡ refused n i → (outer-call F b x out) .output ≡ out
+    unfolding outer-call
+    outer-refused h = written-refused _ _ out n i h
 
   -- both work buffers of Solve
   pub solve-refused : (first second : Bytes) → (solve-call F b first second) .answer ≡ is-refused n i

@@ -1,4 +1,4 @@
--- Lists of Settle, Expand and Execute calls, the sheet held, and what demand 3 says of them ("Settling and expanding").
+-- Lists of Settle, Expand, Execute and Outer calls, the sheet held, and what demand 3 says of them ("Settling and expanding").
 -- Assumes nothing.
 use mathlib.Core.Path.{_≡_}
 use mathlib.Core.Bool.{Bool, true}
@@ -12,6 +12,7 @@ use Rattle.sheet.specs.Format.{Bytes, Format, variables}
 use Rattle.sheet.specs.Sheet.{formula}
 use Rattle.sheet.specs.Check.{Answer, refused, accepted, Sizes, check}
 use Rattle.sheet.specs.Operations.{Written, settle-call, expand-call, execute-call}
+use Rattle.sheet.specs.Outer.{copies, outer-call}
 
 -- a call: the operation, any number as x, of Execute any number as ceiling, and an output of any length and contents; a quote, which
 -- writes nothing, is none
@@ -19,11 +20,20 @@ pub data Call : Type 0 where
   settle : ℕ → Bytes → Call
   expand : ℕ → Bytes → Call
   execute : ℕ → ℕ → Bytes → Call
+  outer : ℕ → Bytes → Call
 
 unfoldable pub perform : Format → Call → Bytes → Written
 perform F (settle x out) b = settle-call F b x out
 perform F (expand x out) b = expand-call F b x out
 perform F (execute x ceiling out) b = execute-call F b x ceiling out
+perform F (outer x out) b = outer-call F b x out
+
+-- the copies that an accepted call makes
+unfoldable pub copies-by : Format → Call → Bytes → ℕ
+copies-by F (settle x out) b = 0
+copies-by F (expand x out) b = 0
+copies-by F (execute x ceiling out) b = 0
+copies-by F (outer x out) b = copies F b x
 
 -- the sheet held and the calls accepted so far
 pub record Held : Type 0 where
@@ -45,6 +55,20 @@ perform-all F (c ∷ cs) h =
 unfoldable pub held : Format → Bytes → List Call → Held
 held F b cs = perform-all F cs (record { sheet = b; accepted-calls = 0 })
 
+-- the copies made by a list of calls: of each accepted one those that it makes
+unfoldable pub copies-after : Answer ℕ → ℕ → ℕ
+copies-after (refused n i) k = 0
+copies-after (accepted n) k = k
+
+unfoldable pub copies-all : Format → List Call → Held → ℕ
+copies-all F [] h = 0
+copies-all F (c ∷ cs) h =
+    let w = perform F c (h .sheet) in
+    copies-after (w .answer) (copies-by F c (h .sheet)) + copies-all F cs (held-after h (w .answer) (w .output))
+
+unfoldable pub copies-made : Format → Bytes → List Call → ℕ
+copies-made F b cs = copies-all F cs (record { sheet = b; accepted-calls = 0 })
+
 -- the verdict of a sheet, if it has one
 abbrev pub sheet-verdict : Format → Bytes → Option Bool
 sheet-verdict F b = verdict ((formula F b) .matrix)
@@ -55,8 +79,8 @@ pub record Demand-3 (F : Format) (b : Bytes) (cs : List Call) : Type 0 where
   pub is-accepted : (s : Sizes) × (check F ((held F b cs) .sheet) ≡ accepted s)
   pub stays-tidy : is-tidy ((formula F ((held F b cs) .sheet)) .matrix) ≡ true
   pub same-truth : truth (formula F ((held F b cs) .sheet)) ≡ truth (formula F b)
-  -- accepted calls + variables left = variables at the start
-  pub counts : (held F b cs) .accepted-calls + variables F ((held F b cs) .sheet) ≡ variables F b
+  -- accepted calls + variables left = variables at the start + copies made
+  pub counts : (held F b cs) .accepted-calls + variables F ((held F b cs) .sheet) ≡ variables F b + copies-made F b cs
   -- no variable left means a verdict
   pub decided : variables F ((held F b cs) .sheet) ≡ 0 → (v : Bool) × (sheet-verdict F ((held F b cs) .sheet) ≡ some v)
   -- a verdict is the first sheet's truth value

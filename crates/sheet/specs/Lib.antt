@@ -4,6 +4,7 @@ pub mod Sheet
 pub mod Check
 pub mod Operations
 pub mod Carrying
+pub mod Outer
 pub mod Trace
 pub mod Calls
 pub mod Limits

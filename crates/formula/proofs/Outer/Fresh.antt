@@ -21,7 +21,7 @@ rows-of ns = map existential ns
 
 -- unused numbers
 
-unused-above : (p : Prefix) (n i : ℕ) (v : ℕ) → binds (rows-of (unused p n i)) v ≡ true → i ≤ v
+pub unused-above : (p : Prefix) (n i : ℕ) (v : ℕ) → binds (rows-of (unused p n i)) v ≡ true → i ≤ v
 unfolding unused binds
 unused-above p zero i v h = absurd (false≢true h)
 unused-above p (suc n) i v h = by (binds p i) h (unused-above p n (suc i) v)

@@ -24,7 +24,7 @@ use Rattle.formula.proofs.Closed.{unbound, length-without, binds-withou
 use Rattle.formula.proofs.Tidy.Growth.{rows-tidy}
 use Rattle.formula.proofs.Steps.{Proper, truth-tidied, proper-tidied}
 use Rattle.formula.proofs.Outer.Closure.{stage-binds, block-apart}
-use Rattle.formula.proofs.Outer.Fresh.{rows-of, unused-unbound, unused-distinct, take-binds, take-distinct, renamed-other, renamed-new, those-binds}
+use Rattle.formula.proofs.Outer.Fresh.{rows-of, unused-above, unused-below, unused-unbound, unused-distinct, take-binds, take-distinct, renamed-other, renamed-new, those-binds}
 use Rattle.formula.proofs.Outer.Truth.{binds-++, Setting, both, copied, after-both, bind-at}
 
 -- rows after x, those of them with a literal, and the existential ones of these
@@ -145,6 +145,12 @@ module _ (highest x : ℕ) (f : Formula) where
   pub copies-new : (v : ℕ) → binds (rows-of ns) v ≡ true → binds p v ≡ false
   unfolding copies-of
   copies-new v h = unused-unbound p highest 1 v (take-binds (length ys) (unused p highest 1) v h)
+
+  pub copies-numbered : (v : ℕ) → binds (rows-of ns) v ≡ true → (1 ≤ v) × (v ≤ highest)
+  unfolding copies-of
+  copies-numbered v h =
+      let k = take-binds (length ys) (unused p highest 1) v h in
+      (unused-above p highest 1 v k, omega (arith, unused-below p highest 1 v k))
 
   pub copies-distinct : distinct (rows-of ns) ≡ true
   unfolding copies-of
