@@ -1,0 +1,3 @@
+-- Sets of numbers in words.
+pub mod Digits
+pub mod Members

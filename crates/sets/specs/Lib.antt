@@ -1,0 +1,2 @@
+-- Sets of numbers in words.
+pub mod Sets
