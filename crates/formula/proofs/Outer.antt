@@ -8,3 +8,4 @@ pub mod Fresh
 pub mod Mix
 pub mod Truth
 pub mod Step
+pub mod Examples

@@ -10,4 +10,5 @@ pub mod Trial
 pub mod Reduce
 pub mod Force
 pub mod Outer
+pub mod OuterExamples
 pub mod Right

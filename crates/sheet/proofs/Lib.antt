@@ -15,6 +15,7 @@ pub mod Reduction
 pub mod Force
 pub mod Verdicts
 pub mod Refusals
+pub mod Outer
 pub mod Longer
 pub mod Carrying
 pub mod Formats

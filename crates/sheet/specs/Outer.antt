@@ -14,15 +14,19 @@ use Rattle.sheet.specs.Operations.{Written, write, tidy-and-bound-tests}
 unfoldable pub copies : Format → Bytes → ℕ → ℕ
 copies F b x = length (dependents x (formula F b))
 
--- 1 to 8; 9; 10; 11 x is no such variable; 18 fewer unused numbers are left than variables to copy; 13 the raw sheet doesn't fit: its rows
--- are counted as in Expand, and the copied quantifier rows add to its length only
+-- 18 fewer unused numbers are left than variables to copy
+abbrev pub numbers-test : Format → Bytes → ℕ → Test
+numbers-test F b x = test (too-few (F .most-variables) x (formula F b)) 18 0
+
+-- 13 the raw sheet doesn't fit: its rows are counted as in Expand, and the copied quantifier rows add to its length only
+abbrev pub copied-room-test : Format → Bytes → ℕ → ℕ → Test
+copied-room-test F b x len = test (not (fits F len (variables F b - 1 + copies F b x) (outer-rows x (formula F b)))) 13 0
+
+-- 1 to 8; 9; 10; 11 x is no such variable; 18; 13
 unfoldable pub outer-tests : Format → Bytes → ℕ → ℕ → List Test
 outer-tests F b x len =
     check-tests F b ++ tidy-and-bound-tests F b x ++
-    (test (not (one-block-out x (formula F b))) 11 0 ∷
-    test (too-few (F .most-variables) x (formula F b)) 18 0 ∷
-    test (not (fits F len (variables F b - 1 + copies F b x) (outer-rows x (formula F b)))) 13 0 ∷
-    [])
+    (test (not (one-block-out x (formula F b))) 11 0 ∷ numbers-test F b x ∷ copied-room-test F b x len ∷ [])
 
 unfoldable pub outer-call : Format → Bytes → ℕ → Bytes → Written
 outer-call F b x out =

@@ -314,13 +314,17 @@ module _ (highest x : ℕ) (f : Formula) where
       rw outer-tidied (proper-tidied (raw-outer highest x f) (distinct-raw-outer (r .is-distinct)) (closed-raw-outer (r .is-closed) e))
 
   -- variables left + 1 = variables before + copies
-  pub length-outer : binds p x ≡ true → suc (length (outer-expanded highest x f .prefix)) ≡ length p + length ns
-  unfolding outer-expanded raw-outer
-  length-outer h =
+  pub length-raw-outer : binds p x ≡ true → suc (length (raw-outer highest x f .prefix)) ≡ length p + length ns
+  unfolding raw-outer
+  length-raw-outer h =
       let l = length-without x p h in
       let m = length-append (without x p) (rows-of ns) in
       let n = length-map ns existential in
       omega arith
+
+  pub length-outer : binds p x ≡ true → suc (length (outer-expanded highest x f .prefix)) ≡ length p + length ns
+  unfolding outer-expanded
+  length-outer h = length-raw-outer h
 
   -- the raw tree has as many rows as are counted, and tidying adds none
   rows-renaming : (s : Bool) (v : ℕ) → rows (renaming x ys ns s v) ≡ 1
