@@ -16,3 +16,4 @@ pub mod Reduce
 pub mod ReduceAgain
 pub mod Force
 pub mod Outer
+pub mod Guards

@@ -11,4 +11,5 @@ pub mod Reduce
 pub mod Force
 pub mod Outer
 pub mod OuterExamples
+pub mod Guards
 pub mod Right

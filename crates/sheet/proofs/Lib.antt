@@ -19,3 +19,4 @@ pub mod Outer
 pub mod Longer
 pub mod Carrying
 pub mod Formats
+pub mod Guards

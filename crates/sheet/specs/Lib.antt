@@ -6,6 +6,7 @@ pub mod Operations
 pub mod Carrying
 pub mod Outer
 pub mod Trace
+pub mod Guards
 pub mod Calls
 pub mod Limits
 pub mod Force
