@@ -1,6 +1,6 @@
 -- Laws for callers.
 pub mod Laws
-mod Cuts
+pub mod Cuts
 mod Around
 pub mod Source
 mod Copies

@@ -1,0 +1,6 @@
+mod Runs
+mod Writing
+mod Trying
+mod Turn
+mod Deciding
+pub mod Reliance

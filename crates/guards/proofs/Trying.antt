@@ -1,0 +1,88 @@
+-- A run entered with a part of the children, and its word.
+-- Assumes nothing.
+use mathlib.Core.Path.{_≡_, refl, sym, ap, ap₂, _∙_, subst}
+use mathlib.Core.Bool.{Bool, true, false}
+use mathlib.Core.List.{List}
+use Prim.Native.Nat.{ℕ, _^_, _≤_, _<_}
+use native.Mathlib.Omega.{arith}
+use lib.ListN.{length}
+use Rattle.formula.specs.Tree.{Formula, rows}
+use Rattle.formula.specs.Solve.{State, End, ended, stopped, Run, solve}
+use Rattle.formula.specs.Guards.{conjoined, says}
+use Rattle.sheet.specs.Format.{Bytes, Format, fits}
+use Rattle.sheet.specs.Sheet.{formula-rows}
+use Rattle.sheet.specs.Operations.{solved}
+use Rattle.sheet.specs.Limits.{Within}
+use Rattle.sheet.specs.Trace.{room}
+use Rattle.rows.specs.Layouts.{total, size, rows-in, Room}
+use Rattle.rows.specs.Formulas.{prefix-in, formula-in}
+use Rattle.rows.specs.declared.Layout.{Layout}
+use Rattle.rows.proofs.Formulas.{length-prefix, formula-written}
+use Rattle.tidying.proofs.Raw.{few-rows, raw-rows}
+use Rattle.solve.specs.Answers.{solved-answer}
+use Rattle.solve.specs.Inner.Running.{RawReady, answered, solution}
+use Rattle.solve.specs.declared.Verdict as verdict
+use Rattle.solve.specs.declared.Solved.{Solved}
+use Rattle.solve.specs.declared.Solved as answers
+use Rattle.guards.specs.declared.part.Part.{Part}
+use Rattle.guards.specs.declared.sift.Word.{Word}
+use Rattle.guards.specs.Inner.Parts.{guards-in, part-layout, Chosen, Tried}
+use Rattle.guards.specs.Inner.Sieves.{word-for, Says}
+use Rattle.guards.proofs.Writing.{part-size}
+
+-- an answer of a run, in a word
+pub word-says : (a : Solved) (e : End) (s : State) → solved-answer a ≡ solved e s → Says (word-for a) e
+unfolding solved
+word-says (answers.the-variants.Refused n i) (ended v) s h = let z : _≡_ {A = ℕ} 0 1 = cc in absurd (omega arith)
+word-says (answers.the-variants.Refused n i) (stopped x) s h = let z : _≡_ {A = ℕ} 0 1 = cc in absurd (omega arith)
+word-says (answers.the-variants.Stopped y n m) (ended v) s h = let z : _≡_ {A = ℕ} 0 1 = cc in absurd (omega arith)
+word-says (answers.the-variants.Stopped y n m) (stopped x) s h = (x, refl)
+word-says (answers.the-variants.Ended verdict.the-variants.True n m) (ended v) s h = let e : v ≡ true = cc in ap ended e
+word-says (answers.the-variants.Ended verdict.the-variants.True n m) (stopped x) s h = let z : _≡_ {A = ℕ} 0 1 = cc in absurd (omega arith)
+word-says (answers.the-variants.Ended verdict.the-variants.False n m) (ended v) s h = let e : v ≡ false = cc in ap ended e
+word-says (answers.the-variants.Ended verdict.the-variants.False n m) (stopped x) s h = let z : _≡_ {A = ℕ} 0 1 = cc in absurd (omega arith)
+
+module _ {F : Format} {s : Layout} {b : Bytes} {cs : List ℕ} {p : Part} {most : ℕ} (h : Tried F s b cs p most) (t : Layout) (new second : Bytes)
+    (at : t ≡ part-layout s p) (is : rows-in t new ≡ formula-rows (conjoined (prefix-in s b) (guards-in s b cs))) (same : room new second ≡ most) where
+  abbrev g : Formula
+  g = conjoined (prefix-in s b) (guards-in s b cs)
+
+  variables-are : length (g .prefix) ≡ t .variables
+  variables-are = length-prefix b (h .chosen .readable) ∙ ap (λ (l : Layout). l .variables) (sym at)
+
+  width-is : t .width ≡ F .width
+  width-is = ap (λ (l : Layout). l .width) at ∙ h .width-is
+
+  no-longer : size t ≤ room new second
+  no-longer = omega (arith, part-size (h .chosen), ap size at, h .has-room, same)
+
+  has-place : Room t (length new)
+  has-place = record { few-bytes = rw width-is (h .countable .manageable .few-bytes); holds = omega (arith, no-longer) }
+
+  read : formula-in t new ≡ g
+  read = formula-written t new g is variables-are
+
+  few : total t < 256 ^ t .width
+  unfolding rows
+  few =
+      few-rows (h .countable) t width-is (omega (arith, variables-are, h .within .few-variables))
+      (omega (arith, ap (λ (l : Layout). l .nodes) at, h .chosen .long, h .within .few-nodes))
+
+  pub part-raw : RawReady F t new second
+  part-raw =
+      record {
+        countable = h .countable;
+        raw = raw-rows F t new g is variables-are width-is has-place few;
+        within = subst (Within F) (sym read) (h .within);
+        has-room = no-longer;
+      }
+
+  same-run : solution F t new second ≡ solve (fits F most) g
+  same-run = ap₂ (λ (m : ℕ) (f : Formula). solve (fits F m) f) same read
+
+  pub part-said : (a : Solved) {w : Word} → w ≡ word-for a → solved-answer a ≡ answered (solution F t new second)
+      → Says w (says (fits F most) (prefix-in s b) (guards-in s b cs))
+  unfolding says
+  part-said a e k =
+      let r = solve (fits F most) g in
+      subst (λ (w : Word). Says w (r .end)) (sym e) (word-says a (r .end) (r .state) (k ∙ ap answered same-run))

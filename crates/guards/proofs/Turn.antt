@@ -1,0 +1,321 @@
+-- The children sifted one by one: what is owed of the rest is what was owed of all.
+-- Assumes nothing.
+use mathlib.Core.Path.{_≡_, refl, sym, ap, ap₂, _∙_, subst}
+use mathlib.Core.Bool.{true, false}
+use mathlib.Core.List.{List, [], _∷_, _++_, append-nil}
+use Prim.Native.Nat.{ℕ, zero, suc, _+_, _*_, _-_, _^_, _≤_, _<_}
+use native.Mathlib.Omega.{arith}
+use lib.ListN.{length, getD, take, drop, length-append, length-drop}
+use lib.Seq.{slice, take-all, take-at, drop-at, drop-drop, length-take-le}
+use Rattle.formula.specs.Tree.{and, or, Tree, lit, node, Forest, ∅, _▸_, _⧺_, Formula, rows, rows-all, count}
+use Rattle.formula.specs.Solve.{End, ended, stopped}
+use Rattle.formula.specs.Guards.{is-and, guards, conjoined, Kept, judged, sift, says, clashing}
+use Rattle.formula.proofs.Tidy.Children.{count-⧺, ⧺-none}
+use Rattle.formula.proofs.Tidy.Growth.{rows-⧺}
+use Rattle.formula.proofs.Guards.{Fewer, fewer-none, fewer-again, one-fewer, next-tried, and-matrix, and-formula}
+use Rattle.sheet.specs.Format.{Bytes, Format, Row, fits}
+use Rattle.sheet.specs.Sheet.{front, tree-rows, forest-rows}
+use Rattle.sheet.specs.Limits.{Within}
+use Rattle.sheet.proofs.Preorder.{forest-rows-⧺, length-tree-rows, length-forest-rows, count-rows}
+use Rattle.sheet.proofs.Accepted.{accepted-within}
+use Rattle.sheet.proofs.Guards.{within-fewer}
+use Rattle.rows.specs.Formulas.{prefix-in, node-rows-in, matrix-in, formula-in, Readable}
+use Rattle.rows.specs.declared.Layout.{Layout}
+use Rattle.rows.proofs.Formulas.{length-nodes, one-tree, rows-nodes}
+use Rattle.checking.specs.Limits.{Countable, Sheet}
+use Rattle.checking.proofs.CheckedSheets.{sheet-readable, sheet-formula-in, sheet-right}
+use Rattle.subtrees.specs.Subtrees.{kids, forest-in, subtree-in, siblings-in, Beside}
+use Rattle.subtrees.specs.Ends.{Indexed}
+use Rattle.subtrees.proofs.Siblings.{Walked, walk-on, siblings-none, children-read, subtree-root}
+use Rattle.raw.specs.Expansions.{Climbs, runs-in}
+use Rattle.raw.proofs.Cuts.{slice-take}
+use Rattle.guards.specs.declared.part.Part.{Part}
+use Rattle.guards.specs.declared.sift.Sieve.{Sieve}
+use Rattle.guards.specs.declared.sift.Word.{Word}
+use Rattle.guards.specs.declared.sift.Word.the-variants.{False, True, Stopped}
+use Rattle.guards.specs.Inner.Parts.{guards-in, Chosen, Tried}
+use Rattle.guards.specs.Inner.Sieves.{Says, judged-by, Siftable, clashing-in, runs, kept-part, Sifted}
+use Rattle.guards.proofs.Runs.{one-more, climbs-++, climbs-to, guards-read, chosen, front-stays}
+
+-- the root's children, as both crates name them
+kids-guards : (t : Tree) → kids t ≡ guards t
+unfolding guards
+kids-guards (lit s v) = refl
+kids-guards (node o ts) = refl
+
+count-front : (n : ℕ) (ts : Forest) → n ≤ count ts → count (front n ts) ≡ n
+unfolding front count
+count-front zero ts h = refl
+count-front (suc n) ∅ h = omega arith
+count-front (suc n) (t ▸ ts) h = ap suc (count-front n ts (omega arith))
+
+-- one child less is left, whatever the word
+pub judged-left : (g : Sieve) (w : Word) (end : ℕ) → (judged-by g w end) .left ≡ g .left - 1
+judged-left g False end = refl
+judged-left g True end = refl
+judged-left g Stopped end = refl
+
+module _ (F : Format) (s : Layout) (b : Bytes) (most : ℕ) where
+  abbrev N : List Row
+  N = node-rows-in s b
+
+  abbrev S : Forest → End
+  S = says (fits F most) (prefix-in s b)
+
+  -- those not yet tried
+  abbrev untried : Sieve → Forest
+  untried g = siblings-in s b (g .at) (g .left)
+
+  pub record Sifting (cuts : List ℕ) (g : Sieve) : Type 0 where
+    pub kept : Forest
+    pub kept-are : runs-in s b (runs cuts g) ≡ forest-rows kept
+    pub entries : 2 * g .guards ≤ length cuts
+    pub climbs : Climbs 0 (runs cuts g) (g .at)
+    pub counted : g .guards ≡ count kept
+    pub long : g .rows ≡ rows-all kept
+    pub below : g .rows < g .at
+    pub few-stops : g .stops ≤ g .guards
+    pub at-most : g .at ≤ s .nodes
+    pub few : Beside s b (g .at) (g .left)
+    pub rest-are : drop (g .at) N ≡ forest-rows (siblings-in s b (g .at) (g .left))
+    pub fewer : Fewer (kept ⧺ siblings-in s b (g .at) (g .left)) (guards (matrix-in s b))
+    pub owed-those : (sift (says (fits F most) (prefix-in s b)) kept (siblings-in s b (g .at) (g .left))) .those ≡ (clashing-in F s b most) .those
+    pub owed-stops : g .stops + (sift (says (fits F most) (prefix-in s b)) kept (siblings-in s b (g .at) (g .left))) .stops ≡ (clashing-in F s b most) .stops
+
+  module _ (h : Siftable F s b most) where
+    pub ok : Readable s b
+    ok = sheet-readable (h .sheet) (h .countable .manageable)
+
+    width-is : s .width ≡ F .width
+    width-is = ap (λ (t : Layout). t .width) (h .sheet .layout-is)
+
+    -- the sheet's own formula, whose guards are tried
+    whole-within : Within F (conjoined (prefix-in s b) (guards (matrix-in s b)))
+    unfolding formula-in
+    whole-within =
+        subst (Within F) (sym (sheet-formula-in (h .sheet)) ∙ and-formula (formula-in s b) (h .root-is-and))
+        (accepted-within F b (h .sheet .tests-pass))
+
+    all-children : {k : ℕ} → k ≡ count (kids (subtree-in s b 0)) → (siblings-in s b 1 k ≡ guards (matrix-in s b)) × Beside s b 1 k
+    all-children e =
+        let c = children-read b ok 0 (ok .some-nodes) refl e in
+        (c .are ∙ ap kids (subtree-root b ok) ∙ kids-guards (matrix-in s b), c .few)
+
+    behind-root : drop 1 N ≡ forest-rows (guards (matrix-in s b))
+    unfolding tree-rows
+    behind-root = ap (drop 1) (sym (one-tree b ok) ∙ ap tree-rows (and-matrix (matrix-in s b) (h .root-is-and)))
+
+    pub first-turn : (cuts : List ℕ) {k : ℕ} → k ≡ count (kids (subtree-in s b 0))
+        → Sifting cuts (record { at = 1; left = k; guards = 0; rows = 0; stops = 0 })
+    unfolding _⧺_ count rows-all clashing formula-in forest-rows Rattle.relevance.specs.Cuts.every-other
+    first-turn cuts {k} e =
+        let all = all-children e in
+        record {
+          kept = ∅;
+          kept-are = refl;
+          entries = omega arith;
+          climbs = omega arith;
+          counted = refl;
+          long = refl;
+          below = omega arith;
+          few-stops = omega arith;
+          at-most = ok .some-nodes;
+          few = all .1;
+          rest-are = behind-root ∙ ap forest-rows (sym (all .0));
+          fewer = subst (λ (ts : Forest). Fewer ts (guards (matrix-in s b))) (sym (all .0)) (fewer-none (guards (matrix-in s b)));
+          owed-those = ap (λ (ts : Forest). (sift S ∅ ts) .those) (all .0);
+          owed-stops = ap (λ (ts : Forest). 0 + (sift S ∅ ts) .stops) (all .0) ∙ plus-zero _;
+        }
+      where
+        plus-zero : (n : ℕ) → 0 + n ≡ n
+        plus-zero n = omega arith
+
+    -- kept children and rows fit the table and the numbers
+    pub kept-few : {cuts : List ℕ} {g : Sieve} → Sifting cuts g → g .guards < s .nodes
+    kept-few i = omega (arith, i .counted, i .long, count-rows (i .kept), i .below, i .at-most)
+
+    fit : {n : ℕ} → n < s .nodes → n < 256 ^ s .width
+    fit l = rw width-is (omega (arith, h .countable .few-rows, sheet-right (h .sheet) .few-nodes))
+
+    pub last-turn : {cuts : List ℕ} {g : Sieve} → g .left ≤ 0 → Sifting cuts g → Sifted F s b most cuts g
+    unfolding sift
+    last-turn {cuts} {g} l i =
+        let none = siblings-none s b (g .at) l in
+        let done = guards-read s b (runs cuts g) (i .kept) (i .kept-are) in
+        record {
+          chosen =
+              chosen s b (runs cuts g) (i .kept) (i .kept-are) ok (rw width-is (h .countable .two-bytes)) (climbs-to 0 (g .at) (s .nodes) (runs cuts g) (i .climbs) (i .at-most)) (i .counted) (i .long)
+              (omega (arith, i .below, i .at-most)) (fit (kept-few i));
+          those-are = done ∙ ap (λ (ts : Forest). (sift S (i .kept) ts) .those) (sym none) ∙ i .owed-those;
+          stops-are = plus-none (g .stops) ∙ ap (λ (ts : Forest). g .stops + (sift S (i .kept) ts) .stops) (sym none) ∙ i .owed-stops;
+          fewer-kept = omega (arith, kept-few i, ok .few-nodes);
+        }
+      where
+        plus-none : (n : ℕ) → n ≡ n + 0
+        plus-none n = omega arith
+
+    module _ {ends : List ℕ} (ix : Indexed s b ends) {cuts : List ℕ} {g : Sieve} (more : 0 < g .left) (i : Sifting cuts g) where
+      -- the next child, where it ends, and those behind it
+      abbrev t : Tree
+      t = subtree-in s b (g .at)
+
+      abbrev end : ℕ
+      end = getD ends (g .at) 0
+
+      abbrev rest : Forest
+      rest = siblings-in s b end (g .left - 1)
+
+      abbrev K : List ℕ
+      K = runs cuts g
+
+      pub walked : Walked s b ends (g .at) (g .left)
+      walked = walk-on b ok ends ix (g .at) more (i .few)
+
+      two-each : length K ≡ 2 * g .guards
+      two-each = length-take-le (2 * g .guards) cuts (i .entries)
+
+      rows-here : drop (g .at) N ≡ tree-rows t ++ forest-rows rest
+      unfolding forest-rows
+      rows-here = i .rest-are ∙ ap forest-rows (walked .split)
+
+      rows-behind : drop end N ≡ forest-rows rest
+      rows-behind =
+          ap (λ n. drop n N) (walked .next) ∙ sym (drop-drop (rows t) (g .at) N) ∙ ap (drop (rows t)) rows-here ∙
+          drop-at (tree-rows t) (forest-rows rest) (rows t) (length-tree-rows t)
+
+      rest-run : slice end (s .nodes) N ≡ forest-rows rest
+      rest-run = ap (drop end) (take-all (s .nodes) N (omega (arith, length-nodes b ok))) ∙ rows-behind
+
+      child-run : slice (g .at) end N ≡ tree-rows t
+      child-run =
+          ap (λ n. slice (g .at) n N) (walked .next) ∙ slice-take N (g .at) (rows t) (omega (arith, i .at-most, length-nodes b ok)) ∙
+          ap (take (rows t)) rows-here ∙ take-at (tree-rows t) (forest-rows rest) (rows t) (length-tree-rows t)
+
+      rest-count : count rest ≡ g .left - 1
+      unfolding siblings-in
+      rest-count = count-front (g .left - 1) (forest-in s b end) (walked .few)
+
+      rest-long : rows-all rest ≡ s .nodes - end
+      rest-long =
+          sym (length-forest-rows rest) ∙ ap length (sym rows-behind) ∙ omega (arith, length-drop end N, length-nodes b ok)
+
+      pub left-few : g .left ≤ s .nodes + 1
+      left-few = omega (arith, rest-count, rest-long, count-rows rest)
+
+      whole-fewer : Fewer (i .kept ⧺ (t ▸ rest)) (guards (matrix-in s b))
+      whole-fewer = subst (λ (ts : Forest). Fewer (i .kept ⧺ ts) (guards (matrix-in s b))) (walked .split) (i .fewer)
+
+      tried-fewer : Fewer (i .kept ⧺ rest) (guards (matrix-in s b))
+      tried-fewer = fewer-again (one-fewer (i .kept) t rest) whole-fewer
+
+      -- the run of those behind it, after those of the children kept
+      module _ (new : List ℕ) (e : new ≡ K ++ (end ∷ s .nodes ∷ [])) where
+        tried-are : runs-in s b new ≡ forest-rows (i .kept ⧺ rest)
+        tried-are =
+            ap (runs-in s b) e ∙ one-more N (g .guards) K end (s .nodes) two-each ∙ ap₂ _++_ (i .kept-are) rest-run ∙
+            sym (forest-rows-⧺ (i .kept) rest)
+
+        pub tried-read : guards-in s b new ≡ i .kept ⧺ rest
+        tried-read = guards-read s b new (i .kept ⧺ rest) tried-are
+
+        counted : g .guards + (g .left - 1) ≡ count (i .kept ⧺ rest)
+        counted = omega (arith, i .counted, rest-count, count-⧺ (i .kept) rest)
+
+        long : g .rows + (s .nodes - end) ≡ rows-all (i .kept ⧺ rest)
+        long = omega (arith, i .long, rest-long, rows-⧺ (i .kept) rest)
+
+        no-more : g .rows + (s .nodes - end) < s .nodes
+        no-more = omega (arith, i .below, walked .next, walked .next-within)
+
+        pub tried : Tried F s b new (record { guards = g .guards + (g .left - 1); rows = g .rows + (s .nodes - end) }) most
+        tried =
+            record {
+              countable = h .countable;
+              width-is = width-is;
+              chosen =
+                  chosen s b new (i .kept ⧺ rest) tried-are ok (rw width-is (h .countable .two-bytes))
+                  (subst (λ cs. Climbs 0 cs (s .nodes)) (sym e)
+                  (climbs-++ 0 (g .at) (s .nodes) K (end ∷ s .nodes ∷ []) (i .climbs) (omega (arith, walked .next), (walked .next-within, omega arith))))
+                  counted long no-more (fit (omega (arith, counted, long, no-more, count-rows (i .kept ⧺ rest))));
+              within = rw tried-read (within-fewer F (prefix-in s b) tried-fewer whole-within);
+              has-room = h .has-room;
+            }
+
+      -- what is owed, by how the run without the child ended
+      step : sift S (i .kept) (untried g) ≡ judged (S (i .kept ⧺ rest)) (sift S (i .kept) rest) (sift S (i .kept ⧺ (t ▸ ∅)) rest)
+      unfolding sift
+      step = ap (sift S (i .kept)) (walked .split)
+
+      judged-as : {e : End} → S (i .kept ⧺ rest) ≡ e
+          → sift S (i .kept) (untried g) ≡ judged e (sift S (i .kept) rest) (sift S (i .kept ⧺ (t ▸ ∅)) rest)
+      judged-as h = step ∙ ap (λ (e : End). judged e (sift S (i .kept) rest) (sift S (i .kept ⧺ (t ▸ ∅)) rest)) h
+
+      -- its run stands behind those of the children kept, whether it joins them or not
+      module _ (cuts′ : List ℕ) (e : take (2 * g .guards + 2) cuts′ ≡ K ++ (g .at ∷ end ∷ [])) (enough : 2 * g .guards + 2 ≤ length cuts′) where
+        same-runs : take (2 * g .guards) cuts′ ≡ K
+        same-runs = front-stays cuts cuts′ (2 * g .guards) (g .at) end (i .entries) e
+
+        joined-runs : take (2 * (g .guards + 1)) cuts′ ≡ K ++ (g .at ∷ end ∷ [])
+        joined-runs = ap (λ n. take n cuts′) next ∙ e
+          where
+            next : 2 * (g .guards + 1) ≡ 2 * g .guards + 2
+            next = omega arith
+
+        left-out : S (i .kept ⧺ rest) ≡ ended false → Sifting cuts′ (judged-by g False end)
+        unfolding judged
+        left-out said =
+            record {
+              kept = i .kept;
+              kept-are = ap (runs-in s b) same-runs ∙ i .kept-are;
+              entries = omega arith;
+              climbs = subst (λ cs. Climbs 0 cs end) (sym same-runs) (climbs-to 0 (g .at) end K (i .climbs) (omega (arith, walked .next)));
+              counted = i .counted;
+              long = i .long;
+              below = omega (arith, i .below, walked .next);
+              few-stops = i .few-stops;
+              at-most = walked .next-within;
+              few = walked .few;
+              rest-are = rows-behind;
+              fewer = tried-fewer;
+              owed-those = ap (λ (k : Kept). k .those) (sym (judged-as said)) ∙ i .owed-those;
+              owed-stops = ap (λ (k : Kept). g .stops + k .stops) (sym (judged-as said)) ∙ i .owed-stops;
+            }
+
+        joins : (n : ℕ) → n ≤ g .stops + 1 → (sift S (i .kept) (untried g)) .those ≡ (sift S (i .kept ⧺ (t ▸ ∅)) rest) .those
+            → g .stops + (sift S (i .kept) (untried g)) .stops ≡ n + (sift S (i .kept ⧺ (t ▸ ∅)) rest) .stops
+            → Sifting cuts′ (record { at = end; left = g .left - 1; guards = g .guards + 1; rows = g .rows + (end - g .at); stops = n })
+        unfolding count rows-all forest-rows
+        joins n l those stops =
+            record {
+              kept = i .kept ⧺ (t ▸ ∅);
+              kept-are =
+                  ap (runs-in s b) joined-runs ∙ one-more N (g .guards) K (g .at) end two-each ∙
+                  ap₂ _++_ (i .kept-are) (child-run ∙ sym (append-nil (tree-rows t))) ∙ sym (forest-rows-⧺ (i .kept) (t ▸ ∅));
+              entries = omega arith;
+              climbs =
+                  subst (λ cs. Climbs 0 cs end) (sym joined-runs)
+                  (climbs-++ 0 (g .at) end K (g .at ∷ end ∷ []) (i .climbs) (omega arith, (omega (arith, walked .next), omega arith)));
+              counted = omega (arith, i .counted, count-⧺ (i .kept) (t ▸ ∅));
+              long = omega (arith, i .long, walked .next, rows-⧺ (i .kept) (t ▸ ∅));
+              below = omega (arith, i .below, walked .next);
+              few-stops = omega (arith, i .few-stops);
+              at-most = walked .next-within;
+              few = walked .few;
+              rest-are = rows-behind;
+              fewer = subst (λ (ts : Forest). Fewer ts (guards (matrix-in s b))) (sym (next-tried (i .kept) t rest)) whole-fewer;
+              owed-those = sym those ∙ i .owed-those;
+              owed-stops = sym stops ∙ i .owed-stops;
+            }
+
+        pub next-turn : (w : Word) → Says w (S (i .kept ⧺ rest)) → Sifting cuts′ (judged-by g w end)
+        unfolding judged
+        next-turn False said = left-out said
+        next-turn True said =
+            joins (g .stops) (omega arith) (ap (λ (k : Kept). k .those) (judged-as said))
+            (ap (λ (k : Kept). g .stops + k .stops) (judged-as said))
+        next-turn Stopped said =
+            joins (g .stops + 1) (omega arith) (ap (λ (k : Kept). k .those) (judged-as (said .1)))
+            (ap (λ (k : Kept). g .stops + k .stops) (judged-as (said .1)) ∙ one-up ((sift S (i .kept ⧺ (t ▸ ∅)) rest) .stops))
+          where
+            one-up : (n : ℕ) → g .stops + suc n ≡ g .stops + 1 + n
+            one-up n = omega arith
