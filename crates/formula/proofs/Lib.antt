@@ -17,3 +17,6 @@ pub mod ReduceAgain
 pub mod Force
 pub mod Outer
 pub mod Guards
+pub mod Ordering
+pub mod Sorting
+pub mod Order

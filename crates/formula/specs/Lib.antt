@@ -12,4 +12,5 @@ pub mod Force
 pub mod Outer
 pub mod OuterExamples
 pub mod Guards
+pub mod Order
 pub mod Right

@@ -13,6 +13,7 @@ pub mod Calls
 pub mod Quote
 pub mod Reduction
 pub mod Force
+pub mod Order
 pub mod Verdicts
 pub mod Refusals
 pub mod Outer

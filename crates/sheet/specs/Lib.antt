@@ -5,6 +5,7 @@ pub mod Check
 pub mod Operations
 pub mod Carrying
 pub mod Outer
+pub mod Order
 pub mod Trace
 pub mod Guards
 pub mod Calls
