@@ -1,0 +1,17 @@
+-- `sorting::order::class_of` meets its contract. Assumes nothing.
+use Rattle.sorting.proofs.Rows.{class-literal, class-operator}
+use mathlib.Core.Path.{sym}
+use native.Mathlib.Omega.{arith}
+use Rattle.sorting.proofs.order.class_of.Statement.{statement}
+use Rattle.sorting.proofs.order.class_of.Tie as tie
+use Rattle.sorting.proofs.order.class_of.Reads as reads
+use Rattle.sorting.proofs.order.class_of.Lts as lts
+
+returns : tie.Need-returns
+returns c = sym (class-literal _ (omega arith))
+
+returns-2 : tie.Need-returns-2
+returns-2 c = sym (class-operator _ (omega arith))
+
+pub class-of-spec : {M : Type 1} → statement M
+class-of-spec = tie.close (tie.spec returns returns-2)
