@@ -10,6 +10,7 @@ pub mod RoundTrip
 pub mod Accepted
 pub mod Starred
 pub mod Calls
+pub mod Steps
 pub mod Quote
 pub mod Reduction
 pub mod Force

@@ -9,6 +9,7 @@ pub mod Order
 pub mod Trace
 pub mod Guards
 pub mod Calls
+pub mod Steps
 pub mod Limits
 pub mod Force
 pub mod Reliance
