@@ -1,0 +1,4 @@
+pub mod Turning
+pub mod Arrays
+pub mod Whole
+pub mod Numbering

@@ -1,0 +1,14 @@
+-- A step record in the words of the definition (N2: "its operation, its variable and a place for its answer").
+-- Assumes nothing.
+use Rattle.sheet.specs.Steps.{Operation as Named, settling, expanding, Step as Record}
+use Rattle.checking.specs.Answers.{written-answer}
+use Rattle.steps.specs.declared.Operation.{Operation}
+use Rattle.steps.specs.declared.Operation.the-variants.{Settle, Expand}
+use Rattle.steps.specs.declared.Step.{Step}
+
+abbrev pub operation-of : Operation → Named
+operation-of Settle = settling
+operation-of Expand = expanding
+
+abbrev pub step-of : Step → Record
+step-of s = record { operation = operation-of (s .operation); variable = s .variable; answer = written-answer (s .answer) }

@@ -1,0 +1,2 @@
+-- A list between two turns: definitions that no entry point cites.
+pub mod Turns
