@@ -88,4 +88,20 @@ uint64_t plumanchor_force(const uint8_t *sheet, size_t length, const uint8_t *va
 uint64_t plumanchor_force_wide(const uint8_t *sheet, size_t length, const uint8_t *values, size_t count, uint8_t *first,
                                size_t first_room, uint8_t *second, size_t second_room);
 
+/* Steps: a whole list of settle and expand steps on one sheet. Record i settles (operations[i] is 0) or expands (any other number) the
+ * variable variables[i], any number, in the sheet that the steps before it left, with an output as long as the shorter buffer; what the
+ * single call answers goes to numbers[i], the refusal number or 0, and values[i], the place or the new length. There are as many records
+ * as the shortest of the four arrays holds; what the longer ones hold behind them stays. Accepted: the final sheet's length in HIGH, that
+ * sheet and zeros in the first buffer, zeros in the second. Refused (1 to 8; 13 a buffer shorter than the sheet): no record and no byte
+ * changes. No two of the arrays and buffers may overlap. */
+uint64_t plumanchor_steps(const uint8_t *sheet, size_t length, const uint8_t *operations, size_t operation_count,
+                          const size_t *variables, size_t variable_count, size_t *numbers, size_t number_count, size_t *values,
+                          size_t value_count, uint8_t *first, size_t first_room, uint8_t *second, size_t second_room);
+
+/* The same on a wide sheet. */
+uint64_t plumanchor_steps_wide(const uint8_t *sheet, size_t length, const uint8_t *operations, size_t operation_count,
+                               const size_t *variables, size_t variable_count, size_t *numbers, size_t number_count,
+                               size_t *values, size_t value_count, uint8_t *first, size_t first_room, uint8_t *second,
+                               size_t second_room);
+
 #endif

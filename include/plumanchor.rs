@@ -12,6 +12,25 @@ type Executes = unsafe extern "C" fn(Bytes, usize, usize, usize, Output, usize) 
 type Solves = unsafe extern "C" fn(Bytes, usize, Output, usize, Output, usize) -> u64;
 type Forces = unsafe extern "C" fn(Bytes, usize, Bytes, usize, Output, usize, Output, usize) -> u64;
 
+type Numbers = *const usize;
+type Answers = *mut usize;
+type Lists = unsafe extern "C" fn(
+    Bytes,
+    usize,
+    Bytes,
+    usize,
+    Numbers,
+    usize,
+    Answers,
+    usize,
+    Answers,
+    usize,
+    Output,
+    usize,
+    Output,
+    usize,
+) -> u64;
+
 pub struct Entries {
     pub check: Reads,
     pub trial: Reads,
@@ -26,6 +45,7 @@ pub struct Entries {
     /// The rows of a sheet of the other format, as a sheet of this one.
     pub carry: Writes,
     pub force: Forces,
+    pub steps: Lists,
 }
 
 pub const NARROW: Entries = Entries {
@@ -41,6 +61,7 @@ pub const NARROW: Entries = Entries {
     solve: plumanchor_solve,
     carry: plumanchor_narrow,
     force: plumanchor_force,
+    steps: plumanchor_steps,
 };
 
 pub const WIDE: Entries = Entries {
@@ -56,6 +77,7 @@ pub const WIDE: Entries = Entries {
     solve: plumanchor_solve_wide,
     carry: plumanchor_widen,
     force: plumanchor_force_wide,
+    steps: plumanchor_steps_wide,
 };
 
 extern "C" {
@@ -144,6 +166,41 @@ extern "C" {
         length: usize,
         values: Bytes,
         count: usize,
+        first: Output,
+        first_room: usize,
+        second: Output,
+        second_room: usize,
+    ) -> u64;
+}
+
+extern "C" {
+    fn plumanchor_steps(
+        sheet: Bytes,
+        length: usize,
+        operations: Bytes,
+        operation_count: usize,
+        variables: Numbers,
+        variable_count: usize,
+        numbers: Answers,
+        number_count: usize,
+        values: Answers,
+        value_count: usize,
+        first: Output,
+        first_room: usize,
+        second: Output,
+        second_room: usize,
+    ) -> u64;
+    fn plumanchor_steps_wide(
+        sheet: Bytes,
+        length: usize,
+        operations: Bytes,
+        operation_count: usize,
+        variables: Numbers,
+        variable_count: usize,
+        numbers: Answers,
+        number_count: usize,
+        values: Answers,
+        value_count: usize,
         first: Output,
         first_room: usize,
         second: Output,

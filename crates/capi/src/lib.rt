@@ -7,6 +7,7 @@ ghost use Rattle.sheet.specs.Operations.{trial-call, part-call, tidy-call, sett
 ghost use Rattle.checking.specs.Answers.{checked-answer, written-answer};
 ghost use Rattle.trial.specs.Answers.{tried-answer};
 ghost use Rattle.expand.specs.Answers.{quoted-answer};
+ghost use Rattle.steps.specs.Numbers.{step-number, step-value, over, numbers-call};
 ghost use Rattle.solve.specs.Answers.{verdict-of, solved-answer};
 ghost use Rattle.capi.specs.Packed.{packed, packed-check, packed-trial, verdict-word, packed-written, packed-quote, packed-solved};
 
@@ -188,4 +189,60 @@ pub extern "C" fn plumanchor_solve(sheet: &[u8], first: &mut [u8], second: &mut 
     ensures { λ _. ⌜ now (second .exit) ≡ (solve-call narrow (now (sheet .entry)) (now (first .entry)) (now (second .entry))) .second ⌝ }
 {
     pack_solved(solve::solve(sheet, first, second))
+}
+
+// A whole list of steps (N2), in arrays of numbers: refusal number and place, or the final sheet's length.
+#[no_mangle]
+pub extern "C" fn plumanchor_steps(
+    sheet: &[u8],
+    operations: &[u8],
+    variables: &[usize],
+    numbers: &mut [usize],
+    values: &mut [usize],
+    first: &mut [u8],
+    second: &mut [u8],
+) -> u64
+    ensures { λ r. ⌜ r ≡ packed-written ((numbers-call narrow (now (sheet .entry)) (now (operations .entry)) (now (variables .entry)) (now (numbers .entry)) (now (values .entry)) (now (first .entry)) (now (second .entry))) .answer) ⌝ }
+    ensures { λ _. ⌜ now (numbers .exit) ≡ over step-number ((numbers-call narrow (now (sheet .entry)) (now (operations .entry)) (now (variables .entry)) (now (numbers .entry)) (now (values .entry)) (now (first .entry)) (now (second .entry))) .steps) (now (numbers .entry)) ⌝ }
+    ensures { λ _. ⌜ now (values .exit) ≡ over step-value ((numbers-call narrow (now (sheet .entry)) (now (operations .entry)) (now (variables .entry)) (now (numbers .entry)) (now (values .entry)) (now (first .entry)) (now (second .entry))) .steps) (now (values .entry)) ⌝ }
+    ensures { λ _. ⌜ now (first .exit) ≡ (numbers-call narrow (now (sheet .entry)) (now (operations .entry)) (now (variables .entry)) (now (numbers .entry)) (now (values .entry)) (now (first .entry)) (now (second .entry))) .first ⌝ }
+    ensures { λ _. ⌜ now (second .exit) ≡ (numbers-call narrow (now (sheet .entry)) (now (operations .entry)) (now (variables .entry)) (now (numbers .entry)) (now (values .entry)) (now (first .entry)) (now (second .entry))) .second ⌝ }
+{
+    pack_written(steps::numbers::follow_numbers(
+        sheet,
+        operations,
+        variables,
+        numbers,
+        values,
+        first,
+        second,
+    ))
+}
+
+// The same on a wide sheet.
+#[no_mangle]
+pub extern "C" fn plumanchor_steps_wide(
+    sheet: &[u8],
+    operations: &[u8],
+    variables: &[usize],
+    numbers: &mut [usize],
+    values: &mut [usize],
+    first: &mut [u8],
+    second: &mut [u8],
+) -> u64
+    ensures { λ r. ⌜ r ≡ packed-written ((numbers-call wide (now (sheet .entry)) (now (operations .entry)) (now (variables .entry)) (now (numbers .entry)) (now (values .entry)) (now (first .entry)) (now (second .entry))) .answer) ⌝ }
+    ensures { λ _. ⌜ now (numbers .exit) ≡ over step-number ((numbers-call wide (now (sheet .entry)) (now (operations .entry)) (now (variables .entry)) (now (numbers .entry)) (now (values .entry)) (now (first .entry)) (now (second .entry))) .steps) (now (numbers .entry)) ⌝ }
+    ensures { λ _. ⌜ now (values .exit) ≡ over step-value ((numbers-call wide (now (sheet .entry)) (now (operations .entry)) (now (variables .entry)) (now (numbers .entry)) (now (values .entry)) (now (first .entry)) (now (second .entry))) .steps) (now (values .entry)) ⌝ }
+    ensures { λ _. ⌜ now (first .exit) ≡ (numbers-call wide (now (sheet .entry)) (now (operations .entry)) (now (variables .entry)) (now (numbers .entry)) (now (values .entry)) (now (first .entry)) (now (second .entry))) .first ⌝ }
+    ensures { λ _. ⌜ now (second .exit) ≡ (numbers-call wide (now (sheet .entry)) (now (operations .entry)) (now (variables .entry)) (now (numbers .entry)) (now (values .entry)) (now (first .entry)) (now (second .entry))) .second ⌝ }
+{
+    pack_written(steps::numbers::follow_numbers_wide(
+        sheet,
+        operations,
+        variables,
+        numbers,
+        values,
+        first,
+        second,
+    ))
 }

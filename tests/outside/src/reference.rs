@@ -14,6 +14,7 @@ mod settle;
 mod sheet;
 mod solve;
 mod step;
+mod steps;
 mod tidy;
 mod tree;
 mod trial;
@@ -27,6 +28,7 @@ pub use settle::settle_value;
 pub use sheet::Row;
 pub use solve::{line_of, Move, SolveAnswer};
 pub use step::Operation;
+pub use steps::Step;
 pub use tidy::verdict;
 pub use tree::{Binding, Formula, Kind, Node, Quantifier, Variable};
 
