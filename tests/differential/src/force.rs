@@ -15,7 +15,9 @@ impl Library {
         // Sound: each pointer comes with the length of a slice that lives until the call returns,
         // and the buffers are borrowed for it alone.
         let answer = Packed::from(unsafe {
-            (self.entries.force)(sheet, length, values, count, buffers.0, rooms.0, buffers.1, rooms.1)
+            (self.entries.force)(
+                sheet, length, values, count, buffers.0, rooms.0, buffers.1, rooms.1,
+            )
         });
         if answer.number != 0 {
             assert_eq!((answer.word, answer.high), (0, 0), "a refusal");

@@ -82,13 +82,13 @@ fn sheets_at_the_limits() {
 #[test]
 fn families_from_the_literature() {
     let (mut reduced, mut decided) = (0, 0);
-    for reducer in &differential::reduce::REDUCERS {
-        let format = reducer.reading.format;
+    for library in &differential::LIBRARIES {
+        let format = library.reading.format;
         for family in &LITERATURE {
             for n in 1..5 {
-                let formula = reducer.reading.rules.tidy_formula(&family.formula(n));
+                let formula = library.reading.rules.tidy_formula(&family.formula(n));
                 let sheet = format.encode(&formula);
-                let outcome = reducer.agree(&sheet, &vec![7; sheet.len()]);
+                let outcome = library.agree_on_reduce(&sheet, &vec![7; sheet.len()]);
                 let Some(written) = outcome.sheet() else {
                     continue;
                 };

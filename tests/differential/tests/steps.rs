@@ -46,7 +46,7 @@ fn records(rng: &mut Rng, reading: &Reading, sheet: &[u8], count: usize, room: u
             held = output[..length].to_vec();
         }
     }
-    let mut longer = |rng: &mut Rng| if rng.one_in(2) { 0 } else { rng.below(3) };
+    let longer = |rng: &mut Rng| if rng.one_in(2) { 0 } else { rng.below(3) };
     let (more, other) = (longer(rng), longer(rng));
     records.operations.extend((0..longer(rng)).map(|_| 1));
     records.variables.extend((0..longer(rng)).map(|i| i));
