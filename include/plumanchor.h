@@ -103,5 +103,17 @@ uint64_t plumanchor_steps_wide(const uint8_t *sheet, size_t length, const uint8_
                                const size_t *variables, size_t variable_count, size_t *numbers, size_t number_count,
                                size_t *values, size_t value_count, uint8_t *first, size_t first_room, uint8_t *second,
                                size_t second_room);
+/* Guards: of a sheet whose root is AND, the children to blame for its falsity. Each in turn is left out, for good if Solve still says
+ * false of the others; a child whose run stops is kept and counted. WORD 0: the sheet of the children kept, with the old prefix and not
+ * tidied, stands at the front of the output with zeros behind it, its length in HIGH and the count in LOW. WORD 1 or 2: the initial run
+ * on the whole sheet said true or stopped, with its values as Solve has them, and the output is all zeros. The work buffers then hold
+ * zeros. Refused (23: the root isn't AND; 13: a buffer is shorter than the sheet): no byte changes. No two of the four may overlap.
+ * It takes as many runs of Solve as the root has children, and one more. */
+uint64_t plumanchor_guards(const uint8_t *sheet, size_t length, uint8_t *output, size_t room, uint8_t *first, size_t first_room,
+                           uint8_t *second, size_t second_room);
+
+/* The same for a wide sheet. */
+uint64_t plumanchor_guards_wide(const uint8_t *sheet, size_t length, uint8_t *output, size_t room, uint8_t *first,
+                                size_t first_room, uint8_t *second, size_t second_room);
 
 #endif

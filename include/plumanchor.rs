@@ -12,6 +12,7 @@ type Executes = unsafe extern "C" fn(Bytes, usize, usize, usize, Output, usize) 
 type Solves = unsafe extern "C" fn(Bytes, usize, Output, usize, Output, usize) -> u64;
 type Forces = unsafe extern "C" fn(Bytes, usize, Bytes, usize, Output, usize, Output, usize) -> u64;
 
+type Sifts = unsafe extern "C" fn(Bytes, usize, Output, usize, Output, usize, Output, usize) -> u64;
 type Numbers = *const usize;
 type Answers = *mut usize;
 type Lists = unsafe extern "C" fn(
@@ -45,6 +46,7 @@ pub struct Entries {
     /// The rows of a sheet of the other format, as a sheet of this one.
     pub carry: Writes,
     pub force: Forces,
+    pub guards: Sifts,
     pub steps: Lists,
 }
 
@@ -61,6 +63,7 @@ pub const NARROW: Entries = Entries {
     solve: plumanchor_solve,
     carry: plumanchor_narrow,
     force: plumanchor_force,
+    guards: plumanchor_guards,
     steps: plumanchor_steps,
 };
 
@@ -77,6 +80,7 @@ pub const WIDE: Entries = Entries {
     solve: plumanchor_solve_wide,
     carry: plumanchor_widen,
     force: plumanchor_force_wide,
+    guards: plumanchor_guards_wide,
     steps: plumanchor_steps_wide,
 };
 
@@ -201,6 +205,29 @@ extern "C" {
         number_count: usize,
         values: Answers,
         value_count: usize,
+        first: Output,
+        first_room: usize,
+        second: Output,
+        second_room: usize,
+    ) -> u64;
+}
+
+extern "C" {
+    fn plumanchor_guards(
+        sheet: Bytes,
+        length: usize,
+        output: Output,
+        room: usize,
+        first: Output,
+        first_room: usize,
+        second: Output,
+        second_room: usize,
+    ) -> u64;
+    fn plumanchor_guards_wide(
+        sheet: Bytes,
+        length: usize,
+        output: Output,
+        room: usize,
         first: Output,
         first_room: usize,
         second: Output,

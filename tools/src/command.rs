@@ -15,10 +15,11 @@ pub struct Command {
     pub run: fn(Arguments) -> Result<Answer, Failure>,
 }
 
-/// What goes to standard output. A line that itself says "refused" comes with
-/// the refusal, for standard error.
+/// What goes to standard output, and what is told beside it on standard error. A line that itself
+/// says "refused" comes with the refusal.
 pub struct Answer {
     pub output: Vec<u8>,
+    pub note: String,
     pub refusal: Option<Refusal>,
 }
 
@@ -29,13 +30,13 @@ impl Answer {
             Ok(solved) => (solved.line(), None),
             Err(refusal) => (format!("refused 0 0 {}", refusal.number), Some(refusal)),
         };
-        Answer { output: format!("{told}{line}\n").into_bytes(), refusal }
+        Answer { output: format!("{told}{line}\n").into_bytes(), note: String::new(), refusal }
     }
 }
 
 impl From<Vec<u8>> for Answer {
     fn from(output: Vec<u8>) -> Answer {
-        Answer { output, refusal: None }
+        Answer { output, note: String::new(), refusal: None }
     }
 }
 

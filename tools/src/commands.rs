@@ -7,6 +7,7 @@ mod execute;
 mod expand;
 mod explain;
 mod force;
+mod guards;
 mod part;
 mod quote;
 mod reduce;
@@ -34,4 +35,5 @@ pub static COMMANDS: &[Command] = &[
     execute::COMMAND,
     reduce::COMMAND,
     force::COMMAND,
+    guards::COMMAND,
 ];

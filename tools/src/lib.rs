@@ -36,12 +36,12 @@ pub struct Ended {
 
 /// Carries out a command line.
 pub fn call(words: Vec<String>, standard_input: impl Read + 'static) -> Ended {
-    let (output, failure) = match answer(words, Box::new(standard_input)) {
-        Ok(Answer { output, refusal }) => (output, refusal.map(Failure::Refused)),
-        Err(failure) => (Vec::new(), Some(failure)),
+    let (output, note, failure) = match answer(words, Box::new(standard_input)) {
+        Ok(Answer { output, note, refusal }) => (output, note, refusal.map(Failure::Refused)),
+        Err(failure) => (Vec::new(), String::new(), Some(failure)),
     };
     let status = failure.as_ref().map_or(0, Failure::status);
-    let message = failure.map_or(String::new(), |failure| format!("plumanchor: {failure}\n"));
+    let message = failure.map_or(note, |failure| format!("plumanchor: {failure}\n"));
     Ended { status, output, message }
 }
 

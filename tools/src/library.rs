@@ -43,6 +43,13 @@ pub enum Outcome {
     Stopped(usize),
 }
 
+/// What Guards found in a sheet that it didn't refuse.
+pub enum Guarded {
+    True { settled: usize, expanded: usize },
+    Stopped { variable: usize, settled: usize, expanded: usize },
+    Kept { sheet: Sheet, stops: usize },
+}
+
 /// An accepted call's word and two values; include/plumanchor.h has their places.
 struct Accepted {
     word: u8,
@@ -162,6 +169,24 @@ impl Sheet {
             _ => Outcome::Stopped(high),
         };
         Ok((low == 1, outcome))
+    }
+
+    /// The guards that clash, with an output and two buffers of so many bytes.
+    pub fn guards(&self, room: usize) -> Result<Guarded, Refusal> {
+        let (bytes, length) = (self.bytes.as_ptr(), self.bytes.len());
+        let [mut output, mut first, mut second] = [(); 3].map(|()| vec![0; room]);
+        let [out, one, two] = [&mut output, &mut first, &mut second].map(|b| b.as_mut_ptr());
+        let guards = self.format.entries.guards;
+        let answer = unsafe { guards(bytes, length, out, room, one, room, two, room) };
+        let Accepted { word, low, high } = self.accepted(answer)?;
+        Ok(match word {
+            1 => Guarded::True { settled: low, expanded: high },
+            2 => Guarded::Stopped { variable: high >> 16, settled: low, expanded: high & 0xffff },
+            _ => {
+                output.truncate(high);
+                Guarded::Kept { sheet: Sheet { format: self.format, bytes: output }, stops: low }
+            }
+        })
     }
 
     /// Solve in two buffers of so many bytes.

@@ -49,6 +49,7 @@ impl Refusal {
             20 => "the tree is not AND of literals and of ORs of literals",
             21 => "a value is neither 0 nor 1",
             22 => "there are as many values as variables, or more",
+            23 => "the root is not AND",
             24 => "a size or a variable's number is above the narrow limits",
             _ => "see documents 01 and 02",
         }

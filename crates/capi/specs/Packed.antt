@@ -7,6 +7,7 @@ use Prim.Native.Nat.{ℕ, _+_, _*_, _^_, _%_}
 use Rattle.formula.specs.Trial.{Tried}
 use Rattle.sheet.specs.Check.{Answer, refused, accepted, Sizes}
 use Rattle.sheet.specs.Operations.{Solved, is-refused, is-stopped, is-ended}
+use Rattle.sheet.specs.Guards.{Guards, guards-refused, guards-stopped, guards-true, guards-kept}
 
 -- bits 0 to 7, 8 to 15, 16 to 31 and 32 to 63
 abbrev pub packed : ℕ → ℕ → ℕ → ℕ → ℕ
@@ -42,3 +43,10 @@ unfoldable pub packed-solved : Solved → ℕ
 packed-solved (is-refused number place) = packed number 0 place 0
 packed-solved (is-stopped x settled expanded) = packed 0 2 settled (expanded % 65536 + 65536 * (x % 65536))
 packed-solved (is-ended v settled expanded) = packed 0 (verdict-word v) settled (expanded % 65536)
+
+-- Guards: number and place; the initial run as Solve's answer; or word 0, how many runs stopped and the kept children's sheet's length
+unfoldable pub packed-guards : Guards → ℕ
+packed-guards (guards-refused number place) = packed number 0 place 0
+packed-guards (guards-stopped x settled expanded) = packed 0 2 settled (expanded % 65536 + 65536 * (x % 65536))
+packed-guards (guards-true settled expanded) = packed 0 1 settled (expanded % 65536)
+packed-guards (guards-kept length stops) = packed 0 0 stops length

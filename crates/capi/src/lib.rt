@@ -4,12 +4,14 @@ ghost use lib.ListN.{length};
 ghost use Rattle.sheet.specs.Format.{narrow, wide};
 ghost use Rattle.sheet.specs.Check.{check};
 ghost use Rattle.sheet.specs.Operations.{trial-call, part-call, tidy-call, settle-call, expand-call, quote-call, execute-call, reduce-call, solve-call};
+ghost use Rattle.sheet.specs.Guards.{guards-call};
 ghost use Rattle.checking.specs.Answers.{checked-answer, written-answer};
 ghost use Rattle.trial.specs.Answers.{tried-answer};
 ghost use Rattle.expand.specs.Answers.{quoted-answer};
 ghost use Rattle.steps.specs.Numbers.{step-number, step-value, over, numbers-call};
 ghost use Rattle.solve.specs.Answers.{verdict-of, solved-answer};
-ghost use Rattle.capi.specs.Packed.{packed, packed-check, packed-trial, verdict-word, packed-written, packed-quote, packed-solved};
+ghost use Rattle.guards.specs.Answers.{guarded-answer};
+ghost use Rattle.capi.specs.Packed.{packed, packed-check, packed-trial, verdict-word, packed-written, packed-quote, packed-solved, packed-guards};
 
 mod panel;
 pub mod wide;
@@ -245,4 +247,53 @@ pub extern "C" fn plumanchor_steps_wide(
         first,
         second,
     ))
+}
+
+// What Guards answers: refusal number and place; the initial run as Solve's; or the kept children's sheet by its length, and the count.
+fn pack_guarded(answer: guards::Guarded) -> u64
+    ensures { λ r. ⌜ r ≡ packed-guards (guarded-answer answer) ⌝ }
+{
+    match answer {
+        guards::Guarded::Refused(number, place) => pack(number, 0, place, 0),
+        guards::Guarded::Stopped(x, settled, expanded) => pack(
+            0,
+            2,
+            settled,
+            (expanded % 65536) as u64 + 65536 * ((x % 65536) as u64),
+        ),
+        guards::Guarded::True(settled, expanded) => pack(0, 1, settled, (expanded % 65536) as u64),
+        guards::Guarded::Kept(length, stops) => pack(0, 0, stops, length as u64),
+    }
+}
+
+// Guards, with an output and two work buffers.
+#[no_mangle]
+pub extern "C" fn plumanchor_guards(
+    sheet: &[u8],
+    out: &mut [u8],
+    first: &mut [u8],
+    second: &mut [u8],
+) -> u64
+    ensures { λ r. ⌜ r ≡ packed-guards ((guards-call narrow (now (sheet .entry)) (now (out .entry)) (now (first .entry)) (now (second .entry))) .answer) ⌝ }
+    ensures { λ _. ⌜ now (out .exit) ≡ (guards-call narrow (now (sheet .entry)) (now (out .entry)) (now (first .entry)) (now (second .entry))) .output ⌝ }
+    ensures { λ _. ⌜ now (first .exit) ≡ (guards-call narrow (now (sheet .entry)) (now (out .entry)) (now (first .entry)) (now (second .entry))) .first ⌝ }
+    ensures { λ _. ⌜ now (second .exit) ≡ (guards-call narrow (now (sheet .entry)) (now (out .entry)) (now (first .entry)) (now (second .entry))) .second ⌝ }
+{
+    pack_guarded(guards::guards(sheet, out, first, second))
+}
+
+// Guards of a wide sheet, with an output and two work buffers.
+#[no_mangle]
+pub extern "C" fn plumanchor_guards_wide(
+    sheet: &[u8],
+    out: &mut [u8],
+    first: &mut [u8],
+    second: &mut [u8],
+) -> u64
+    ensures { λ r. ⌜ r ≡ packed-guards ((guards-call wide (now (sheet .entry)) (now (out .entry)) (now (first .entry)) (now (second .entry))) .answer) ⌝ }
+    ensures { λ _. ⌜ now (out .exit) ≡ (guards-call wide (now (sheet .entry)) (now (out .entry)) (now (first .entry)) (now (second .entry))) .output ⌝ }
+    ensures { λ _. ⌜ now (first .exit) ≡ (guards-call wide (now (sheet .entry)) (now (out .entry)) (now (first .entry)) (now (second .entry))) .first ⌝ }
+    ensures { λ _. ⌜ now (second .exit) ≡ (guards-call wide (now (sheet .entry)) (now (out .entry)) (now (first .entry)) (now (second .entry))) .second ⌝ }
+{
+    pack_guarded(guards::guards_wide(sheet, out, first, second))
 }

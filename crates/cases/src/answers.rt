@@ -8,11 +8,15 @@ use expand::quote::Quoted;
 use force::Forced;
 use force::Outcome;
 use force::Turn;
+use guards::Guarded;
 use printing::print_count;
 use printing::print_number;
 use rows::Format;
 use solve::Solved;
 use trial::Tried;
+
+// Longer than any output: no sheet is written.
+const NO_SHEET: usize = 65536;
 
 fn print_refused(number: usize, place: usize) {
     io::write_all(1, b" refused");
@@ -129,4 +133,33 @@ pub fn print_forced(answer: Forced, first: &[u8], second: &[u8]) {
     }
     print_sum(first);
     print_sum(second);
+}
+
+// The answer, a sum over each buffer, and the kept children's sheet if it is short.
+pub fn print_guarded(answer: Guarded, out: &[u8], first: &[u8], second: &[u8]) {
+    let mut kept = NO_SHEET;
+    match answer {
+        Guarded::Refused(number, place) => print_refused(number, place),
+        Guarded::Stopped(x, settled, expanded) => {
+            io::write_all(1, b" stopped");
+            print_number(settled);
+            print_number(expanded);
+            print_number(x);
+        }
+        Guarded::True(settled, expanded) => {
+            io::write_all(1, b" true");
+            print_number(settled);
+            print_number(expanded);
+        }
+        Guarded::Kept(length, stops) => {
+            io::write_all(1, b" kept");
+            print_number(length);
+            print_number(stops);
+            kept = length;
+        }
+    }
+    print_sum(out);
+    print_sum(first);
+    print_sum(second);
+    print_short(out, kept);
 }

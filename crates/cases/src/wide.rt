@@ -3,6 +3,7 @@
 use crate::ROOM;
 use crate::answers::print_checked;
 use crate::answers::print_forced;
+use crate::answers::print_guarded;
 use crate::answers::print_kinds;
 use crate::answers::print_quoted;
 use crate::answers::print_solved;
@@ -84,6 +85,37 @@ fn run_force(sheet: &[u8], values: &[u8], first: &mut [u8], length: usize) {
     force_in_buffers(sheet, values, first, second);
 }
 
+fn guards_in_buffers(sheet: &[u8], out: &mut [u8], first: &mut [u8], second: &mut [u8]) {
+    fill(first);
+    fill(second);
+    io::write_all(1, b"guards");
+    let answer = guards::guards_wide(sheet, out, first, second);
+    print_guarded(answer, out, first, second);
+}
+
+fn guards_beside(sheet: &[u8], out: &mut [u8], first: &mut [u8], length: usize) {
+    let mut space = [0u8; ROOM];
+    if ROOM < length {
+        return;
+    }
+    let second = &mut space[..length];
+    guards_in_buffers(sheet, out, first, second);
+}
+
+// Guards with a second buffer of `length` bytes; the length of the first is the number that the list begins with.
+fn run_guards(sheet: &[u8], list: &[u8], out: &mut [u8], length: usize) {
+    let mut space = [0u8; ROOM];
+    if list.len() < 4 {
+        return;
+    }
+    let room = rows::number_at(list, 0, 4);
+    if ROOM < room {
+        return;
+    }
+    let first = &mut space[..room];
+    guards_beside(sheet, out, first, length);
+}
+
 fn run_writing(operation: u8, number: usize, sheet: &[u8], list: &[u8], out: &mut [u8]) {
     fill(out);
     if operation == b'D' {
@@ -104,6 +136,10 @@ fn run_writing(operation: u8, number: usize, sheet: &[u8], list: &[u8], out: &mu
     }
     if operation == b'X' {
         run_execute(sheet, number, list, out);
+        return;
+    }
+    if operation == b'G' {
+        run_guards(sheet, list, out, number);
         return;
     }
     if operation == b'F' {

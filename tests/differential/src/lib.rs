@@ -7,6 +7,7 @@ pub mod compare;
 pub mod force;
 #[path = "../../../include/plumanchor.rs"]
 mod foreign;
+pub mod guards;
 pub mod steps;
 
 /// The proved operations on sheets of one format.

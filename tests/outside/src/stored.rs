@@ -34,6 +34,7 @@ pub enum Letter {
     Execute = b'x',
     Solve = b'o',
     Force = b'f',
+    Guards = b'g',
     /// These two have a capital only.
     Widen = b'W',
     BringBack = b'N',
@@ -94,6 +95,13 @@ impl Call {
     /// Force with these values and buffers of these lengths.
     pub fn force(values: &[u8], first: usize, second: usize) -> Call {
         Call { list: values.to_vec(), ..Call::new(Letter::Force, second, first) }
+    }
+
+    /// Guards with an output and work buffers of these lengths; the first one's stands in the list.
+    pub fn guards(output: usize, first: usize, second: usize) -> Call {
+        let mut list = Vec::new();
+        push_number(first, &mut list);
+        Call { list, ..Call::new(Letter::Guards, second, output) }
     }
 
     /// The letter, the number, the output's length, the list's length, the list.

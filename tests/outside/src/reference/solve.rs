@@ -68,7 +68,7 @@ impl Reading {
     }
 
     /// The formula reached from a tidy one, and the answer.
-    fn run(&self, start: Formula, room: usize) -> (Formula, SolveAnswer) {
+    pub(super) fn run(&self, start: Formula, room: usize) -> (Formula, SolveAnswer) {
         let mut formula = start;
         let (mut settled, mut expanded) = (0, 0);
         loop {

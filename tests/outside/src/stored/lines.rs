@@ -1,7 +1,9 @@
 //! The line of each call.
 
 use super::{Call, Case, Letter, SHORT};
-use crate::reference::{bring_back, line_of, widen, Answer, Forced, Quantifier, Reading};
+use crate::reference::{
+    bring_back, line_of, widen, Answer, Forced, GuardsAnswer, Quantifier, Reading,
+};
 
 /// Every output is filled with this byte before a call.
 const FILLING: u8 = 165;
@@ -56,6 +58,7 @@ fn line(reading: Reading, sheet: &[u8], call: &Call) -> String {
         }
         Letter::Solve => solve_line(reading, sheet, room, number),
         Letter::Force => force_line(reading, sheet, &call.list, room, number),
+        Letter::Guards => guards_line(reading, sheet, room, call.first_of_list(), number),
         Letter::Widen => written_line("widen", room, |output| widen(sheet, output)),
         Letter::BringBack => written_line("bring back", room, |output| bring_back(sheet, output)),
     }
@@ -92,7 +95,13 @@ fn solve_line(reading: Reading, sheet: &[u8], first: usize, second: usize) -> St
 }
 
 /// The turn, the outcome, and a sum over each buffer.
-fn force_line(reading: Reading, sheet: &[u8], values: &[u8], first: usize, second: usize) -> String {
+fn force_line(
+    reading: Reading,
+    sheet: &[u8],
+    values: &[u8],
+    first: usize,
+    second: usize,
+) -> String {
     let (mut first, mut second) = (vec![FILLING; first], vec![FILLING; second]);
     let answer = reading.force(sheet, values, &mut first, &mut second);
     let answer = told("force", answer, |(turn, forced)| {
@@ -109,6 +118,30 @@ fn force_line(reading: Reading, sheet: &[u8], values: &[u8], first: usize, secon
         }
     });
     format!("{answer} sum {} sum {}", sum(&first), sum(&second))
+}
+
+/// The answer, a sum over each buffer, and the kept children's sheet if it is short.
+fn guards_line(
+    reading: Reading,
+    sheet: &[u8],
+    output: usize,
+    first: usize,
+    second: usize,
+) -> String {
+    let mut buffers = [output, first, second].map(|room| vec![FILLING; room]);
+    let [output, first, second] = &mut buffers;
+    let answer = reading.guards(sheet, output, first, second);
+    let (told, length) = match answer {
+        GuardsAnswer::Refused(number, place) => (format!("refused {number} {place}"), None),
+        GuardsAnswer::Stopped { variable, settled, expanded } => {
+            (format!("stopped {settled} {expanded} {variable}"), None)
+        }
+        GuardsAnswer::True { settled, expanded } => (format!("true {settled} {expanded}"), None),
+        GuardsAnswer::Kept { length, stops } => (format!("kept {length} {stops}"), Some(length)),
+    };
+    let written = length.map_or(String::new(), |length| short_sheet(&buffers[0][..length]));
+    let sums: String = buffers.iter().map(|buffer| format!(" sum {}", sum(buffer))).collect();
+    format!("guards {told}{sums}{written}")
 }
 
 /// A sum that depends on each byte and on its place.

@@ -163,6 +163,43 @@ fn cases_of(reading: Reading) -> Vec<Case> {
         cases.push(Case { sheet, calls: vec![TRIAL] });
     }
     cases.extend(largest(format));
+    cases.extend(guards_cases(format));
+    cases
+}
+
+/// Guards: roots that aren't AND, that hold, that clash, buffers around each limit, runs that stop.
+fn guards_cases(format: Format) -> Vec<Case> {
+    let longest = format.longest_sheet();
+    let clashing = [clause(&[1, 2]), lit(3), clause(&[-1, 2]), clause(&[1, -2]), lit(3)];
+    let both = [clause(&[-1, -2]), clause(&[2, 3]), or(vec![])];
+    // 1 and not 1 clash at once; without one of them the clauses have to be expanded, for which there is no room.
+    let clauses = [[2, 3], [-2, 3], [2, -3], [-2, -3]].map(|literals| clause(&literals));
+    let mut formulas = vec![
+        formula(&all(Exists, 1), lit(1)),
+        formula(&all(Exists, 2), clause(&[1, 2])),
+        formula(&[], and(vec![])),
+        formula(&[], and(vec![and(vec![]), or(vec![]), or(vec![and(vec![])])])),
+        formula(&all(Exists, 3), and(clashing.to_vec())),
+        formula(&all(Exists, 3), and([&clashing[..], &both[..1]].concat())),
+        formula(&all(ForAll, 3), and([&clashing[..], &both[..]].concat())),
+        formula(&all(Exists, 3), and([&[lit(1), lit(-1)][..], &clauses[..]].concat())),
+    ];
+    formulas.extend(tried_by_hand().into_iter().map(|(formula, _)| formula));
+    let mut cases = Vec::new();
+    for formula in formulas {
+        let length = format.encode(&formula).len();
+        let mut calls = vec![Call::guards(longest, longest, longest)];
+        for room in [length, length + 6, length + 20] {
+            calls.push(Call::guards(length, room, room));
+        }
+        calls.push(Call::guards(length - 1, length, length));
+        calls.push(Call::guards(length, length - 1, length));
+        calls.push(Call::guards(length, length, length - 1));
+        cases.push(Case { sheet: format.encode(&formula), calls });
+    }
+    let calls = vec![Call::guards(SHORT, SHORT, SHORT), Call::guards(0, 0, 0)];
+    let refused = refused_sheets(format).into_iter();
+    cases.extend(refused.map(|sheet| Case { sheet, calls: calls.clone() }));
     cases
 }
 

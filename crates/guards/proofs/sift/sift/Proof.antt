@@ -28,6 +28,10 @@ Inv-loop b f s ends cuts₀ first₀ second₀ g₀ cuts first second g =
 abbrev μ-loop : tie.MeasureT-loop
 μ-loop b f s ends cuts₀ first₀ second₀ g₀ cuts first second g = g .left
 
+-- a child is left
+more : (c : tie.Then1 Inv-loop μ-loop) → 0 < c .before .before .loop .g .left
+more c = omega (arith, c .if1 .taken)
+
 -- the turn at hand: the child and where it ends, and how small all numbers are
 walk : (c : tie.Then1 Inv-loop μ-loop)
     → let a = c .before .before .before .before .before .before .before .before .before in
@@ -35,7 +39,7 @@ walk : (c : tie.Then1 Inv-loop μ-loop)
 walk c =
     let a = c .before .before .before .before .before .before .before .before .before in
     walked (format-of (a .args .f)) (a .args .s) (a .args .b .now) (room (a .args .first .now) (a .args .second .now)) (a .pre .0) (a .pre .1)
-    (c .if1 .taken) (c .before .before .loop .inv .0)
+    (more c) (c .before .before .loop .inv .0)
 
 small : (c : tie.Then1 Inv-loop μ-loop)
     → let a = c .before .before .before .before .before .before .before .before .before in
@@ -57,10 +61,10 @@ small c =
       kept-few F (a .args .s) (a .args .b .now) most (a .pre .0) (i .0),
       i .0 .below,
       i .0 .few-stops,
-      left-few F (a .args .s) (a .args .b .now) most (a .pre .0) (a .pre .1) (c .if1 .taken) (i .0),
+      left-few F (a .args .s) (a .args .b .now) most (a .pre .0) (a .pre .1) (more c) (i .0),
       i .1,
       a .pre .2,
-      c .if1 .taken,
+      more c,
     )
 
 -- the work buffers are as long as they were
@@ -127,7 +131,7 @@ try-part-requires c κs =
     let a = turn .before .before .before .before .before .before .before .before .before in
     subst (Tried (format-of (a .args .f)) (a .args .s) (a .args .b .now) _ _) (sym (same-room turn))
     (tried (format-of (a .args .f)) (a .args .s) (a .args .b .now) (room (a .args .first .now) (a .args .second .now)) (a .pre .0) (a .pre .1)
-    (turn .if1 .taken) (turn .before .before .loop .inv .0) _ (c .before .before .before .before .before .set-run .ensures))
+    (more turn) (turn .before .before .loop .inv .0) _ (c .before .before .before .before .before .set-run .ensures))
 
 set-run-requires-2 : tie.Need-set-run-requires-2 Inv-loop μ-loop
 set-run-requires-2 c κs =
@@ -142,7 +146,7 @@ judge-requires c κs =
 loop-less : tie.Need-loop-less Inv-loop μ-loop
 loop-less c =
     let turn = c .before .before .before .before .before .before .before .before .before .before .before .before .before .before .before .before .before .before .before .before .before .before .before in
-    omega (arith, ap (λ (g : Sieve). g .left) (c .judge .ensures), judged-left (turn .before .before .loop .g) (c .before .before .before .before .before .before .before .before .before .try-part .result) (getD (turn .before .before .before .before .before .before .before .before .before .args .ends .now) (turn .before .before .loop .g .at) 0), turn .if1 .taken)
+    omega (arith, ap (λ (g : Sieve). g .left) (c .judge .ensures), judged-left (turn .before .before .loop .g) (c .before .before .before .before .before .before .before .before .before .try-part .result) (getD (turn .before .before .before .before .before .before .before .before .before .args .ends .now) (turn .before .before .loop .g .at) 0), more turn)
 
 loop-again : tie.Need-loop-again Inv-loop μ-loop
 loop-again c =
@@ -154,16 +158,16 @@ loop-again c =
     let most = room (a .args .first .now) (a .args .second .now) in
     let g = turn .before .before .loop .g in
     let i = turn .before .before .loop .inv in
-    let more = turn .if1 .taken in
+    let left = more turn in
     let set = c .before .before .before .before .before .before .before .before .before .before .before .before .before .before .before .set-run in
     let again = c .before .before .before .set-run2 in
     let run = c .before .before .before .before .before .before .before .before .before .try-part in
     let kept = front-stays (turn .before .before .loop .cuts) (set .last .0) (2 * g .guards) _ _ (i .0 .entries) (set .ensures) in
     let said : Says (run .result) (says (fits F most) (prefix-in s b) _)
     = subst₂ (λ (m : ℕ) (us : Forest). Says (run .result) (says (fits F m) (prefix-in s b) us)) (same-room turn)
-    (tried-read F s b most (a .pre .0) (a .pre .1) more (i .0) _ (set .ensures)) (run .ensures) in (
+    (tried-read F s b most (a .pre .0) (a .pre .1) left (i .0) _ (set .ensures)) (run .ensures) in (
       subst (Sifting F s b most (again .last .0)) (sym (c .judge .ensures))
-          (next-turn F s b most (a .pre .0) (a .pre .1) more (i .0) (again .last .0)
+          (next-turn F s b most (a .pre .0) (a .pre .1) left (i .0) (again .last .0)
           (again .ensures ∙ ap (λ (l : List ℕ). l ++ (g .at ∷ getD (a .args .ends .now) (g .at) 0 ∷ [])) kept)
           (omega (arith, small turn, set .kept .0, again .kept .0)) (run .result) said),
       again .kept .0 ∙ set .kept .0 ∙ i .1,
