@@ -11,6 +11,7 @@ pub mod Steps
 pub mod Choice
 pub mod Solve
 pub mod Longer
+pub mod Resume
 pub mod Trial
 pub mod Reduce
 pub mod ReduceAgain

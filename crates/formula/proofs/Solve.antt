@@ -27,7 +27,7 @@ pub record Made (s s′ : State) : Type 0 where
   pub one-more : s′ .settles + s′ .expands ≡ suc (s .settles + s .expands)
 
 -- what a step may answer
-pub Right : Fits → State → Step → Type 0
+unfoldable pub Right : Fits → State → Step → Type 0
 Right fits s (halt (ended v)) = verdict ((s .formula) .matrix) ≡ some v
 Right fits s (halt (stopped x)) = Stuck fits (s .formula) x
 Right fits s (next s′) = Made s s′

@@ -6,6 +6,7 @@ pub mod Settle
 pub mod Expand
 pub mod Solve
 pub mod Trace
+pub mod Resume
 pub mod Trial
 pub mod Reduce
 pub mod Force

@@ -22,3 +22,4 @@ pub mod Longer
 pub mod Carrying
 pub mod Formats
 pub mod Guards
+pub mod Resume

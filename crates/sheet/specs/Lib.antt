@@ -8,6 +8,7 @@ pub mod Outer
 pub mod Order
 pub mod Trace
 pub mod Guards
+pub mod Resume
 pub mod Calls
 pub mod Steps
 pub mod Limits
