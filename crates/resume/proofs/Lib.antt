@@ -1,0 +1,3 @@
+mod Widened
+mod Counted
+mod Answered

@@ -1,0 +1,2 @@
+-- A run that goes on: definitions that no entry point cites.
+pub mod Going

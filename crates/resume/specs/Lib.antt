@@ -1,0 +1,2 @@
+-- Resume's contract needs no definition of its own.
+pub mod Inner
