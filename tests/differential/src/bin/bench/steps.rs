@@ -199,7 +199,7 @@ pub fn report() {
     series("settle, flat", SETTLE, |_, n| Sheet::new(flat_clauses(n, 4, false), 1));
     series("settle, random", SETTLE, random_to_settle);
     series("settle, ladder", SETTLE, |f, n| Sheet::new(ladder(f, n, 1), 1));
-    series("expand, flat", EXPAND, |_, n| Sheet::raw(flat_clauses(n / 2, 1, true), 1));
+    series("expand, flat", EXPAND, |_, n| Sheet::raw(flat_clauses(n / 2 - 1, 1, true), 1));
     series("expand, random", EXPAND, random_to_expand);
     series("expand, ladder copied", EXPAND, |f, n| Sheet::raw(ladder(f, n / 2, 2), 1));
     series("expand, past spare rows", EXPAND, |f, n| {
