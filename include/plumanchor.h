@@ -116,4 +116,13 @@ uint64_t plumanchor_guards(const uint8_t *sheet, size_t length, uint8_t *output,
 uint64_t plumanchor_guards_wide(const uint8_t *sheet, size_t length, uint8_t *output, size_t room, uint8_t *first,
                                 size_t first_room, uint8_t *second, size_t second_room);
 
+/* Resume: a stopped run goes on under the wide limits. STARTED is how many variables its first sheet has, SETTLED and EXPANDED are its
+ * counts, of any size; the sheet reached is a wide one if NARROW is 0, else a narrow one. Answer and buffers are those of
+ * plumanchor_solve_wide on that sheet, widened if it is narrow, with the counts given added to its own. A count comes back by its lower
+ * 16 bits; Solve's own are at most 1,024, so the whole count is the one given plus what those bits are ahead of it, modulo 65,536.
+ * Refused, no byte changes: 1 to 8 of the sheet's format; 25 if SETTLED, EXPANDED and V don't add up to STARTED; then 13 for a buffer
+ * shorter than the widened sheet. None of the three may overlap. */
+uint64_t plumanchor_resume(size_t started, size_t settled, size_t expanded, const uint8_t *sheet, size_t length, size_t narrow,
+                           uint8_t *first, size_t first_room, uint8_t *second, size_t second_room);
+
 #endif

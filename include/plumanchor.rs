@@ -234,3 +234,18 @@ extern "C" {
         second_room: usize,
     ) -> u64;
 }
+
+extern "C" {
+    pub fn plumanchor_resume(
+        started: usize,
+        settled: usize,
+        expanded: usize,
+        sheet: Bytes,
+        length: usize,
+        narrow: usize,
+        first: Output,
+        first_room: usize,
+        second: Output,
+        second_room: usize,
+    ) -> u64;
+}

@@ -14,6 +14,7 @@ ghost use Rattle.guards.specs.Answers.{guarded-answer};
 ghost use Rattle.capi.specs.Packed.{packed, packed-check, packed-trial, verdict-word, packed-written, packed-quote, packed-solved, packed-guards};
 
 mod panel;
+pub mod resuming;
 pub mod wide;
 
 // An answer in one number: refusal number, word and two values.
