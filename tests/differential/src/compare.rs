@@ -3,7 +3,9 @@
 
 use crate::{Library, LIBRARIES};
 use outside::generate::{self, Call, Rng};
-use outside::reference::{bring_back, widen, Answer, Format, Refusal, SolveAnswer, Variable};
+use outside::reference::{
+    self, bring_back, widen, Answer, Counts, Format, Refusal, SolveAnswer, Variable,
+};
 use std::fmt::Debug;
 
 /// Runs `test` on `count` seeded generators for each library.
@@ -153,4 +155,34 @@ impl Library {
             |[first, second]| self.reading.solve(sheet, first, second),
         )
     }
+}
+
+/// The lower 16 bits of an answer's counts, which are all that comes back from
+/// Resume.
+pub fn lower_counts(answer: SolveAnswer) -> SolveAnswer {
+    let lower = |count: usize| count % 65_536;
+    match answer {
+        SolveAnswer::Refused(..) => answer,
+        SolveAnswer::Stopped { variable, settled, expanded } => {
+            SolveAnswer::Stopped { variable, settled: lower(settled), expanded: lower(expanded) }
+        }
+        SolveAnswer::Ended { verdict, settled, expanded } => {
+            SolveAnswer::Ended { verdict, settled: lower(settled), expanded: lower(expanded) }
+        }
+    }
+}
+
+pub fn agree_on_resume(
+    counts: Counts,
+    sheet: &[u8],
+    narrow: bool,
+    before: [&[u8]; 2],
+) -> Outcome<SolveAnswer, 2> {
+    agree(
+        &format!("resume {counts:?}"),
+        sheet,
+        before,
+        |[first, second]| crate::resume(counts, sheet, narrow, first, second),
+        |[first, second]| lower_counts(reference::resume(counts, sheet, narrow, first, second)),
+    )
 }

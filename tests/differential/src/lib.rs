@@ -1,6 +1,6 @@
 //! Safe calls of the proved operations, with the answers of `outside::reference`.
 
-use outside::reference::{Answer, Operation, Reading, Refusal, SolveAnswer, Variable};
+use outside::reference::{Answer, Counts, Operation, Reading, Refusal, SolveAnswer, Variable};
 use std::ops::Range;
 
 pub mod compare;
@@ -124,17 +124,47 @@ impl Library {
     pub fn solve(&self, sheet: &[u8], first: &mut [u8], second: &mut [u8]) -> SolveAnswer {
         let (length, rooms) = (sheet.len(), (first.len(), second.len()));
         let (first, second) = (first.as_mut_ptr(), second.as_mut_ptr());
-        let answer = Packed::from(unsafe {
+        solved(unsafe {
             (self.entries.solve)(sheet.as_ptr(), length, first, rooms.0, second, rooms.1)
-        });
-        let (settled, expanded) = (answer.low, usize::from(answer.high as u16));
-        match (answer.number, answer.word, usize::from((answer.high >> 16) as u16)) {
-            (0, 0, 0) => SolveAnswer::Ended { verdict: false, settled, expanded },
-            (0, 1, 0) => SolveAnswer::Ended { verdict: true, settled, expanded },
-            (0, 2, variable) => SolveAnswer::Stopped { variable, settled, expanded },
-            (number, 0, 0) if expanded == 0 => SolveAnswer::Refused(number, answer.low),
-            _ => panic!("no answer of Solve: {settled} {expanded}"),
-        }
+        })
+    }
+}
+
+/// Resume, with counts by their lower 16 bits.
+pub fn resume(
+    counts: Counts,
+    sheet: &[u8],
+    narrow: bool,
+    first: &mut [u8],
+    second: &mut [u8],
+) -> SolveAnswer {
+    let Counts { started, settled, expanded } = counts;
+    let rooms = (first.len(), second.len());
+    solved(unsafe {
+        foreign::plumanchor_resume(
+            started,
+            settled,
+            expanded,
+            sheet.as_ptr(),
+            sheet.len(),
+            narrow.into(),
+            first.as_mut_ptr(),
+            rooms.0,
+            second.as_mut_ptr(),
+            rooms.1,
+        )
+    })
+}
+
+fn solved(answer: u64) -> SolveAnswer {
+    let answer = Packed::from(answer);
+    let (settled, expanded) = (answer.low, usize::from(answer.high as u16));
+    match (answer.number, answer.word, usize::from((answer.high >> 16) as u16)) {
+        (0, 0, 0) => SolveAnswer::Ended { verdict: false, settled, expanded },
+        (0, 1, 0) => SolveAnswer::Ended { verdict: true, settled, expanded },
+        (0, 2, variable) => SolveAnswer::Stopped { variable, settled, expanded },
+        (number, 0, 0) if expanded == 0 => SolveAnswer::Refused(number, answer.low),
+        _ => panic!("no answer of Solve: {settled} {expanded}"),
     }
 }
 
