@@ -11,6 +11,7 @@ mod guards;
 mod part;
 mod quote;
 mod reduce;
+mod resume;
 mod settle;
 mod show;
 mod solve;
@@ -21,6 +22,7 @@ use crate::command::Command;
 
 pub static COMMANDS: &[Command] = &[
     solve::COMMAND,
+    resume::COMMAND,
     show::COMMAND,
     explain::COMMAND,
     draw::COMMAND,

@@ -3,7 +3,7 @@
 #[path = "../../include/plumanchor.rs"]
 pub mod foreign;
 
-use crate::format::Format;
+use crate::format::{Format, NARROW, WIDE};
 use crate::formula::Formula;
 use crate::refusal::Refusal;
 
@@ -23,6 +23,14 @@ pub struct Solved {
     pub expanded: usize,
     /// The variable that it stopped at, 0 with a verdict.
     pub variable: usize,
+}
+
+/// How many variables a run began with, and its counts so far.
+#[derive(Clone, Copy, Debug)]
+pub struct Counts {
+    pub started: usize,
+    pub settled: usize,
+    pub expanded: usize,
 }
 
 impl Solved {
@@ -191,13 +199,49 @@ impl Sheet {
 
     /// Solve in two buffers of so many bytes.
     pub fn solve(&self, room: usize) -> Result<Solved, Refusal> {
+        self.reach(room).map(|(solved, _)| solved)
+    }
+
+    /// The same with the sheet reached.
+    pub fn reach(&self, room: usize) -> Result<(Solved, Sheet), Refusal> {
         let (bytes, length) = (self.bytes.as_ptr(), self.bytes.len());
-        let (mut first, mut second) = (vec![0; room], vec![0; room]);
-        let (one, two) = (first.as_mut_ptr(), second.as_mut_ptr());
-        let answer = unsafe { (self.format.entries.solve)(bytes, length, one, room, two, room) };
+        self.runs(self.format, room, |first, second| unsafe {
+            (self.format.entries.solve)(bytes, length, first, room, second, room)
+        })
+    }
+
+    /// Goes on from this sheet, which a stopped run reached, under the wide limits.
+    pub fn resume(&self, counts: Counts, room: usize) -> Result<(Solved, Sheet), Refusal> {
+        let (bytes, length) = (self.bytes.as_ptr(), self.bytes.len());
+        let narrow = usize::from(self.format.name == NARROW.name);
+        let Counts { started, settled, expanded } = counts;
+        let (solved, reached) = self.runs(&WIDE, room, |first, second| unsafe {
+            foreign::plumanchor_resume(
+                started, settled, expanded, bytes, length, narrow, first, room, second, room,
+            )
+        })?;
+        // Sixteen bits of a count come back, and the run's own share is less than they hold.
+        let whole = |given: usize, low: usize| given + (low.wrapping_sub(given) & 0xffff);
+        let settled = whole(settled, solved.settled);
+        Ok((Solved { settled, expanded: whole(expanded, solved.expanded), ..solved }, reached))
+    }
+
+    /// A run in two buffers of so many bytes, and the sheet of `format` that it reached.
+    fn runs(
+        &self,
+        format: &'static Format,
+        room: usize,
+        run: impl Fn(*mut u8, *mut u8) -> u64,
+    ) -> Result<(Solved, Sheet), Refusal> {
+        let (mut bytes, mut second) = (vec![0; room], vec![0; room]);
+        let answer = run(bytes.as_mut_ptr(), second.as_mut_ptr());
         let Accepted { word, low, high } = self.accepted(answer)?;
         let verdict = [Some(false), Some(true), None][usize::from(word)];
-        Ok(Solved { verdict, settled: low, expanded: high & 0xffff, variable: high >> 16 })
+        let sizes = [0, format.width].map(|at| format.number(&bytes, at).expect("a sheet's sizes"));
+        bytes.truncate(format.length(sizes.iter().sum()));
+        let solved =
+            Solved { verdict, settled: low, expanded: high & 0xffff, variable: high >> 16 };
+        Ok((solved, Sheet { format, bytes }))
     }
 
     /// What an operation leaves at the front of an output of so many bytes.

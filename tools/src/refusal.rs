@@ -51,6 +51,7 @@ impl Refusal {
             22 => "there are as many values as variables, or more",
             23 => "the root is not AND",
             24 => "a size or a variable's number is above the narrow limits",
+            25 => "settled, expanded and variables left don't add up to the starting count",
             _ => "see documents 01 and 02",
         }
     }
