@@ -28,11 +28,5 @@ pub extern "C" fn plumanchor_resume(
         settled,
         expanded,
     };
-    pack_solved(resume::resume(
-        sheet,
-        narrow != 0,
-        counts,
-        first,
-        second,
-    ))
+    pack_solved(resume::resume(sheet, narrow != 0, counts, first, second))
 }
