@@ -1,7 +1,9 @@
 //! Times of the proved operations, with the ratio to the independent reading
 //! in the same run. It reports and never fails. Arguments name the sections
-//! that are wanted: reading, steps, solving, twin, literature; none means all.
+//! that are wanted: reading, steps, solving, twin, literature,
+//! guards; none means all.
 
+mod guards;
 mod literature;
 mod reading;
 mod solving;
@@ -30,12 +32,13 @@ fn ratio(a: Duration, b: Duration) -> f64 {
 
 fn main() {
     let wanted: Vec<String> = std::env::args().skip(1).collect();
-    let sections: [(&str, fn()); 5] = [
+    let sections: [(&str, fn()); 6] = [
         ("reading", reading::report),
         ("steps", steps::report),
         ("solving", solving::report),
         ("twin", twin::report),
         ("literature", literature::report),
+        ("guards", guards::report),
     ];
     outside::with_deep_stack(move || {
         for (name, report) in sections {
