@@ -1,0 +1,45 @@
+-- `cases::wide::run_guards` is safe: the first buffer is the front of the space.
+-- Assumes nothing.
+use mathlib.Core.Path.{sym}
+use native.Mathlib.Omega.{arith}
+use lib.Seq.{length-take-le}
+use borrow.Author.Needs.{needs}
+use Rattle.cases.proofs.wide.run_guards.Statement.{statement}
+use Rattle.cases.proofs.wide.run_guards.Tie as tie
+
+returns : tie.Need-returns
+returns c = search needs
+
+number-at-requires : tie.Need-number-at-requires
+number-at-requires c κs = search needs
+
+returns-2 : tie.Need-returns-2
+returns-2 c = search needs
+
+array-borrow-prefix-space : tie.Need-array-borrow-prefix-space
+array-borrow-prefix-space c = search needs
+
+slice-aggregate-first : tie.Need-slice-aggregate-first
+slice-aggregate-first c = sym (length-take-le _ _ (omega arith))
+
+guards-beside-requires : tie.Need-guards-beside-requires
+guards-beside-requires c κs = search needs
+
+same-length : tie.Need-same-length
+same-length c = search needs
+
+returns-3 : tie.Need-returns-3
+returns-3 c = search needs
+
+pub run-guards-spec : {M : Type 1} → statement M
+run-guards-spec =
+    tie.close
+    (tie.spec
+    returns
+    number-at-requires
+    returns-2
+    array-borrow-prefix-space
+    slice-aggregate-first
+    guards-beside-requires
+    same-length
+    returns-3)
