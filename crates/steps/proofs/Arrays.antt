@@ -1,6 +1,6 @@
 -- Records in arrays of numbers.
 -- Assumes nothing.
-use mathlib.Core.Path.{_≡_, refl, sym, ap, ap₂, _∙_, subst}
+use mathlib.Core.Path.{_≡_, refl, sym, ap, ap₂, _∙_}
 use mathlib.Core.List.{List, [], _∷_, _++_, map}
 use Prim.Native.Nat.{ℕ, zero, suc, _+_, _≤_, _<_}
 use native.Mathlib.Nat.{zero-add}
@@ -12,7 +12,7 @@ use Rattle.sheet.specs.Check.{accepted}
 use Rattle.sheet.specs.Steps.{settling, expanding, Step, call-of, after, fill, filled, given}
 use Rattle.sheet.proofs.Steps.{length-filled}
 use Rattle.steps.specs.Numbers.{numbered-operation, numbered-answer, answer-number, answer-value, tabulate, record-count, record-at, numbered, step-number, step-value, over}
-use Rattle.steps.specs.Inner.Turns.{room, Going, Filled}
+use Rattle.steps.specs.Inner.Turns.{room, Filled}
 use Rattle.steps.proofs.Turning.{going-first, filled-here, going-next}
 
 -- what is read behind the end

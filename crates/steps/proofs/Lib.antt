@@ -1,4 +1,6 @@
 pub mod Turning
 pub mod Arrays
 pub mod Whole
+pub mod Lending
+pub mod Walking
 pub mod Numbering

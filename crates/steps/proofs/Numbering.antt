@@ -9,7 +9,7 @@ use lib.ListN.{length, take}
 use lib.Seq.{paste, paste-zero}
 use Rattle.sheet.specs.Format.{Bytes, Format}
 use Rattle.sheet.specs.Check.{Answer}
-use Rattle.sheet.specs.Steps.{Step, filled, given, Listed, steps-call}
+use Rattle.sheet.specs.Steps.{Step, filled, given, Listed}
 use Rattle.sheet.proofs.Steps.{length-filled}
 use Rattle.checking.specs.declared.Written.{Written}
 use Rattle.steps.specs.Numbers.{record-count, numbered, step-number, step-value, over, numbers-call}

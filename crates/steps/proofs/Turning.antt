@@ -1,14 +1,13 @@
 -- One turn: the record filled and the sheet held after it, over lists.
 -- Assumes nothing.
-use mathlib.Core.Path.{_≡_, refl, sym, ap, ap₂, _∙_, subst}
+use mathlib.Core.Path.{_≡_, sym, ap, ap₂, _∙_}
 use mathlib.Core.List.{List, _++_}
 use Prim.Native.Nat.{ℕ, suc, _≤_, _<_, min}
 use native.Mathlib.Omega.{arith}
 use lib.ListN.{length, getD, take, drop, replicate, length-replicate, length-append}
 use lib.Seq.{length-take-le, take-append-le, take-append-seam}
 use Rattle.sheet.specs.Format.{Bytes, Format}
-use Rattle.sheet.specs.Check.{Answer, refused, accepted}
-use Rattle.sheet.specs.Operations.{Written as Writing}
+use Rattle.sheet.specs.Check.{Answer, accepted}
 use Rattle.sheet.specs.Calls.{perform, perform-all, Held, held-after, held}
 use Rattle.sheet.specs.Steps.{Operation, Step, single, call-of, calls, after, fill, filled, given, reached}
 use Rattle.sheet.proofs.Steps.{fill-at, reached-next, same-answer, same-held, accepted-short}

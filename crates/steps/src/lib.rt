@@ -7,11 +7,12 @@ use rows::bytes::clear;
 use tidying::copy_front;
 ghost use mathlib.Core.Path.{_≡_};
 ghost use mathlib.Core.Bool.{true};
+ghost use mathlib.Core.List.{map};
 ghost use Prim.Native.Nat.{_≤_, min};
 ghost use lib.ListN.{length, take};
 ghost use Rattle.sheet.specs.Check.{passes, check-tests};
 ghost use Rattle.sheet.specs.Calls.{perform};
-ghost use Rattle.sheet.specs.Steps.{single, call-of, after, fill, given};
+ghost use Rattle.sheet.specs.Steps.{single, call-of, after, fill, given, steps-call};
 ghost use Rattle.rows.specs.Formats.{format-of};
 ghost use Rattle.checking.specs.Answers.{written-answer};
 ghost use Rattle.checking.specs.Limits.{Countable};
@@ -159,4 +160,29 @@ pub fn finish(b: Begun, held: usize, first: &mut [u8], second: &mut [u8]) -> Wri
             Written::Accepted(held)
         }
     }
+}
+
+// Takes the steps of a list of records, each on the sheet that those before it left, in a format whose rows this code can count.
+pub fn follow_in(
+    sheet: &[u8],
+    f: Format,
+    steps: &mut [Step],
+    first: &mut [u8],
+    second: &mut [u8],
+) -> Written
+    requires { ⌜ Countable (format-of f) ⌝ }
+    ensures { λ r. ⌜ record { answer = written-answer r; steps = map step-of (now (steps .exit)); first = now (first .exit); second = now (second .exit) } ≡ steps-call (format-of f) (now (sheet .entry)) (map step-of (now (steps .entry))) (now (first .entry)) (now (second .entry)) ⌝ }
+{
+    let b = begin(sheet, f, steps.len(), first, second);
+    let turns = b.turns;
+    let mut held = b.held;
+    let mut i: usize = 0;
+    while i < turns {
+        let s = steps[i];
+        let t = one(s, f, held, first, second);
+        steps[i] = t.step;
+        held = t.held;
+        i += 1;
+    }
+    finish(b, held, first, second)
 }

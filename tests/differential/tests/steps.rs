@@ -127,7 +127,7 @@ fn lists_of_steps_on_small_sheets() {
     let mut answers = [0; 20];
     let mut wholes = [0; 20];
     let mut lengths = [0; 61];
-    cases(6_000, |reading, rng| {
+    cases(2_500, |reading, rng| {
         let formula = generate::tidy_formula(rng, Limits::small(reading.format));
         let sheet = reading.format.encode(&formula);
         let (count, room) = (rng.below(61), room(rng, reading, &formula, &sheet));
@@ -137,10 +137,10 @@ fn lists_of_steps_on_small_sheets() {
         steps.iter().for_each(|step| answers[step.answer.number()] += 1);
     });
     for number in [0, 10, 11, 12, 13] {
-        assert!(answers[number] > 2_000, "{answers:?}");
+        assert!(answers[number] > 1_000, "{answers:?}");
     }
-    assert!(wholes[0] > 5_000 && wholes[13] > 500, "{wholes:?}");
-    assert!(lengths.iter().all(|&count| count > 20), "{lengths:?}");
+    assert!(wholes[0] > 2_000 && wholes[13] > 200, "{wholes:?}");
+    assert!(lengths.iter().all(|&count| count > 5), "{lengths:?}");
 }
 
 /// A sheet that isn't tidy is taken, and each record says 9; a damaged one is
@@ -149,7 +149,7 @@ fn lists_of_steps_on_small_sheets() {
 fn lists_of_steps_on_untidy_and_damaged_sheets() {
     let mut seen = [0; 20];
     let mut untidy = 0;
-    cases(8_000, |reading, rng| {
+    cases(3_000, |reading, rng| {
         let formula = generate::formula(rng, Limits::small(reading.format));
         let sheet = reading.format.encode(&formula);
         let (count, wide) = (rng.below(12), room(rng, reading, &formula, &sheet));
@@ -161,16 +161,16 @@ fn lists_of_steps_on_untidy_and_damaged_sheets() {
         let (answer, _) = agree(rng, reading, &damaged, count, wide);
         seen[answer.number()] += 1;
     });
-    assert!(untidy > 1_000, "{untidy}");
+    assert!(untidy > 400, "{untidy}");
     for number in 1..=8 {
-        assert!(seen[number] > 20, "{seen:?}");
+        assert!(seen[number] > 8, "{seen:?}");
     }
 }
 
 /// Every length from 0 to past all that a step can ask for.
 #[test]
 fn lists_of_steps_over_every_length() {
-    cases(60, |reading, rng| {
+    cases(25, |reading, rng| {
         let formula = generate::tidy_formula(rng, Limits::small(reading.format));
         let sheet = reading.format.encode(&formula);
         for room in 0..sheet.len() * 2 + 20 {
@@ -183,12 +183,12 @@ fn lists_of_steps_over_every_length() {
 fn fifty_steps_on_full_sheets() {
     with_deep_stack(|| {
         let mut accepted = 0;
-        cases(12, |reading, rng| {
+        cases(6, |reading, rng| {
             let formula = generate::tidy_formula(rng, Limits::full(reading.format));
             let sheet = reading.format.encode(&formula);
             let (_, steps) = agree(rng, reading, &sheet, 50, reading.format.longest_sheet());
             accepted += steps.iter().filter(|step| step.answer.number() == 0).count();
         });
-        assert!(accepted > 100, "{accepted}");
+        assert!(accepted > 50, "{accepted}");
     });
 }
