@@ -1,0 +1,4 @@
+pub mod Written
+pub mod Sorts
+pub mod Prefixes
+pub mod Compares

@@ -1,0 +1,39 @@
+-- `order::compare::compare` meets its contract. Assumes nothing.
+use mathlib.Core.Path.{ap, _∙_}
+use Rattle.sheet.specs.Order.{compare-call}
+use Rattle.checking.proofs.CheckedSheets.{narrow-manageable}
+use borrow.Author.Needs.{needs}
+use Rattle.order.proofs.compare.compare.Statement.{statement}
+use Rattle.order.proofs.compare.compare.Tie as tie
+use Rattle.order.proofs.compare.compare.Reads as reads
+use Rattle.order.proofs.compare.compare.Lts as lts
+use Rattle.order.proofs.compare.compare_in.Reads as compare-in-reads
+use Rattle.rows.proofs.narrow.Reads as narrow-reads
+
+narrow-requires : tie.Need-narrow-requires
+narrow-requires c κs = search needs
+
+compare-in-requires : tie.Need-compare-in-requires
+compare-in-requires c κs = rw (c .before .before .narrow .ensures) narrow-manageable
+
+same-length : tie.Need-same-length
+same-length c = search needs
+
+same-length-2 : tie.Need-same-length-2
+same-length-2 c = search needs
+
+returns : tie.Need-returns
+returns c =
+    let call = c .before .before .before .before in
+    let format = call .before .before .before in
+    let a = format .before .before .before .before .before .args in (
+      call .compare-in .ensures .0 ∙ ap (λ F. (compare-call F (a .a .now) (a .b .now) (a .first .now) (a .second .now)) .answer) (format .narrow .ensures),
+      (
+        call .compare-in .ensures .1 .0 ∙ ap (λ F. (compare-call F (a .a .now) (a .b .now) (a .first .now) (a .second .now)) .first) (format .narrow .ensures),
+        call .compare-in .ensures .1 .1 ∙ ap (λ F. (compare-call F (a .a .now) (a .b .now) (a .first .now) (a .second .now)) .second) (format .narrow .ensures),
+      ),
+    )
+
+pub compare-spec : {M : Type 1} → statement M
+compare-spec =
+    tie.close (tie.spec narrow-requires compare-in-requires same-length same-length-2 returns)
