@@ -1,6 +1,6 @@
 //! Guards on sheets of 500 guards: as many runs of Solve, and one more.
 
-use differential::guards::SIFTERS;
+use differential::LIBRARIES;
 use outside::formulas::{all, and, clause, formula, lit};
 use outside::generate::Rng;
 use outside::reference::{Formula, GuardsAnswer, Node, Quantifier};
@@ -49,16 +49,17 @@ pub fn report() {
     for (name, formula) in
         [("chain", chain(GUARDS)), ("pair", pair(GUARDS)), ("clauses", clauses(GUARDS))]
     {
-        for (format, sifter) in ["narrow", "wide"].iter().zip(&SIFTERS) {
-            let sheet = sifter.reading.format.encode(&formula);
-            let longest = sifter.reading.format.longest_sheet();
+        for (format, library) in ["narrow", "wide"].iter().zip(&LIBRARIES) {
+            let sheet = library.reading.format.encode(&formula);
+            let longest = library.reading.format.longest_sheet();
             let mut buffers = [(); 3].map(|()| vec![0; longest]);
             let start = Instant::now();
-            let answer = sifter.guards(&sheet, &mut buffers);
+            let answer = library.guards(&sheet, &mut buffers);
             let took = start.elapsed();
             let told = match answer {
                 GuardsAnswer::Kept { length, stops } => {
-                    let kept = sifter.reading.format.parse(&buffers[0][..length]).expect("a sheet");
+                    let kept =
+                        library.reading.format.parse(&buffers[0][..length]).expect("a sheet");
                     format!("{} kept, {stops} runs stopped", kept.matrix.children().len())
                 }
                 other => format!("{other:?}"),
