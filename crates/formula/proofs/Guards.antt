@@ -1,15 +1,15 @@
 -- The guards kept: AND of them is false, and where no run stopped, AND of all but any one of them is true (N10).
 -- Assumes nothing.
 use mathlib.Core.Path.{_≡_, refl, sym, _∙_, ap, subst}
-use mathlib.Core.Bool.{Bool, true, false, not, _||_, false≢true}
+use mathlib.Core.Bool.{Bool, true, false, not, false≢true}
 use mathlib.Core.Logic.{_⊎_, inl, inr}
 use Prim.Native.Nat.{ℕ, zero, suc, _≤_, _<_}
 use native.Mathlib.Omega.{arith}
 use borrow.Author.Tests.{not-true}
-use Rattle.formula.specs.Tree.{and, or, Tree, lit, node, Forest, ∅, _▸_, _⧺_, Prefix, Formula, Literals, rows, rows-all, has, has-any, count, distinct, closed}
-use Rattle.formula.specs.Truth.{Assignment, join, eval, eval-all, truth}
-use Rattle.formula.specs.Solve.{State, End, ended, stopped, Fits, Run, solve}
-use Rattle.formula.specs.Guards.{is-and, guards, conjoined, Kept, judged, sift, says, clashing, Guarded, holds, stuck, clash, after-run, guarded, removed, weakened}
+use Rattle.formula.specs.Tree.{and, or, Tree, lit, node, Forest, ∅, _▸_, _⧺_, Prefix, Formula, Literals, rows-all, has, has-any, count, distinct, closed}
+use Rattle.formula.specs.Truth.{Assignment, eval, eval-all, truth}
+use Rattle.formula.specs.Solve.{End, ended, stopped, Fits, solve}
+use Rattle.formula.specs.Guards.{is-and, guards, conjoined, Kept, judged, sift, says, clashing, clash, after-run, guarded, removed, weakened}
 use Rattle.formula.proofs.Booleans.{Leads, join-leads, and-parts, or-parts}
 use Rattle.formula.proofs.Binding.{bind-leads}
 use Rattle.formula.proofs.Closed.{unbound}

@@ -2,19 +2,19 @@
 -- Assumes nothing.
 use mathlib.Core.Path.{_≡_, refl, sym, ap, ap₂, _∙_}
 use mathlib.Core.Bool.{Bool, true, false, not, cond}
-use mathlib.Core.List.{List, [], _∷_, _++_}
-use Prim.Native.Nat.{ℕ, suc, _+_, _*_, _≤_, _<_, min}
+use mathlib.Core.List.{List, _++_}
+use Prim.Native.Nat.{ℕ, _+_, _*_, _≤_, _<_, min}
 use native.Mathlib.Omega.{arith}
 use lib.Dec.{ltb}
 use lib.ListN.{length, drop, replicate}
 use borrow.Author.Tests.{lt-ltb, le-ltb}
 use Rattle.formula.specs.Tree.{and, or, Tree, lit, node, Forest, Formula, rows, rows-all}
-use Rattle.formula.specs.Solve.{State, End, ended, stopped, Run, solve}
+use Rattle.formula.specs.Solve.{End, ended, stopped, Run, solve}
 use Rattle.formula.specs.Guards.{is-and, conjoined, clashing, after-run, guarded}
 use Rattle.formula.specs.Guards.{Guarded as Finding}
 use Rattle.sheet.specs.Format.{Bytes, Format, sheet-length, fits}
 use Rattle.sheet.specs.Sheet.{formula-rows, formula, sheet}
-use Rattle.sheet.specs.Check.{Answer, refused, accepted, test, answer, check-tests, check}
+use Rattle.sheet.specs.Check.{Answer, refused, accepted, answer, check-tests, check}
 use Rattle.sheet.specs.Operations.{padded, is-stopped, is-ended, solved}
 use Rattle.sheet.specs.Trace.{room}
 use Rattle.sheet.specs.Guards.{Guards, guards-refused, guards-stopped, guards-true, guards-kept, Guarding, guards-tests, guards-answer, guards-output, guarding, least-room, guards-call}

@@ -1,13 +1,13 @@
 -- A run entered with a part of the children, and its word.
 -- Assumes nothing.
 use mathlib.Core.Path.{_≡_, refl, sym, ap, ap₂, _∙_, subst}
-use mathlib.Core.Bool.{Bool, true, false}
+use mathlib.Core.Bool.{true, false}
 use mathlib.Core.List.{List}
 use Prim.Native.Nat.{ℕ, _^_, _≤_, _<_}
 use native.Mathlib.Omega.{arith}
 use lib.ListN.{length}
 use Rattle.formula.specs.Tree.{Formula, rows}
-use Rattle.formula.specs.Solve.{State, End, ended, stopped, Run, solve}
+use Rattle.formula.specs.Solve.{State, End, ended, stopped, solve}
 use Rattle.formula.specs.Guards.{conjoined, says}
 use Rattle.sheet.specs.Format.{Bytes, Format, fits}
 use Rattle.sheet.specs.Sheet.{formula-rows}
@@ -26,7 +26,7 @@ use Rattle.solve.specs.declared.Solved.{Solved}
 use Rattle.solve.specs.declared.Solved as answers
 use Rattle.guards.specs.declared.part.Part.{Part}
 use Rattle.guards.specs.declared.sift.Word.{Word}
-use Rattle.guards.specs.Inner.Parts.{guards-in, part-layout, Chosen, Tried}
+use Rattle.guards.specs.Inner.Parts.{guards-in, part-layout, Tried}
 use Rattle.guards.specs.Inner.Sieves.{word-for, Says}
 use Rattle.guards.proofs.Writing.{part-size}
 

@@ -1,16 +1,16 @@
 -- The children sifted one by one: what is owed of the rest is what was owed of all.
 -- Assumes nothing.
 use mathlib.Core.Path.{_≡_, refl, sym, ap, ap₂, _∙_, subst}
-use mathlib.Core.Bool.{true, false}
+use mathlib.Core.Bool.{false}
 use mathlib.Core.List.{List, [], _∷_, _++_, append-nil}
 use Prim.Native.Nat.{ℕ, zero, suc, _+_, _*_, _-_, _^_, _≤_, _<_}
 use native.Mathlib.Omega.{arith}
-use lib.ListN.{length, getD, take, drop, length-append, length-drop}
+use lib.ListN.{length, getD, take, drop, length-drop}
 use lib.Seq.{slice, take-all, take-at, drop-at, drop-drop, length-take-le}
-use Rattle.formula.specs.Tree.{and, or, Tree, lit, node, Forest, ∅, _▸_, _⧺_, Formula, rows, rows-all, count}
-use Rattle.formula.specs.Solve.{End, ended, stopped}
-use Rattle.formula.specs.Guards.{is-and, guards, conjoined, Kept, judged, sift, says, clashing}
-use Rattle.formula.proofs.Tidy.Children.{count-⧺, ⧺-none}
+use Rattle.formula.specs.Tree.{Tree, lit, node, Forest, ∅, _▸_, _⧺_, rows, rows-all, count}
+use Rattle.formula.specs.Solve.{End, ended}
+use Rattle.formula.specs.Guards.{guards, conjoined, Kept, judged, sift, says, clashing}
+use Rattle.formula.proofs.Tidy.Children.{count-⧺}
 use Rattle.formula.proofs.Tidy.Growth.{rows-⧺}
 use Rattle.formula.proofs.Guards.{Fewer, fewer-none, fewer-again, one-fewer, next-tried, and-matrix, and-formula}
 use Rattle.sheet.specs.Format.{Bytes, Format, Row, fits}
@@ -21,20 +21,18 @@ use Rattle.sheet.proofs.Accepted.{accepted-within}
 use Rattle.sheet.proofs.Guards.{within-fewer}
 use Rattle.rows.specs.Formulas.{prefix-in, node-rows-in, matrix-in, formula-in, Readable}
 use Rattle.rows.specs.declared.Layout.{Layout}
-use Rattle.rows.proofs.Formulas.{length-nodes, one-tree, rows-nodes}
-use Rattle.checking.specs.Limits.{Countable, Sheet}
+use Rattle.rows.proofs.Formulas.{length-nodes, one-tree}
 use Rattle.checking.proofs.CheckedSheets.{sheet-readable, sheet-formula-in, sheet-right}
 use Rattle.subtrees.specs.Subtrees.{kids, forest-in, subtree-in, siblings-in, Beside}
 use Rattle.subtrees.specs.Ends.{Indexed}
 use Rattle.subtrees.proofs.Siblings.{Walked, walk-on, siblings-none, children-read, subtree-root}
 use Rattle.raw.specs.Expansions.{Climbs, runs-in}
 use Rattle.raw.proofs.Cuts.{slice-take}
-use Rattle.guards.specs.declared.part.Part.{Part}
 use Rattle.guards.specs.declared.sift.Sieve.{Sieve}
 use Rattle.guards.specs.declared.sift.Word.{Word}
 use Rattle.guards.specs.declared.sift.Word.the-variants.{False, True, Stopped}
-use Rattle.guards.specs.Inner.Parts.{guards-in, Chosen, Tried}
-use Rattle.guards.specs.Inner.Sieves.{Says, judged-by, Siftable, clashing-in, runs, kept-part, Sifted}
+use Rattle.guards.specs.Inner.Parts.{guards-in, Tried}
+use Rattle.guards.specs.Inner.Sieves.{Says, judged-by, Siftable, clashing-in, runs, Sifted}
 use Rattle.guards.proofs.Runs.{one-more, climbs-++, climbs-to, guards-read, chosen, front-stays}
 
 -- the root's children, as both crates name them

@@ -1,33 +1,33 @@
 -- The rows of a part of the children, written one after the other, and the sheet that they are made.
 -- Assumes nothing.
 use mathlib.Core.Path.{_≡_, refl, sym, ap, ap₂, _∙_}
-use mathlib.Core.Bool.{false, not, _&&_, and-false}
+use mathlib.Core.Bool.{not, _&&_, and-false}
 use mathlib.Core.List.{List, [], _∷_, _++_, map}
-use Prim.Native.Nat.{ℕ, suc, _+_, _*_, _-_, _^_, _≤_, _<_}
+use Prim.Native.Nat.{ℕ, _+_, _*_, _-_, _≤_}
 use native.Mathlib.Nat.{mul-le-mul-left}
 use native.Mathlib.Omega.{arith}
-use lib.Dec.{eqb, leb}
-use lib.ListN.{length, take, replicate, length-append, length-map}
+use lib.Dec.{leb}
+use lib.ListN.{length, take, replicate, length-map}
 use lib.Seq.{take-all}
 use borrow.Author.Tests.{eq-eqb}
-use Rattle.formula.specs.Tree.{and, node, Formula, rows, rows-all, count}
+use Rattle.formula.specs.Tree.{Formula, rows}
 use Rattle.formula.specs.Guards.{conjoined}
 use Rattle.sheet.specs.Format.{Bytes, Format, Row, row, digits, header}
-use Rattle.sheet.specs.Sheet.{binding-row, forest-rows, formula-rows, row-kinds, row-arguments, sheet}
+use Rattle.sheet.specs.Sheet.{binding-row, formula-rows, row-kinds, row-arguments, sheet}
 use Rattle.sheet.specs.Operations.{padded}
 use Rattle.sheet.proofs.Preorder.{length-forest-rows}
 use Rattle.sheet.proofs.Parts.{sheet-length-rows}
 use Rattle.sheet.proofs.RoundTrip.{length-sheet}
 use Rattle.rows.specs.Layouts.{total, size, rows-in, Room, sealed}
-use Rattle.rows.specs.Formulas.{prefix-in, node-rows-in, Readable}
+use Rattle.rows.specs.Formulas.{prefix-in}
 use Rattle.rows.specs.declared.Layout.{Layout}
 use Rattle.rows.proofs.Layouts.{length-rows-in}
-use Rattle.rows.proofs.Formulas.{quantifiers, length-prefix}
+use Rattle.rows.proofs.Formulas.{quantifiers}
 use Rattle.changing.specs.Changes.{chosen, chosen-row, changed-row, copied}
 use Rattle.changing.specs.Output.{Ready, Laid}
 use Rattle.changing.proofs.Changed.{row-kept}
 use Rattle.changing.proofs.Splice.{laid-on, laid-all}
-use Rattle.raw.specs.Expansions.{runs-in, below, Runnable}
+use Rattle.raw.specs.Expansions.{runs-in, below}
 use Rattle.guards.specs.declared.part.Part.{Part}
 use Rattle.guards.specs.Inner.Parts.{guards-in, part-layout, Chosen}
 

@@ -6,7 +6,7 @@ use mathlib.Core.List.{List, [], _∷_, _++_}
 use Prim.Native.Nat.{ℕ, _<_, min}
 use lib.Dec.{ltb}
 use lib.ListN.{length, replicate}
-use Rattle.formula.specs.Tree.{Formula, count}
+use Rattle.formula.specs.Tree.{count}
 use Rattle.formula.specs.Truth.{truth}
 use Rattle.formula.specs.Guards.{is-and, guards, Guarded, holds, stuck, clash, guarded, weakened}
 use Rattle.sheet.specs.Format.{Bytes, Format, fits}

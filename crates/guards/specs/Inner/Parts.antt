@@ -2,7 +2,7 @@
 -- Assumes nothing.
 use mathlib.Core.Path.{_≡_}
 use mathlib.Core.List.{List}
-use Prim.Native.Nat.{ℕ, suc, _+_, _^_, _≤_, _<_}
+use Prim.Native.Nat.{ℕ, _+_, _^_, _≤_, _<_}
 use Rattle.formula.specs.Tree.{Forest, rows-all, count}
 use Rattle.formula.specs.Guards.{conjoined}
 use Rattle.sheet.specs.Format.{Bytes, Format}

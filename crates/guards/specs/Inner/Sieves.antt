@@ -5,7 +5,7 @@ use mathlib.Core.Bool.{true, false}
 use mathlib.Core.List.{List}
 use Prim.Native.Nat.{ℕ, _+_, _*_, _-_, _≤_}
 use lib.ListN.{take}
-use Rattle.formula.specs.Solve.{End, ended, stopped, Run, solve}
+use Rattle.formula.specs.Solve.{End, ended, stopped, solve}
 use Rattle.formula.specs.Guards.{is-and, conjoined, Kept, clashing, clash}
 use Rattle.formula.specs.Guards.{Guarded as Finding}
 use Rattle.sheet.specs.Format.{Bytes, Format, fits}
