@@ -4,3 +4,4 @@ pub mod Whole
 pub mod Lending
 pub mod Walking
 pub mod Numbering
+pub mod Entering

@@ -10,6 +10,7 @@ ghost use mathlib.Core.Bool.{true};
 ghost use mathlib.Core.List.{map};
 ghost use Prim.Native.Nat.{_≤_, min};
 ghost use lib.ListN.{length, take};
+ghost use Rattle.sheet.specs.Format.{narrow, wide};
 ghost use Rattle.sheet.specs.Check.{passes, check-tests};
 ghost use Rattle.sheet.specs.Calls.{perform};
 ghost use Rattle.sheet.specs.Steps.{single, call-of, after, fill, given, steps-call};
@@ -185,4 +186,19 @@ pub fn follow_in(
         i += 1;
     }
     finish(b, held, first, second)
+}
+
+// Takes the steps of a list on a sheet of document 01: every record is filled with what its single call answers, the first buffer ends
+// with the final sheet and zeros, the second with zeros, and the sheet's length is returned; or the list is refused and nothing changes.
+pub fn follow(sheet: &[u8], steps: &mut [Step], first: &mut [u8], second: &mut [u8]) -> Written
+    ensures { λ r. ⌜ record { answer = written-answer r; steps = map step-of (now (steps .exit)); first = now (first .exit); second = now (second .exit) } ≡ steps-call narrow (now (sheet .entry)) (map step-of (now (steps .entry))) (now (first .entry)) (now (second .entry)) ⌝ }
+{
+    follow_in(sheet, rows::narrow(), steps, first, second)
+}
+
+// The same on a wide sheet.
+pub fn follow_wide(sheet: &[u8], steps: &mut [Step], first: &mut [u8], second: &mut [u8]) -> Written
+    ensures { λ r. ⌜ record { answer = written-answer r; steps = map step-of (now (steps .exit)); first = now (first .exit); second = now (second .exit) } ≡ steps-call wide (now (sheet .entry)) (map step-of (now (steps .entry))) (now (first .entry)) (now (second .entry)) ⌝ }
+{
+    follow_in(sheet, rows::wider(), steps, first, second)
 }
