@@ -1,25 +1,28 @@
 -- A list of steps: its records and the sheet held by place, outputs of equal length, and demand 3.
 -- Assumes nothing.
 use mathlib.Core.Path.{_≡_, refl, sym, _∙_, ap}
-use mathlib.Core.Bool.{true, false}
+use mathlib.Core.Bool.{true, false, not, cond}
 use mathlib.Core.Option.{Option·getD}
 use mathlib.Core.List.{List, [], _∷_, _++_}
 use Prim.Native.Nat.{ℕ, zero, suc, _+_, _-_, _≤_, _<_, min}
 use native.Mathlib.Omega.{arith}
 use native.Mathlib.Nat.{zero-add, add-zero}
+use lib.Dec.{ltb}
 use lib.ListN.{length, getD, take, replicate, length-append}
 use lib.Seq.{take-append-seam, take-length}
-use Rattle.formula.specs.Tidy.{is-tidy}
+use borrow.Author.Tests.{le-ltb}
+use Rattle.formula.specs.Tidy.{is-tidy, first-fault}
 use Rattle.formula.specs.Settle.{may-settle, settled}
-use Rattle.formula.specs.Expand.{expanded}
-use Rattle.sheet.specs.Format.{Bytes, Format}
+use Rattle.formula.specs.Expand.{innermost, expanded}
+use Rattle.formula.specs.Solve.{is-some}
+use Rattle.sheet.specs.Format.{Bytes, Format, sheet-length, variables, nodes}
 use Rattle.sheet.specs.Sheet.{formula, sheet}
-use Rattle.sheet.specs.Check.{Answer, refused, accepted, Test, answer, Sizes, check}
-use Rattle.sheet.specs.Operations.{Written, padded, output-after, write, settle-tests, settle-call, expand-tests, expand-call, tidy-tests}
+use Rattle.sheet.specs.Check.{Answer, refused, accepted, Test, test, answer, passes, Sizes, check-tests, check}
+use Rattle.sheet.specs.Operations.{Written, padded, output-after, write, tidy-and-bound-tests, settle-tests, settle-call, quote-tests, raw-room-test, expand-tests, expand-call, tidy-tests}
 use Rattle.sheet.specs.Calls.{Call, perform, Held, held-after, perform-all, held}
-use Rattle.sheet.specs.Steps.{Operation, settling, expanding, Step, single, call-of, calls, after, fill, filled, given, reached, listed, steps-call, acceptance, acceptances, Steps-demand-3}
+use Rattle.sheet.specs.Steps.{Operation, settling, expanding, Step, single, call-of, calls, after, fill, filled, given, reached, Listed, listed, steps-call, acceptance, acceptances, Steps-demand-3}
 use Rattle.sheet.specs.Limits.{Sound}
-use Rattle.sheet.proofs.Tests.{accepted-passes}
+use Rattle.sheet.proofs.Tests.{answer-++, accepted-passes, refused-first}
 use Rattle.sheet.proofs.Calls.{front-written, demand-3}
 
 -- by place
@@ -27,7 +30,7 @@ use Rattle.sheet.proofs.Calls.{front-written, demand-3}
 pub length-filled : (F : Format) (n : ℕ) (ss : List Step) (h : Held) → length (filled F n ss h) ≡ length ss
 unfolding filled
 length-filled F n [] h = refl
-length-filled F n (s ∷ ss) h = ap suc (length-filled F n ss (after F (call-of n s) h))
+length-filled F n (s ∷ ss) h = ap suc (length-filled F n ss _)
 
 -- what a call leaves as the sheet held depends on the sheet held alone
 after-sheet : (F : Format) (c : Call) (h : Held) → (after F c h) .sheet ≡ (after F c (given (h .sheet))) .sheet
@@ -134,6 +137,64 @@ accepted-short F o x out b n e l =
     let whole : length (new ++ replicate (length out - length new) 0) ≡ length out
     = ap (λ (a : Answer ℕ). length (output-after a new out)) (sym told) ∙ sym (ap (λ (w : Written). length (w .output)) is) ∙ l in
     omega (arith, size, sym (length-append new (replicate (length out - length new) 0)) ∙ whole)
+
+-- a sheet that isn't tidy
+
+-- 9 at the first operator at fault
+pub nine : Format → Bytes → Answer ℕ
+nine F b = refused 9 (variables F b + first-fault ((formula F b) .matrix))
+
+module _ (F : Format) (b : Bytes) (checked : passes (check-tests F b) ≡ true) (untidy : is-tidy ((formula F b) .matrix) ≡ false) where
+  first-tests : (x : ℕ) → nine F b ≡ answer (check-tests F b ++ tidy-and-bound-tests F b x) x
+  unfolding answer tidy-and-bound-tests nine
+  first-tests x = rw (answer-++ (check-tests F b) (tidy-and-bound-tests F b x) x checked, untidy) refl
+
+  nine-tests : (o : Operation) (x n k : ℕ) → nine F b ≡ answer (tests-of o F b x n) k
+  unfolding tests-of settle-tests expand-tests quote-tests nine
+  nine-tests settling x n k =
+      refused-first (check-tests F b ++ tidy-and-bound-tests F b x)
+      (test (not (is-some (may-settle x (formula F b)))) 12 0 ∷ test (ltb n (sheet-length F (variables F b - 1) (nodes F b))) 13 0 ∷ []) x k (first-tests x)
+  nine-tests expanding x n k =
+      refused-first (quote-tests F b x) (raw-room-test F b x n ∷ []) x k
+      (refused-first (check-tests F b ++ tidy-and-bound-tests F b x) (test (not (innermost x (formula F b))) 11 0 ∷ []) x x (first-tests x))
+
+  untidy-answer : (o : Operation) (x : ℕ) (out : Bytes) → (perform F (single o x out) b) .answer ≡ nine F b
+  unfolding write
+  untidy-answer o x out = ap (λ (w : Written). w .answer) (written-by o F b x out) ∙ sym (nine-tests o x (length out) (length (new-of o F b x)))
+
+  untidy-stays : (n : ℕ) (s : Step) → after F (call-of n s) (given b) ≡ given b
+  unfolding after held-after nine
+  untidy-stays n s =
+      ap (λ (a : Answer ℕ). held-after (given b) a ((perform F (call-of n s) b) .output)) (untidy-answer (s .operation) (s .variable) (replicate n 0))
+
+  untidy-end : (n : ℕ) (ss : List Step) → perform-all F (calls n ss) (given b) ≡ given b
+  unfolding perform-all calls after
+  untidy-end n [] = refl
+  untidy-end n (s ∷ ss) = ap (perform-all F (calls n ss)) (untidy-stays n s) ∙ untidy-end n ss
+
+  -- each record says 9
+  untidy-records : (n : ℕ) (ss : List Step) (i : ℕ) (d : Step) → i < length ss → (getD (filled F n ss (given b)) i d) .answer ≡ nine F b
+  unfolding filled fill
+  untidy-records n [] i d l = absurd (omega arith)
+  untidy-records n (s ∷ ss) zero d l = untidy-answer (s .operation) (s .variable) (replicate n 0)
+  untidy-records n (s ∷ ss) (suc i) d l =
+      ap (λ (h : Held). (getD (filled F n ss h) i d) .answer) (untidy-stays n s) ∙ untidy-records n ss i d (omega arith)
+
+  -- the list is taken all the same, and ends with the sheet given
+  pub untidy-taken : (steps : List Step) (first second : Bytes) → length b ≤ min (length first) (length second)
+      → ((steps-call F b steps first second) .answer ≡ accepted (length b)) ×
+      ((i : ℕ) (d : Step) → i < length steps → (getD ((steps-call F b steps first second) .steps) i d) .answer ≡ nine F b)
+  unfolding steps-call listed held tidy-tests answer
+  untidy-taken steps first second fits =
+      let shorter = min (length first) (length second) in
+      let last = (held F b (calls shorter steps)) .sheet in
+      let is : answer (tidy-tests F b shorter) last ≡ accepted last
+      = answer-++ (check-tests F b) (test (ltb shorter (length b)) 13 0 ∷ []) last checked ∙
+      ap (λ t. cond t (refused 13 0) (accepted last)) (le-ltb shorter (length b) fits) in
+      let whole = ap (listed steps (filled F shorter steps (given b)) first second) is in (
+        ap (λ (l : Listed). l .answer) whole ∙ ap (λ (h : Held). accepted (length (h .sheet))) (untidy-end shorter steps),
+        λ i d l. ap (λ (w : Listed). (getD (w .steps) i d) .answer) whole ∙ untidy-records shorter steps i d l,
+      )
 
 -- demand 3
 
