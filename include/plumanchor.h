@@ -124,5 +124,17 @@ uint64_t plumanchor_guards_wide(const uint8_t *sheet, size_t length, uint8_t *ou
  * shorter than the widened sheet. None of the three may overlap. */
 uint64_t plumanchor_resume(size_t started, size_t settled, size_t expanded, const uint8_t *sheet, size_t length, size_t narrow,
                            uint8_t *first, size_t first_room, uint8_t *second, size_t second_room);
+/* Sort (N14): the sheet with all children in order to the front of the output, zeros behind it; the output must be as long as the
+ * sheet. Accepted: the sheet's length in HIGH. Refused: no byte of the output changes. */
+uint64_t plumanchor_sort(const uint8_t *sheet, size_t length, uint8_t *output, size_t room);
+uint64_t plumanchor_sort_wide(const uint8_t *sheet, size_t length, uint8_t *output, size_t room);
+
+/* Compare (N14) sheet a with sheet b, in two work buffers, the first as long as a and the second as b at least; none of the four may
+ * overlap. Not refused: WORD is 0 where a stands before b, 1 where they are equal and 2 where a stands after b, and both buffers end as
+ * zeros. Refused: WORD is 1 for a and 2 for b, and no byte changes. */
+uint64_t plumanchor_compare(const uint8_t *a, size_t a_length, const uint8_t *b, size_t b_length, uint8_t *first,
+                            size_t first_room, uint8_t *second, size_t second_room);
+uint64_t plumanchor_compare_wide(const uint8_t *a, size_t a_length, const uint8_t *b, size_t b_length, uint8_t *first,
+                                 size_t first_room, uint8_t *second, size_t second_room);
 
 #endif

@@ -13,6 +13,8 @@ type Solves = unsafe extern "C" fn(Bytes, usize, Output, usize, Output, usize) -
 type Forces = unsafe extern "C" fn(Bytes, usize, Bytes, usize, Output, usize, Output, usize) -> u64;
 
 type Sifts = unsafe extern "C" fn(Bytes, usize, Output, usize, Output, usize, Output, usize) -> u64;
+type Compares =
+    unsafe extern "C" fn(Bytes, usize, Bytes, usize, Output, usize, Output, usize) -> u64;
 type Numbers = *const usize;
 type Answers = *mut usize;
 type Lists = unsafe extern "C" fn(
@@ -38,6 +40,8 @@ pub struct Entries {
     pub part: Finds,
     pub tidy: Writes,
     pub reduce: Writes,
+    pub sort: Writes,
+    pub compare: Compares,
     pub settle: Steps,
     pub expand: Steps,
     pub quote: Quotes,
@@ -57,6 +61,8 @@ pub const NARROW: Entries = Entries {
     part: plumanchor_part,
     tidy: plumanchor_tidy,
     reduce: plumanchor_reduce,
+    sort: plumanchor_sort,
+    compare: plumanchor_compare,
     settle: plumanchor_settle,
     expand: plumanchor_expand,
     quote: plumanchor_quote,
@@ -74,6 +80,8 @@ pub const WIDE: Entries = Entries {
     part: plumanchor_part_wide,
     tidy: plumanchor_tidy_wide,
     reduce: plumanchor_reduce_wide,
+    sort: plumanchor_sort_wide,
+    compare: plumanchor_compare_wide,
     settle: plumanchor_settle_wide,
     expand: plumanchor_expand_wide,
     quote: plumanchor_quote_wide,
@@ -244,6 +252,31 @@ extern "C" {
         sheet: Bytes,
         length: usize,
         narrow: usize,
+        first: Output,
+        first_room: usize,
+        second: Output,
+        second_room: usize,
+    ) -> u64;
+}
+
+extern "C" {
+    fn plumanchor_sort(sheet: Bytes, length: usize, output: Output, room: usize) -> u64;
+    fn plumanchor_sort_wide(sheet: Bytes, length: usize, output: Output, room: usize) -> u64;
+    fn plumanchor_compare(
+        a: Bytes,
+        a_length: usize,
+        b: Bytes,
+        b_length: usize,
+        first: Output,
+        first_room: usize,
+        second: Output,
+        second_room: usize,
+    ) -> u64;
+    fn plumanchor_compare_wide(
+        a: Bytes,
+        a_length: usize,
+        b: Bytes,
+        b_length: usize,
         first: Output,
         first_room: usize,
         second: Output,

@@ -1,6 +1,7 @@
 //! The commands, a file for each; the help lists them in this order.
 
 mod check;
+mod compare;
 mod convert;
 mod draw;
 mod execute;
@@ -15,6 +16,7 @@ mod resume;
 mod settle;
 mod show;
 mod solve;
+mod sort;
 mod tidy;
 mod trial;
 
@@ -36,6 +38,8 @@ pub static COMMANDS: &[Command] = &[
     quote::COMMAND,
     execute::COMMAND,
     reduce::COMMAND,
+    sort::COMMAND,
+    compare::COMMAND,
     force::COMMAND,
     guards::COMMAND,
 ];

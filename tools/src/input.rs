@@ -65,7 +65,24 @@ pub fn sheet(arguments: Arguments) -> Result<Sheet, Failure> {
     Ok(input(arguments, DEFAULT)?.sheet)
 }
 
-/// The same with its names; a text is written as a sheet of `format`.
+/// The two sheets that the last two words name, in the same notation.
+pub fn two_sheets(mut arguments: Arguments) -> Result<[Sheet; 2], Failure> {
+    arguments.at_most(2)?;
+    let from = Notation::option(&mut arguments, "from")?.unwrap_or(Notation::Sheet(DEFAULT));
+    let (Some(first), Some(second)) = (arguments.word(), arguments.word()) else {
+        return Err(Misuse::new("which two sheets?").into());
+    };
+    if first == "-" && second == "-" {
+        return Err(Misuse::new("standard input is one sheet").into());
+    }
+    let mut read = |name: &str| -> Result<Sheet, Failure> {
+        let bytes = if name == "-" { arguments.file()? } else { contents(name)? };
+        Ok(from.read(bytes, DEFAULT)?.sheet)
+    };
+    Ok([read(&first)?, read(&second)?])
+}
+
+/// The sheet that the last word names, with its names; a text is written as a sheet of `format`.
 pub fn input(mut arguments: Arguments, format: &'static Format) -> Result<Input, Failure> {
     arguments.at_most(1)?;
     let from = Notation::option(&mut arguments, "from")?.unwrap_or(Notation::Sheet(DEFAULT));

@@ -131,6 +131,28 @@ impl Sheet {
         })
     }
 
+    /// The sheet with all children in order, in the same way.
+    pub fn sort(&self, room: usize) -> Result<Sheet, Refusal> {
+        self.writes(room, |sheet, length, output, room| unsafe {
+            (self.format.entries.sort)(sheet, length, output, room)
+        })
+    }
+
+    /// How this sheet is filed beside another one: before it, equal to it or after it.
+    pub fn compare(&self, other: &Sheet) -> Result<&'static str, Refusal> {
+        let (a, b) = (&self.bytes, &other.bytes);
+        let (mut first, mut second) = (vec![0; a.len()], vec![0; b.len()]);
+        let (one, two) = (first.as_mut_ptr(), second.as_mut_ptr());
+        let compare = self.format.entries.compare;
+        let answer = unsafe {
+            compare(a.as_ptr(), a.len(), b.as_ptr(), b.len(), one, a.len(), two, b.len())
+        };
+        // A refusal's word says which of the two sheets is at fault.
+        let at_fault = if (answer >> 8) as u8 == 2 { other } else { self };
+        let Accepted { word, .. } = at_fault.accepted(answer)?;
+        Ok(["before", "equal", "after"][usize::from(word)])
+    }
+
     /// The sheet with `x` settled, in the same way.
     pub fn settle(&self, x: usize, room: usize) -> Result<Sheet, Refusal> {
         self.writes(room, |sheet, length, output, room| unsafe {

@@ -1,3 +1,4 @@
 -- Answers as numbers, for callers in C.
 pub mod Packed
 pub mod Panel
+pub mod Order

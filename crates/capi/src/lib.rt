@@ -11,6 +11,9 @@ ghost use Rattle.expand.specs.Answers.{quoted-answer};
 ghost use Rattle.steps.specs.Numbers.{step-number, step-value, over, numbers-call};
 ghost use Rattle.solve.specs.Answers.{verdict-of, solved-answer};
 ghost use Rattle.guards.specs.Answers.{guarded-answer};
+ghost use Rattle.sheet.specs.Order.{sort-call, compare-call};
+ghost use Rattle.order.specs.Answers.{compared-answer};
+ghost use Rattle.capi.specs.Order.{packed-compared};
 ghost use Rattle.capi.specs.Packed.{packed, packed-check, packed-trial, verdict-word, packed-written, packed-quote, packed-solved, packed-guards};
 
 mod panel;
@@ -297,4 +300,57 @@ pub extern "C" fn plumanchor_guards_wide(
     ensures { λ _. ⌜ now (second .exit) ≡ (guards-call wide (now (sheet .entry)) (now (out .entry)) (now (first .entry)) (now (second .entry))) .second ⌝ }
 {
     pack_guarded(guards::guards_wide(sheet, out, first, second))
+}
+
+// Sort: refusal number and place, or the sheet's length.
+#[no_mangle]
+pub extern "C" fn plumanchor_sort(sheet: &[u8], out: &mut [u8]) -> u64
+    ensures { λ r. ⌜ r ≡ packed-written ((sort-call narrow (now (sheet .entry)) (now (out .entry))) .answer) ⌝ }
+    ensures { λ _. ⌜ now (out .exit) ≡ (sort-call narrow (now (sheet .entry)) (now (out .entry))) .output ⌝ }
+{
+    pack_written(order::sort::sort(sheet, out))
+}
+
+#[no_mangle]
+pub extern "C" fn plumanchor_sort_wide(sheet: &[u8], out: &mut [u8]) -> u64
+    ensures { λ r. ⌜ r ≡ packed-written ((sort-call wide (now (sheet .entry)) (now (out .entry))) .answer) ⌝ }
+    ensures { λ _. ⌜ now (out .exit) ≡ (sort-call wide (now (sheet .entry)) (now (out .entry))) .output ⌝ }
+{
+    pack_written(order::sort::sort_wide(sheet, out))
+}
+
+// What Compare answers: refusal number, the sheet refused as the word, and place; or the word of the order.
+fn pack_compared(answer: order::compare::Compared) -> u64
+    ensures { λ r. ⌜ r ≡ packed-compared (compared-answer answer) ⌝ }
+{
+    match answer {
+        order::compare::Compared::Refused(which, number, place) => pack(number, which, place, 0),
+        order::compare::Compared::Before => pack(0, 0, 0, 0),
+        order::compare::Compared::Equal => pack(0, 1, 0, 0),
+        order::compare::Compared::After => pack(0, 2, 0, 0),
+    }
+}
+
+// Compare, with two work buffers: which sheet is refused, with number and place; or 0 before, 1 equal, 2 after.
+#[no_mangle]
+pub extern "C" fn plumanchor_compare(a: &[u8], b: &[u8], first: &mut [u8], second: &mut [u8]) -> u64
+    ensures { λ r. ⌜ r ≡ packed-compared ((compare-call narrow (now (a .entry)) (now (b .entry)) (now (first .entry)) (now (second .entry))) .answer) ⌝ }
+    ensures { λ _. ⌜ now (first .exit) ≡ (compare-call narrow (now (a .entry)) (now (b .entry)) (now (first .entry)) (now (second .entry))) .first ⌝ }
+    ensures { λ _. ⌜ now (second .exit) ≡ (compare-call narrow (now (a .entry)) (now (b .entry)) (now (first .entry)) (now (second .entry))) .second ⌝ }
+{
+    pack_compared(order::compare::compare(a, b, first, second))
+}
+
+#[no_mangle]
+pub extern "C" fn plumanchor_compare_wide(
+    a: &[u8],
+    b: &[u8],
+    first: &mut [u8],
+    second: &mut [u8],
+) -> u64
+    ensures { λ r. ⌜ r ≡ packed-compared ((compare-call wide (now (a .entry)) (now (b .entry)) (now (first .entry)) (now (second .entry))) .answer) ⌝ }
+    ensures { λ _. ⌜ now (first .exit) ≡ (compare-call wide (now (a .entry)) (now (b .entry)) (now (first .entry)) (now (second .entry))) .first ⌝ }
+    ensures { λ _. ⌜ now (second .exit) ≡ (compare-call wide (now (a .entry)) (now (b .entry)) (now (first .entry)) (now (second .entry))) .second ⌝ }
+{
+    pack_compared(order::compare::compare_wide(a, b, first, second))
 }

@@ -8,6 +8,7 @@ pub mod force;
 #[path = "../../../include/plumanchor.rs"]
 mod foreign;
 pub mod guards;
+pub mod order;
 pub mod steps;
 
 /// The proved operations on sheets of one format.

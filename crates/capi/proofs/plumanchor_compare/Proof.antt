@@ -1,0 +1,27 @@
+-- `capi::plumanchor_compare` packs what `compare` answers.
+-- Assumes nothing.
+use mathlib.Core.Path.{_∙_, ap}
+use Rattle.capi.specs.Order.{packed-compared}
+use borrow.Author.Needs.{needs}
+use Rattle.capi.proofs.plumanchor_compare.Statement.{statement}
+use Rattle.capi.proofs.plumanchor_compare.Tie as tie
+
+compare-requires : tie.Need-compare-requires
+compare-requires c κs = search needs
+
+pack-compared-requires : tie.Need-pack-compared-requires
+pack-compared-requires c κs = search needs
+
+same-length : tie.Need-same-length
+same-length c = search needs
+
+same-length-2 : tie.Need-same-length-2
+same-length-2 c = search needs
+
+returns : tie.Need-returns
+returns c =
+    let call = c .before .before .before .before .before in
+    (c .pack-compared .ensures ∙ ap packed-compared (call .compare .ensures .0), call .compare .ensures .1)
+
+pub plumanchor-compare-spec : {M : Type 1} → statement M
+plumanchor-compare-spec = tie.close (tie.spec compare-requires pack-compared-requires same-length same-length-2 returns)
