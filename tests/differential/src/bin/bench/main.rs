@@ -1,10 +1,11 @@
 //! Times of the proved operations, with the ratio to the independent reading
 //! in the same run. It reports and never fails. Arguments name the sections
-//! that are wanted: reading, steps, solving, twin, literature,
-//! guards; none means all.
+//! that are wanted: reading, steps, solving, twin, literature, guards, order;
+//! none means all.
 
 mod guards;
 mod literature;
+mod order;
 mod reading;
 mod solving;
 mod steps;
@@ -32,13 +33,14 @@ fn ratio(a: Duration, b: Duration) -> f64 {
 
 fn main() {
     let wanted: Vec<String> = std::env::args().skip(1).collect();
-    let sections: [(&str, fn()); 6] = [
+    let sections: [(&str, fn()); 7] = [
         ("reading", reading::report),
         ("steps", steps::report),
         ("solving", solving::report),
         ("twin", twin::report),
         ("literature", literature::report),
         ("guards", guards::report),
+        ("order", order::report),
     ];
     outside::with_deep_stack(move || {
         for (name, report) in sections {
