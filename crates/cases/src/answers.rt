@@ -9,6 +9,7 @@ use force::Forced;
 use force::Outcome;
 use force::Turn;
 use guards::Guarded;
+use order::compare::Compared;
 use printing::print_count;
 use printing::print_number;
 use rows::Format;
@@ -162,4 +163,24 @@ pub fn print_guarded(answer: Guarded, out: &[u8], first: &[u8], second: &[u8]) {
     print_sum(first);
     print_sum(second);
     print_short(out, kept);
+}
+
+pub fn print_compared(answer: Compared, first: &[u8], second: &[u8]) {
+    match answer {
+        Compared::Refused(which, number, place) => {
+            print_refused(number, place);
+            print_number(which);
+        }
+        Compared::Before => {
+            io::write_all(1, b" before");
+        }
+        Compared::Equal => {
+            io::write_all(1, b" equal");
+        }
+        Compared::After => {
+            io::write_all(1, b" after");
+        }
+    }
+    print_sum(first);
+    print_sum(second);
 }

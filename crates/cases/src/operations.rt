@@ -1,6 +1,7 @@
 // The operations: each is called and its line written, but for the line's end.
 use crate::ROOM;
 use crate::answers::print_checked;
+use crate::answers::print_compared;
 use crate::answers::print_forced;
 use crate::answers::print_guarded;
 use crate::answers::print_kinds;
@@ -73,6 +74,12 @@ fn run_execute(sheet: &[u8], x: usize, list: &[u8], out: &mut [u8]) {
     print_written(answer, out);
 }
 
+fn run_sort(sheet: &[u8], out: &mut [u8]) {
+    io::write_all(1, b"sort");
+    let answer = order::sort::sort(sheet, out);
+    print_written(answer, out);
+}
+
 fn run_writing(operation: u8, number: usize, sheet: &[u8], out: &mut [u8]) {
     fill(out);
     if operation == b'd' {
@@ -85,6 +92,10 @@ fn run_writing(operation: u8, number: usize, sheet: &[u8], out: &mut [u8]) {
     }
     if operation == b's' {
         run_settle(sheet, number, out);
+        return;
+    }
+    if operation == b'a' {
+        run_sort(sheet, out);
         return;
     }
     run_expand(sheet, number, out);
@@ -106,6 +117,24 @@ fn run_solve(sheet: &[u8], first: &mut [u8], length: usize) {
     }
     let second = &mut space[..length];
     solve_in_buffers(sheet, first, second);
+}
+
+fn compare_in_buffers(a: &[u8], b: &[u8], first: &mut [u8], second: &mut [u8]) {
+    fill(first);
+    fill(second);
+    io::write_all(1, b"compare");
+    let answer = order::compare::compare(a, b, first, second);
+    print_compared(answer, first, second);
+}
+
+// Compares the sheet with the one in the list, with a second buffer of `length` bytes.
+fn run_compare(sheet: &[u8], list: &[u8], first: &mut [u8], length: usize) {
+    let mut space = [0u8; ROOM];
+    if ROOM < length {
+        return;
+    }
+    let second = &mut space[..length];
+    compare_in_buffers(sheet, list, first, second);
 }
 
 fn force_in_buffers(sheet: &[u8], values: &[u8], first: &mut [u8], second: &mut [u8]) {
@@ -182,6 +211,10 @@ pub fn run(operation: u8, number: usize, sheet: &[u8], list: &[u8], out: &mut [u
     }
     if operation == b'x' {
         run_execute(sheet, number, list, out);
+        return;
+    }
+    if operation == b'k' {
+        run_compare(sheet, list, out, number);
         return;
     }
     if operation == b'f' {

@@ -2,6 +2,7 @@
 // the line's end.
 use crate::ROOM;
 use crate::answers::print_checked;
+use crate::answers::print_compared;
 use crate::answers::print_forced;
 use crate::answers::print_guarded;
 use crate::answers::print_kinds;
@@ -21,6 +22,12 @@ fn run_tidy(sheet: &[u8], out: &mut [u8]) {
 fn run_reduce(sheet: &[u8], out: &mut [u8]) {
     io::write_all(1, b"reduce");
     let answer = reduce::reduce_wide(sheet, out);
+    print_written(answer, out);
+}
+
+fn run_sort(sheet: &[u8], out: &mut [u8]) {
+    io::write_all(1, b"sort");
+    let answer = order::sort::sort_wide(sheet, out);
     print_written(answer, out);
 }
 
@@ -85,6 +92,23 @@ fn run_force(sheet: &[u8], values: &[u8], first: &mut [u8], length: usize) {
     force_in_buffers(sheet, values, first, second);
 }
 
+fn compare_in_buffers(a: &[u8], b: &[u8], first: &mut [u8], second: &mut [u8]) {
+    fill(second);
+    io::write_all(1, b"compare");
+    let answer = order::compare::compare_wide(a, b, first, second);
+    print_compared(answer, first, second);
+}
+
+// Compares the sheet with the one in the list, with a second buffer of `length` bytes.
+fn run_compare(sheet: &[u8], list: &[u8], first: &mut [u8], length: usize) {
+    let mut space = [0u8; ROOM];
+    if ROOM < length {
+        return;
+    }
+    let second = &mut space[..length];
+    compare_in_buffers(sheet, list, first, second);
+}
+
 fn guards_in_buffers(sheet: &[u8], out: &mut [u8], first: &mut [u8], second: &mut [u8]) {
     fill(first);
     fill(second);
@@ -126,6 +150,10 @@ fn run_writing(operation: u8, number: usize, sheet: &[u8], list: &[u8], out: &mu
         run_reduce(sheet, out);
         return;
     }
+    if operation == b'A' {
+        run_sort(sheet, out);
+        return;
+    }
     if operation == b'S' {
         run_settle(sheet, number, out);
         return;
@@ -136,6 +164,10 @@ fn run_writing(operation: u8, number: usize, sheet: &[u8], list: &[u8], out: &mu
     }
     if operation == b'X' {
         run_execute(sheet, number, list, out);
+        return;
+    }
+    if operation == b'K' {
+        run_compare(sheet, list, out, number);
         return;
     }
     if operation == b'G' {

@@ -35,6 +35,8 @@ pub enum Letter {
     Solve = b'o',
     Force = b'f',
     Guards = b'g',
+    Sort = b'a',
+    Compare = b'k',
     /// These two have a capital only.
     Widen = b'W',
     BringBack = b'N',
@@ -102,6 +104,11 @@ impl Call {
         let mut list = Vec::new();
         push_number(first, &mut list);
         Call { list, ..Call::new(Letter::Guards, second, output) }
+    }
+
+    /// Compare with another sheet, in buffers of these lengths.
+    pub fn compare(other: Vec<u8>, first: usize, second: usize) -> Call {
+        Call { list: other, ..Call::new(Letter::Compare, second, first) }
     }
 
     /// The letter, the number, the output's length, the list's length, the list.

@@ -2,8 +2,9 @@
 
 use super::{Call, Case, Letter, SHORT};
 use crate::reference::{
-    bring_back, line_of, widen, Answer, Forced, GuardsAnswer, Quantifier, Reading,
+    bring_back, line_of, widen, Answer, CompareAnswer, Forced, GuardsAnswer, Quantifier, Reading,
 };
+use std::cmp::Ordering;
 
 /// Every output is filled with this byte before a call.
 const FILLING: u8 = 165;
@@ -59,6 +60,8 @@ fn line(reading: Reading, sheet: &[u8], call: &Call) -> String {
         Letter::Solve => solve_line(reading, sheet, room, number),
         Letter::Force => force_line(reading, sheet, &call.list, room, number),
         Letter::Guards => guards_line(reading, sheet, room, call.first_of_list(), number),
+        Letter::Sort => written_line("sort", room, |output| reading.sort(sheet, output)),
+        Letter::Compare => compare_line(reading, sheet, &call.list, room, number),
         Letter::Widen => written_line("widen", room, |output| widen(sheet, output)),
         Letter::BringBack => written_line("bring back", room, |output| bring_back(sheet, output)),
     }
@@ -142,6 +145,24 @@ fn guards_line(
     let written = length.map_or(String::new(), |length| short_sheet(&buffers[0][..length]));
     let sums: String = buffers.iter().map(|buffer| format!(" sum {}", sum(buffer))).collect();
     format!("guards {told}{sums}{written}")
+}
+
+/// The answer, the sheet that is refused behind it, and a sum over each buffer.
+fn compare_line(
+    reading: Reading,
+    sheet: &[u8],
+    other: &[u8],
+    first: usize,
+    second: usize,
+) -> String {
+    let (mut first, mut second) = (vec![FILLING; first], vec![FILLING; second]);
+    let answer = match reading.compare(sheet, other, &mut first, &mut second) {
+        CompareAnswer::Refused(which, number, place) => format!("refused {number} {place} {which}"),
+        CompareAnswer::Ordered(Ordering::Less) => "before".into(),
+        CompareAnswer::Ordered(Ordering::Equal) => "equal".into(),
+        CompareAnswer::Ordered(Ordering::Greater) => "after".into(),
+    };
+    format!("compare {answer} sum {} sum {}", sum(&first), sum(&second))
 }
 
 /// A sum that depends on each byte and on its place.

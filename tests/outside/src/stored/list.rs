@@ -164,6 +164,39 @@ fn cases_of(reading: Reading) -> Vec<Case> {
     }
     cases.extend(largest(format));
     cases.extend(guards_cases(format));
+    cases.extend(ordered(format));
+    cases
+}
+
+/// Sort and Compare (N14): every formula tried by hand and every trap sorted, and beside the next one, in buffers that suffice and in
+/// ones a byte too short; refused sheets on either side; the deepest and the widest sheets.
+fn ordered(format: Format) -> Vec<Case> {
+    let longest = format.longest_sheet();
+    let tried = tried_by_hand().into_iter().map(|(formula, _)| formula);
+    let sheets: Vec<_> = tried.chain(traps()).map(|formula| format.encode(&formula)).collect();
+    let bad = refused_sheets(format).remove(0);
+    let beside = |(i, sheet): (usize, &Vec<u8>)| {
+        let (other, length) = (sheets[(i + 1) % sheets.len()].clone(), sheet.len());
+        let mut calls: Vec<_> = at_limit(Letter::Sort, 0, length).into();
+        for (first, second) in
+            [(length, other.len()), (length - 1, longest), (longest, other.len() - 1)]
+        {
+            calls.push(Call::compare(other.clone(), first, second));
+        }
+        calls.push(Call::compare(sheet.clone(), length, length));
+        calls.push(Call::compare(bad.clone(), length, length));
+        Case { sheet: sheet.clone(), calls }
+    };
+    let mut cases: Vec<_> = sheets.iter().enumerate().map(beside).collect();
+    let calls = vec![Call::compare(bad.clone(), 0, 0), Call::new(Letter::Sort, 0, 0)];
+    cases.push(Case { sheet: bad.clone(), calls });
+    for formula in [deep_formula(2, format.most_nodes), wide_formula(format.most_nodes)] {
+        let sheet = format.encode(&formula);
+        let length = sheet.len();
+        let calls =
+            vec![Call::new(Letter::Sort, 0, length), Call::compare(sheet.clone(), length, length)];
+        cases.push(Case { sheet, calls });
+    }
     cases
 }
 
