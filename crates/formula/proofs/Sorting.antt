@@ -3,7 +3,7 @@
 use mathlib.Core.Path.{_≡_, refl, sym, _∙_, ap, ap₂, subst}
 use mathlib.Core.Bool.{Bool, true, false, not, _||_, cond}
 use mathlib.Core.Logic.{_↔_}
-use Prim.Native.Nat.{ℕ, suc, _+_}
+use Prim.Native.Nat.{suc, _+_}
 use native.Mathlib.Omega.{arith}
 use Rattle.formula.specs.Tree.{Op, or, Tree, lit, node, Forest, ∅, _▸_, Formula, Literals, rows, rows-all, has, has-any, count, some-child, some-two}
 use Rattle.formula.specs.Truth.{Assignment, join, eval, eval-all, truth}

@@ -10,7 +10,6 @@ use borrow.Author.Tests.{lt-ltb, le-ltb}
 use Rattle.formula.specs.Tree.{Formula}
 use Rattle.formula.specs.Order.{Ordering, compare-formulas}
 use Rattle.sheet.specs.Format.{Bytes, Format}
-use Rattle.sheet.specs.Sheet.{formula}
 use Rattle.sheet.specs.Check.{answer, check, check-tests}
 use Rattle.sheet.specs.Order.{Compared, is-refused, is-ordered, for-sheet, room, compare-answer, comparing, compare-call}
 use Rattle.sheet.proofs.Tests.{answer-passes}

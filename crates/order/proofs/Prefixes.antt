@@ -2,17 +2,17 @@
 -- Assumes nothing.
 use mathlib.Core.Path.{_≡_, refl, sym, ap, ap₂, _∙_}
 use mathlib.Core.Bool.{true, false}
-use mathlib.Core.List.{List, [], _∷_, map}
-use Prim.Native.Nat.{ℕ, suc, _+_, _≤_, _<_}
+use mathlib.Core.List.{[]}
+use Prim.Native.Nat.{ℕ, suc, _≤_, _<_}
 use native.Mathlib.Omega.{arith}
 use lib.ListN.{length, getD, take, drop, drop-of-length-le}
 use lib.Seq.{drop-cons, length-take-le, getD-take}
-use Rattle.formula.specs.Tree.{and, or, exists, Quantifier, Binding, Prefix, Formula}
+use Rattle.formula.specs.Tree.{and, or, exists, Quantifier, Binding, Prefix}
 use Rattle.formula.specs.Order.{Ordering, before, same, after, _then_, compare-numbers, quantifier-rank, compare-bindings, compare-bound, compare-prefixes, compare-trees, sort, compare-formulas}
 use Rattle.formula.proofs.Ordering.{numbers-same, numbers-equal}
 use Rattle.sheet.specs.Format.{Bytes, Row, row}
 use Rattle.sheet.specs.Sheet.{quantifier-kind, binding, binding-row}
-use Rattle.rows.specs.Layouts.{total, rows-in}
+use Rattle.rows.specs.Layouts.{rows-in}
 use Rattle.rows.specs.Formulas.{prefix-in, matrix-in, formula-in, Readable}
 use Rattle.rows.specs.declared.Layout.{Layout}
 use Rattle.rows.proofs.Layouts.{length-rows-in}

@@ -1,7 +1,6 @@
 -- The sorted sheet from its rows: the node rows that a table picks are written behind the prefix, and the rows are sealed.
 -- Assumes nothing.
 use mathlib.Core.Path.{_≡_, refl, sym, ap, ap₂, _∙_, subst}
-use mathlib.Core.Bool.{true}
 use mathlib.Core.List.{List, [], _∷_, _++_, map, append-nil}
 use Prim.Native.Nat.{ℕ, zero, suc, _+_, _*_, _-_, _^_, _≤_, _<_}
 use native.Mathlib.Nat.{lt-of-lt-of-le, pow-le-pow-right}
@@ -9,7 +8,7 @@ use native.Mathlib.Numerals.{add-one}
 use native.Mathlib.Omega.{arith}
 use lib.ListN.{length, getD, take, drop, set, replicate, length-map, length-replicate, drop-of-length-le}
 use lib.Seq.{length-take-le, take-all, take-at, paste, paste-zero, paste-suc}
-use Rattle.formula.specs.Tree.{Tree, Formula, rows}
+use Rattle.formula.specs.Tree.{Formula, rows}
 use Rattle.formula.specs.Order.{sort, sorted}
 use Rattle.formula.proofs.Sorting.{rows-sort}
 use Rattle.sheet.specs.Format.{Bytes, Format, Row, row, header, digits, zip-rows}
@@ -18,18 +17,18 @@ use Rattle.sheet.specs.Operations.{padded}
 use Rattle.sheet.proofs.Every.{Every, every-take, every-drop}
 use Rattle.sheet.proofs.Numbers.{IsByte, AllBytes, number-bound}
 use Rattle.sheet.proofs.Parts.{ArgumentFits, sheet-length-rows}
-use Rattle.sheet.proofs.RoundTrip.{length-sheet, length-formula-rows}
+use Rattle.sheet.proofs.RoundTrip.{length-sheet}
 use Rattle.sheet.proofs.Accepted.{accepted-variables, accepted-nodes}
 use Rattle.rows.specs.Layouts.{total, rows-in, Room, sealed}
-use Rattle.rows.specs.Formulas.{node-rows-in, matrix-in, formula-in, Readable, layout-of}
+use Rattle.rows.specs.Formulas.{matrix-in, formula-in, Readable}
 use Rattle.rows.specs.declared.Layout.{Layout}
 use Rattle.rows.proofs.Layouts.{length-rows-in}
-use Rattle.rows.proofs.Formulas.{length-nodes, node-row}
+use Rattle.rows.proofs.Formulas.{node-row}
 use Rattle.checking.specs.Limits.{Countable, Sheet}
 use Rattle.checking.proofs.CheckedSheets.{sheet-readable, sheet-formula-in}
 use Rattle.rows.proofs.Sealing.{all-bytes}
 use Rattle.tidying.proofs.Raw.{copied-raw, copied-formula, length-copied}
-use Rattle.sorting.specs.Tables.{row-in, picked-rows, Numbers}
+use Rattle.sorting.specs.Tables.{picked-rows, Numbers}
 use Rattle.sorting.proofs.Rows.{every-at, length-picked-rows, picked-row}
 
 -- arguments that are read fit their width

@@ -2,24 +2,23 @@
 -- Assumes nothing.
 use mathlib.Core.Path.{_≡_, refl, sym, _∙_, ap, ap₂, subst}
 use mathlib.Core.Bool.{true, not}
-use mathlib.Core.List.{[], _∷_, _++_}
+use mathlib.Core.List.{_++_}
 use mathlib.Core.Logic.{_↔_}
 use Prim.Native.Nat.{ℕ, _≤_, _<_}
 use native.Mathlib.Omega.{arith}
-use lib.Dec.{ltb}
 use lib.ListN.{length, take, replicate}
 use borrow.Author.Tests.{lt-ltb, le-ltb}
-use Rattle.formula.specs.Tree.{Formula, rows, closed}
+use Rattle.formula.specs.Tree.{Formula, closed}
 use Rattle.formula.specs.Truth.{truth}
 use Rattle.formula.specs.Tidy.{is-tidy}
-use Rattle.formula.specs.Order.{Ordering, same, sort, sorted, compare-formulas, Rearranged}
+use Rattle.formula.specs.Order.{Ordering, same, sorted, compare-formulas, Rearranged}
 use Rattle.formula.proofs.Ordering.{turned, formulas-turned}
 use Rattle.formula.proofs.Sorting.{sort-idempotent, same-exactly, truth-sorted, rows-sort, has-sort, is-tidy-sort}
 use Rattle.sheet.specs.Format.{Bytes, Format, sheet-length}
 use Rattle.sheet.specs.Sheet.{formula, sheet}
 use Rattle.sheet.specs.Check.{Answer, refused, accepted, passes, answer, check-tests, check}
 use Rattle.sheet.specs.Operations.{write, output-after}
-use Rattle.sheet.specs.Order.{room-test, sort-tests, sort-call, Compared, is-refused, is-ordered, for-sheet, room, compare-answer, comparing, compare-call}
+use Rattle.sheet.specs.Order.{sort-tests, sort-call, Compared, is-refused, is-ordered, for-sheet, room, compare-answer, comparing, compare-call}
 use Rattle.sheet.specs.Limits.{Sound, Within}
 use Rattle.sheet.proofs.Tests.{answer-passes, passed-++}
 use Rattle.sheet.proofs.Calls.{front-written}

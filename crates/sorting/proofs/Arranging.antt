@@ -1,6 +1,6 @@
 -- Trees put in order: two lists in order are merged tree by tree.
 -- Assumes nothing.
-use mathlib.Core.Path.{_≡_, refl, sym, ap, ap₂, _∙_, subst}
+use mathlib.Core.Path.{_≡_, refl, sym, ap, _∙_}
 use mathlib.Core.Bool.{Bool, true, false, cond}
 use Prim.Native.Nat.{suc, _+_}
 use Rattle.formula.specs.Tree.{Tree, Forest, ∅, _▸_, rows, rows-all, count, _⧺_}

@@ -9,15 +9,15 @@ use lib.ListN.{length, getD, take, drop, length-append, length-map, List·getD-e
 use lib.Seq.{take-at, drop-at}
 use lib.Dec.{ltb}
 use borrow.Author.Tests.{ltb-true, ltb-false}
-use Rattle.formula.specs.Tree.{Op, and, or, Tree, lit, node, Forest, ∅, _▸_, rows, rows-all, count, _⧺_}
+use Rattle.formula.specs.Tree.{and, or, Tree, lit, node, Forest, ∅, _▸_, rows, rows-all, count, _⧺_}
 use Rattle.sheet.specs.Format.{Bytes, Row, row}
-use Rattle.sheet.specs.Sheet.{literal-kind, operator-kind, trees, root, tree-rows, forest-rows}
+use Rattle.sheet.specs.Sheet.{operator-kind, trees, tree-rows, forest-rows}
 use Rattle.sheet.proofs.Every.{Every, every-++}
 use Rattle.sheet.proofs.Preorder.{rows-positive}
 use Rattle.rows.specs.Formulas.{node-rows-in}
 use Rattle.rows.specs.declared.Layout.{Layout}
 use Rattle.subtrees.specs.Subtrees.{top, kids}
-use Rattle.subtrees.proofs.Forest.{rest, trees-rows}
+use Rattle.subtrees.proofs.Forest.{trees-rows}
 use Rattle.sorting.specs.Tables.{Entry, entry, tree-entries, forest-entries, row-in, picked-rows, entry-in, picked, Numbers, standing, Stands}
 
 -- entries

@@ -1,11 +1,11 @@
 -- Arranging by halves: each half is arranged where it stands, and the two are merged.
 -- Assumes nothing.
 use mathlib.Core.Path.{_≡_, refl, sym, ap, ap₂, _∙_, subst}
-use mathlib.Core.List.{List, [], _++_, append-nil}
-use Prim.Native.Nat.{ℕ, zero, suc, _+_, _-_, _≤_, _<_}
+use mathlib.Core.List.{List, _++_, append-nil}
+use Prim.Native.Nat.{ℕ, zero, suc, _+_, _-_, _≤_}
 use native.Mathlib.Omega.{arith}
 use lib.ListN.{length, take, drop, length-append, length-drop, drop-of-length-le}
-use lib.Seq.{length-take-le, take-at, drop-at}
+use lib.Seq.{take-at, drop-at}
 use Rattle.formula.specs.Tree.{Tree, Forest, ∅, _▸_, rows, rows-all, count, _⧺_}
 use Rattle.formula.specs.Order.{insert}
 use Rattle.formula.proofs.Tidy.Children.{⧺-assoc, count-⧺}

@@ -1,13 +1,13 @@
 -- The merge from its first turn to its last, and what is put back.
 -- Assumes nothing.
 use mathlib.Core.Path.{_≡_, refl, sym, ap, ap₂, _∙_}
-use mathlib.Core.List.{List, [], _++_, append-assoc}
-use Prim.Native.Nat.{ℕ, zero, suc, _+_, _≤_, _<_}
+use mathlib.Core.List.{List, _++_, append-assoc}
+use Prim.Native.Nat.{ℕ, zero, suc, _+_, _≤_}
 use native.Mathlib.Nat.{zero-add}
 use native.Mathlib.Omega.{arith}
 use lib.ListN.{length, take, drop}
 use lib.Seq.{length-take-le}
-use Rattle.formula.specs.Tree.{Forest, ∅, _▸_, rows-all, count, _⧺_}
+use Rattle.formula.specs.Tree.{Forest, ∅, _▸_, rows-all, _⧺_}
 use Rattle.sheet.specs.Format.{Bytes}
 use Rattle.sheet.specs.Sheet.{front, behind}
 use Rattle.rows.specs.declared.Layout.{Layout}
@@ -15,7 +15,7 @@ use Rattle.sorting.specs.declared.merging.Runs.{Runs}
 use Rattle.sorting.specs.Tables.{forest-entries, picked, standing}
 use Rattle.sorting.specs.Arranging.{into}
 use Rattle.sorting.specs.Merging.{left-trees, right-trees, Merger, merged, Turned, all-merged}
-use Rattle.sorting.proofs.Entries.{forest-entries-⧺, picked-++, picked-take, picked-drop}
+use Rattle.sorting.proofs.Entries.{forest-entries-⧺, picked-++, picked-take}
 
 pub front-behind : (k : ℕ) (ts : Forest) → front k ts ⧺ behind k ts ≡ ts
 unfolding front behind _⧺_

@@ -2,29 +2,28 @@
 -- Assumes nothing.
 use mathlib.Core.Path.{_≡_, refl, sym, ap, ap₂, _∙_, subst}
 use mathlib.Core.Bool.{Bool, true, false, true≢false}
-use mathlib.Core.List.{List, [], _∷_, _++_, append-assoc, append-nil}
+use mathlib.Core.List.{List, _++_, append-assoc}
 use Prim.Native.Nat.{ℕ, zero, suc, _+_, _-_, _≤_, _<_}
-use native.Mathlib.Nat.{add-assoc}
 use native.Mathlib.Omega.{arith}
 use lib.ListN.{length, take, drop, length-append, length-drop}
 use lib.Seq.{length-take-le, take-all, take-at, drop-drop}
-use Rattle.formula.specs.Tree.{Tree, Forest, ∅, _▸_, rows, rows-all, count, _⧺_}
-use Rattle.formula.specs.Order.{Ordering, not-after, compare-trees, leads}
+use Rattle.formula.specs.Tree.{Tree, Forest, ∅, _▸_, rows, rows-all, count}
+use Rattle.formula.specs.Order.{Ordering, not-after, leads}
 use Rattle.sheet.specs.Format.{Bytes}
 use Rattle.sheet.specs.Sheet.{front, behind, root}
 use Rattle.sheet.proofs.Preorder.{rows-positive}
-use Rattle.rows.specs.Formulas.{node-rows-in, Readable}
+use Rattle.rows.specs.Formulas.{node-rows-in}
 use Rattle.rows.specs.declared.Layout.{Layout}
 use Rattle.rows.proofs.Formulas.{length-nodes}
 use Rattle.subtrees.specs.Ends.{Indexed}
 use Rattle.subtrees.proofs.Forest.{rest}
 use Rattle.sorting.specs.declared.merging.Runs.{Runs}
 use Rattle.sorting.specs.Rows.{compare-rows}
-use Rattle.sorting.specs.Tables.{Entry, tree-entries, forest-entries, picked-rows, picked, Numbers, standing, Stands, first-size, FirstSized}
+use Rattle.sorting.specs.Tables.{tree-entries, forest-entries, picked-rows, picked, Numbers, standing, Stands, first-size, FirstSized}
 use Rattle.sorting.specs.Arranging.{into, Ascending, first-leads}
 use Rattle.sorting.specs.Merging.{left-trees, right-trees, Merger, merged, Turned}
 use Rattle.sorting.proofs.Rows.{rows-of-trees}
-use Rattle.sorting.proofs.Entries.{Headed, headed, length-tree-entries, rows-picked-tree, numbers-tree, picked-++, picked-take, picked-drop, length-picked, standing-is, stands}
+use Rattle.sorting.proofs.Entries.{Headed, headed, rows-picked-tree, numbers-tree, picked-++, picked-take, standing-is, stands}
 use Rattle.sorting.proofs.Arranging.{into-left, into-right}
 
 -- the first of some trees

@@ -7,9 +7,6 @@ use Rattle.capi.specs.Order.{packed-compared}
 use borrow.Author.Needs.{needs}
 use Rattle.capi.proofs.pack_compared.Statement.{statement}
 use Rattle.capi.proofs.pack_compared.Tie as tie
-use Rattle.capi.proofs.pack_compared.Reads as reads
-use Rattle.capi.proofs.pack_compared.Lts as lts
-use Rattle.capi.proofs.pack.Reads as pack-reads
 
 enum-known-answer : tie.Need-enum-known-answer
 enum-known-answer c = search needs

@@ -6,8 +6,6 @@ use Rattle.sorting.specs.Rows.{ordering}
 use borrow.Author.Needs.{needs}
 use Rattle.order.proofs.compare.answer_of.Statement.{statement}
 use Rattle.order.proofs.compare.answer_of.Tie as tie
-use Rattle.order.proofs.compare.answer_of.Reads as reads
-use Rattle.order.proofs.compare.answer_of.Lts as lts
 
 enum-told : tie.Need-enum-told
 enum-told c = search needs

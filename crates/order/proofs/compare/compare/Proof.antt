@@ -5,10 +5,6 @@ use Rattle.checking.proofs.CheckedSheets.{narrow-manageable}
 use borrow.Author.Needs.{needs}
 use Rattle.order.proofs.compare.compare.Statement.{statement}
 use Rattle.order.proofs.compare.compare.Tie as tie
-use Rattle.order.proofs.compare.compare.Reads as reads
-use Rattle.order.proofs.compare.compare.Lts as lts
-use Rattle.order.proofs.compare.compare_in.Reads as compare-in-reads
-use Rattle.rows.proofs.narrow.Reads as narrow-reads
 
 narrow-requires : tie.Need-narrow-requires
 narrow-requires c κs = search needs

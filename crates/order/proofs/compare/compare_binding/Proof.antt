@@ -3,12 +3,6 @@ use Rattle.order.proofs.Prefixes.{binding-compared}
 use borrow.Author.Needs.{needs}
 use Rattle.order.proofs.compare.compare_binding.Statement.{statement}
 use Rattle.order.proofs.compare.compare_binding.Tie as tie
-use Rattle.order.proofs.compare.compare_binding.Reads as reads
-use Rattle.order.proofs.compare.compare_binding.Lts as lts
-use Rattle.rows.proofs.read.argument_at.Reads as argument-at-reads
-use Rattle.rows.proofs.read.kind_at.Reads as kind-at-reads
-use Rattle.sorting.proofs.order.compare_numbers.Reads as compare-numbers-reads
-use Rattle.sorting.proofs.order.then.Reads as then-reads
 
 kind-at-requires : tie.Need-kind-at-requires
 kind-at-requires c κs = search needs

@@ -7,10 +7,6 @@ use Rattle.rows.specs.Formulas.{prefix-in}
 use Rattle.order.proofs.Prefixes.{Passed, passed-out, passed-differ, passed-on}
 use Rattle.order.proofs.compare.compare_bound.Statement.{statement}
 use Rattle.order.proofs.compare.compare_bound.Tie as tie
-use Rattle.order.proofs.compare.compare_bound.Reads as reads
-use Rattle.order.proofs.compare.compare_bound.Lts as lts
-use Rattle.order.proofs.compare.compare_binding.Reads as compare-binding-reads
-use Rattle.sorting.proofs.order.is_same.Reads as is-same-reads
 
 abbrev Inv-loop : tie.InvT-loop
 Inv-loop first s second t r₀ r = Passed (prefix-in s first) (prefix-in t second) r

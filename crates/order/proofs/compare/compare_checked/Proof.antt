@@ -4,10 +4,6 @@ use Rattle.order.proofs.Compares.{short-first, short-second, both-fit}
 use borrow.Author.Needs.{needs}
 use Rattle.order.proofs.compare.compare_checked.Statement.{statement}
 use Rattle.order.proofs.compare.compare_checked.Tie as tie
-use Rattle.order.proofs.compare.compare_checked.Reads as reads
-use Rattle.order.proofs.compare.compare_checked.Lts as lts
-use Rattle.order.proofs.compare.answer_of.Reads as answer-of-reads
-use Rattle.order.proofs.compare.compare_sheets.Reads as compare-sheets-reads
 
 returns : tie.Need-returns
 returns c =

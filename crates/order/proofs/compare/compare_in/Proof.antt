@@ -5,11 +5,6 @@ use Rattle.order.proofs.Compares.{call-refuses, call-orders}
 use borrow.Author.Needs.{needs}
 use Rattle.order.proofs.compare.compare_in.Statement.{statement}
 use Rattle.order.proofs.compare.compare_in.Tie as tie
-use Rattle.order.proofs.compare.compare_in.Reads as reads
-use Rattle.order.proofs.compare.compare_in.Lts as lts
-use Rattle.order.proofs.compare.is_refused.Reads as is-refused-reads
-use Rattle.order.proofs.compare.judge.Reads as judge-reads
-use Rattle.rows.proofs.bytes.clear.Reads as clear-reads
 
 judge-requires : tie.Need-judge-requires
 judge-requires c κs = search needs

@@ -3,10 +3,6 @@ use Rattle.order.proofs.Prefixes.{by-number, by-rows}
 use borrow.Author.Needs.{needs}
 use Rattle.order.proofs.compare.compare_prefixes.Statement.{statement}
 use Rattle.order.proofs.compare.compare_prefixes.Tie as tie
-use Rattle.order.proofs.compare.compare_prefixes.Reads as reads
-use Rattle.order.proofs.compare.compare_prefixes.Lts as lts
-use Rattle.order.proofs.compare.compare_bound.Reads as compare-bound-reads
-use Rattle.sorting.proofs.order.compare_numbers.Reads as compare-numbers-reads
 
 compare-numbers-requires : tie.Need-compare-numbers-requires
 compare-numbers-requires c κs = search needs

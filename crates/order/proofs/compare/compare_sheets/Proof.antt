@@ -5,11 +5,6 @@ use Rattle.order.proofs.Prefixes.{prefixes-decide, trees-decide}
 use borrow.Author.Needs.{needs}
 use Rattle.order.proofs.compare.compare_sheets.Statement.{statement}
 use Rattle.order.proofs.compare.compare_sheets.Tie as tie
-use Rattle.order.proofs.compare.compare_sheets.Reads as reads
-use Rattle.order.proofs.compare.compare_sheets.Lts as lts
-use Rattle.order.proofs.compare.compare_prefixes.Reads as compare-prefixes-reads
-use Rattle.order.proofs.compare.compare_trees.Reads as compare-trees-reads
-use Rattle.sorting.proofs.order.is_same.Reads as is-same-reads
 
 compare-prefixes-requires : tie.Need-compare-prefixes-requires
 compare-prefixes-requires c κs = search needs

@@ -5,10 +5,6 @@ use Rattle.sorting.proofs.Rows.{rows-of-trees}
 use borrow.Author.Needs.{needs}
 use Rattle.order.proofs.compare.compare_sorted.Statement.{statement}
 use Rattle.order.proofs.compare.compare_sorted.Tie as tie
-use Rattle.order.proofs.compare.compare_sorted.Reads as reads
-use Rattle.order.proofs.compare.compare_sorted.Lts as lts
-use Rattle.sorting.proofs.order.compare_rows.Reads as compare-rows-reads
-use Rattle.sorting.proofs.table.sort_rows.Reads as sort-rows-reads
 
 sort-rows-requires : tie.Need-sort-rows-requires
 sort-rows-requires c κs = search needs

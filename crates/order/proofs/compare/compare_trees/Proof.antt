@@ -4,9 +4,6 @@ use Rattle.order.proofs.Written.{part-length}
 use borrow.Author.Needs.{needs}
 use Rattle.order.proofs.compare.compare_trees.Statement.{statement}
 use Rattle.order.proofs.compare.compare_trees.Tie as tie
-use Rattle.order.proofs.compare.compare_trees.Reads as reads
-use Rattle.order.proofs.compare.compare_trees.Lts as lts
-use Rattle.order.proofs.compare.compare_sorted.Reads as compare-sorted-reads
 
 array-borrow-prefix-at : tie.Need-array-borrow-prefix-at
 array-borrow-prefix-at c = search needs

@@ -5,10 +5,6 @@ use Rattle.checking.proofs.CheckedSheets.{wide-manageable}
 use borrow.Author.Needs.{needs}
 use Rattle.order.proofs.compare.compare_wide.Statement.{statement}
 use Rattle.order.proofs.compare.compare_wide.Tie as tie
-use Rattle.order.proofs.compare.compare_wide.Reads as reads
-use Rattle.order.proofs.compare.compare_wide.Lts as lts
-use Rattle.order.proofs.compare.compare_in.Reads as compare-in-reads
-use Rattle.rows.proofs.wider.Reads as wider-reads
 
 wider-requires : tie.Need-wider-requires
 wider-requires c κs = search needs

@@ -8,10 +8,6 @@ use Rattle.order.proofs.Compares.{both-checked}
 use borrow.Author.Needs.{needs}
 use Rattle.order.proofs.compare.judge.Statement.{statement}
 use Rattle.order.proofs.compare.judge.Tie as tie
-use Rattle.order.proofs.compare.judge.Reads as reads
-use Rattle.order.proofs.compare.judge.Lts as lts
-use Rattle.checking.proofs.check_in.Reads as check-in-reads
-use Rattle.order.proofs.compare.compare_checked.Reads as compare-checked-reads
 
 check-in-requires : tie.Need-check-in-requires
 check-in-requires c κs = search needs

@@ -5,11 +5,6 @@ use native.Mathlib.Omega.{arith}
 use Rattle.order.proofs.Written.{part-length, copied-room, source-readable, new-room, sorted-sealed}
 use Rattle.order.proofs.sort.sort_into.Statement.{statement}
 use Rattle.order.proofs.sort.sort_into.Tie as tie
-use Rattle.order.proofs.sort.sort_into.Reads as reads
-use Rattle.order.proofs.sort.sort_into.Lts as lts
-use Rattle.order.proofs.sort.write_sorted.Reads as write-sorted-reads
-use Rattle.rows.proofs.write.seal.Reads as seal-reads
-use Rattle.tidying.proofs.copy_front.Reads as copy-front-reads
 
 copy-front-requires : tie.Need-copy-front-requires
 copy-front-requires c κs = c .before .before .before .pre .2

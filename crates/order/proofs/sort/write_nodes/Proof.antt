@@ -5,11 +5,6 @@ use lib.ListN.{length, getD}
 use Rattle.order.proofs.Written.{Wrote, wrote-none, number-within, room-kept, argument-fits, wrote-row, wrote-all}
 use Rattle.order.proofs.sort.write_nodes.Statement.{statement}
 use Rattle.order.proofs.sort.write_nodes.Tie as tie
-use Rattle.order.proofs.sort.write_nodes.Reads as reads
-use Rattle.order.proofs.sort.write_nodes.Lts as lts
-use Rattle.rows.proofs.read.argument_at.Reads as argument-at-reads
-use Rattle.rows.proofs.read.kind_at.Reads as kind-at-reads
-use Rattle.rows.proofs.write.set_row.Reads as set-row-reads
 
 abbrev Inv-loop : tie.InvT-loop
 Inv-loop source s at out₀ r₀ out r = Wrote source s at out₀ out r

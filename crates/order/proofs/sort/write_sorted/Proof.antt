@@ -5,10 +5,6 @@ use lib.ListN.{take}
 use Rattle.rows.specs.Layouts.{rows-in}
 use Rattle.order.proofs.sort.write_sorted.Statement.{statement}
 use Rattle.order.proofs.sort.write_sorted.Tie as tie
-use Rattle.order.proofs.sort.write_sorted.Reads as reads
-use Rattle.order.proofs.sort.write_sorted.Lts as lts
-use Rattle.order.proofs.sort.write_nodes.Reads as write-nodes-reads
-use Rattle.sorting.proofs.table.sort_rows.Reads as sort-rows-reads
 
 sort-rows-requires : tie.Need-sort-rows-requires
 sort-rows-requires c κs =

@@ -8,10 +8,6 @@ use lib.Seq.{length-take-le}
 use borrow.Author.Needs.{needs}
 use Rattle.sorting.proofs.merging.copy_first.Statement.{statement}
 use Rattle.sorting.proofs.merging.copy_first.Tie as tie
-use Rattle.sorting.proofs.merging.copy_first.Reads as reads
-use Rattle.sorting.proofs.merging.copy_first.Lts as lts
-use Rattle.sorting.proofs.merging.copy_entries.Reads as copy-entries-reads
-use Rattle.sorting.proofs.merging.first_size.Reads as first-size-reads
 
 counted : (c : tie.After-copy-entries-arg) → c .before .first-size .result ≡ length (take (c .before .first-size .result) (c .before .before .before .before .before .args .at .now))
 counted c =

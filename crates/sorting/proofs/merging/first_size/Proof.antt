@@ -4,8 +4,6 @@ use lib.ListN.{getD}
 use borrow.Author.Needs.{needs}
 use Rattle.sorting.proofs.merging.first_size.Statement.{statement}
 use Rattle.sorting.proofs.merging.first_size.Tie as tie
-use Rattle.sorting.proofs.merging.first_size.Reads as reads
-use Rattle.sorting.proofs.merging.first_size.Lts as lts
 
 shared-slice-read-i : tie.Need-shared-slice-read-i
 shared-slice-read-i c = search needs

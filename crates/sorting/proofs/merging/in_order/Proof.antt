@@ -10,10 +10,6 @@ use Rattle.sorting.proofs.Turn.{first-sized, first-counted, first-numbe
 use borrow.Author.Needs.{needs}
 use Rattle.sorting.proofs.merging.in_order.Statement.{statement}
 use Rattle.sorting.proofs.merging.in_order.Tie as tie
-use Rattle.sorting.proofs.merging.in_order.Reads as reads
-use Rattle.sorting.proofs.merging.in_order.Lts as lts
-use Rattle.sorting.proofs.merging.first_size.Reads as first-size-reads
-use Rattle.sorting.proofs.order.compare_rows.Reads as compare-rows-reads
 
 first-size-requires : tie.Need-first-size-requires
 first-size-requires c κs =

@@ -5,10 +5,6 @@ use borrow.Author.Needs.{needs}
 use Rattle.sorting.proofs.Merge.{Merging, merging-none, merging-turn, merged-part, merged-within, merged-counted, merging-end}
 use Rattle.sorting.proofs.merging.merge.Statement.{statement}
 use Rattle.sorting.proofs.merging.merge.Tie as tie
-use Rattle.sorting.proofs.merging.merge.Reads as reads
-use Rattle.sorting.proofs.merging.merge.Lts as lts
-use Rattle.sorting.proofs.merging.copy_entries.Reads as copy-entries-reads
-use Rattle.sorting.proofs.merging.turn.Reads as turn-reads
 
 abbrev Inv-loop : tie.InvT-loop
 Inv-loop b s ends at spare₀ m₀ spare m = Merging s b ends at m₀ spare₀ spare m

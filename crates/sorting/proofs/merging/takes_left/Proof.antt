@@ -8,12 +8,8 @@ use Rattle.formula.specs.Order.{leads}
 use Rattle.sheet.specs.Sheet.{root}
 use Rattle.sorting.specs.Tables.{standing, Stands}
 use Rattle.sorting.proofs.Turn.{starts-within, left-alone, left-compared, suffix, fewer}
-use borrow.Author.Needs.{needs}
 use Rattle.sorting.proofs.merging.takes_left.Statement.{statement}
 use Rattle.sorting.proofs.merging.takes_left.Tie as tie
-use Rattle.sorting.proofs.merging.takes_left.Reads as reads
-use Rattle.sorting.proofs.merging.takes_left.Lts as lts
-use Rattle.sorting.proofs.merging.in_order.Reads as in-order-reads
 
 returns : tie.Need-returns
 returns c =

@@ -13,10 +13,6 @@ use Rattle.sorting.proofs.Turn.{Advanced, advanced, starts-within, some
 use borrow.Author.Needs.{needs}
 use Rattle.sorting.proofs.merging.turn.Statement.{statement}
 use Rattle.sorting.proofs.merging.turn.Tie as tie
-use Rattle.sorting.proofs.merging.turn.Reads as reads
-use Rattle.sorting.proofs.merging.turn.Lts as lts
-use Rattle.sorting.proofs.merging.copy_first.Reads as copy-first-reads
-use Rattle.sorting.proofs.merging.takes_left.Reads as takes-left-reads
 
 abbrev before-left : tie.Then1 → tie.Start
 before-left c = c .before .before .before .before .before .before

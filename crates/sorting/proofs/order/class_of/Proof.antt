@@ -4,8 +4,6 @@ use mathlib.Core.Path.{sym}
 use native.Mathlib.Omega.{arith}
 use Rattle.sorting.proofs.order.class_of.Statement.{statement}
 use Rattle.sorting.proofs.order.class_of.Tie as tie
-use Rattle.sorting.proofs.order.class_of.Reads as reads
-use Rattle.sorting.proofs.order.class_of.Lts as lts
 
 returns : tie.Need-returns
 returns c = sym (class-literal _ (omega arith))

@@ -5,8 +5,6 @@ use Rattle.formula.proofs.Ordering.{numbers-before, numbers-after, numbers-same
 use native.Mathlib.Omega.{arith}
 use Rattle.sorting.proofs.order.compare_numbers.Statement.{statement}
 use Rattle.sorting.proofs.order.compare_numbers.Tie as tie
-use Rattle.sorting.proofs.order.compare_numbers.Reads as reads
-use Rattle.sorting.proofs.order.compare_numbers.Lts as lts
 
 returns : tie.Need-returns
 returns c = sym (numbers-before _ _ (omega arith))

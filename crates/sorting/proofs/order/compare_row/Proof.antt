@@ -6,13 +6,6 @@ use Rattle.sorting.proofs.Rows.{kind-in, argument-in, row-compared}
 use borrow.Author.Needs.{needs}
 use Rattle.sorting.proofs.order.compare_row.Statement.{statement}
 use Rattle.sorting.proofs.order.compare_row.Tie as tie
-use Rattle.sorting.proofs.order.compare_row.Reads as reads
-use Rattle.sorting.proofs.order.compare_row.Lts as lts
-use Rattle.rows.proofs.read.argument_at.Reads as argument-at-reads
-use Rattle.rows.proofs.read.kind_at.Reads as kind-at-reads
-use Rattle.sorting.proofs.order.class_of.Reads as class-of-reads
-use Rattle.sorting.proofs.order.compare_numbers.Reads as compare-numbers-reads
-use Rattle.sorting.proofs.order.then.Reads as then-reads
 
 add-kind-at : tie.Need-add-kind-at
 add-kind-at c = search needs

@@ -1,5 +1,5 @@
 -- `sorting::order::compare_rows` meets its contract. Assumes nothing.
-use mathlib.Core.Path.{_≡_, refl, sym, _∙_}
+use mathlib.Core.Path.{refl, sym, _∙_}
 use Prim.Native.Nat.{_-_, _<_}
 use native.Mathlib.Omega.{arith}
 use lib.ListN.{length}
@@ -7,11 +7,6 @@ use borrow.Author.Tests.{not-true, not-false}
 use Rattle.sorting.proofs.Rows.{every-at, Locked, locked-differ, locked-on, locked-out}
 use Rattle.sorting.proofs.order.compare_rows.Statement.{statement}
 use Rattle.sorting.proofs.order.compare_rows.Tie as tie
-use Rattle.sorting.proofs.order.compare_rows.Reads as reads
-use Rattle.sorting.proofs.order.compare_rows.Lts as lts
-use Rattle.sorting.proofs.order.compare_row.Reads as compare-row-reads
-use Rattle.sorting.proofs.order.is_same.Reads as is-same-reads
-use Rattle.sorting.proofs.order.shorter.Reads as shorter-reads
 
 abbrev Inv-loop : tie.InvT-loop
 Inv-loop first s at second t to n j₀ j = Locked s first at t second to j

@@ -6,10 +6,6 @@ use lib.ListN.{length, set}
 use Rattle.sorting.proofs.Filling.{Filling, filling-none, filling-end, children-stand, below-within, lent-room, filling-turn}
 use Rattle.sorting.proofs.table.fill_sorted.Statement.{statement}
 use Rattle.sorting.proofs.table.fill_sorted.Tie as tie
-use Rattle.sorting.proofs.table.fill_sorted.Reads as reads
-use Rattle.sorting.proofs.table.fill_sorted.Lts as lts
-use Rattle.sorting.proofs.merging.arrange.Reads as arrange-reads
-use Rattle.subtrees.proofs.nodes.children_at.Reads as children-at-reads
 
 abbrev Inv-loop : tie.InvT-loop
 Inv-loop b s ends at₀ spare₀ r₀ at spare r = Filling s b ends spare₀ r at spare

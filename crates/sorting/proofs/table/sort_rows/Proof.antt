@@ -4,10 +4,6 @@ use Rattle.sorting.proofs.Entries.{rows-picked-tree, numbers-tree}
 use borrow.Author.Needs.{needs}
 use Rattle.sorting.proofs.table.sort_rows.Statement.{statement}
 use Rattle.sorting.proofs.table.sort_rows.Tie as tie
-use Rattle.sorting.proofs.table.sort_rows.Reads as reads
-use Rattle.sorting.proofs.table.sort_rows.Lts as lts
-use Rattle.sorting.proofs.table.fill_sorted.Reads as fill-sorted-reads
-use Rattle.subtrees.proofs.ends.fill_ends.Reads as fill-ends-reads
 
 slice-aggregate-fill-ends : tie.Need-slice-aggregate-fill-ends
 slice-aggregate-fill-ends c = search needs
