@@ -51,7 +51,6 @@ pub struct Entries {
     pub carry: Writes,
     pub force: Forces,
     pub guards: Sifts,
-    #[allow(dead_code)] // The tool has no command for a list of steps.
     pub steps: Lists,
 }
 

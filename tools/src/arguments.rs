@@ -106,7 +106,8 @@ pub fn contents(name: &str) -> Result<Vec<u8>, Misuse> {
     std::fs::read(name).map_err(|error| Misuse::new(format!("{name}: {error}")))
 }
 
-fn number(what: &str, word: &str) -> Result<usize, Misuse> {
+/// A word that is a number of any size that the operations take.
+pub fn number(what: &str, word: &str) -> Result<usize, Misuse> {
     let digits = !word.is_empty() && word.bytes().all(|byte| byte.is_ascii_digit());
     let value = digits.then(|| word.parse().ok()).flatten();
     value.ok_or_else(|| Misuse::new(format!("{what} is a number, and not '{word}'")))

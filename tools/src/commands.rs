@@ -17,6 +17,7 @@ mod settle;
 mod show;
 mod solve;
 mod sort;
+mod steps;
 mod tidy;
 mod trial;
 
@@ -35,6 +36,7 @@ pub static COMMANDS: &[Command] = &[
     tidy::COMMAND,
     settle::COMMAND,
     expand::COMMAND,
+    steps::COMMAND,
     quote::COMMAND,
     execute::COMMAND,
     reduce::COMMAND,

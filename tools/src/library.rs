@@ -41,6 +41,19 @@ impl Solved {
     }
 }
 
+#[derive(Clone, Copy)]
+pub enum Operation {
+    Settle = 0,
+    Expand = 1,
+}
+
+/// A step of a list, on the sheet that the steps before it left.
+#[derive(Clone, Copy)]
+pub struct Step {
+    pub operation: Operation,
+    pub variable: usize,
+}
+
 /// With which values the owner of a turn gets the outcome wanted.
 pub enum Outcome {
     Neither,
@@ -174,6 +187,44 @@ impl Sheet {
         })
     }
 
+    /// The sheet that a list of steps leaves, in two buffers of so many bytes, and what each step
+    /// answers: the length of the sheet that it wrote, or its refusal.
+    pub fn steps(
+        &self,
+        steps: &[Step],
+        room: usize,
+    ) -> Result<(Sheet, Vec<Result<usize, Refusal>>), Refusal> {
+        let operations: Vec<u8> = steps.iter().map(|step| step.operation as u8).collect();
+        let variables: Vec<usize> = steps.iter().map(|step| step.variable).collect();
+        let count = steps.len();
+        let (mut numbers, mut values) = (vec![0; count], vec![0; count]);
+        let mut second = vec![0; room];
+        let last = self.writes(room, |sheet, length, first, room| unsafe {
+            (self.format.entries.steps)(
+                sheet,
+                length,
+                operations.as_ptr(),
+                count,
+                variables.as_ptr(),
+                count,
+                numbers.as_mut_ptr(),
+                count,
+                values.as_mut_ptr(),
+                count,
+                first,
+                room,
+                second.as_mut_ptr(),
+                room,
+            )
+        })?;
+        // Only 9 has a place in the sheet, and a sheet that isn't tidy is the first one still.
+        let answers = numbers.into_iter().zip(values).map(|(number, value)| match number {
+            0 => Ok(value),
+            _ => Err(Refusal::new(number as u8, value, self)),
+        });
+        Ok((last, answers.collect()))
+    }
+
     /// The raw rows of the expansion of `x`.
     pub fn quote(&self, x: usize) -> Result<usize, Refusal> {
         let (bytes, length) = (self.bytes.as_ptr(), self.bytes.len());
@@ -270,7 +321,7 @@ impl Sheet {
     fn writes(
         &self,
         room: usize,
-        operation: impl Fn(*const u8, usize, *mut u8, usize) -> u64,
+        operation: impl FnOnce(*const u8, usize, *mut u8, usize) -> u64,
     ) -> Result<Sheet, Refusal> {
         let mut bytes = vec![0; room];
         let answer = operation(self.bytes.as_ptr(), self.bytes.len(), bytes.as_mut_ptr(), room);
