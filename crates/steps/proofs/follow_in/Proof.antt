@@ -400,33 +400,13 @@ module _ {M : Type 1} (𝓤 : URA M) (H : Heap 𝓤) (A : Atoms 𝓤) (W : Given
       move ! (3 ∷ 4 ∷ []) $ fjoin ! $ pureI ! (at-slice S.the-row (x₁ (s .cs)) (v₁ ∷ [])) (tt, (tt, tt)) (ap (λ (m : ℕ). sliceVal (b₁, o₁) m ∷ []) (sym (s .walked .same-steps)), subst (Room S.the-row) (sym (s .walked .same-steps)) r₁) $ fjoin ! $
       fjoin ! $ owned ! F.the-row (Is F.the-row) (LL.makes F.the-type F′.the-plain 𝓤 H A) f _ f-is $ fjoin ! $ move ! (2 ∷ 0 ∷ []) $ fjoin ! $ frame ! $ done !
 
-  module _ (g : Began) (b-is : Is B.the-row (g .r) (B′.lowered (g .r) ∷ [])) (𝓣 : Tables 𝓤 H) (fm : FmC 𝓤 H (W .laws) (𝓣 .C)) (known-one : Triple 𝓤 (𝓣 .C #steps·one) (One 𝓤 H A at-mem run)) (known-finish : Triple 𝓤 (𝓣 .C #steps·finish) (Finish 𝓤 H A at-mem run)) (l₀ l₁ l₂ l₃ l₄ l₅ l₆ l₇ l₈ l₉ l₁₀ l₁₁ l₁₂ l₁₃ l₁₄ l₁₅ l₁₆ l₁₇ l₁₈ l₁₉ l₂₀ l₂₁ l₂₂ l₂₃ l₂₄ l₂₅ l₂₆ l₂₇ l₂₈ l₂₉ : ℕ) where
-    abbrev C : Calls 𝓤 H
-    C = 𝓣 .C
+  module _ (l₀ l₁ l₂ l₃ l₄ l₅ l₆ l₇ l₈ l₉ l₁₀ l₁₁ l₁₂ l₁₃ l₁₄ l₁₅ l₁₆ l₁₇ l₁₈ l₁₉ l₂₀ l₂₁ l₂₂ l₂₃ l₂₄ l₂₅ l₂₆ l₂₇ l₂₈ l₂₉ : ℕ) where
+    abbrev Locals : Env 𝓤 H
+    Locals = (RT, l₀) ∷ (S₀, l₁) ∷ (FT, l₂) ∷ (S₁, l₃) ∷ (S₂, l₄) ∷ (S₃, l₅) ∷ (BT, l₆) ∷ (word, l₇) ∷ (word, l₈) ∷ (word, l₉) ∷ (ST, l₁₀) ∷ (TT, l₁₁) ∷ (word, l₁₂) ∷ (ref, l₁₃) ∷ (slice, l₁₄) ∷ (ref, l₁₅) ∷ (slice, l₁₆) ∷ (tyBool, l₁₇) ∷ (word, l₁₈) ∷ (tyPtr, l₁₉) ∷ (ST, l₂₀) ∷ (ref, l₂₁) ∷ (slice, l₂₂) ∷ (ref, l₂₃) ∷ (slice, l₂₄) ∷ (tyPtr, l₂₅) ∷ (ref, l₂₆) ∷ (slice, l₂₇) ∷ (ref, l₂₈) ∷ (slice, l₂₉) ∷ []
 
-    abbrev Λ : Loops 𝓤 H
-    Λ = 𝓣 .Λ
-
-    abbrev En : Env 𝓤 H
-    En = (RT, l₀) ∷ (S₀, l₁) ∷ (FT, l₂) ∷ (S₁, l₃) ∷ (S₂, l₄) ∷ (S₃, l₅) ∷ (BT, l₆) ∷ (word, l₇) ∷ (word, l₈) ∷ (word, l₉) ∷ (ST, l₁₀) ∷ (TT, l₁₁) ∷ (word, l₁₂) ∷ (ref, l₁₃) ∷ (slice, l₁₄) ∷ (ref, l₁₅) ∷ (slice, l₁₆) ∷ (tyBool, l₁₇) ∷ (word, l₁₈) ∷ (tyPtr, l₁₉) ∷ (ST, l₂₀) ∷ (ref, l₂₁) ∷ (slice, l₂₂) ∷ (ref, l₂₃) ∷ (slice, l₂₄) ∷ (tyPtr, l₂₅) ∷ (ref, l₂₆) ∷ (slice, l₂₇) ∷ (ref, l₂₈) ∷ (slice, l₂₉) ∷ []
-
-    abbrev I : State g → List (Item 𝓤)
-    I s =
-        ‵ (row S.the-row fullShare (s .cs) b₁ o₁) ∷
-        ‵ (Own₂ (s .firsts)) ∷
-        ‵ (flft κ₂ q₂) ∷
-        ‵ (Own₃ (s .seconds)) ∷
-        ‵ (flft κ₃ q₃) ∷
-        ‵ (froom RT l₀ 0) ∷
-        ‵ (fat fullShare S₀ l₁ 0 v₀) ∷
-        ‵ (fat fullShare FT l₂ 0 fv) ∷
-        ‵ (fat fullShare S₁ l₃ 0 v₁) ∷
-        ‵ (fat fullShare S₂ l₄ 0 v₂) ∷
-        ‵ (fat fullShare S₃ l₅ 0 v₃) ∷
-        ‵ (fat fullShare BT l₆ 0 (B′.lowered (g .r))) ∷
-        ‵ (fat fullShare word l₇ 0 (vint w64 (g .r .turns))) ∷
-        ‵ (fat fullShare word l₈ 0 (vint w64 (s .h))) ∷
-        ‵ (fat fullShare word l₉ 0 (vint w64 (s .i))) ∷
+    -- the locals behind the loop's own, none written yet, and what each local comes to at the end
+    abbrev Behind : List (Item 𝓤) → List (Item 𝓤)
+    Behind others =
         ‵ (froom ST l₁₀ 0) ∷
         ‵ (froom TT l₁₁ 0) ∷
         ‵ (froom word l₁₂ 0) ∷
@@ -476,12 +456,41 @@ module _ {M : Type 1} (𝓤 : URA M) (H : Heap 𝓤) (A : Atoms 𝓤) (W : Given
         ‵ (fdies ref l₂₆) ∷
         ‵ (fdies slice l₂₇) ∷
         ‵ (fdies ref l₂₈) ∷
-        ‵ (fdies slice l₂₉) ∷
+        ‵ (fdies slice l₂₉) ∷ others
+
+  module _ (g : Began) (b-is : Is B.the-row (g .r) (B′.lowered (g .r) ∷ [])) (𝓣 : Tables 𝓤 H) (fm : FmC 𝓤 H (W .laws) (𝓣 .C)) (known-one : Triple 𝓤 (𝓣 .C #steps·one) (One 𝓤 H A at-mem run)) (known-finish : Triple 𝓤 (𝓣 .C #steps·finish) (Finish 𝓤 H A at-mem run)) (l₀ l₁ l₂ l₃ l₄ l₅ l₆ l₇ l₈ l₉ l₁₀ l₁₁ l₁₂ l₁₃ l₁₄ l₁₅ l₁₆ l₁₇ l₁₈ l₁₉ l₂₀ l₂₁ l₂₂ l₂₃ l₂₄ l₂₅ l₂₆ l₂₇ l₂₈ l₂₉ : ℕ) where
+    abbrev C : Calls 𝓤 H
+    C = 𝓣 .C
+
+    abbrev Λ : Loops 𝓤 H
+    Λ = 𝓣 .Λ
+
+    abbrev En : Env 𝓤 H
+    En = Locals l₀ l₁ l₂ l₃ l₄ l₅ l₆ l₇ l₈ l₉ l₁₀ l₁₁ l₁₂ l₁₃ l₁₄ l₁₅ l₁₆ l₁₇ l₁₈ l₁₉ l₂₀ l₂₁ l₂₂ l₂₃ l₂₄ l₂₅ l₂₆ l₂₇ l₂₈ l₂₉
+
+    abbrev I : State g → List (Item 𝓤)
+    I s =
+        ‵ (row S.the-row fullShare (s .cs) b₁ o₁) ∷
+        ‵ (Own₂ (s .firsts)) ∷
+        ‵ (flft κ₂ q₂) ∷
+        ‵ (Own₃ (s .seconds)) ∷
+        ‵ (flft κ₃ q₃) ∷
+        ‵ (froom RT l₀ 0) ∷
+        ‵ (fat fullShare S₀ l₁ 0 v₀) ∷
+        ‵ (fat fullShare FT l₂ 0 fv) ∷
+        ‵ (fat fullShare S₁ l₃ 0 v₁) ∷
+        ‵ (fat fullShare S₂ l₄ 0 v₂) ∷
+        ‵ (fat fullShare S₃ l₅ 0 v₃) ∷
+        ‵ (fat fullShare BT l₆ 0 (B′.lowered (g .r))) ∷
+        ‵ (fat fullShare word l₇ 0 (vint w64 (g .r .turns))) ∷
+        ‵ (fat fullShare word l₈ 0 (vint w64 (s .h))) ∷
+        ‵ (fat fullShare word l₉ 0 (vint w64 (s .i))) ∷
+        Behind l₀ l₁ l₂ l₃ l₄ l₅ l₆ l₇ l₈ l₉ l₁₀ l₁₁ l₁₂ l₁₃ l₁₄ l₁₅ l₁₆ l₁₇ l₁₈ l₁₉ l₂₀ l₂₁ l₂₂ l₂₃ l₂₄ l₂₅ l₂₆ l₂₇ l₂₈ l₂₉ (
         ‵ (fobor κ₁ q₁ (Held S.the-row (length ss) b₁ o₁ γ₁)) ∷
         ‵ (fobs γ₁ (codedHoleys S.the-row .code (heres S.the-row ss))) ∷
         ‵ (fauth γ₁ (codedHoleys S.the-row .code (heres S.the-row ss))) ∷
         ‵ (flft κ₀ q₀) ∷
-        ‵ Sheet ∷ []
+        ‵ Sheet ∷ [])
 
     -- when the loop is left, the rest of the body runs
     abbrev Left : Out → SProp 𝓤
@@ -715,7 +724,7 @@ module _ {M : Type 1} (𝓤 : URA M) (H : Heap 𝓤) (A : Atoms 𝓤) (W : Given
 
   module _ (𝓣 : Tables 𝓤 H) (known-begin : Triple 𝓤 (𝓣 .C #steps·begin) (Begin 𝓤 H A at-mem run)) (known-one : Triple 𝓤 (𝓣 .C #steps·one) (One 𝓤 H A at-mem run)) (known-finish : Triple 𝓤 (𝓣 .C #steps·finish) (Finish 𝓤 H A at-mem run)) (l₀ l₁ l₂ l₃ l₄ l₅ l₆ l₇ l₈ l₉ l₁₀ l₁₁ l₁₂ l₁₃ l₁₄ l₁₅ l₁₆ l₁₇ l₁₈ l₁₉ l₂₀ l₂₁ l₂₂ l₂₃ l₂₄ l₂₅ l₂₆ l₂₇ l₂₈ l₂₉ : ℕ) where
     abbrev Env₀ : Env 𝓤 H
-    Env₀ = (RT, l₀) ∷ (S₀, l₁) ∷ (FT, l₂) ∷ (S₁, l₃) ∷ (S₂, l₄) ∷ (S₃, l₅) ∷ (BT, l₆) ∷ (word, l₇) ∷ (word, l₈) ∷ (word, l₉) ∷ (ST, l₁₀) ∷ (TT, l₁₁) ∷ (word, l₁₂) ∷ (ref, l₁₃) ∷ (slice, l₁₄) ∷ (ref, l₁₅) ∷ (slice, l₁₆) ∷ (tyBool, l₁₇) ∷ (word, l₁₈) ∷ (tyPtr, l₁₉) ∷ (ST, l₂₀) ∷ (ref, l₂₁) ∷ (slice, l₂₂) ∷ (ref, l₂₃) ∷ (slice, l₂₄) ∷ (tyPtr, l₂₅) ∷ (ref, l₂₆) ∷ (slice, l₂₇) ∷ (ref, l₂₈) ∷ (slice, l₂₉) ∷ []
+    Env₀ = Locals l₀ l₁ l₂ l₃ l₄ l₅ l₆ l₇ l₈ l₉ l₁₀ l₁₁ l₁₂ l₁₃ l₁₄ l₁₅ l₁₆ l₁₇ l₁₈ l₁₉ l₂₀ l₂₁ l₂₂ l₂₃ l₂₄ l₂₅ l₂₆ l₂₇ l₂₈ l₂₉
 
     -- behind `begin`, up to the loop
     module _ (g : Began) (b-is : Is B.the-row (g .r) (B′.lowered (g .r) ∷ [])) where
@@ -739,56 +748,7 @@ module _ {M : Type 1} (𝓤 : URA M) (H : Heap 𝓤) (A : Atoms 𝓤) (W : Given
           ‵ (froom word l₇ 0) ∷
           ‵ (froom word l₈ 0) ∷
           ‵ (froom word l₉ 0) ∷
-          ‵ (froom ST l₁₀ 0) ∷
-          ‵ (froom TT l₁₁ 0) ∷
-          ‵ (froom word l₁₂ 0) ∷
-          ‵ (froom ref l₁₃ 0) ∷
-          ‵ (froom slice l₁₄ 0) ∷
-          ‵ (froom ref l₁₅ 0) ∷
-          ‵ (froom slice l₁₆ 0) ∷
-          ‵ (froom tyBool l₁₇ 0) ∷
-          ‵ (froom word l₁₈ 0) ∷
-          ‵ (froom tyPtr l₁₉ 0) ∷
-          ‵ (froom ST l₂₀ 0) ∷
-          ‵ (froom ref l₂₁ 0) ∷
-          ‵ (froom slice l₂₂ 0) ∷
-          ‵ (froom ref l₂₃ 0) ∷
-          ‵ (froom slice l₂₄ 0) ∷
-          ‵ (froom tyPtr l₂₅ 0) ∷
-          ‵ (froom ref l₂₆ 0) ∷
-          ‵ (froom slice l₂₇ 0) ∷
-          ‵ (froom ref l₂₈ 0) ∷
-          ‵ (froom slice l₂₉ 0) ∷
-          ‵ (fdies RT l₀) ∷
-          ‵ (fdies S₀ l₁) ∷
-          ‵ (fdies FT l₂) ∷
-          ‵ (fdies S₁ l₃) ∷
-          ‵ (fdies S₂ l₄) ∷
-          ‵ (fdies S₃ l₅) ∷
-          ‵ (fdies BT l₆) ∷
-          ‵ (fdies word l₇) ∷
-          ‵ (fdies word l₈) ∷
-          ‵ (fdies word l₉) ∷
-          ‵ (fdies ST l₁₀) ∷
-          ‵ (fdies TT l₁₁) ∷
-          ‵ (fdies word l₁₂) ∷
-          ‵ (fdies ref l₁₃) ∷
-          ‵ (fdies slice l₁₄) ∷
-          ‵ (fdies ref l₁₅) ∷
-          ‵ (fdies slice l₁₆) ∷
-          ‵ (fdies tyBool l₁₇) ∷
-          ‵ (fdies word l₁₈) ∷
-          ‵ (fdies tyPtr l₁₉) ∷
-          ‵ (fdies ST l₂₀) ∷
-          ‵ (fdies ref l₂₁) ∷
-          ‵ (fdies slice l₂₂) ∷
-          ‵ (fdies ref l₂₃) ∷
-          ‵ (fdies slice l₂₄) ∷
-          ‵ (fdies tyPtr l₂₅) ∷
-          ‵ (fdies ref l₂₆) ∷
-          ‵ (fdies slice l₂₇) ∷
-          ‵ (fdies ref l₂₈) ∷
-          ‵ (fdies slice l₂₉) ∷ []
+          Behind l₀ l₁ l₂ l₃ l₄ l₅ l₆ l₇ l₈ l₉ l₁₀ l₁₁ l₁₂ l₁₃ l₁₄ l₁₅ l₁₆ l₁₇ l₁₈ l₁₉ l₂₀ l₂₁ l₂₂ l₂₃ l₂₄ l₂₅ l₂₆ l₂₇ l₂₈ l₂₉ []
 
       goes-on : ent 𝓤 (⋆ 𝓤 H A Begun-at) (Wp 𝓤 H (𝓣 .C) (𝓣 .Λ) Env₀ pieces.t-7 (atReturn 𝓤 H Env₀ Post))
       goes-on =
@@ -826,56 +786,7 @@ module _ {M : Type 1} (𝓤 : URA M) (H : Heap 𝓤) (A : Atoms 𝓤) (W : Given
         ‵ (froom word l₇ 0) ∷
         ‵ (froom word l₈ 0) ∷
         ‵ (froom word l₉ 0) ∷
-        ‵ (froom ST l₁₀ 0) ∷
-        ‵ (froom TT l₁₁ 0) ∷
-        ‵ (froom word l₁₂ 0) ∷
-        ‵ (froom ref l₁₃ 0) ∷
-        ‵ (froom slice l₁₄ 0) ∷
-        ‵ (froom ref l₁₅ 0) ∷
-        ‵ (froom slice l₁₆ 0) ∷
-        ‵ (froom tyBool l₁₇ 0) ∷
-        ‵ (froom word l₁₈ 0) ∷
-        ‵ (froom tyPtr l₁₉ 0) ∷
-        ‵ (froom ST l₂₀ 0) ∷
-        ‵ (froom ref l₂₁ 0) ∷
-        ‵ (froom slice l₂₂ 0) ∷
-        ‵ (froom ref l₂₃ 0) ∷
-        ‵ (froom slice l₂₄ 0) ∷
-        ‵ (froom tyPtr l₂₅ 0) ∷
-        ‵ (froom ref l₂₆ 0) ∷
-        ‵ (froom slice l₂₇ 0) ∷
-        ‵ (froom ref l₂₈ 0) ∷
-        ‵ (froom slice l₂₉ 0) ∷
-        ‵ (fdies RT l₀) ∷
-        ‵ (fdies S₀ l₁) ∷
-        ‵ (fdies FT l₂) ∷
-        ‵ (fdies S₁ l₃) ∷
-        ‵ (fdies S₂ l₄) ∷
-        ‵ (fdies S₃ l₅) ∷
-        ‵ (fdies BT l₆) ∷
-        ‵ (fdies word l₇) ∷
-        ‵ (fdies word l₈) ∷
-        ‵ (fdies word l₉) ∷
-        ‵ (fdies ST l₁₀) ∷
-        ‵ (fdies TT l₁₁) ∷
-        ‵ (fdies word l₁₂) ∷
-        ‵ (fdies ref l₁₃) ∷
-        ‵ (fdies slice l₁₄) ∷
-        ‵ (fdies ref l₁₅) ∷
-        ‵ (fdies slice l₁₆) ∷
-        ‵ (fdies tyBool l₁₇) ∷
-        ‵ (fdies word l₁₈) ∷
-        ‵ (fdies tyPtr l₁₉) ∷
-        ‵ (fdies ST l₂₀) ∷
-        ‵ (fdies ref l₂₁) ∷
-        ‵ (fdies slice l₂₂) ∷
-        ‵ (fdies ref l₂₃) ∷
-        ‵ (fdies slice l₂₄) ∷
-        ‵ (fdies tyPtr l₂₅) ∷
-        ‵ (fdies ref l₂₆) ∷
-        ‵ (fdies slice l₂₇) ∷
-        ‵ (fdies ref l₂₈) ∷
-        ‵ (fdies slice l₂₉) ∷ []
+        Behind l₀ l₁ l₂ l₃ l₄ l₅ l₆ l₇ l₈ l₉ l₁₀ l₁₁ l₁₂ l₁₃ l₁₄ l₁₅ l₁₆ l₁₇ l₁₈ l₁₉ l₂₀ l₂₁ l₂₂ l₂₃ l₂₄ l₂₅ l₂₆ l₂₇ l₂₈ l₂₉ []
 
     begins-at : ent 𝓤 (⋆ 𝓤 H A Entered) (Wp 𝓤 H (𝓣 .C) (𝓣 .Λ) Env₀ pieces.t-1 (atReturn 𝓤 H Env₀ Post))
     begins-at =
