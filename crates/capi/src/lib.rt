@@ -259,11 +259,11 @@ fn pack_guarded(answer: guards::Guarded) -> u64
 {
     match answer {
         guards::Guarded::Refused(number, place) => pack(number, 0, place, 0),
-        guards::Guarded::Stopped(x, settled, expanded) => pack(
+        guards::Guarded::Stopped(variable, settled, expanded) => pack(
             0,
             2,
             settled,
-            (expanded % 65536) as u64 + 65536 * ((x % 65536) as u64),
+            (expanded % 65536) as u64 + 65536 * ((variable % 65536) as u64),
         ),
         guards::Guarded::True(settled, expanded) => pack(0, 1, settled, (expanded % 65536) as u64),
         guards::Guarded::Kept(length, stops) => pack(0, 0, stops, length as u64),
