@@ -26,7 +26,7 @@ use Rattle.sheet.specs.Format.{Bytes, Format, fits, variables, nodes}
 use Rattle.sheet.specs.Sheet.{formula, sheet}
 use Rattle.sheet.specs.Check.{Answer, refused, accepted, Test, answer, passes, Sizes, check-tests, check}
 use Rattle.sheet.specs.Operations.{padded, output-after, write, tidy-and-bound-tests, settle-tests, settle-call, quote-tests, expand-tests, expand-call, execute-tests, execute-call}
-use Rattle.sheet.specs.Calls.{Call, settle, expand, execute, outer, perform, copies-by, Held, held-after, perform-all, held, copies-after, copies-all, copies-made, sheet-verdict, Demand-3}
+use Rattle.sheet.specs.Calls.{Call, settle, expand, execute, outer, perform, copies-by, Held, held-after, perform-all, held, copies-after, copies-all, copies-made, none-outer, sheet-verdict, Demand-3}
 use Rattle.sheet.specs.Outer.{copies, outer-tests, outer-call}
 use Rattle.sheet.proofs.Tests.{passed-∷, passed-++, answer-passes, accepted-passes}
 use Rattle.sheet.specs.Limits.{Sound, Within}
@@ -262,3 +262,34 @@ demand-3 F sound b s h t cs =
 
     true-verdict : (ds : List Call) (v : Bool) → sheet-verdict F (end ds .sheet) ≡ some v → v ≡ truth (formula F b)
     true-verdict ds v e = sym (verdict-truth (formula F (end ds .sheet)) v e) ∙ (well ds) .same-truth
+
+after-no-copies : (a : Answer ℕ) → copies-after a 0 ≡ 0
+unfolding copies-after
+after-no-copies (refused n i) = refl
+after-no-copies (accepted n) = refl
+
+one-more : (F : Format) (c : Call) (cs : List Call) (h : Held) → copies-by F c (h .sheet) ≡ 0 → ((h′ : Held) → copies-all F cs h′ ≡ 0)
+    → copies-all F (c ∷ cs) h ≡ 0
+unfolding copies-all
+one-more F c cs h free rest =
+    let p = perform F c (h .sheet) in
+    let made = ap (copies-after (p .answer)) free ∙ after-no-copies (p .answer) in
+    let later = rest (held-after h (p .answer) (p .output)) in
+    omega (arith, made, later)
+
+-- only the step one block out makes copies
+pub no-copies : (F : Format) (cs : List Call) (h : Held) → none-outer cs ≡ true → copies-all F cs h ≡ 0
+unfolding none-outer copies-all copies-by
+no-copies F [] h e = refl
+no-copies F (settle x out ∷ cs) h e = one-more F (settle x out) cs h refl (λ h′. no-copies F cs h′ e)
+no-copies F (expand x out ∷ cs) h e = one-more F (expand x out) cs h refl (λ h′. no-copies F cs h′ e)
+no-copies F (execute x ceiling out ∷ cs) h e = one-more F (execute x ceiling out) cs h refl (λ h′. no-copies F cs h′ e)
+no-copies F (outer x out ∷ cs) h e = absurd (false≢true e)
+
+-- so of lists of Settle, Expand and Execute: accepted calls + variables left = variables at the start
+pub demand-3-counts : (F : Format) → Sound F → (b : Bytes) (s : Sizes) → check F b ≡ accepted s → is-tidy ((formula F b) .matrix) ≡ true
+    → (cs : List Call) → none-outer cs ≡ true
+    → (held F b cs) .accepted-calls + variables F ((held F b cs) .sheet) ≡ variables F b
+unfolding copies-made
+demand-3-counts F sound b s h t cs e =
+    (demand-3 F sound b s h t cs) .counts ∙ ap (λ (k : ℕ). variables F b + k) (no-copies F cs _ e) ∙ add-zero (variables F b)

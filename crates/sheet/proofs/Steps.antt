@@ -19,11 +19,11 @@ use Rattle.sheet.specs.Format.{Bytes, Format, sheet-length, variables, n
 use Rattle.sheet.specs.Sheet.{formula, sheet}
 use Rattle.sheet.specs.Check.{Answer, refused, accepted, Test, test, answer, passes, Sizes, check-tests, check}
 use Rattle.sheet.specs.Operations.{Written, padded, output-after, write, tidy-and-bound-tests, settle-tests, settle-call, quote-tests, raw-room-test, expand-tests, expand-call, tidy-tests}
-use Rattle.sheet.specs.Calls.{Call, perform, Held, held-after, perform-all, held}
+use Rattle.sheet.specs.Calls.{Call, perform, Held, held-after, perform-all, held, none-outer}
 use Rattle.sheet.specs.Steps.{Operation, settling, expanding, Step, single, call-of, calls, after, fill, filled, given, reached, Listed, listed, steps-call, acceptance, acceptances, Steps-demand-3}
 use Rattle.sheet.specs.Limits.{Sound}
 use Rattle.sheet.proofs.Tests.{answer-++, accepted-passes, refused-first}
-use Rattle.sheet.proofs.Calls.{front-written, demand-3}
+use Rattle.sheet.proofs.Calls.{front-written, demand-3, demand-3-counts}
 
 -- by place
 
@@ -226,6 +226,16 @@ listed-accepted steps done first second last n (accepted c) same e =
       refl,
     )
 
+-- steps are Settle and Expand alone
+steps-none-outer : (n : ℕ) (ss : List Step) → none-outer (calls n ss) ≡ true
+unfolding calls none-outer
+steps-none-outer n [] = refl
+steps-none-outer n (s ∷ ss) = by (s .operation) (steps-none-outer n ss)
+  where
+    by : (o : Operation) → none-outer (calls n ss) ≡ true → none-outer (single o (s .variable) (replicate n 0) ∷ calls n ss) ≡ true
+    by settling e = e
+    by expanding e = e
+
 pub steps-demand-3 : (F : Format) → Sound F → (b : Bytes) (s : Sizes) → check F b ≡ accepted s → is-tidy ((formula F b) .matrix) ≡ true
     → (steps : List Step) (first second : Bytes) (n : ℕ) → (steps-call F b steps first second) .answer ≡ accepted n
     → Steps-demand-3 F b steps first second n
@@ -236,8 +246,15 @@ steps-demand-3 F sound b s h t steps first second n e =
     let last = (held F b (calls shorter steps)) .sheet in
     let left = listed-accepted steps (filled F shorter steps (given b)) first second last n (answer tests last)
     (λ c is. accepted-passes tests last c is .1) e in
+    let told = (steps-call F b steps first second) .steps in
+    let front = take n ((steps-call F b steps first second) .first) in
+    let records : acceptances told ≡ (held F b (calls shorter steps)) .accepted-calls = ap acceptances (left .1) ∙ sym (add-zero (acceptances (filled F shorter steps (given b)))) ∙ acceptances-are F shorter steps (given b) in
     record {
       at-front = left .0;
-      records = ap acceptances (left .1) ∙ sym (add-zero (acceptances (filled F shorter steps (given b)))) ∙ acceptances-are F shorter steps (given b);
+      records = records;
+      counts =
+          ap (λ (k : ℕ). k + variables F front) records ∙
+          ap (λ (c : Bytes). (held F b (calls shorter steps)) .accepted-calls + variables F c) (left .0) ∙
+          demand-3-counts F sound b s h t (calls shorter steps) (steps-none-outer shorter steps);
       demand = demand-3 F sound b s h t (calls shorter steps);
     }

@@ -1,7 +1,7 @@
 -- Lists of Settle, Expand, Execute and Outer calls, the sheet held, and what demand 3 says of them ("Settling and expanding").
 -- Assumes nothing.
 use mathlib.Core.Path.{_≡_}
-use mathlib.Core.Bool.{Bool, true}
+use mathlib.Core.Bool.{Bool, true, false}
 use mathlib.Core.List.{List, [], _∷_}
 use mathlib.Core.Option.{Option, some}
 use Prim.Native.Nat.{ℕ, suc, _+_}
@@ -68,6 +68,14 @@ copies-all F (c ∷ cs) h =
 
 unfoldable pub copies-made : Format → Bytes → List Call → ℕ
 copies-made F b cs = copies-all F cs (record { sheet = b; accepted-calls = 0 })
+
+-- no call of the list is one block out: Settle, Expand and Execute alone, which make no copies (`no-copies`)
+unfoldable pub none-outer : List Call → Bool
+none-outer [] = true
+none-outer (settle x out ∷ cs) = none-outer cs
+none-outer (expand x out ∷ cs) = none-outer cs
+none-outer (execute x ceiling out ∷ cs) = none-outer cs
+none-outer (outer x out ∷ cs) = false
 
 -- the verdict of a sheet, if it has one
 abbrev pub sheet-verdict : Format → Bytes → Option Bool

@@ -4,7 +4,7 @@ use mathlib.Core.Path.{_≡_}
 use mathlib.Core.List.{List, [], _∷_}
 use Prim.Native.Nat.{ℕ, _+_, min}
 use lib.ListN.{length, take, replicate}
-use Rattle.sheet.specs.Format.{Bytes, Format}
+use Rattle.sheet.specs.Format.{Bytes, Format, variables}
 use Rattle.sheet.specs.Check.{Answer, refused, accepted, answer}
 use Rattle.sheet.specs.Operations.{padded, tidy-tests}
 use Rattle.sheet.specs.Calls.{Call, settle, expand, perform, Held, held-after, held, Demand-3}
@@ -97,4 +97,6 @@ pub record Steps-demand-3 (F : Format) (b : Bytes) (steps : List Step) (first se
   pub at-front : take n ((steps-call F b steps first second) .first) ≡ (held F b (calls (min (length first) (length second)) steps)) .sheet
   pub records : acceptances ((steps-call F b steps first second) .steps)
       ≡ (held F b (calls (min (length first) (length second)) steps)) .accepted-calls
+  -- accepted steps + variables left = variables at the start
+  pub counts : acceptances ((steps-call F b steps first second) .steps) + variables F (take n ((steps-call F b steps first second) .first)) ≡ variables F b
   pub demand : Demand-3 F b (calls (min (length first) (length second)) steps)
