@@ -1,44 +1,25 @@
 // The operations for callers in C and Rust, thin over the proved ones. include/plumanchor.h declares them.
+use packing::pack_checked;
+use packing::pack_compared;
+use packing::pack_guarded;
+use packing::pack_quoted;
+use packing::pack_solved;
+use packing::pack_tried;
+use packing::pack_written;
 ghost use mathlib.Core.Path.{_≡_};
 ghost use lib.ListN.{length};
 ghost use Rattle.sheet.specs.Format.{narrow, wide};
 ghost use Rattle.sheet.specs.Check.{check};
 ghost use Rattle.sheet.specs.Operations.{trial-call, part-call, tidy-call, settle-call, expand-call, quote-call, execute-call, reduce-call, solve-call};
 ghost use Rattle.sheet.specs.Guards.{guards-call};
-ghost use Rattle.checking.specs.Answers.{checked-answer, written-answer};
-ghost use Rattle.trial.specs.Answers.{tried-answer};
-ghost use Rattle.expand.specs.Answers.{quoted-answer};
 ghost use Rattle.steps.specs.Numbers.{step-number, step-value, over, numbers-call};
-ghost use Rattle.solve.specs.Answers.{verdict-of, solved-answer};
-ghost use Rattle.guards.specs.Answers.{guarded-answer};
 ghost use Rattle.sheet.specs.Order.{sort-call, compare-call};
-ghost use Rattle.order.specs.Answers.{compared-answer};
-ghost use Rattle.capi.specs.Order.{packed-compared};
-ghost use Rattle.capi.specs.Packed.{packed, packed-check, packed-trial, verdict-word, packed-written, packed-quote, packed-solved, packed-guards};
+ghost use Rattle.packing.specs.Order.{packed-compared};
+ghost use Rattle.packing.specs.Packed.{packed-check, packed-trial, packed-written, packed-quote, packed-solved, packed-guards};
 
 mod panel;
 pub mod resuming;
 pub mod wide;
-
-// An answer in one number: refusal number, word and two values.
-fn pack(number: usize, word: usize, low: usize, high: u64) -> u64
-    ensures { λ r. ⌜ r ≡ packed number word low high ⌝ }
-{
-    let n = (number % 256) as u64;
-    let w = (word % 256) as u64;
-    let l = (low % 65536) as u64;
-    n + 256 * w + 65536 * l + 4294967296 * (high % 4294967296)
-}
-
-// What Check answers: refusal number and place, or V and N.
-pub fn pack_checked(answer: checking::Checked) -> u64
-    ensures { λ r. ⌜ r ≡ packed-check (checked-answer answer) ⌝ }
-{
-    match answer {
-        checking::Checked::Accepted(v, n) => pack(0, 0, v, n as u64),
-        checking::Checked::Refused(number, place) => pack(number, 0, place, 0),
-    }
-}
 
 // Check: refusal number and place, or V and N.
 #[no_mangle]
@@ -46,16 +27,6 @@ pub extern "C" fn plumanchor_check(sheet: &[u8]) -> u64
     ensures { λ r. ⌜ r ≡ packed-check (check narrow (now (sheet .entry))) ⌝ }
 {
     pack_checked(checking::check(sheet))
-}
-
-// What Trial answers: refusal number and place, or the verdict and the leaves tried.
-pub fn pack_tried(answer: trial::Tried) -> u64
-    ensures { λ r. ⌜ r ≡ packed-trial (tried-answer answer) ⌝ }
-{
-    match answer {
-        trial::Tried::Answered(verdict, leaves) => pack(0, verdict as usize, 0, leaves),
-        trial::Tried::Refused(number, place) => pack(number, 0, place, 0),
-    }
 }
 
 // Trial: refusal number and place, or the verdict and the leaves tried.
@@ -72,16 +43,6 @@ pub extern "C" fn plumanchor_part(sheet: &[u8], node: usize) -> usize
     ensures { λ r. ⌜ r ≡ length (part-call narrow (now (sheet .entry)) node) ⌝ }
 {
     part::part(sheet, node).len()
-}
-
-// What an operation that writes a sheet answers: refusal number and place, or the new sheet's length.
-pub fn pack_written(answer: checking::Written) -> u64
-    ensures { λ r. ⌜ r ≡ packed-written (written-answer answer) ⌝ }
-{
-    match answer {
-        checking::Written::Accepted(length) => pack(0, 0, 0, length as u64),
-        checking::Written::Refused(number, place) => pack(number, 0, place, 0),
-    }
 }
 
 // Tidy: refusal number and place, or the new sheet's length.
@@ -109,16 +70,6 @@ pub extern "C" fn plumanchor_expand(sheet: &[u8], x: usize, out: &mut [u8]) -> u
     ensures { λ _. ⌜ now (out .exit) ≡ (expand-call narrow (now (sheet .entry)) x (now (out .entry))) .output ⌝ }
 {
     pack_written(expand::expand(sheet, x, out))
-}
-
-// What Quote answers: refusal number and place, or the raw row count.
-pub fn pack_quoted(answer: expand::quote::Quoted) -> u64
-    ensures { λ r. ⌜ r ≡ packed-quote (quoted-answer answer) ⌝ }
-{
-    match answer {
-        expand::quote::Quoted::Rows(count) => pack(0, 0, 0, count as u64),
-        expand::quote::Quoted::Refused(number, place) => pack(number, 0, place, 0),
-    }
 }
 
 // Quote: refusal number and place, or the raw row count.
@@ -154,37 +105,6 @@ pub extern "C" fn plumanchor_reduce_wide(sheet: &[u8], out: &mut [u8]) -> u64
     ensures { λ _. ⌜ now (out .exit) ≡ (reduce-call wide (now (sheet .entry)) (now (out .entry))) .output ⌝ }
 {
     pack_written(reduce::reduce_wide(sheet, out))
-}
-
-// A verdict's word: 1 true, 0 false.
-fn word_for(verdict: solve::Verdict) -> usize
-    ensures { λ r. ⌜ r ≡ verdict-word (verdict-of verdict) ⌝ }
-{
-    match verdict {
-        solve::Verdict::True => 1,
-        solve::Verdict::False => 0,
-    }
-}
-
-// What Solve answers: refusal number and place; or a word, the number settled, the number expanded and the variable stopped at.
-pub fn pack_solved(answer: solve::Solved) -> u64
-    ensures { λ r. ⌜ r ≡ packed-solved (solved-answer answer) ⌝ }
-{
-    match answer {
-        solve::Solved::Refused(number, place) => pack(number, 0, place, 0),
-        solve::Solved::Stopped(x, settled, expanded) => pack(
-            0,
-            2,
-            settled,
-            (expanded % 65536) as u64 + 65536 * ((x % 65536) as u64),
-        ),
-        solve::Solved::Ended(verdict, settled, expanded) => pack(
-            0,
-            word_for(verdict),
-            settled,
-            (expanded % 65536) as u64,
-        ),
-    }
 }
 
 // Solve in two work buffers: refusal number and place; or a word, the counts and the variable stopped at.
@@ -253,23 +173,6 @@ pub extern "C" fn plumanchor_steps_wide(
     ))
 }
 
-// What Guards answers: refusal number and place; the initial run as Solve's; or the kept children's sheet by its length, and the count.
-fn pack_guarded(answer: guards::Guarded) -> u64
-    ensures { λ r. ⌜ r ≡ packed-guards (guarded-answer answer) ⌝ }
-{
-    match answer {
-        guards::Guarded::Refused(number, place) => pack(number, 0, place, 0),
-        guards::Guarded::Stopped(variable, settled, expanded) => pack(
-            0,
-            2,
-            settled,
-            (expanded % 65536) as u64 + 65536 * ((variable % 65536) as u64),
-        ),
-        guards::Guarded::True(settled, expanded) => pack(0, 1, settled, (expanded % 65536) as u64),
-        guards::Guarded::Kept(length, stops) => pack(0, 0, stops, length as u64),
-    }
-}
-
 // Guards, with an output and two work buffers.
 #[no_mangle]
 pub extern "C" fn plumanchor_guards(
@@ -317,18 +220,6 @@ pub extern "C" fn plumanchor_sort_wide(sheet: &[u8], out: &mut [u8]) -> u64
     ensures { λ _. ⌜ now (out .exit) ≡ (sort-call wide (now (sheet .entry)) (now (out .entry))) .output ⌝ }
 {
     pack_written(order::sort::sort_wide(sheet, out))
-}
-
-// What Compare answers: refusal number, the sheet refused as the word, and place; or the word of the order.
-fn pack_compared(answer: order::compare::Compared) -> u64
-    ensures { λ r. ⌜ r ≡ packed-compared (compared-answer answer) ⌝ }
-{
-    match answer {
-        order::compare::Compared::Refused(which, number, place) => pack(number, which, place, 0),
-        order::compare::Compared::Before => pack(0, 0, 0, 0),
-        order::compare::Compared::Equal => pack(0, 1, 0, 0),
-        order::compare::Compared::After => pack(0, 2, 0, 0),
-    }
 }
 
 // Compare, with two work buffers: which sheet is refused, with number and place; or 0 before, 1 equal, 2 after.

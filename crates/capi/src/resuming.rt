@@ -1,11 +1,11 @@
 // A stopped run carried over (N13), packed as Solve's answer is.
-use crate::pack_solved;
+use packing::pack_solved;
 use resume::Counts;
 ghost use mathlib.Core.Path.{_≡_};
 ghost use mathlib.Core.Bool.{not};
 ghost use lib.Dec.{eqb};
 ghost use Rattle.sheet.specs.Resume.{resume-call};
-ghost use Rattle.capi.specs.Packed.{packed-solved};
+ghost use Rattle.packing.specs.Packed.{packed-solved};
 
 // Resume in two work buffers, from a wide sheet if `narrow` is 0, else from a narrow one: refusal number and place; or a word, the counts
 // and the variable stopped at. Of a count the lower 16 bits come back.

@@ -1,16 +1,16 @@
 // The operations on wide sheets (N11), packed as those of document 01's sheets are, and the way from one format to the other.
-use crate::pack_checked;
-use crate::pack_quoted;
-use crate::pack_solved;
-use crate::pack_tried;
-use crate::pack_written;
+use packing::pack_checked;
+use packing::pack_quoted;
+use packing::pack_solved;
+use packing::pack_tried;
+use packing::pack_written;
 ghost use mathlib.Core.Path.{_≡_};
 ghost use lib.ListN.{length};
 ghost use Rattle.sheet.specs.Format.{wide};
 ghost use Rattle.sheet.specs.Check.{check};
 ghost use Rattle.sheet.specs.Operations.{trial-call, part-call, tidy-call, settle-call, expand-call, quote-call, execute-call, solve-call};
 ghost use Rattle.sheet.specs.Carrying.{widen-call, bring-back-call};
-ghost use Rattle.capi.specs.Packed.{packed-check, packed-trial, packed-written, packed-quote, packed-solved};
+ghost use Rattle.packing.specs.Packed.{packed-check, packed-trial, packed-written, packed-quote, packed-solved};
 
 // Check: refusal number and place, or V and N.
 #[no_mangle]

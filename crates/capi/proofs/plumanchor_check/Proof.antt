@@ -1,7 +1,7 @@
 -- `capi::plumanchor_check` packs what `check` answers.
 -- Assumes nothing.
 use mathlib.Core.Path.{_∙_, ap}
-use Rattle.capi.specs.Packed.{packed-check}
+use Rattle.packing.specs.Packed.{packed-check}
 use borrow.Author.Needs.{needs}
 use Rattle.capi.proofs.plumanchor_check.Statement.{statement}
 use Rattle.capi.proofs.plumanchor_check.Tie as tie

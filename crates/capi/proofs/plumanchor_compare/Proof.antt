@@ -1,7 +1,7 @@
 -- `capi::plumanchor_compare` packs what `compare` answers.
 -- Assumes nothing.
 use mathlib.Core.Path.{_∙_, ap}
-use Rattle.capi.specs.Order.{packed-compared}
+use Rattle.packing.specs.Order.{packed-compared}
 use borrow.Author.Needs.{needs}
 use Rattle.capi.proofs.plumanchor_compare.Statement.{statement}
 use Rattle.capi.proofs.plumanchor_compare.Tie as tie

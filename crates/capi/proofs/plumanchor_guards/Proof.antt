@@ -1,7 +1,7 @@
 -- `capi::plumanchor_guards` packs what `guards` answers.
 -- Assumes nothing.
 use mathlib.Core.Path.{_∙_, ap}
-use Rattle.capi.specs.Packed.{packed-guards}
+use Rattle.packing.specs.Packed.{packed-guards}
 use borrow.Author.Needs.{needs}
 use Rattle.capi.proofs.plumanchor_guards.Statement.{statement}
 use Rattle.capi.proofs.plumanchor_guards.Tie as tie

@@ -1,7 +1,7 @@
 -- `capi::plumanchor_quote` packs what `quote` answers.
 -- Assumes nothing.
 use mathlib.Core.Path.{_∙_, ap}
-use Rattle.capi.specs.Packed.{packed-quote}
+use Rattle.packing.specs.Packed.{packed-quote}
 use borrow.Author.Needs.{needs}
 use Rattle.capi.proofs.plumanchor_quote.Statement.{statement}
 use Rattle.capi.proofs.plumanchor_quote.Tie as tie

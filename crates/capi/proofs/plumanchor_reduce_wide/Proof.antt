@@ -1,7 +1,7 @@
 -- `capi::plumanchor_reduce_wide` packs what `reduce_wide` answers.
 -- Assumes nothing.
 use mathlib.Core.Path.{_∙_, ap}
-use Rattle.capi.specs.Packed.{packed-written}
+use Rattle.packing.specs.Packed.{packed-written}
 use borrow.Author.Needs.{needs}
 use Rattle.capi.proofs.plumanchor_reduce_wide.Statement.{statement}
 use Rattle.capi.proofs.plumanchor_reduce_wide.Tie as tie

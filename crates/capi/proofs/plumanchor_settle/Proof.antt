@@ -1,7 +1,7 @@
 -- `capi::plumanchor_settle` packs what `settle` answers.
 -- Assumes nothing.
 use mathlib.Core.Path.{_∙_, ap}
-use Rattle.capi.specs.Packed.{packed-written}
+use Rattle.packing.specs.Packed.{packed-written}
 use borrow.Author.Needs.{needs}
 use Rattle.capi.proofs.plumanchor_settle.Statement.{statement}
 use Rattle.capi.proofs.plumanchor_settle.Tie as tie

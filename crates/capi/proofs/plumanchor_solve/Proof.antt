@@ -1,7 +1,7 @@
 -- `capi::plumanchor_solve` packs what `solve` answers.
 -- Assumes nothing.
 use mathlib.Core.Path.{_∙_, ap}
-use Rattle.capi.specs.Packed.{packed-solved}
+use Rattle.packing.specs.Packed.{packed-solved}
 use borrow.Author.Needs.{needs}
 use Rattle.capi.proofs.plumanchor_solve.Statement.{statement}
 use Rattle.capi.proofs.plumanchor_solve.Tie as tie

@@ -2,7 +2,7 @@
 -- Assumes nothing.
 use mathlib.Core.Path.{_∙_, ap}
 use borrow.Author.Needs.{needs}
-use Rattle.capi.specs.Packed.{packed-written}
+use Rattle.packing.specs.Packed.{packed-written}
 use Rattle.capi.proofs.plumanchor_steps.Statement.{statement}
 use Rattle.capi.proofs.plumanchor_steps.Tie as tie
 

@@ -1,7 +1,7 @@
 -- `capi::plumanchor_trial` packs what `trial` answers.
 -- Assumes nothing.
 use mathlib.Core.Path.{_∙_, ap}
-use Rattle.capi.specs.Packed.{packed-trial}
+use Rattle.packing.specs.Packed.{packed-trial}
 use borrow.Author.Needs.{needs}
 use Rattle.capi.proofs.plumanchor_trial.Statement.{statement}
 use Rattle.capi.proofs.plumanchor_trial.Tie as tie

@@ -1,7 +1,7 @@
 -- `capi::panel::plumanchor_force` packs what `force` answers.
 -- Assumes nothing.
 use mathlib.Core.Path.{_∙_, ap}
-use Rattle.capi.specs.Panel.{packed-forced}
+use Rattle.packing.specs.Panel.{packed-forced}
 use borrow.Author.Needs.{needs}
 use Rattle.capi.proofs.panel.plumanchor_force.Statement.{statement}
 use Rattle.capi.proofs.panel.plumanchor_force.Tie as tie

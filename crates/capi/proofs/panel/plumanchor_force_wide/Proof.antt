@@ -1,7 +1,7 @@
 -- `capi::panel::plumanchor_force_wide` packs what `force_wide` answers.
 -- Assumes nothing.
 use mathlib.Core.Path.{_∙_, ap}
-use Rattle.capi.specs.Panel.{packed-forced}
+use Rattle.packing.specs.Panel.{packed-forced}
 use borrow.Author.Needs.{needs}
 use Rattle.capi.proofs.panel.plumanchor_force_wide.Statement.{statement}
 use Rattle.capi.proofs.panel.plumanchor_force_wide.Tie as tie

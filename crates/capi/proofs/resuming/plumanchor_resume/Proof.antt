@@ -1,7 +1,7 @@
 -- `capi::resuming::plumanchor_resume` packs what `resume` answers.
 -- Assumes nothing.
 use mathlib.Core.Path.{_∙_, ap}
-use Rattle.capi.specs.Packed.{packed-solved}
+use Rattle.packing.specs.Packed.{packed-solved}
 use borrow.Author.Needs.{needs}
 use Rattle.capi.proofs.resuming.plumanchor_resume.Statement.{statement}
 use Rattle.capi.proofs.resuming.plumanchor_resume.Tie as tie

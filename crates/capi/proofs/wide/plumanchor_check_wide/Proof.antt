@@ -1,7 +1,7 @@
 -- `capi::wide::plumanchor_check_wide` packs what `check_wide` answers.
 -- Assumes nothing.
 use mathlib.Core.Path.{_∙_, ap}
-use Rattle.capi.specs.Packed.{packed-check}
+use Rattle.packing.specs.Packed.{packed-check}
 use borrow.Author.Needs.{needs}
 use Rattle.capi.proofs.wide.plumanchor_check_wide.Statement.{statement}
 use Rattle.capi.proofs.wide.plumanchor_check_wide.Tie as tie

@@ -1,7 +1,7 @@
 -- `capi::wide::plumanchor_quote_wide` packs what `quote_wide` answers.
 -- Assumes nothing.
 use mathlib.Core.Path.{_∙_, ap}
-use Rattle.capi.specs.Packed.{packed-quote}
+use Rattle.packing.specs.Packed.{packed-quote}
 use borrow.Author.Needs.{needs}
 use Rattle.capi.proofs.wide.plumanchor_quote_wide.Statement.{statement}
 use Rattle.capi.proofs.wide.plumanchor_quote_wide.Tie as tie

@@ -1,7 +1,7 @@
 -- `capi::wide::plumanchor_solve_wide` packs what `solve_wide` answers.
 -- Assumes nothing.
 use mathlib.Core.Path.{_∙_, ap}
-use Rattle.capi.specs.Packed.{packed-solved}
+use Rattle.packing.specs.Packed.{packed-solved}
 use borrow.Author.Needs.{needs}
 use Rattle.capi.proofs.wide.plumanchor_solve_wide.Statement.{statement}
 use Rattle.capi.proofs.wide.plumanchor_solve_wide.Tie as tie

@@ -1,7 +1,7 @@
 -- `capi::wide::plumanchor_trial_wide` packs what `trial_wide` answers.
 -- Assumes nothing.
 use mathlib.Core.Path.{_∙_, ap}
-use Rattle.capi.specs.Packed.{packed-trial}
+use Rattle.packing.specs.Packed.{packed-trial}
 use borrow.Author.Needs.{needs}
 use Rattle.capi.proofs.wide.plumanchor_trial_wide.Statement.{statement}
 use Rattle.capi.proofs.wide.plumanchor_trial_wide.Tie as tie

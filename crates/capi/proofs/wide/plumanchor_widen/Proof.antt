@@ -1,7 +1,7 @@
 -- `capi::wide::plumanchor_widen` packs what `widen` answers.
 -- Assumes nothing.
 use mathlib.Core.Path.{_∙_, ap}
-use Rattle.capi.specs.Packed.{packed-written}
+use Rattle.packing.specs.Packed.{packed-written}
 use borrow.Author.Needs.{needs}
 use Rattle.capi.proofs.wide.plumanchor_widen.Statement.{statement}
 use Rattle.capi.proofs.wide.plumanchor_widen.Tie as tie

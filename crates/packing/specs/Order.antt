@@ -3,7 +3,7 @@
 use Prim.Native.Nat.{ℕ}
 use Rattle.formula.specs.Order.{Ordering, before, same, after}
 use Rattle.sheet.specs.Order.{Compared, is-refused, is-ordered}
-use Rattle.capi.specs.Packed.{packed}
+use Rattle.packing.specs.Packed.{packed}
 
 -- the word: 0 before, 1 equal, 2 after
 abbrev pub order-word : Ordering → ℕ

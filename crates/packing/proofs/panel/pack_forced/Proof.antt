@@ -1,13 +1,13 @@
--- `capi::panel::pack_forced` packs an answer of Force.
+-- `packing::panel::pack_forced` packs an answer of Force.
 -- Assumes nothing.
 use mathlib.Core.Path.{sym, _∙_, ap}
 use Prim.Native.Nat.{ℕ}
 use Rattle.force.specs.Answers.{outcome-of, forced-answer}
 use Rattle.force.specs.declared.Forced.{Forced}
-use Rattle.capi.specs.Panel.{packed-outcome, packed-forced}
+use Rattle.packing.specs.Panel.{packed-outcome, packed-forced}
 use borrow.Author.Needs.{needs}
-use Rattle.capi.proofs.panel.pack_forced.Statement.{statement}
-use Rattle.capi.proofs.panel.pack_forced.Tie as tie
+use Rattle.packing.proofs.panel.pack_forced.Statement.{statement}
+use Rattle.packing.proofs.panel.pack_forced.Tie as tie
 
 enum-known-answer : tie.Need-enum-known-answer
 enum-known-answer c = search needs

@@ -1,12 +1,12 @@
--- `capi::panel::pack_outcome` packs an outcome of Force.
+-- `packing::panel::pack_outcome` packs an outcome of Force.
 -- Assumes nothing.
 use mathlib.Core.Path.{sym, _∙_, ap}
 use Rattle.force.specs.Answers.{outcome-of}
 use Rattle.force.specs.declared.Outcome.{Outcome}
-use Rattle.capi.specs.Panel.{packed-outcome}
+use Rattle.packing.specs.Panel.{packed-outcome}
 use borrow.Author.Needs.{needs}
-use Rattle.capi.proofs.panel.pack_outcome.Statement.{statement}
-use Rattle.capi.proofs.panel.pack_outcome.Tie as tie
+use Rattle.packing.proofs.panel.pack_outcome.Statement.{statement}
+use Rattle.packing.proofs.panel.pack_outcome.Tie as tie
 
 enum-told : tie.Need-enum-told
 enum-told c = search needs

@@ -1,11 +1,11 @@
--- `capi::pack_quoted` packs an answer of Quote.
+-- `packing::pack_quoted` packs an answer of Quote.
 -- Assumes nothing.
 use mathlib.Core.Path.{sym, _∙_, ap}
 use Rattle.expand.specs.Answers.{quoted-answer}
-use Rattle.capi.specs.Packed.{packed-quote}
+use Rattle.packing.specs.Packed.{packed-quote}
 use borrow.Author.Needs.{needs}
-use Rattle.capi.proofs.pack_quoted.Statement.{statement}
-use Rattle.capi.proofs.pack_quoted.Tie as tie
+use Rattle.packing.proofs.pack_quoted.Statement.{statement}
+use Rattle.packing.proofs.pack_quoted.Tie as tie
 
 enum-known-answer : tie.Need-enum-known-answer
 enum-known-answer c = search needs

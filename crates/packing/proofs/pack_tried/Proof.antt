@@ -1,11 +1,11 @@
--- `capi::pack_tried` packs an answer of Trial.
+-- `packing::pack_tried` packs an answer of Trial.
 -- Assumes nothing.
 use mathlib.Core.Path.{sym, _∙_, ap}
 use Rattle.trial.specs.Answers.{tried-answer}
-use Rattle.capi.specs.Packed.{packed-trial}
+use Rattle.packing.specs.Packed.{packed-trial}
 use borrow.Author.Needs.{needs}
-use Rattle.capi.proofs.pack_tried.Statement.{statement}
-use Rattle.capi.proofs.pack_tried.Tie as tie
+use Rattle.packing.proofs.pack_tried.Statement.{statement}
+use Rattle.packing.proofs.pack_tried.Tie as tie
 
 enum-known-answer : tie.Need-enum-known-answer
 enum-known-answer c = search needs

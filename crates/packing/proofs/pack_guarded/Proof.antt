@@ -1,12 +1,12 @@
--- `capi::pack_guarded` packs an answer of Guards.
+-- `packing::pack_guarded` packs an answer of Guards.
 -- Assumes nothing.
 use mathlib.Core.Path.{sym, _∙_, ap}
 use Rattle.guards.specs.Answers.{guarded-answer}
 use Rattle.guards.specs.declared.Guarded.{Guarded}
-use Rattle.capi.specs.Packed.{packed-guards}
+use Rattle.packing.specs.Packed.{packed-guards}
 use borrow.Author.Needs.{needs}
-use Rattle.capi.proofs.pack_guarded.Statement.{statement}
-use Rattle.capi.proofs.pack_guarded.Tie as tie
+use Rattle.packing.proofs.pack_guarded.Statement.{statement}
+use Rattle.packing.proofs.pack_guarded.Tie as tie
 
 enum-known-answer : tie.Need-enum-known-answer
 enum-known-answer c = search needs

@@ -1,11 +1,11 @@
--- `capi::pack_checked` packs an answer of Check.
+-- `packing::pack_checked` packs an answer of Check.
 -- Assumes nothing.
 use mathlib.Core.Path.{sym, _∙_, ap}
 use Rattle.checking.specs.Answers.{checked-answer}
-use Rattle.capi.specs.Packed.{packed-check}
+use Rattle.packing.specs.Packed.{packed-check}
 use borrow.Author.Needs.{needs}
-use Rattle.capi.proofs.pack_checked.Statement.{statement}
-use Rattle.capi.proofs.pack_checked.Tie as tie
+use Rattle.packing.proofs.pack_checked.Statement.{statement}
+use Rattle.packing.proofs.pack_checked.Tie as tie
 
 enum-known-answer : tie.Need-enum-known-answer
 enum-known-answer c = search needs

@@ -1,11 +1,11 @@
--- `capi::pack_written` packs an answer of an operation that writes a sheet.
+-- `packing::pack_written` packs an answer of an operation that writes a sheet.
 -- Assumes nothing.
 use mathlib.Core.Path.{sym, _∙_, ap}
 use Rattle.checking.specs.Answers.{written-answer}
-use Rattle.capi.specs.Packed.{packed-written}
+use Rattle.packing.specs.Packed.{packed-written}
 use borrow.Author.Needs.{needs}
-use Rattle.capi.proofs.pack_written.Statement.{statement}
-use Rattle.capi.proofs.pack_written.Tie as tie
+use Rattle.packing.proofs.pack_written.Statement.{statement}
+use Rattle.packing.proofs.pack_written.Tie as tie
 
 enum-known-answer : tie.Need-enum-known-answer
 enum-known-answer c = search needs

@@ -5,7 +5,7 @@ use Rattle.formula.specs.Force.{Forced, neither, with-0, with-1, both, stopped-
 use Rattle.sheet.specs.Sheet.{quantifier-kind}
 use Rattle.sheet.specs.Check.{Answer, refused, accepted}
 use Rattle.sheet.specs.Force.{Panel}
-use Rattle.capi.specs.Packed.{packed}
+use Rattle.packing.specs.Packed.{packed}
 
 -- the word (0 neither, 1 value 0, 2 value 1, 3 both, 4 stopped), the turn by its quantifier's kind, and the variable stopped at
 unfoldable pub packed-outcome : ℕ → Forced → ℕ

@@ -1,13 +1,13 @@
--- `capi::pack_solved` packs an answer of Solve.
+-- `packing::pack_solved` packs an answer of Solve.
 -- Assumes nothing.
 use mathlib.Core.Path.{sym, _∙_, ap}
 use Prim.Native.Nat.{_%_}
 use Rattle.solve.specs.Answers.{solved-answer}
 use Rattle.solve.specs.declared.Solved.{Solved}
-use Rattle.capi.specs.Packed.{packed, packed-solved}
+use Rattle.packing.specs.Packed.{packed, packed-solved}
 use borrow.Author.Needs.{needs}
-use Rattle.capi.proofs.pack_solved.Statement.{statement}
-use Rattle.capi.proofs.pack_solved.Tie as tie
+use Rattle.packing.proofs.pack_solved.Statement.{statement}
+use Rattle.packing.proofs.pack_solved.Tie as tie
 
 enum-known-answer : tie.Need-enum-known-answer
 enum-known-answer c = search needs

@@ -1,12 +1,12 @@
--- `capi::pack_compared` packs an answer of Compare.
+-- `packing::pack_compared` packs an answer of Compare.
 -- Assumes nothing.
 use mathlib.Core.Path.{sym, _∙_, ap}
 use Rattle.order.specs.Answers.{compared-answer}
 use Rattle.order.specs.declared.compare.Compared.{Compared}
-use Rattle.capi.specs.Order.{packed-compared}
+use Rattle.packing.specs.Order.{packed-compared}
 use borrow.Author.Needs.{needs}
-use Rattle.capi.proofs.pack_compared.Statement.{statement}
-use Rattle.capi.proofs.pack_compared.Tie as tie
+use Rattle.packing.proofs.pack_compared.Statement.{statement}
+use Rattle.packing.proofs.pack_compared.Tie as tie
 
 enum-known-answer : tie.Need-enum-known-answer
 enum-known-answer c = search needs
