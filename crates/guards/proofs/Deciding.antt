@@ -30,7 +30,7 @@ use Rattle.tidying.proofs.Raw.{length-copied, copied-formula}
 use Rattle.solve.specs.Inner.Running.{answered, solution}
 use Rattle.guards.specs.declared.sift.Sieve.{Sieve}
 use Rattle.guards.specs.Inner.Parts.{guards-in, part-layout}
-use Rattle.guards.specs.Inner.Sieves.{Siftable, clashing-in, clashed, runs, kept-part, Sifted}
+use Rattle.guards.specs.Inner.Sieves.{Siftable, clashing-in, clashed, starts, kept-part, Sifted}
 use Rattle.guards.proofs.Writing.{part-room, sealed-length, sealed-sheet}
 
 -- the root's kind
@@ -55,8 +55,8 @@ sheet-size {F} {b} {s} h =
 
 -- the sheet of the children kept
 
-module _ {F : Format} {s : Layout} {b : Bytes} {most : ℕ} (h : Siftable F s b most) {cuts : List ℕ} {g : Sieve} (z : Sifted F s b most cuts g)
-    (t : Layout) (at : t ≡ part-layout s (kept-part g)) (new out : Bytes) (same : length new ≡ length out) (place : size s ≤ length out) where
+module _ {F : Format} {s : Layout} {b : Bytes} {most : ℕ} (h : Siftable F s b most) {ends table : List ℕ} {g : Sieve} (z : Sifted F s b most ends table g)
+    (t : Layout) (at : t ≡ part-layout s (kept-part s g)) (new out : Bytes) (same : length new ≡ length out) (place : size s ≤ length out) where
   abbrev G : Formula
   G = conjoined (prefix-in s b) ((clashing-in F s b most) .those)
 
@@ -66,7 +66,7 @@ module _ {F : Format} {s : Layout} {b : Bytes} {most : ℕ} (h : Siftable F s b 
       (part-room (z .chosen)
       (record { few-bytes = z .chosen .readable .room .few-bytes; holds = omega (arith, place, same) }))
 
-  module _ (is : rows-in t new ≡ formula-rows (conjoined (prefix-in s b) (guards-in s b (runs cuts g)))) where
+  module _ (is : rows-in t new ≡ formula-rows (conjoined (prefix-in s b) (guards-in s b ends (starts table g) (s .nodes)))) where
     width-is : t .width ≡ F .width
     width-is = ap (λ (l : Layout). l .width) at ∙ ap (λ (l : Layout). l .width) (h .sheet .layout-is)
 

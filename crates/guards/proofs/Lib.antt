@@ -1,4 +1,5 @@
-mod Runs
+mod Children
+mod Copying
 mod Writing
 mod Trying
 mod Turn

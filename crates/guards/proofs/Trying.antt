@@ -42,10 +42,10 @@ word-says (answers.the-variants.Ended verdict.the-variants.True n m) (stopped x)
 word-says (answers.the-variants.Ended verdict.the-variants.False n m) (ended v) s h = let e : v ≡ false = cc in ap ended e
 word-says (answers.the-variants.Ended verdict.the-variants.False n m) (stopped x) s h = let z : _≡_ {A = ℕ} 0 1 = cc in absurd (omega arith)
 
-module _ {F : Format} {s : Layout} {b : Bytes} {cs : List ℕ} {p : Part} {most : ℕ} (h : Tried F s b cs p most) (t : Layout) (new second : Bytes)
-    (at : t ≡ part-layout s p) (is : rows-in t new ≡ formula-rows (conjoined (prefix-in s b) (guards-in s b cs))) (same : room new second ≡ most) where
+module _ {F : Format} {s : Layout} {b : Bytes} {ends ks : List ℕ} {p : Part} {most : ℕ} (h : Tried F s b ends ks p most) (t : Layout) (new second : Bytes)
+    (at : t ≡ part-layout s p) (is : rows-in t new ≡ formula-rows (conjoined (prefix-in s b) (guards-in s b ends ks (p .rest)))) (same : room new second ≡ most) where
   abbrev g : Formula
-  g = conjoined (prefix-in s b) (guards-in s b cs)
+  g = conjoined (prefix-in s b) (guards-in s b ends ks (p .rest))
 
   variables-are : length (g .prefix) ≡ t .variables
   variables-are = length-prefix b (h .chosen .readable) ∙ ap (λ (l : Layout). l .variables) (sym at)
@@ -81,7 +81,7 @@ module _ {F : Format} {s : Layout} {b : Bytes} {cs : List ℕ} {p : Part} {most 
   same-run = ap₂ (λ (m : ℕ) (f : Formula). solve (fits F m) f) same read
 
   pub part-said : (a : Solved) {w : Word} → w ≡ word-for a → solved-answer a ≡ answered (solution F t new second)
-      → Says w (says (fits F most) (prefix-in s b) (guards-in s b cs))
+      → Says w (says (fits F most) (prefix-in s b) (guards-in s b ends ks (p .rest)))
   unfolding says
   part-said a e k =
       let r = solve (fits F most) g in

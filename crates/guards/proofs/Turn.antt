@@ -3,10 +3,11 @@
 use mathlib.Core.Path.{_≡_, refl, sym, ap, ap₂, _∙_, subst}
 use mathlib.Core.Bool.{false}
 use mathlib.Core.List.{List, [], _∷_, _++_, append-nil}
-use Prim.Native.Nat.{ℕ, zero, suc, _+_, _*_, _-_, _^_, _≤_, _<_}
+use Prim.Native.Nat.{ℕ, zero, suc, _+_, _-_, _^_, _≤_, _<_}
 use native.Mathlib.Omega.{arith}
-use lib.ListN.{length, getD, take, drop, length-drop}
-use lib.Seq.{slice, take-all, take-at, drop-at, drop-drop, length-take-le}
+use native.Mathlib.Numerals.{add-one}
+use lib.ListN.{length, getD, take, drop, set, length-set, length-drop}
+use lib.Seq.{slice, slice-empty, take-all, take-at, take-set-le, take-suc-set, drop-at, drop-drop}
 use Rattle.formula.specs.Tree.{Tree, lit, node, Forest, ∅, _▸_, _⧺_, rows, rows-all, count}
 use Rattle.formula.specs.Solve.{End, ended}
 use Rattle.formula.specs.Guards.{guards, conjoined, Kept, judged, sift, says, clashing}
@@ -16,7 +17,7 @@ use Rattle.formula.proofs.Guards.{Fewer, fewer-none, fewer-again, one-fewer, ne
 use Rattle.sheet.specs.Format.{Bytes, Format, Row, fits}
 use Rattle.sheet.specs.Sheet.{front, tree-rows, forest-rows}
 use Rattle.sheet.specs.Limits.{Within}
-use Rattle.sheet.proofs.Preorder.{forest-rows-⧺, length-tree-rows, length-forest-rows, count-rows}
+use Rattle.sheet.proofs.Preorder.{forest-rows-⧺, length-tree-rows, length-forest-rows, count-rows, rows-positive}
 use Rattle.sheet.proofs.Accepted.{accepted-within}
 use Rattle.sheet.proofs.Guards.{within-fewer}
 use Rattle.rows.specs.Formulas.{prefix-in, node-rows-in, matrix-in, formula-in, Readable}
@@ -26,14 +27,13 @@ use Rattle.checking.proofs.CheckedSheets.{sheet-readable, sheet-formula-in, she
 use Rattle.subtrees.specs.Subtrees.{kids, forest-in, subtree-in, siblings-in, Beside}
 use Rattle.subtrees.specs.Ends.{Indexed}
 use Rattle.subtrees.proofs.Siblings.{Walked, walk-on, siblings-none, children-read, subtree-root}
-use Rattle.raw.specs.Expansions.{Climbs, runs-in}
 use Rattle.raw.proofs.Cuts.{slice-take}
 use Rattle.guards.specs.declared.sift.Sieve.{Sieve}
 use Rattle.guards.specs.declared.sift.Word.{Word}
 use Rattle.guards.specs.declared.sift.Word.the-variants.{False, True, Stopped}
-use Rattle.guards.specs.Inner.Parts.{guards-in, Tried}
-use Rattle.guards.specs.Inner.Sieves.{Says, judged-by, Siftable, clashing-in, runs, Sifted}
-use Rattle.guards.proofs.Runs.{one-more, climbs-++, climbs-to, guards-read, chosen, front-stays}
+use Rattle.guards.specs.Inner.Parts.{children-of, children-rows, Placed, part-rows, guards-in, Tried}
+use Rattle.guards.specs.Inner.Sieves.{Says, judged-by, Siftable, clashing-in, starts, Sifted}
+use Rattle.guards.proofs.Children.{child-more, placed-to, placed-more, guards-read, chosen}
 
 -- the root's children, as both crates name them
 kids-guards : (t : Tree) → kids t ≡ guards t
@@ -64,11 +64,11 @@ module _ (F : Format) (s : Layout) (b : Bytes) (most : ℕ) where
   abbrev untried : Sieve → Forest
   untried g = siblings-in s b (g .at) (g .left)
 
-  pub record Sifting (cuts : List ℕ) (g : Sieve) : Type 0 where
+  pub record Sifting (ends table : List ℕ) (g : Sieve) : Type 0 where
     pub kept : Forest
-    pub kept-are : runs-in s b (runs cuts g) ≡ forest-rows kept
-    pub entries : 2 * g .guards ≤ length cuts
-    pub climbs : Climbs 0 (runs cuts g) (g .at)
+    pub kept-are : children-rows s b ends (starts table g) ≡ forest-rows kept
+    pub entries : g .guards ≤ length table
+    pub placed : Placed ends 0 (starts table g) (g .at)
     pub counted : g .guards ≡ count kept
     pub long : g .rows ≡ rows-all kept
     pub below : g .rows < g .at
@@ -103,16 +103,16 @@ module _ (F : Format) (s : Layout) (b : Bytes) (most : ℕ) where
     unfolding tree-rows
     behind-root = ap (drop 1) (sym (one-tree b ok) ∙ ap tree-rows (and-matrix (matrix-in s b) (h .root-is-and)))
 
-    pub first-turn : (cuts : List ℕ) {k : ℕ} → k ≡ count (kids (subtree-in s b 0))
-        → Sifting cuts (record { at = 1; left = k; guards = 0; rows = 0; stops = 0 })
-    unfolding _⧺_ count rows-all clashing formula-in forest-rows Rattle.relevance.specs.Cuts.every-other
-    first-turn cuts {k} e =
+    pub first-turn : (ends table : List ℕ) {k : ℕ} → k ≡ count (kids (subtree-in s b 0))
+        → Sifting ends table (record { at = 1; left = k; guards = 0; rows = 0; stops = 0 })
+    unfolding _⧺_ count rows-all clashing formula-in forest-rows children-of
+    first-turn ends table {k} e =
         let all = all-children e in
         record {
           kept = ∅;
           kept-are = refl;
           entries = omega arith;
-          climbs = omega arith;
+          placed = omega arith;
           counted = refl;
           long = refl;
           below = omega arith;
@@ -129,22 +129,28 @@ module _ (F : Format) (s : Layout) (b : Bytes) (most : ℕ) where
         plus-zero n = omega arith
 
     -- kept children and rows fit the table and the numbers
-    pub kept-few : {cuts : List ℕ} {g : Sieve} → Sifting cuts g → g .guards < s .nodes
+    pub kept-few : {ends table : List ℕ} {g : Sieve} → Sifting ends table g → g .guards < s .nodes
     kept-few i = omega (arith, i .counted, i .long, count-rows (i .kept), i .below, i .at-most)
 
     fit : {n : ℕ} → n < s .nodes → n < 256 ^ s .width
     fit l = rw width-is (omega (arith, h .countable .few-rows, sheet-right (h .sheet) .few-nodes))
 
-    pub last-turn : {cuts : List ℕ} {g : Sieve} → g .left ≤ 0 → Sifting cuts g → Sifted F s b most cuts g
+    nothing-behind : (ends ks : List ℕ) → part-rows s b ends ks (s .nodes) ≡ children-rows s b ends ks
+    nothing-behind ends ks = ap (λ l. children-rows s b ends ks ++ l) (slice-empty (s .nodes) N) ∙ append-nil (children-rows s b ends ks)
+
+    pub last-turn : {ends table : List ℕ} {g : Sieve} → s .nodes ≤ length ends → g .left ≤ 0 → Sifting ends table g
+        → Sifted F s b most ends table g
     unfolding sift
-    last-turn {cuts} {g} l i =
+    last-turn {ends} {table} {g} holds l i =
         let none = siblings-none s b (g .at) l in
-        let done = guards-read s b (runs cuts g) (i .kept) (i .kept-are) in
+        let rows-are = nothing-behind ends (starts table g) ∙ i .kept-are in
         record {
           chosen =
-              chosen s b (runs cuts g) (i .kept) (i .kept-are) ok (rw width-is (h .countable .two-bytes)) (climbs-to 0 (g .at) (s .nodes) (runs cuts g) (i .climbs) (i .at-most)) (i .counted) (i .long)
+              chosen s b ends (starts table g) (s .nodes) (i .kept) rows-are ok (rw width-is (h .countable .two-bytes)) holds
+              (placed-to ends 0 (starts table g) (g .at) (s .nodes) (i .placed) (i .at-most)) (omega arith) (i .counted) (i .long)
               (omega (arith, i .below, i .at-most)) (fit (kept-few i));
-          those-are = done ∙ ap (λ (ts : Forest). (sift S (i .kept) ts) .those) (sym none) ∙ i .owed-those;
+          those-are =
+              guards-read s b ends (starts table g) (s .nodes) (i .kept) rows-are ∙ ap (λ (ts : Forest). (sift S (i .kept) ts) .those) (sym none) ∙ i .owed-those;
           stops-are = plus-none (g .stops) ∙ ap (λ (ts : Forest). g .stops + (sift S (i .kept) ts) .stops) (sym none) ∙ i .owed-stops;
           fewer-kept = omega (arith, kept-few i, ok .few-nodes);
         }
@@ -152,7 +158,7 @@ module _ (F : Format) (s : Layout) (b : Bytes) (most : ℕ) where
         plus-none : (n : ℕ) → n ≡ n + 0
         plus-none n = omega arith
 
-    module _ {ends : List ℕ} (ix : Indexed s b ends) {cuts : List ℕ} {g : Sieve} (more : 0 < g .left) (i : Sifting cuts g) where
+    module _ {ends : List ℕ} (ix : Indexed s b ends) {table : List ℕ} {g : Sieve} (more : 0 < g .left) (i : Sifting ends table g) where
       -- the next child, where it ends, and those behind it
       abbrev t : Tree
       t = subtree-in s b (g .at)
@@ -164,13 +170,14 @@ module _ (F : Format) (s : Layout) (b : Bytes) (most : ℕ) where
       rest = siblings-in s b end (g .left - 1)
 
       abbrev K : List ℕ
-      K = runs cuts g
+      K = starts table g
 
       pub walked : Walked s b ends (g .at) (g .left)
       walked = walk-on b ok ends ix (g .at) more (i .few)
 
-      two-each : length K ≡ 2 * g .guards
-      two-each = length-take-le (2 * g .guards) cuts (i .entries)
+      -- its subtree has a row
+      forward : g .at < end
+      forward = omega (arith, walked .next, rows-positive t)
 
       rows-here : drop (g .at) N ≡ tree-rows t ++ forest-rows rest
       unfolding forest-rows
@@ -206,38 +213,34 @@ module _ (F : Format) (s : Layout) (b : Bytes) (most : ℕ) where
       tried-fewer : Fewer (i .kept ⧺ rest) (guards (matrix-in s b))
       tried-fewer = fewer-again (one-fewer (i .kept) t rest) whole-fewer
 
-      -- the run of those behind it, after those of the children kept
-      module _ (new : List ℕ) (e : new ≡ K ++ (end ∷ s .nodes ∷ [])) where
-        tried-are : runs-in s b new ≡ forest-rows (i .kept ⧺ rest)
-        tried-are =
-            ap (runs-in s b) e ∙ one-more N (g .guards) K end (s .nodes) two-each ∙ ap₂ _++_ (i .kept-are) rest-run ∙
-            sym (forest-rows-⧺ (i .kept) rest)
+      -- the children kept and those behind it
+      tried-are : part-rows s b ends K end ≡ forest-rows (i .kept ⧺ rest)
+      tried-are = ap₂ _++_ (i .kept-are) rest-run ∙ sym (forest-rows-⧺ (i .kept) rest)
 
-        pub tried-read : guards-in s b new ≡ i .kept ⧺ rest
-        tried-read = guards-read s b new (i .kept ⧺ rest) tried-are
+      pub tried-read : guards-in s b ends K end ≡ i .kept ⧺ rest
+      tried-read = guards-read s b ends K end (i .kept ⧺ rest) tried-are
 
-        counted : g .guards + (g .left - 1) ≡ count (i .kept ⧺ rest)
-        counted = omega (arith, i .counted, rest-count, count-⧺ (i .kept) rest)
+      counted : g .guards + (g .left - 1) ≡ count (i .kept ⧺ rest)
+      counted = omega (arith, i .counted, rest-count, count-⧺ (i .kept) rest)
 
-        long : g .rows + (s .nodes - end) ≡ rows-all (i .kept ⧺ rest)
-        long = omega (arith, i .long, rest-long, rows-⧺ (i .kept) rest)
+      long : g .rows + (s .nodes - end) ≡ rows-all (i .kept ⧺ rest)
+      long = omega (arith, i .long, rest-long, rows-⧺ (i .kept) rest)
 
-        no-more : g .rows + (s .nodes - end) < s .nodes
-        no-more = omega (arith, i .below, walked .next, walked .next-within)
+      no-more : g .rows + (s .nodes - end) < s .nodes
+      no-more = omega (arith, i .below, walked .next, walked .next-within)
 
-        pub tried : Tried F s b new (record { guards = g .guards + (g .left - 1); rows = g .rows + (s .nodes - end) }) most
-        tried =
-            record {
-              countable = h .countable;
-              width-is = width-is;
-              chosen =
-                  chosen s b new (i .kept ⧺ rest) tried-are ok (rw width-is (h .countable .two-bytes))
-                  (subst (λ cs. Climbs 0 cs (s .nodes)) (sym e)
-                  (climbs-++ 0 (g .at) (s .nodes) K (end ∷ s .nodes ∷ []) (i .climbs) (omega (arith, walked .next), (walked .next-within, omega arith))))
-                  counted long no-more (fit (omega (arith, counted, long, no-more, count-rows (i .kept ⧺ rest))));
-              within = rw tried-read (within-fewer F (prefix-in s b) tried-fewer whole-within);
-              has-room = h .has-room;
-            }
+      pub tried : Tried F s b ends K (record { guards = g .guards + (g .left - 1); rows = g .rows + (s .nodes - end); rest = end }) most
+      tried =
+          record {
+            countable = h .countable;
+            width-is = width-is;
+            chosen =
+                chosen s b ends K end (i .kept ⧺ rest) tried-are ok (rw width-is (h .countable .two-bytes)) (ix .holds)
+                (placed-to ends 0 K (g .at) end (i .placed) (omega (arith, walked .next))) (walked .next-within) counted long no-more
+                (fit (omega (arith, counted, long, no-more, count-rows (i .kept ⧺ rest))));
+            within = rw tried-read (within-fewer F (prefix-in s b) tried-fewer whole-within);
+            has-room = h .has-room;
+          }
 
       -- what is owed, by how the run without the child ended
       step : sift S (i .kept) (untried g) ≡ judged (S (i .kept ⧺ rest)) (sift S (i .kept) rest) (sift S (i .kept ⧺ (t ▸ ∅)) rest)
@@ -248,25 +251,25 @@ module _ (F : Format) (s : Layout) (b : Bytes) (most : ℕ) where
           → sift S (i .kept) (untried g) ≡ judged e (sift S (i .kept) rest) (sift S (i .kept ⧺ (t ▸ ∅)) rest)
       judged-as h = step ∙ ap (λ (e : End). judged e (sift S (i .kept) rest) (sift S (i .kept ⧺ (t ▸ ∅)) rest)) h
 
-      -- its run stands behind those of the children kept, whether it joins them or not
-      module _ (cuts′ : List ℕ) (e : take (2 * g .guards + 2) cuts′ ≡ K ++ (g .at ∷ end ∷ [])) (enough : 2 * g .guards + 2 ≤ length cuts′) where
-        same-runs : take (2 * g .guards) cuts′ ≡ K
-        same-runs = front-stays cuts cuts′ (2 * g .guards) (g .at) end (i .entries) e
+      -- the row at which it begins stands behind those of the children kept, whether it joins them or not
+      module _ (table′ : List ℕ) (e : table′ ≡ set table (g .guards) (g .at)) (enough : g .guards < length table) where
+        long-enough : length table′ ≡ length table
+        long-enough = ap length e ∙ length-set table (g .guards) (g .at)
 
-        joined-runs : take (2 * (g .guards + 1)) cuts′ ≡ K ++ (g .at ∷ end ∷ [])
-        joined-runs = ap (λ n. take n cuts′) next ∙ e
-          where
-            next : 2 * (g .guards + 1) ≡ 2 * g .guards + 2
-            next = omega arith
+        same-starts : take (g .guards) table′ ≡ K
+        same-starts = ap (take (g .guards)) e ∙ take-set-le (g .guards) table (g .guards) (g .at) (omega arith)
 
-        left-out : S (i .kept ⧺ rest) ≡ ended false → Sifting cuts′ (judged-by g False end)
+        joined-starts : take (g .guards + 1) table′ ≡ K ++ (g .at ∷ [])
+        joined-starts = ap₂ take (add-one (g .guards)) e ∙ take-suc-set table (g .guards) (g .at) enough
+
+        left-out : S (i .kept ⧺ rest) ≡ ended false → Sifting ends table′ (judged-by g False end)
         unfolding judged
         left-out said =
             record {
               kept = i .kept;
-              kept-are = ap (runs-in s b) same-runs ∙ i .kept-are;
-              entries = omega arith;
-              climbs = subst (λ cs. Climbs 0 cs end) (sym same-runs) (climbs-to 0 (g .at) end K (i .climbs) (omega (arith, walked .next)));
+              kept-are = ap (λ l. children-rows s b ends l) same-starts ∙ i .kept-are;
+              entries = omega (arith, long-enough);
+              placed = subst (λ l. Placed ends 0 l end) (sym same-starts) (placed-to ends 0 K (g .at) end (i .placed) (omega (arith, walked .next)));
               counted = i .counted;
               long = i .long;
               below = omega (arith, i .below, walked .next);
@@ -281,18 +284,18 @@ module _ (F : Format) (s : Layout) (b : Bytes) (most : ℕ) where
 
         joins : (n : ℕ) → n ≤ g .stops + 1 → (sift S (i .kept) (untried g)) .those ≡ (sift S (i .kept ⧺ (t ▸ ∅)) rest) .those
             → g .stops + (sift S (i .kept) (untried g)) .stops ≡ n + (sift S (i .kept ⧺ (t ▸ ∅)) rest) .stops
-            → Sifting cuts′ (record { at = end; left = g .left - 1; guards = g .guards + 1; rows = g .rows + (end - g .at); stops = n })
+            → Sifting ends table′ (record { at = end; left = g .left - 1; guards = g .guards + 1; rows = g .rows + (end - g .at); stops = n })
         unfolding count rows-all forest-rows
         joins n l those stops =
             record {
               kept = i .kept ⧺ (t ▸ ∅);
               kept-are =
-                  ap (runs-in s b) joined-runs ∙ one-more N (g .guards) K (g .at) end two-each ∙
+                  ap (λ l. children-rows s b ends l) joined-starts ∙ child-more N ends K (g .at) ∙
                   ap₂ _++_ (i .kept-are) (child-run ∙ sym (append-nil (tree-rows t))) ∙ sym (forest-rows-⧺ (i .kept) (t ▸ ∅));
-              entries = omega arith;
-              climbs =
-                  subst (λ cs. Climbs 0 cs end) (sym joined-runs)
-                  (climbs-++ 0 (g .at) end K (g .at ∷ end ∷ []) (i .climbs) (omega arith, (omega (arith, walked .next), omega arith)));
+              entries = omega (arith, long-enough);
+              placed =
+                  subst (λ l. Placed ends 0 l end) (sym joined-starts)
+                  (placed-more ends 0 K (g .at) end (i .placed) forward (omega arith));
               counted = omega (arith, i .counted, count-⧺ (i .kept) (t ▸ ∅));
               long = omega (arith, i .long, walked .next, rows-⧺ (i .kept) (t ▸ ∅));
               below = omega (arith, i .below, walked .next);
@@ -305,7 +308,7 @@ module _ (F : Format) (s : Layout) (b : Bytes) (most : ℕ) where
               owed-stops = sym stops ∙ i .owed-stops;
             }
 
-        pub next-turn : (w : Word) → Says w (S (i .kept ⧺ rest)) → Sifting cuts′ (judged-by g w end)
+        pub next-turn : (w : Word) → Says w (S (i .kept ⧺ rest)) → Sifting ends table′ (judged-by g w end)
         unfolding judged
         next-turn False said = left-out said
         next-turn True said =

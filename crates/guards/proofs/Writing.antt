@@ -1,15 +1,12 @@
 -- The rows of a part of the children, written one after the other, and the sheet that they are made.
 -- Assumes nothing.
-use mathlib.Core.Path.{_≡_, refl, sym, ap, ap₂, _∙_}
-use mathlib.Core.Bool.{not, _&&_, and-false}
-use mathlib.Core.List.{List, [], _∷_, _++_, map}
+use mathlib.Core.Path.{_≡_, refl, sym, ap, ap₂, _∙_, subst}
+use mathlib.Core.List.{List, [], _∷_, _++_, append-assoc, map}
 use Prim.Native.Nat.{ℕ, _+_, _*_, _-_, _≤_}
 use native.Mathlib.Nat.{mul-le-mul-left}
 use native.Mathlib.Omega.{arith}
-use lib.Dec.{leb}
-use lib.ListN.{length, take, replicate, length-map}
-use lib.Seq.{take-all}
-use borrow.Author.Tests.{eq-eqb}
+use lib.ListN.{length, take, replicate, length-append}
+use lib.Seq.{slice, take-all, length-slice}
 use Rattle.formula.specs.Tree.{Formula, rows}
 use Rattle.formula.specs.Guards.{conjoined}
 use Rattle.sheet.specs.Format.{Bytes, Format, Row, row, digits, header}
@@ -19,38 +16,32 @@ use Rattle.sheet.proofs.Preorder.{length-forest-rows}
 use Rattle.sheet.proofs.Parts.{sheet-length-rows}
 use Rattle.sheet.proofs.RoundTrip.{length-sheet}
 use Rattle.rows.specs.Layouts.{total, size, rows-in, Room, sealed}
-use Rattle.rows.specs.Formulas.{prefix-in}
+use Rattle.rows.specs.Formulas.{prefix-in, node-rows-in}
 use Rattle.rows.specs.declared.Layout.{Layout}
 use Rattle.rows.proofs.Layouts.{length-rows-in}
-use Rattle.rows.proofs.Formulas.{quantifiers}
-use Rattle.changing.specs.Changes.{chosen, chosen-row, changed-row, copied}
-use Rattle.changing.specs.Output.{Ready, Laid}
-use Rattle.changing.proofs.Changed.{row-kept}
+use Rattle.rows.proofs.Formulas.{quantifiers, length-nodes}
+use Rattle.changing.specs.Changes.{copied}
+use Rattle.changing.specs.Output.{copy-in, Ready, Laid}
 use Rattle.changing.proofs.Splice.{laid-on, laid-all}
-use Rattle.raw.specs.Expansions.{runs-in, below}
 use Rattle.guards.specs.declared.part.Part.{Part}
-use Rattle.guards.specs.Inner.Parts.{guards-in, part-layout, Chosen}
+use Rattle.guards.specs.Inner.Parts.{children-rows, Placed, part-rows, guards-in, part-layout, Chosen}
+use Rattle.guards.proofs.Children.{placed-to}
+use Rattle.guards.proofs.Copying.{all-unchanged, nodes-same}
 
--- no table changes a row
-
-unchanged : (r : Row) → changed-row [] r ≡ r
-unfolding chosen-row chosen
-unchanged r =
-    row-kept [] r
-    (ap (λ m. leb 3 (r .kind) && leb (r .kind) 4 && not m) (eq-eqb (r .argument) (r .argument) refl) ∙
-    and-false (leb 3 (r .kind) && leb (r .kind) 4))
-
-all-unchanged : (rs : List Row) → map (changed-row []) rs ≡ rs
-all-unchanged [] = refl
-all-unchanged (r ∷ rs) = ap₂ _∷_ (unchanged r) (all-unchanged rs)
-
-module _ {s : Layout} {b : Bytes} {cs : List ℕ} {p : Part} (h : Chosen s b cs p) where
+module _ {s : Layout} {b : Bytes} {ends ks : List ℕ} {p : Part} (h : Chosen s b ends ks p) where
   abbrev t : Layout
   t = part-layout s p
 
   -- as many rows as are counted
-  pub runs-long : length (runs-in s b cs) ≡ p .rows
-  runs-long = ap length (sym (h .are)) ∙ length-forest-rows (guards-in s b cs) ∙ sym (h .long)
+  pub part-long : length (part-rows s b ends ks (p .rest)) ≡ p .rows
+  part-long = ap length (sym (h .are)) ∙ length-forest-rows (guards-in s b ends ks (p .rest)) ∙ sym (h .long)
+
+  rest-long : length (slice (p .rest) (s .nodes) (node-rows-in s b)) ≡ s .nodes - p .rest
+  rest-long = length-slice (p .rest) (s .nodes) (node-rows-in s b) (omega (arith, length-nodes b (h .readable)))
+
+  pub both-long : length (children-rows s b ends ks) + (s .nodes - p .rest) ≡ p .rows
+  both-long =
+      omega (arith, part-long, length-append (children-rows s b ends ks) (slice (p .rest) (s .nodes) (node-rows-in s b)), rest-long)
 
   -- no more bytes than the sheet's
   pub part-size : size t ≤ size s
@@ -63,26 +54,41 @@ module _ {s : Layout} {b : Bytes} {cs : List ℕ} {p : Part} (h : Chosen s b cs 
   part-ready out r =
       record { source = h .readable .room; room = part-room r; same-width = refl; two-bytes = h .two-bytes }
 
-  pub prefix-rows : copied [] 0 (s .variables) (rows-in s b) ≡ map binding-row (prefix-in s b)
+  pub all-placed : Placed ends 0 ks (s .nodes)
+  all-placed = placed-to ends 0 ks (p .rest) (s .nodes) (h .placed) (h .rest-within)
+
+  prefix-rows : copied [] 0 (s .variables) (rows-in s b) ≡ map binding-row (prefix-in s b)
   unfolding copied
   prefix-rows = all-unchanged (take (s .variables) (rows-in s b)) ∙ sym (quantifiers b (h .readable))
 
-  pub part-rows : map binding-row (prefix-in s b) ++ below (row 5 (p .guards)) [] (runs-in s b cs) ≡
-      formula-rows (conjoined (prefix-in s b) (guards-in s b cs))
+  all-rows : map binding-row (prefix-in s b) ++ (row 5 (p .guards) ∷ part-rows s b ends ks (p .rest)) ≡
+      formula-rows (conjoined (prefix-in s b) (guards-in s b ends ks (p .rest)))
   unfolding formula-rows Rattle.sheet.specs.Sheet.tree-rows
-  part-rows =
-      ap₂ (λ n l. map binding-row (prefix-in s b) ++ (row 5 n ∷ l)) (h .counted) (all-unchanged (runs-in s b cs) ∙ sym (h .are))
+  all-rows = ap₂ (λ n l. map binding-row (prefix-in s b) ++ (row 5 n ∷ l)) (h .counted) (sym (h .are))
 
-  -- the prefix's rows, then the root's over the runs
-  pub part-written : {old mid new : Bytes} {at next : ℕ} → Room t (length new) → at ≡ s .variables
-      → Laid t old mid 0 at (copied [] 0 (s .variables) (rows-in s b))
-      → Laid t mid new at next (below (row 5 (p .guards)) [] (runs-in s b cs))
-      → rows-in t new ≡ formula-rows (conjoined (prefix-in s b) (guards-in s b cs))
-  part-written {next = next} room e f g =
-      laid-all room last (laid-on f g) ∙ ap (λ l. l ++ below (row 5 (p .guards)) [] (runs-in s b cs)) prefix-rows ∙ part-rows
+  -- the prefix's rows, the root's, the children's, and all rows behind these
+  pub part-written : {a₀ a₁ a₂ a₃ a₄ : Bytes} {top below next last : ℕ} → Room t (length a₄) → top ≡ s .variables
+      → Laid t a₀ a₁ 0 top (copied [] 0 (s .variables) (rows-in s b))
+      → Laid t a₁ a₂ top below (row 5 (p .guards) ∷ [])
+      → Laid t a₂ a₃ below next (children-rows s b ends ks)
+      → Laid t a₃ a₄ next last (copy-in s b [] (record { from = s .variables + p .rest; to = s .variables + s .nodes }))
+      → rows-in t a₄ ≡ formula-rows (conjoined (prefix-in s b) (guards-in s b ends ks (p .rest)))
+  part-written {a₃ = a₃} {a₄ = a₄} {next = next} {last = last} room e f g k l =
+      laid-all room ends-there (laid-on (laid-on (laid-on f g) k) rest) ∙ gather ∙ all-rows
     where
-      last : next ≡ total t
-      last = omega (arith, g .next-row, length-map (runs-in s b cs) (changed-row []), runs-long)
+      rest : Laid t a₃ a₄ next last (slice (p .rest) (s .nodes) (node-rows-in s b))
+      rest = subst (Laid t a₃ a₄ next last) (nodes-same s b (h .readable) (p .rest) (s .nodes)) l
+
+      ends-there : last ≡ total t
+      ends-there = omega (arith, rest .next-row, k .next-row, g .next-row, e, rest-long, both-long)
+
+      gather : copied [] 0 (s .variables) (rows-in s b) ++ (row 5 (p .guards) ∷ []) ++ children-rows s b ends ks ++
+          slice (p .rest) (s .nodes) (node-rows-in s b) ≡
+          map binding-row (prefix-in s b) ++ (row 5 (p .guards) ∷ part-rows s b ends ks (p .rest))
+      gather =
+          append-assoc (copied [] 0 (s .variables) (rows-in s b) ++ (row 5 (p .guards) ∷ [])) (children-rows s b ends ks) (slice (p .rest) (s .nodes) (node-rows-in s b)) ∙
+          append-assoc (copied [] 0 (s .variables) (rows-in s b)) (row 5 (p .guards) ∷ []) (part-rows s b ends ks (p .rest)) ∙
+          ap (λ l. l ++ (row 5 (p .guards) ∷ part-rows s b ends ks (p .rest))) prefix-rows
 
 -- a sheet's bytes and zeros behind them
 abbrev laid-out : ℕ → ℕ → ℕ → List Row → ℕ → Bytes

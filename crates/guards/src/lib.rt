@@ -2,7 +2,6 @@
 // false of the others. A try's rows are written from the sheet into the first work buffer, where the run is entered.
 use crate::part::Part;
 use crate::part::write_part;
-use crate::sift::RUNS;
 use crate::sift::sift;
 use checking::Checked;
 use rows::AND;
@@ -66,15 +65,16 @@ fn keep(
     ensures { λ _. ⌜ now (out .exit) ≡ guards-output (format-of f) (length (now (out .entry))) (clashed (format-of f) s (now (sheet .entry)) (room (now (first .entry)) (now (second .entry)))) ⌝ }
 {
     let mut ends = [0u16; ROWS];
-    let mut cuts = [0u16; RUNS];
+    let mut kept = [0u16; ROWS];
     fill_ends(sheet, s, &mut ends);
-    let g = sift(sheet, f, s, &ends, &mut cuts, first, second);
-    let kept = Part {
-        guards: g.guards,
+    let g = sift(sheet, f, s, &ends, &mut kept, first, second);
+    let count = g.guards;
+    let those = Part {
+        guards: count,
         rows: g.rows,
+        rest: s.nodes,
     };
-    let entries = 2 * g.guards;
-    let t = write_part(sheet, s, &cuts[..entries], kept, out);
+    let t = write_part(sheet, s, &ends, &kept[..count], those, out);
     let length = seal(out, t, t.variables + t.nodes);
     Guarded::Kept(length, g.stops)
 }

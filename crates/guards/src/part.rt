@@ -2,8 +2,7 @@
 use changing::Span;
 use changing::Target;
 use changing::write::write_copy;
-use raw::runs::Head;
-use raw::runs::write_below;
+use changing::write::write_row;
 use rows::AND;
 use rows::Layout;
 ghost use mathlib.Core.Path.{_≡_};
@@ -12,20 +11,51 @@ ghost use Rattle.formula.specs.Guards.{conjoined};
 ghost use Rattle.sheet.specs.Sheet.{formula-rows};
 ghost use Rattle.rows.specs.Layouts.{rows-in, Room};
 ghost use Rattle.rows.specs.Formulas.{prefix-in};
-ghost use Rattle.guards.specs.Inner.Parts.{guards-in, part-layout, Chosen};
+ghost use Rattle.changing.specs.Output.{Laid};
+ghost use Rattle.guards.specs.Inner.Parts.{children-rows, guards-in, part-layout, Copyable, Chosen};
 
-// How many children, and how many rows they have.
+// How many children, how many rows they have, and the row from which on all of them are among these.
 pub struct Part {
     pub guards: usize,
     pub rows: usize,
+    pub rest: usize,
 }
 
-// Writes AND of the children whose rows the runs `cuts` hold, under the sheet's prefix, and returns the layout of these rows. No table
-// changes a literal.
-pub fn write_part(b: &[u8], s: Layout, cuts: &[u16], p: Part, out: &mut [u8]) -> Layout
-    requires { ⌜ Chosen s (now b) (now cuts) p × Room s (length (now out)) ⌝ }
+// Writes the children that begin at the rows `kept`, each to where its subtree ends.
+fn write_kept(b: &[u8], s: Layout, ends: &[u16], kept: &[u16], out: &mut [u8], to: Target) -> usize
+    requires { ⌜ Copyable s (now b) (now ends) (now kept) (to .layout) (now out) (to .at) ⌝ }
+    ensures { λ next. ⌜ Laid (to .layout) (now (out .entry)) (now (out .exit)) (to .at) next (children-rows s (now (b .entry)) (now (ends .entry)) (now (kept .entry))) ⌝ }
+{
+    let t = to.layout;
+    let v = s.variables;
+    let mut at = to.at;
+    let mut i: usize = 0;
+    while i < kept.len() {
+        let row = kept[i] as usize;
+        let child = Span {
+            from: v + row,
+            to: v + ends[row] as usize,
+        };
+        let here = Target { layout: t, at: at };
+        at = write_copy(b, s, &ends[..0], child, out, here);
+        i += 1;
+    }
+    at
+}
+
+// Writes AND of the children that begin at the rows `kept` and of all from row `rest` on, under the sheet's prefix, and returns the
+// layout of these rows. No table changes a literal.
+pub fn write_part(
+    b: &[u8],
+    s: Layout,
+    ends: &[u16],
+    kept: &[u16],
+    p: Part,
+    out: &mut [u8],
+) -> Layout
+    requires { ⌜ Chosen s (now b) (now ends) (now kept) p × Room s (length (now out)) ⌝ }
     ensures { λ t. ⌜ t ≡ part-layout s p ⌝ }
-    ensures { λ t. ⌜ rows-in t (now (out .exit)) ≡ formula-rows (conjoined (prefix-in s (now (b .entry))) (guards-in s (now (b .entry)) (now (cuts .entry)))) ⌝ }
+    ensures { λ t. ⌜ rows-in t (now (out .exit)) ≡ formula-rows (conjoined (prefix-in s (now (b .entry))) (guards-in s (now (b .entry)) (now (ends .entry)) (now (kept .entry)) (p .rest))) ⌝ }
 {
     let t = Layout {
         width: s.width,
@@ -37,13 +67,22 @@ pub fn write_part(b: &[u8], s: Layout, cuts: &[u16], p: Part, out: &mut [u8]) ->
         to: s.variables,
     };
     let front = Target { layout: t, at: 0 };
-    let at = write_copy(b, s, &cuts[..0], prefix, out, front);
-    let root = Head {
-        kind: AND,
-        children: p.guards,
+    let top = write_copy(b, s, &ends[..0], prefix, out, front);
+    let root = Target { layout: t, at: top };
+    let below = write_row(out, root, AND, p.guards);
+    let children = Target {
         layout: t,
-        at: at,
+        at: below,
     };
-    write_below(b, s, &cuts[..0], cuts, out, root);
+    let next = write_kept(b, s, ends, kept, out, children);
+    let others = Span {
+        from: s.variables + p.rest,
+        to: s.variables + s.nodes,
+    };
+    let last = Target {
+        layout: t,
+        at: next,
+    };
+    write_copy(b, s, &ends[..0], others, out, last);
     t
 }

@@ -1,5 +1,5 @@
-// The children tried from first to last. A table has two entries for each child that is kept, the row at which it begins and the row
-// at which it ends; a try adds the run of those not yet tried.
+// The children tried from first to last. A table has one entry for each child that is kept, the row at which it begins; a try is of
+// these and of all that aren't tried yet.
 use crate::part::Part;
 use crate::part::write_part;
 use rows::Format;
@@ -9,20 +9,12 @@ use solve::Verdict;
 use solve::run_raw;
 use subtrees::nodes::children_at;
 ghost use mathlib.Core.Path.{_≡_};
-ghost use mathlib.Core.List.{[], _∷_, _++_};
-ghost use Prim.Native.Nat.{_+_, _*_, _≤_, _<_};
-ghost use lib.ListN.{length, take};
-ghost use Rattle.formula.specs.Guards.{says};
-ghost use Rattle.sheet.specs.Format.{fits};
+ghost use Prim.Native.Nat.{_≤_, _<_};
+ghost use lib.ListN.{length};
 ghost use Rattle.sheet.specs.Trace.{room};
 ghost use Rattle.rows.specs.Formats.{format-of};
-ghost use Rattle.rows.specs.Formulas.{prefix-in};
 ghost use Rattle.subtrees.specs.Ends.{Indexed};
-ghost use Rattle.guards.specs.Inner.Parts.{guards-in, Tried};
-ghost use Rattle.guards.specs.Inner.Sieves.{word-for, Says, judged-by, Siftable, Sifted};
-
-// Entries of the table of runs.
-pub const RUNS: usize = 16384;
+ghost use Rattle.guards.specs.Inner.Sieves.{word-for, judged-by, Siftable, Sifted};
 
 // What a run said.
 pub enum Word {
@@ -55,33 +47,6 @@ fn heard(answer: Solved) -> Word
     }
 }
 
-// Writes the children whose rows the runs `cuts` hold to the first buffer, and runs Solve on them.
-fn try_part(
-    b: &[u8],
-    f: Format,
-    s: Layout,
-    cuts: &[u16],
-    p: Part,
-    first: &mut [u8],
-    second: &mut [u8],
-) -> Word
-    requires { ⌜ Tried (format-of f) s (now b) (now cuts) p (room (now first) (now second)) ⌝ }
-    ensures { λ r. ⌜ Says r (says (fits (format-of f) (room (now (first .entry)) (now (second .entry)))) (prefix-in s (now (b .entry))) (guards-in s (now (b .entry)) (now (cuts .entry)))) ⌝ }
-{
-    let t = write_part(b, s, cuts, p, first);
-    let answer = run_raw(first, second, f, t);
-    heard(answer)
-}
-
-// Makes run `i` of the table the rows `from` to `to`.
-fn set_run(cuts: &mut [u16], i: usize, from: usize, to: usize)
-    requires { ⌜ (2 * i + 2 ≤ length (now cuts)) × (from < 65536) × (to < 65536) ⌝ }
-    ensures { λ _. ⌜ take (2 * i + 2) (now (cuts .exit)) ≡ take (2 * i) (now (cuts .entry)) ++ (from ∷ to ∷ []) ⌝ }
-{
-    cuts[2 * i] = from as u16;
-    cuts[2 * i + 1] = to as u16;
-}
-
 // The child that ends at row `end` is left out for good if the run without it said false; else it is kept, and counted if it stopped.
 fn judge(g: Sieve, word: Word, end: usize) -> Sieve
     requires { ⌜ (g .at ≤ end) × (0 < g .left) × (g .guards < 65536) × (g .rows < 65536) × (g .stops < 65536) × (end < 65536) ⌝ }
@@ -112,18 +77,18 @@ fn judge(g: Sieve, word: Word, end: usize) -> Sieve
     }
 }
 
-// Goes through the root's children: the first runs of the table are then those of the children kept.
+// Goes through the root's children: the first entries of the table are then the rows at which the children kept begin.
 pub fn sift(
     b: &[u8],
     f: Format,
     s: Layout,
     ends: &[u16],
-    cuts: &mut [u16],
+    kept: &mut [u16],
     first: &mut [u8],
     second: &mut [u8],
 ) -> Sieve
-    requires { ⌜ Siftable (format-of f) s (now b) (room (now first) (now second)) × Indexed s (now b) (now ends) × (16384 ≤ length (now cuts)) ⌝ }
-    ensures { λ r. ⌜ Sifted (format-of f) s (now (b .entry)) (room (now (first .entry)) (now (second .entry))) (now (cuts .exit)) r ⌝ }
+    requires { ⌜ Siftable (format-of f) s (now b) (room (now first) (now second)) × Indexed s (now b) (now ends) × (8192 ≤ length (now kept)) ⌝ }
+    ensures { λ r. ⌜ Sifted (format-of f) s (now (b .entry)) (room (now (first .entry)) (now (second .entry))) (now (ends .entry)) (now (kept .exit)) r ⌝ }
 {
     let mut g = Sieve {
         at: 1,
@@ -134,15 +99,17 @@ pub fn sift(
     };
     while 0 < g.left {
         let at = g.at;
+        let count = g.guards;
         let end = ends[at] as usize;
-        let entries = 2 * g.guards + 2;
         let others = Part {
-            guards: g.guards + (g.left - 1),
+            guards: count + (g.left - 1),
             rows: g.rows + (s.nodes - end),
+            rest: end,
         };
-        set_run(cuts, g.guards, end, s.nodes);
-        let said = try_part(b, f, s, &cuts[..entries], others, first, second);
-        set_run(cuts, g.guards, at, end);
+        let t = write_part(b, s, ends, &kept[..count], others, first);
+        let answer = run_raw(first, second, f, t);
+        let said = heard(answer);
+        kept[count] = at as u16;
         g = judge(g, said, end);
     }
     g

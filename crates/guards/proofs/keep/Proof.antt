@@ -1,6 +1,5 @@
 -- `guards::keep` meets its contract. Assumes nothing.
 use mathlib.Core.Path.{sym, ap}
-use Prim.Native.Nat.{_*_}
 use native.Mathlib.Omega.{arith}
 use lib.Seq.{length-take-le}
 use Rattle.rows.specs.declared.Layout.{Layout}
@@ -28,16 +27,16 @@ slice-aggregate-sift-2 c = search needs
 sift-requires : tie.Need-sift-requires
 sift-requires c κs = search needs
 
-mul-entries : tie.Need-mul-entries
-mul-entries c = search needs
-
-array-share-prefix-cuts : tie.Need-array-share-prefix-cuts
-array-share-prefix-cuts c = search needs
-
 slice-aggregate-write-part : tie.Need-slice-aggregate-write-part
-slice-aggregate-write-part c =
+slice-aggregate-write-part c = search needs
+
+array-share-prefix-kept : tie.Need-array-share-prefix-kept
+array-share-prefix-kept c = search needs
+
+slice-aggregate-write-part-2 : tie.Need-slice-aggregate-write-part-2
+slice-aggregate-write-part-2 c =
     let sifted = c .before .before .before .before .before .before .before .sift in
-    sym (length-take-le (2 * sifted .result .guards) (sifted .last .1 .1 .1 .1 .0) (search needs))
+    sym (length-take-le (sifted .result .guards) (sifted .last .1 .1 .1 .1 .0) (search needs))
 
 write-part-requires : tie.Need-write-part-requires
 write-part-requires c κs = search needs
@@ -52,7 +51,7 @@ seal-requires : tie.Need-seal-requires
 seal-requires c κs =
     let written = c .before .before .before .before .write-part in
     let a = c .before .before .before .before .before .before .before .before .before .before .before .before .before .before .before .before .before .before .before .before .before .before .before .before .before in (
-      kept-room (a .pre .0) (c .before .before .before .before .before .before .before .before .before .before .before .before .before .sift .ensures) (written .result) (written .ensures .0) (written .last .1 .1 .1 .1 .0) (a .args .out .now) (written .kept .1 .1 .1 .1 .0) (a .pre .1),
+      kept-room (a .pre .0) (c .before .before .before .before .before .before .before .before .before .before .before .before .before .sift .ensures) (written .result) (written .ensures .0) (written .last .1 .1 .1 .1 .1 .0) (a .args .out .now) (written .kept .1 .1 .1 .1 .1 .0) (a .pre .1),
       omega arith,
       omega arith,
     )
@@ -72,9 +71,9 @@ returns c =
     let written = c .before .before .before .before .before .before .before .write-part in
     let a = c .before .before .before .before .before .before .before .before .before .before .before .before .before .before .before .before .before .before .before .before .before .before .before .before .before .before .before .before in
     let z = c .before .before .before .before .before .before .before .before .before .before .before .before .before .before .before .before .sift .ensures in (
-      kept-answer (a .pre .0) z (written .result) (written .ensures .0) _ (a .args .out .now) (written .kept .1 .1 .1 .1 .0) (a .pre .1)
+      kept-answer (a .pre .0) z (written .result) (written .ensures .0) _ (a .args .out .now) (written .kept .1 .1 .1 .1 .1 .0) (a .pre .1)
           (written .ensures .1) (sealing .ensures .1),
-      kept-output (a .pre .0) z (written .result) (written .ensures .0) _ (a .args .out .now) (written .kept .1 .1 .1 .1 .0) (a .pre .1)
+      kept-output (a .pre .0) z (written .result) (written .ensures .0) _ (a .args .out .now) (written .kept .1 .1 .1 .1 .1 .0) (a .pre .1)
           (written .ensures .1) (sealing .ensures .0),
     )
 
@@ -87,9 +86,9 @@ keep-spec =
     slice-aggregate-sift
     slice-aggregate-sift-2
     sift-requires
-    mul-entries
-    array-share-prefix-cuts
     slice-aggregate-write-part
+    array-share-prefix-kept
+    slice-aggregate-write-part-2
     write-part-requires
     add-seal
     seal-requires

@@ -3,7 +3,7 @@
 use mathlib.Core.Path.{_≡_}
 use mathlib.Core.Bool.{true, false}
 use mathlib.Core.List.{List}
-use Prim.Native.Nat.{ℕ, _+_, _*_, _-_, _≤_}
+use Prim.Native.Nat.{ℕ, _+_, _-_, _≤_}
 use lib.ListN.{take}
 use Rattle.formula.specs.Solve.{End, ended, stopped, solve}
 use Rattle.formula.specs.Guards.{is-and, conjoined, Kept, clashing, clash}
@@ -59,18 +59,18 @@ clashing-in F s b most = clashing (fits F most) (formula-in s b)
 abbrev pub clashed : Format → Layout → Bytes → ℕ → Finding
 clashed F s b most = clash (conjoined (prefix-in s b) ((clashing-in F s b most) .those)) ((clashing-in F s b most) .stops)
 
--- the first runs of the table, two entries each
-abbrev pub runs : List ℕ → Sieve → List ℕ
-runs cuts g = take (2 * g .guards) cuts
+-- the first entries of the table: where the children kept begin
+abbrev pub starts : List ℕ → Sieve → List ℕ
+starts table g = take (g .guards) table
 
-abbrev pub kept-part : Sieve → Part
-kept-part g = record { guards = g .guards; rows = g .rows }
+abbrev pub kept-part : Layout → Sieve → Part
+kept-part s g = record { guards = g .guards; rows = g .rows; rest = s .nodes }
 
-pub record Sifted (F : Format) (s : Layout) (b : Bytes) (most : ℕ) (cuts : List ℕ) (g : Sieve) : Type 0 where
-  pub chosen : Chosen s b (runs cuts g) (kept-part g)
-  pub those-are : guards-in s b (runs cuts g) ≡ (clashing-in F s b most) .those
+pub record Sifted (F : Format) (s : Layout) (b : Bytes) (most : ℕ) (ends table : List ℕ) (g : Sieve) : Type 0 where
+  pub chosen : Chosen s b ends (starts table g) (kept-part s g)
+  pub those-are : guards-in s b ends (starts table g) (s .nodes) ≡ (clashing-in F s b most) .those
   pub stops-are : g .stops ≡ (clashing-in F s b most) .stops
-  pub fewer-kept : 2 * g .guards ≤ 16384
+  pub fewer-kept : g .guards ≤ 8192
 
 -- the answer of the initial run
 abbrev pub Said : Format → Layout → Bytes → ℕ → Solved → Type 0

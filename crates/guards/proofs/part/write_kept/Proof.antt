@@ -1,0 +1,123 @@
+-- `guards::part::write_kept` meets its contract: a child a turn. Assumes nothing.
+use Prim.Native.Nat.{_-_, _≤_, _<_}
+use native.Mathlib.Omega.{arith}
+use lib.ListN.{length, getD}
+use Rattle.changing.proofs.Splice.{ready-on}
+use Rattle.guards.proofs.Copying.{Written, none-written, all-written, child-ends, child-within, child-room, next-written}
+use borrow.Author.Needs.{needs}
+use Rattle.guards.proofs.part.write_kept.Statement.{statement}
+use Rattle.guards.proofs.part.write_kept.Tie as tie
+
+abbrev Inv-loop : tie.InvT-loop
+Inv-loop b s ends kept out₀ t v at₀ i₀ out at i = Written s b ends kept t out₀ at₀ out at i
+
+abbrev μ-loop : tie.MeasureT-loop
+μ-loop b s ends kept out₀ t v at₀ i₀ out at i = length kept - i
+
+-- the child at hand is one of the sheet's, and all numbers are small
+small : (c : tie.In-loop Inv-loop μ-loop)
+    → let a = c .before .before .before .before .before .before .before in
+    let from = getD (a .args .kept .now) (c .before .loop .i) 0 in
+    (from < getD (a .args .ends .now) from 0) × (getD (a .args .ends .now) from 0 ≤ a .args .s .nodes) × (a .args .s .nodes ≤ length (a .args .ends .now)) ×
+    (a .args .s .nodes ≤ 8192) × (a .args .s .variables ≤ 1024)
+small c =
+    let a = c .before .before .before .before .before .before .before in
+    let e = child-ends (a .args .s) (a .args .b .now) (a .pre .readable) (a .args .ends .now) (a .args .kept .now) (a .args .to .layout) (a .args .out .now)
+    (a .args .to .at)
+    (a .pre .room) (c .loop-test .taken) (c .before .loop .inv) in
+    (e .0, e .1, a .pre .holds, a .pre .readable .few-nodes, a .pre .readable .few-variables)
+
+loop-holds : tie.Need-loop-holds Inv-loop μ-loop
+loop-holds c =
+    let a = c .before .before .before .before .before in
+    none-written (a .args .s) (a .args .b .now) (a .pre .readable) (a .args .ends .now) (a .args .kept .now) (a .args .to .layout) (a .args .out .now)
+    (a .args .to .at)
+    (a .pre .placed)
+
+mul-row : tie.Need-mul-row Inv-loop μ-loop
+mul-row c = omega arith
+
+shared-slice-read-row : tie.Need-shared-slice-read-row Inv-loop μ-loop
+shared-slice-read-row c = omega arith
+
+cast-row : tie.Need-cast-row Inv-loop μ-loop
+cast-row c = omega (arith, small (c .before))
+
+add-t14 : tie.Need-add-t14 Inv-loop μ-loop
+add-t14 c = omega (arith, small (c .before))
+
+mul-t18 : tie.Need-mul-t18 Inv-loop μ-loop
+mul-t18 c = omega (arith, small (c .before))
+
+shared-slice-read-t17 : tie.Need-shared-slice-read-t17 Inv-loop μ-loop
+shared-slice-read-t17 c = omega (arith, small (c .before .before))
+
+cast-t20 : tie.Need-cast-t20 Inv-loop μ-loop
+cast-t20 c = omega (arith, small (c .before .before))
+
+add-t21 : tie.Need-add-t21 Inv-loop μ-loop
+add-t21 c = omega (arith, small (c .before .before))
+
+slice-aggregate-write-copy : tie.Need-slice-aggregate-write-copy Inv-loop μ-loop
+slice-aggregate-write-copy c = search needs
+
+write-copy-requires : tie.Need-write-copy-requires Inv-loop μ-loop
+write-copy-requires c κs =
+    let turn = c .before .before .before .before in
+    let a = turn .before .before .before .before .before .before .before in (
+      ready-on (a .pre .ready) (turn .before .loop .inv .same-length),
+      child-within (a .args .s) (a .args .b .now) (a .pre .readable) (a .args .ends .now) (a .args .kept .now) (a .args .to .layout) (a .args .out .now)
+          (a .args .to .at)
+          (a .pre .room) (turn .loop-test .taken) (turn .before .loop .inv),
+      child-room (a .args .s) (a .args .b .now) (a .pre .readable) (a .args .ends .now) (a .args .kept .now) (a .args .to .layout) (a .args .out .now)
+          (a .args .to .at)
+          (a .pre .room) (turn .loop-test .taken) (turn .before .loop .inv),
+    )
+
+add-i : tie.Need-add-i Inv-loop μ-loop
+add-i c = omega arith
+
+loop-less : tie.Need-loop-less Inv-loop μ-loop
+loop-less c = omega arith
+
+loop-again : tie.Need-loop-again Inv-loop μ-loop
+loop-again c =
+    let turn = c .before .before .before .before .before .before .before in
+    let a = turn .before .before .before .before .before .before .before in
+    next-written (a .args .s) (a .args .b .now) (a .pre .readable) (a .args .ends .now) (a .args .kept .now) (a .args .to .layout) (a .args .out .now)
+    (a .args .to .at)
+    (a .pre .room) (turn .loop-test .taken) (turn .before .loop .inv) (c .before .before .write-copy .ensures .0)
+    (c .before .before .write-copy .kept .1 .1 .1 .1 .0)
+
+same-length : tie.Need-same-length Inv-loop μ-loop
+same-length c = c .before .loop .inv .same-length
+
+returns : tie.Need-returns Inv-loop μ-loop
+returns c =
+    let a = c .before .before .before .before .before .before .before in
+    all-written (a .args .s) (a .args .b .now) (a .pre .readable) (a .args .ends .now) (a .args .kept .now) (a .args .to .layout) (a .args .out .now)
+    (a .args .to .at)
+    (c .loop-test .left) (c .before .loop .inv)
+
+pub write-kept-spec : {M : Type 1} → statement M
+write-kept-spec =
+    tie.close
+    (tie.spec
+    Inv-loop
+    μ-loop
+    loop-holds
+    mul-row
+    shared-slice-read-row
+    cast-row
+    add-t14
+    mul-t18
+    shared-slice-read-t17
+    cast-t20
+    add-t21
+    slice-aggregate-write-copy
+    write-copy-requires
+    add-i
+    loop-less
+    loop-again
+    same-length
+    returns)
