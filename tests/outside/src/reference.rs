@@ -26,7 +26,7 @@ pub use carrying::{bring_back, widen};
 pub use expand::{raw_expansion, raw_rows, Expansion};
 pub use force::Forced;
 pub use format::Format;
-pub use guards::GuardsAnswer;
+pub use guards::{GuardsAnswer, Sifted};
 pub use order::{compare_formulas, compare_nodes, sort_node, CompareAnswer};
 pub use resume::{resume, Counts};
 pub use rules::Rules;

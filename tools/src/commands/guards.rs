@@ -2,48 +2,58 @@
 
 use crate::arguments::Arguments;
 use crate::command::{Answer, Command, Failure};
-use crate::formula::{Formula, Row};
+use crate::formula::{Formula, Row, AND};
 use crate::input;
 use crate::library::{Guarded, Sheet};
+use crate::refusal::Refusal;
 use std::sync::mpsc::{channel, Receiver, RecvTimeoutError};
 use std::time::{Duration, Instant};
 
 pub const COMMAND: Command = Command {
     name: "guards",
     purpose: "the guards to blame for a false sheet",
-    help: "Usage: plumanchor guards [--from FORMAT] [SHEET] > KEPT\n\n\
+    help: "Usage: plumanchor guards [--from FORMAT] [--room BYTES] [SHEET] > KEPT\n\n\
            For a false sheet whose root is AND: leaves out each of its children in turn, for good if\n\
            Solve still says false of the others, and writes the sheet of those kept. Their numbers,\n\
-           counted from 1, stand on standard error; of equal guards the last is named. A child whose\n\
-           run stops for want of room is kept and counted. If the sheet is true, or Solve stops on it\n\
-           as it is, only that is said. It takes as many runs of Solve as there are children, and one\n\
-           more.\n",
-    options: &["from"],
+           counted from 1, stand on standard error. A child whose run stops for want of room is kept\n\
+           and counted. If the sheet is true, or Solve stops on it as it is, only that is said. It\n\
+           takes as many runs of Solve as there are children, and one more. The output and the two\n\
+           work buffers have the program's length, or BYTES each.\n",
+    options: &["from", "room"],
     run,
 };
 
-fn run(arguments: Arguments) -> Result<Answer, Failure> {
+fn run(mut arguments: Arguments) -> Result<Answer, Failure> {
+    let asked = arguments.number_option("room")?;
     let sheet = input::sheet(arguments)?;
-    let found = watched(sheet.bytes.len(), || sheet.guards(sheet.format.longest()))?;
-    let (output, note) = match found {
-        Guarded::True { settled, expanded } => {
+    let room = sheet.room(asked);
+    let found = watched(sheet.bytes.len(), || -> Result<_, Refusal> {
+        let found = sheet.guards(room)?;
+        let places = match &found {
+            Guarded::Kept { sheet: kept, stops } => places(&sheet, kept, *stops, room)?,
+            _ => Vec::new(),
+        };
+        Ok((found, places))
+    });
+    let (output, note) = match found? {
+        (Guarded::True { settled, expanded }, _) => {
             (Vec::new(), format!("true {settled} {expanded}: no guard is to blame\n"))
         }
-        Guarded::Stopped { variable, settled, expanded } => {
+        (Guarded::Stopped { variable, settled, expanded }, _) => {
             let counts = format!("stopped {settled} {expanded} at variable {variable}");
             (Vec::new(), format!("{counts}: no verdict, so no guard is blamed\n"))
         }
-        Guarded::Kept { sheet: kept, stops } => {
-            let note = kept_note(&children(&sheet), &children(&kept), stops);
+        (Guarded::Kept { sheet: kept, stops }, places) => {
+            let note = kept_note(children(&sheet).len(), &places, stops);
             (kept.bytes, note)
         }
     };
     Ok(Answer { output, note, refusal: None })
 }
 
-fn kept_note(all: &[Vec<Row>], kept: &[Vec<Row>], stops: usize) -> String {
-    let numbers: Vec<String> = places(all, kept).iter().map(|at| (at + 1).to_string()).collect();
-    let note = format!("kept {} of {} guards: {}\n", kept.len(), all.len(), numbers.join(" "));
+fn kept_note(all: usize, kept: &[usize], stops: usize) -> String {
+    let numbers: Vec<String> = kept.iter().map(|at| (at + 1).to_string()).collect();
+    let note = format!("kept {} of {all} guards: {}\n", kept.len(), numbers.join(" "));
     if stops == 0 {
         return note;
     }
@@ -66,9 +76,30 @@ fn children(sheet: &Sheet) -> Vec<Vec<Row>> {
     children
 }
 
-/// Where the kept children stand among all, found from the last to the first:
-/// where no run stopped, only the last of equal children can have been kept.
-fn places(all: &[Vec<Row>], kept: &[Vec<Row>]) -> Vec<usize> {
+/// Where the kept children stand among all, counted from 0. Where no run stopped, only the last of
+/// equal children can have been kept. Else, from the first child on: where the child or a later
+/// equal one may be the one kept, the operation's run without the child is made once more.
+fn places(sheet: &Sheet, kept: &Sheet, stops: usize, room: usize) -> Result<Vec<usize>, Refusal> {
+    let (all, kept) = (children(sheet), children(kept));
+    let latest = latest_places(&all, &kept);
+    if stops == 0 {
+        return Ok(latest);
+    }
+    let mut places: Vec<usize> = Vec::new();
+    for at in 0..all.len() {
+        let next = places.len();
+        if kept.get(next) != Some(&all[at]) {
+            continue;
+        }
+        if at == latest[next] || !says_false_without(sheet, &all, &places, at, room)? {
+            places.push(at);
+        }
+    }
+    Ok(places)
+}
+
+/// The last places at which the kept children can stand among all.
+fn latest_places(all: &[Vec<Row>], kept: &[Vec<Row>]) -> Vec<usize> {
     let mut places = Vec::new();
     let mut end = all.len();
     for child in kept.iter().rev() {
@@ -77,6 +108,23 @@ fn places(all: &[Vec<Row>], kept: &[Vec<Row>]) -> Vec<usize> {
     }
     places.reverse();
     places
+}
+
+/// Whether Solve says false of the children kept so far and all behind child `at`.
+fn says_false_without(
+    sheet: &Sheet,
+    all: &[Vec<Row>],
+    kept: &[usize],
+    at: usize,
+    room: usize,
+) -> Result<bool, Refusal> {
+    let later = &all[at + 1..];
+    let mut matrix = vec![Row::new(AND, kept.len() + later.len())];
+    matrix.extend(kept.iter().map(|&at| &all[at]).chain(later).flatten());
+    let prefix = Formula::decode(sheet.format, &sheet.bytes).prefix;
+    let bytes = Formula { prefix, matrix }.encode(sheet.format);
+    let solved = Sheet { format: sheet.format, bytes }.solve(room)?;
+    Ok(solved.verdict == Some(false))
 }
 
 /// Makes the call; if it takes longer than a second, says so now and then.

@@ -21,6 +21,15 @@ pub enum GuardsAnswer {
     },
 }
 
+/// The formula of the kept children, which of the root's children they are, counted from 0, and
+/// how many runs stopped.
+#[derive(Clone, Debug)]
+pub struct Sifted {
+    pub kept: Formula,
+    pub places: Vec<usize>,
+    pub stops: usize,
+}
+
 impl Reading {
     /// Guards: all three buffers are rewritten unless it refuses.
     pub fn guards(
@@ -52,7 +61,7 @@ impl Reading {
                 GuardsAnswer::Stopped { variable, settled, expanded }
             }
             _ => {
-                let (kept, stops) = self.sift(formula, room);
+                let Sifted { kept, stops, .. } = self.sift(formula, room);
                 GuardsAnswer::Kept { length: self.format.write(&kept, output), stops }
             }
         }
@@ -62,15 +71,19 @@ impl Reading {
         self.run(self.rules.tidy_formula(formula), room).1
     }
 
-    /// The formula of the kept children, and how many runs stopped.
-    fn sift(&self, formula: Formula, room: usize) -> (Formula, usize) {
+    /// What is left of a false formula whose root is AND, with so much room for a run.
+    pub fn sift(&self, formula: Formula, room: usize) -> Sifted {
+        let mut places: Vec<usize> = (0..formula.matrix.children().len()).collect();
         let (mut kept, mut at, mut stops) = (formula, 0, 0);
-        while at < kept.matrix.children().len() {
+        while at < places.len() {
             let mut others = kept.matrix.children().to_vec();
             others.remove(at);
             let less = Formula { prefix: kept.prefix.clone(), matrix: Node::and(others) };
             match self.answer_on(&less, room) {
-                SolveAnswer::Ended { verdict: false, .. } => kept = less,
+                SolveAnswer::Ended { verdict: false, .. } => {
+                    kept = less;
+                    places.remove(at);
+                }
                 SolveAnswer::Stopped { .. } => {
                     stops += 1;
                     at += 1;
@@ -78,6 +91,6 @@ impl Reading {
                 _ => at += 1,
             }
         }
-        (kept, stops)
+        Sifted { kept, places, stops }
     }
 }
