@@ -1,0 +1,3 @@
+-- Each file has the name of the definitions in `specs` that its laws are about.
+pub mod Chains
+pub mod Prints

@@ -1,0 +1,87 @@
+-- `buckets::add` meets its contract. Assumes nothing.
+use mathlib.Core.Path.{refl, ap, _∙_}
+use Prim.Native.Nat.{_+_}
+use native.Mathlib.Omega.{arith}
+use lib.ListN.{set}
+use Rattle.buckets.specs.Chains.{last}
+use Rattle.buckets.proofs.Chains.{last-within, linked-more}
+use borrow.Author.Needs.{needs}
+use Rattle.buckets.proofs.add.Statement.{statement}
+use Rattle.buckets.proofs.add.Tie as tie
+
+bucket-of-requires : tie.Need-bucket-of-requires
+bucket-of-requires c κs = search needs
+
+first-requires : tie.Need-first-requires
+first-requires c κs =
+    let k = c .before .before .bucket-of in
+    let a = c .before .before .before .before .before .before in
+    (omega (arith, k .ensures .1, a .pre .0 .all-heads), omega arith, a .pre .2 .heads (k .result) (k .ensures .1))
+
+cast-links : tie.Need-cast-links
+cast-links c =
+    let a = c .before .before .before .before .before .before .before in
+    omega (arith, c .first .ensures, last-within (a .args .members .now) (c .before .before .before .bucket-of .result) (a .args .n))
+
+mul-links : tie.Need-mul-links
+mul-links c = search needs
+
+slice-write-links : tie.Need-slice-write-links
+slice-write-links c = search needs
+
+cast-members : tie.Need-cast-members
+cast-members c = search needs
+
+mul-members : tie.Need-mul-members
+mul-members c = search needs
+
+slice-write-members : tie.Need-slice-write-members
+slice-write-members c = search needs
+
+add-heads : tie.Need-add-heads
+add-heads c = search needs
+
+cast-heads : tie.Need-cast-heads
+cast-heads c = search needs
+
+mul-heads : tie.Need-mul-heads
+mul-heads c = search needs
+
+slice-write-heads : tie.Need-slice-write-heads
+slice-write-heads c = search needs
+
+same-length : tie.Need-same-length
+same-length c = search needs
+
+same-length-2 : tie.Need-same-length-2
+same-length-2 c = search needs
+
+same-length-3 : tie.Need-same-length-3
+same-length-3 c = search needs
+
+returns : tie.Need-returns
+returns c =
+    let k = c .before .before .before .bucket-of in
+    let a = c .before .before .before .before .before .before .before in
+    (refl, linked-more (a .args .m) (a .pre .2) (omega arith) (omega arith) (omega (arith, k .ensures .1, k .ensures .0)) (c .first .ensures ∙ ap (λ j. last (a .args .members .now) j (a .args .n)) (k .ensures .0)) (ap (λ j. set (a .args .heads .now) j (a .args .n + 1)) (k .ensures .0)) refl refl)
+
+pub add-spec : {M : Type 1} → statement M
+add-spec =
+    tie.close
+    (tie.spec
+    bucket-of-requires
+    first-requires
+    cast-links
+    mul-links
+    slice-write-links
+    cast-members
+    mul-members
+    slice-write-members
+    add-heads
+    cast-heads
+    mul-heads
+    slice-write-heads
+    same-length
+    same-length-2
+    same-length-3
+    returns)

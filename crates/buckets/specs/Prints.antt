@@ -1,0 +1,30 @@
+-- Fingerprints of trees: numbers of 16 bits. Equal trees have equal prints; a literal and its opposite fall into one bucket.
+-- Assumes nothing.
+use mathlib.Core.Bool.{Bool, true, false}
+use Prim.Native.Nat.{ℕ, _+_, _*_, _%_}
+use Rattle.formula.specs.Tree.{Op, and, or, Tree, lit, node, Forest, ∅, _▸_}
+
+-- a literal's: the sign in the lowest bit
+abbrev pub literal-mix : ℕ → ℕ → ℕ
+literal-mix sign v = v * 20251 % 32768 * 2 + sign
+
+abbrev pub sign : Bool → ℕ
+sign true = 1
+sign false = 0
+
+-- an operator's: its kind, and then its children from left to right
+abbrev pub operator-mix : Op → ℕ
+operator-mix and = 5
+operator-mix or = 6
+
+abbrev pub mix : ℕ → ℕ → ℕ
+mix h p = (h * 25173 + p) % 65536
+
+unfoldable mutual
+  pub print : Tree → ℕ
+  print (lit s v) = literal-mix (sign s) v
+  print (node o ts) = print-on (operator-mix o) ts
+
+  pub print-on : ℕ → Forest → ℕ
+  print-on h ∅ = h
+  print-on h (t ▸ ts) = print-on (mix h (print t)) ts

@@ -1,0 +1,20 @@
+// Fingerprints, mixed from a literal's row or from the children's prints.
+ghost use mathlib.Core.Path.{_≡_};
+ghost use Prim.Native.Nat.{_^_, _<_};
+ghost use Rattle.buckets.specs.Prints.{literal-mix, mix};
+
+// The print of a literal: `sign` is 1 for a variable and 0 for its negation.
+pub fn literal_print(sign: usize, x: usize) -> usize
+    requires { ⌜ (sign < 2) × (x < 2 ^ 32) ⌝ }
+    ensures { λ r. ⌜ (r ≡ literal-mix sign x) × (r < 65536) ⌝ }
+{
+    x * 20251 % 32768 * 2 + sign
+}
+
+// The print of an operator so far, `h`, with one more child's.
+pub fn mixed(h: usize, p: usize) -> usize
+    requires { ⌜ (h < 65536) × (p < 65536) ⌝ }
+    ensures { λ r. ⌜ (r ≡ mix h p) × (r < 65536) ⌝ }
+{
+    (h * 25173 + p) % 65536
+}
