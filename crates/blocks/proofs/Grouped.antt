@@ -1,19 +1,18 @@
--- The rules at children that come in groups: what a group adds to those before it.
+-- The rules at children one after another: what some of them add to those before.
 -- Assumes nothing.
 use mathlib.Core.Path.{_≡_, refl, sym, ap, ap₂, _∙_}
 use mathlib.Core.Bool.{Bool, true, false, not, _&&_, _||_, and-false, false≢true}
 use mathlib.Core.Logic.{⊎-elim}
-use Prim.Native.Nat.{ℕ, _≤_}
-use native.Mathlib.Omega.{arith}
+use Prim.Native.Nat.{ℕ}
 use lib.Dec.{eqb}
-use borrow.Author.Tests.{not-true, not-false}
-use Rattle.formula.specs.Tree.{Op, and, or, dual, Tree, lit, node, Forest, ∅, _▸_, _⧺_, some-child, some-two, keep, count}
-use Rattle.formula.specs.Tidy.{is-empty, opposite, equal, same-variable, spliced, splice, decides, firsts, is-tidy}
+use borrow.Author.Tests.{not-false}
+use Rattle.formula.specs.Tree.{Op, dual, Tree, lit, node, Forest, ∅, _▸_, _⧺_, some-child, some-two, keep}
+use Rattle.formula.specs.Tidy.{is-empty, opposite, equal, same-variable, decides, firsts}
 use Rattle.formula.proofs.Booleans.{cond-cases, and-parts, or-parts, or-none, or-cases, eqb-comm}
-use Rattle.formula.proofs.Tidy.Children.{some-two-less, some-child-⧺, firsts-all, ⧺-none, some-child-same, keep-same, keep-⧺, keep-keep, some-child-or, some-two-⧺, keep-every}
+use Rattle.formula.proofs.Tidy.Children.{some-child-less, some-child-⧺, firsts-all, some-child-same, keep-same, keep-⧺, keep-keep, some-child-or, some-two-⧺, keep-every}
 use Rattle.formula.proofs.Tidy.Truth.{equal-same}
-use Rattle.formula.proofs.Tidy.Limits.{limits}
-use Rattle.blocks.specs.Rules.{decisive, repeated, new, Unopposed, all-tidy}
+use Rattle.blocks.specs.Blocks.{Block, gone, literal, operator, none, _◂_, grown, live}
+use Rattle.blocks.specs.Rules.{decisive, repeated, new, Unopposed}
 
 pub decides-⧺ : (o : Op) (ts us : Forest) → some-two opposite us ≡ false
     → decides o (ts ⧺ us) ≡ (decides o ts || some-child (decisive o ts) us)
@@ -142,11 +141,6 @@ pub repeated-indecisive : (o : Op) (us : Forest) (s : Bool) (v : ℕ) → Unoppo
 unfolding decisive is-empty
 repeated-indecisive o us s v two r = repeated-unopposed us (lit s v) two r
 
--- the children of a tidy operator are no two opposite or equal literals, so a spliced child adds none
-pub record Calm (ts : Forest) : Type 0 where
-  pub unopposed : some-two opposite ts ≡ false
-  pub unequal : some-two equal ts ≡ false
-
 apart-opposite : (t u : Tree) → same-variable t u ≡ false → opposite t u ≡ false
 unfolding same-variable opposite
 apart-opposite (node o ts) u e = refl
@@ -159,37 +153,29 @@ apart-equal (node o ts) u e = refl
 apart-equal (lit s v) (node o ts) e = refl
 apart-equal (lit s v) (lit s′ v′) e = rw e
 
-calm-kids : (o : Op) (ks : Forest) → is-tidy (node o ks) ≡ true → Calm ks
-unfolding is-tidy
-calm-kids o ks e =
-    let l = limits o ks (not-true _ e) in
+-- a literal of a variable that none of them has
+pub record Unknown (o : Op) (us : Forest) (u : Tree) : Type 0 where
+  pub indecisive : decisive o us u ≡ false
+  pub unrepeated : repeated us u ≡ false
+
+pub unknown : (o : Op) (us : Forest) (s : Bool) (v : ℕ) → some-child (λ t. same-variable t (lit s v)) us ≡ false → Unknown o us (lit s v)
+unfolding decisive repeated is-empty
+unknown o us s v e =
     record {
-      unopposed = some-two-less same-variable opposite apart-opposite ks (l .variables);
-      unequal = some-two-less same-variable equal apart-equal ks (l .variables);
+      indecisive = some-child-less (λ t. same-variable t (lit s v)) (λ t. opposite t (lit s v)) (λ t. apart-opposite t (lit s v)) us e;
+      unrepeated = some-child-less (λ t. same-variable t (lit s v)) (λ t. equal t (lit s v)) (λ t. apart-equal t (lit s v)) us e;
     }
 
-calm-one : (t : Tree) → Calm (t ▸ ∅)
-unfolding some-two some-child
-calm-one t = record { unopposed = refl; unequal = refl }
+-- a block holds one tree at most, and no two
+pub record Single (ts : Forest) : Type 0 where
+  pub unopposed : some-two opposite ts ≡ false
+  pub unequal : some-two equal ts ≡ false
 
-calm-spliced : (o : Op) (t : Tree) → is-tidy t ≡ true → Calm (spliced o t ∅)
-unfolding spliced
-calm-spliced o (lit s v) e = calm-one (lit s v)
-calm-spliced and (node and ks) e = rw ⧺-none (calm-kids and ks e)
-calm-spliced and (node or ks) e = calm-one (node or ks)
-calm-spliced or (node and ks) e = calm-one (node and ks)
-calm-spliced or (node or ks) e = rw ⧺-none (calm-kids or ks e)
+pub single : (x : Block) → Single (live (x ◂ none))
+unfolding live grown some-two some-child
+single (gone rs) = record { unopposed = refl; unequal = refl }
+single (literal s v) = record { unopposed = refl; unequal = refl }
+single (operator o ks) = record { unopposed = refl; unequal = refl }
 
-pub all-tidy-⧺ : (ts us : Forest) → all-tidy (ts ⧺ us) → all-tidy ts × all-tidy us
-unfolding all-tidy
-all-tidy-⧺ ts us e = or-parts _ _ (sym (some-child-⧺ (λ t. not (is-tidy t)) ts us) ∙ e)
-
--- a group is what one child is spliced to
-pub calm-splice : (o : Op) (ts : Forest) → count ts ≤ 1 → all-tidy ts → Calm (splice o ts)
-unfolding splice all-tidy some-child some-two count
-calm-splice o ∅ few e = record { unopposed = refl; unequal = refl }
-calm-splice o (t ▸ ∅) few e = calm-spliced o t (not-false _ (or-parts (not (is-tidy t)) _ e .0))
-calm-splice o (t ▸ u ▸ ts) few e = absurd (omega arith)
-
-pub firsts-calm : {ts : Forest} → Calm ts → firsts ts ≡ ts
-firsts-calm {ts} c = firsts-all ts (c .unequal)
+pub firsts-single : {ts : Forest} → Single ts → firsts ts ≡ ts
+firsts-single {ts} c = firsts-all ts (c .unequal)

@@ -2,8 +2,10 @@
 pub mod Blocks
 pub mod Walks
 pub mod Hop
-pub mod JoinDead
+pub mod Notes
 pub mod Grouped
-pub mod SiftAt
+pub mod Find
+pub mod Judge
+pub mod Join
 pub mod Sift
-pub mod Reduce
+pub mod Splice

@@ -1,26 +1,23 @@
 -- A walk over blocks that only reads: a claim about the trees passed.
 -- Assumes nothing.
 use mathlib.Core.Path.{_≡_, refl, sym, ap, _∙_, subst}
-use mathlib.Core.Bool.{Bool, true, false, _&&_, _||_, and-true, and-false, or-false, or-true}
+use mathlib.Core.Bool.{Bool, true, false, or-true}
 use mathlib.Core.List.{List}
 use mathlib.Core.Logic.{⊎-elim}
 use Prim.Native.Nat.{ℕ, _+_, _≤_, _<_}
 use native.Mathlib.Omega.{arith}
-use lib.Dec.{eqb}
 use lib.ListN.{length}
 use borrow.Author.Tests.{eq-eqb, ne-eqb}
-use Rattle.formula.specs.Tree.{and, or, Tree, lit, Forest, ∅, _⧺_, some-child, count}
+use Rattle.formula.specs.Tree.{and, or, Tree, lit, Forest, ∅, _⧺_, count}
 use Rattle.formula.specs.Tidy.{equal}
-use Rattle.formula.proofs.Booleans.{or-none}
-use Rattle.formula.proofs.Tidy.Children.{some-child-⧺, ⧺-none, count-⧺}
+use Rattle.formula.proofs.Tidy.Children.{⧺-none, count-⧺}
 use Rattle.sheet.specs.Format.{Bytes, Row}
-use Rattle.sheet.specs.Sheet.{literal-kind}
 use Rattle.rows.specs.Layouts.{rows-in, Room, total}
 use Rattle.rows.specs.declared.Layout.{Layout}
 use Rattle.rows.proofs.Layouts.{length-rows-in}
 use Rattle.blocks.specs.Blocks.{Block, gone, literal, operator, Blocks, none, _◂_, _⊕_, head, block-rows, grown, live, Laid, Here, Region}
-use Rattle.blocks.specs.Walks.{extent, Alive, Finds, Holds, at-row, row-test}
-use Rattle.blocks.proofs.Blocks.{live-snoc, live-◂, ⧺-◂, length-◂, extent-head, within, start, next, onward, no-rows}
+use Rattle.blocks.specs.Walks.{extent, Alive, Finds, at-row}
+use Rattle.blocks.proofs.Blocks.{live-snoc, ⧺-◂, length-◂, extent-head, within, start, next, onward, no-rows}
 
 pub record Walked (R : List Row) (from at to : ℕ) (before : List Row) (bs : Blocks) (after : List Row) (Q : Forest → Type 0) : Type 0 where
   pub done : Blocks
@@ -183,59 +180,6 @@ counted-few b room w g =
     let here = w (g .before) (g .blocks) (g .after) (g .laid) in
     omega (arith, here .claim, count-rows (here .done), here .here .place, within (here .here) .0, within (here .here) .1, length-rows-in b room)
 
--- holds
-
+-- a literal's test
 abbrev pub like : Bool → ℕ → Tree → Bool
 like s v t = equal t (lit s v)
-
--- a row is a literal's exactly if its block's tree is
-like-block : (s : Bool) (v : ℕ) (x : Block)
-    → some-child (like s v) (live (x ◂ none)) ≡ (eqb ((head x) .kind) (literal-kind s) && eqb ((head x) .argument) v)
-unfolding some-child live grown head equal
-like-block true v (gone rs) = refl
-like-block false v (gone rs) = refl
-like-block true v (literal true w) = simp (and-true, or-false)
-like-block true v (literal false w) = simp (and-false, or-false)
-like-block false v (literal true w) = simp (and-false, or-false)
-like-block false v (literal false w) = simp (and-true, or-false)
-like-block true v (operator and ks) = refl
-like-block true v (operator or ks) = refl
-like-block false v (operator and ks) = refl
-like-block false v (operator or ks) = refl
-
-abbrev pub Missed : ℕ → ℕ → Forest → Type 0
-Missed kind v ts = (s : Bool) → kind ≡ literal-kind s → some-child (like s v) ts ≡ false
-
-pub row-test-other : (r : Row) (kind v : ℕ) → (r .kind ≡ kind → ⊥) → row-test r kind v ≡ false
-row-test-other r kind v e = rw (ne-eqb (r .kind) kind e)
-
-pub row-test-same : (r : Row) (kind v : ℕ) → r .kind ≡ kind → row-test r kind v ≡ eqb (r .argument) v
-row-test-same r kind v e = rw (eq-eqb (r .kind) kind e)
-
-row-like : (s : Bool) (kind v : ℕ) (r : Row) (x : Block) → kind ≡ literal-kind s → r ≡ head x
-    → some-child (like s v) (live (x ◂ none)) ≡ row-test r kind v
-row-like s kind v r x k e = like-block s v x ∙ sym (ap (λ (q : Row). row-test q (literal-kind s) v) e) ∙ sym (ap (λ m. row-test r m v) k)
-
-pub missed-none : (kind v : ℕ) → Missed kind v ∅
-unfolding some-child
-missed-none kind v s k = refl
-
-pub missed-more : {r : Row} (kind v : ℕ) → row-test r kind v ≡ false
-    → (ts : Forest) (x : Block) → r ≡ head x → Missed kind v ts → Missed kind v (ts ⧺ live (x ◂ none))
-missed-more {r} kind v t ts x e q s k =
-    some-child-⧺ (like s v) ts (live (x ◂ none)) ∙ or-none (q s k) (row-like s kind v r x k e ∙ t)
-
-pub missed-found : {R : List Row} {from at to : ℕ} (kind v : ℕ) → Scan R from at to (Missed kind v) → at < to
-    → row-test (at-row R at) kind v ≡ true
-    → Holds R from to kind v true
-missed-found {R} {from} {at} kind v w l t before bs after laid s k =
-    let here = w before bs after laid in
-    let m = next (here .here) l in
-    let found : some-child (like s v) (live (m .block ◂ none)) ≡ true = row-like s kind v (at-row R at) (m .block) k (m .row-is) ∙ t in
-    sym
-    (ap (some-child (like s v)) (here .joined ∙ ap (λ cs. live (here .done) ⧺ live cs) (m .is)) ∙
-    some-child-⧺ (like s v) (live (here .done)) (live (m .block ◂ m .others)) ∙
-    ap (λ c. some-child (like s v) (live (here .done)) || c)
-    (ap (some-child (like s v)) (live-◂ (m .block) (m .others)) ∙ some-child-⧺ (like s v) (live (m .block ◂ none)) (live (m .others)) ∙
-    ap (λ c. c || some-child (like s v) (live (m .others))) found) ∙
-    or-true (some-child (like s v) (live (here .done))))

@@ -1,31 +1,47 @@
--- Rules 1 to 4 at an operator's children ("Tidy sheets"), a child's group at a time.
+-- Rules 1 to 4 at an operator's children ("Tidy sheets"), one child after another.
 -- Assumes nothing.
 use mathlib.Core.Path.{_≡_}
-use mathlib.Core.Bool.{Bool, false, not, _||_, cond}
-use mathlib.Core.List.{List}
-use Prim.Native.Nat.{ℕ}
-use lib.Dec.{eqb}
-use lib.ListN.{set}
+use mathlib.Core.Bool.{Bool, true, false, not, _&&_, _||_, cond}
+use mathlib.Core.List.{List, [], _∷_, _++_}
+use mathlib.Core.Logic.{_⊎_}
+use Prim.Native.Nat.{ℕ, _+_, _*_, _-_, _/_, _≤_, _<_}
+use lib.Dec.{eqb, leb}
+use lib.ListN.{length, getD, set, take}
 use Rattle.formula.specs.Tree.{Op, dual, Tree, Forest, some-child, some-two, keep}
-use Rattle.formula.specs.Tidy.{is-empty, opposite, equal, splice, decides, firsts, is-tidy}
+use Rattle.formula.specs.Tidy.{is-empty, opposite, equal, splice, decides, firsts}
 use Rattle.sheet.specs.Format.{Row, row}
 use Rattle.sheet.specs.Sheet.{operator-kind}
-use Rattle.blocks.specs.Blocks.{Block, Blocks, none, _◂_, head, inner, live, Laid, Here, Stands, Region, Regions}
+use Rattle.rows.specs.Layouts.{total}
+use Rattle.rows.specs.declared.Layout.{Layout}
+use Rattle.buckets.specs.Chains.{bucket, last, Linked, Passed}
+use Rattle.buckets.specs.Chains as chains
+use Rattle.buckets.specs.Prints.{literal-mix, sign}
+use Rattle.blocks.specs.Blocks.{Block, gone, literal, operator, Blocks, none, _◂_, head, inner, size, live, Laid, Stands, Standing}
 use Rattle.blocks.specs.Walks.{at-row}
 
 -- rule 1: a row of this kind has gone, and its children stand in its place
 abbrev pub beheaded : List Row → ℕ → ℕ → List Row
 beheaded R r kind = cond (eqb ((at-row R r) .kind) kind) (set R r (row 0 1)) R
 
+-- the blocks of a region hold these trees now
+pub record Held (R : List Row) (from to : ℕ) (before after : List Row) (ts : Forest) : Type 0 where
+  pub blocks : Blocks
+  pub laid : Laid R from to before blocks after
+  pub reads : live blocks ≡ ts
+
+abbrev pub Splices : List Row → List Row → ℕ → ℕ → ℕ → Type 0
+Splices R R′ from to kind =
+    (before : List Row) (bs : Blocks) (after : List Row) → Laid R from to before bs after → (o : Op) → kind ≡ operator-kind o
+    → Held R′ from to before after (splice o (live bs))
+
 -- rules 2 and 3: a child behind these, of which none decides the node, does
 unfoldable pub decisive : Op → Forest → Tree → Bool
 decisive o ts u = is-empty (dual o) u || some-child (λ t. opposite t u) ts
 
-abbrev pub Decides : List Row → ℕ → ℕ → ℕ → ℕ → Bool → Type 0
-Decides R from to at kind decided =
-    (before : List Row) (done : Blocks) (after : List Row) → Laid R from to before done after
-    → (front : List Row) (x : Block) (back : List Row) → Stands R at front x back → (o : Op) → kind ≡ operator-kind o
-    → decided ≡ some-child (decisive o (live done)) (live (x ◂ none))
+abbrev pub Decides : List Row → ℕ → ℕ → Bool → Type 0
+Decides R at kind decided =
+    (us : Forest) (front : List Row) (x : Block) (back : List Row) → Stands R at front x back → (o : Op) → kind ≡ operator-kind o
+    → decided ≡ some-child (decisive o us) (live (x ◂ none))
 
 -- rule 4: a child behind these is equal to one of them
 unfoldable pub repeated : Forest → Tree → Bool
@@ -34,62 +50,112 @@ repeated ts u = some-child (λ t. equal t u) ts
 abbrev pub new : Forest → Forest → Forest
 new ts us = keep (λ u. not (repeated ts u)) us
 
-abbrev pub Repeats : List Row → ℕ → ℕ → ℕ → Bool → Type 0
-Repeats R from to at again =
-    (before : List Row) (done : Blocks) (after : List Row) → Laid R from to before done after
-    → (front : List Row) (x : Block) (back : List Row) → Stands R at front x back
-    → again ≡ some-child (repeated (live done)) (live (x ◂ none))
-
 -- rule 3: no two trees are opposite literals
 abbrev pub Unopposed : Forest → Type 0
 Unopposed ts = some-two opposite ts ≡ false
 
-pub record UnopposedRegions (R : List Row) (from at to : ℕ) : Type 0 where
-  pub regions : Regions R from at to
-  pub unopposed : Unopposed (live (regions .done))
+-- Members: the literals among the blocks from a row on, each by its row and its print.
+abbrev pub place : ℕ → ℕ
+place m = m / 65536
+
+unfoldable pub note : ℕ → Block → List ℕ
+note r (gone rs) = []
+note r (literal s v) = (r * 65536 + literal-mix (sign s) v) ∷ []
+note r (operator o ks) = []
+
+unfoldable pub notes : ℕ → Blocks → List ℕ
+notes r none = []
+notes r (x ◂ bs) = note r x ++ notes (r + size x) bs
+
+-- the first n members of a table are those of the blocks from a row on
+pub record Noted (M : List ℕ) (n from : ℕ) (bs : Blocks) : Type 0 where
+  pub fit : n ≤ length M
+  pub are : take n M ≡ notes from bs
+
+-- tables for as many members as there are rows
+abbrev pub Tables : Layout → List ℕ → List ℕ → List ℕ → Type 0
+Tables s H L M = chains.Room H L M (total s)
+
+-- a literal of this variable
+abbrev pub literal-test : Row → ℕ → Bool
+literal-test r x = leb (r .kind) 4 && eqb (r .argument) x
+
+-- a chain of members that stand in rows, from its first on
+pub record Chain (rows : ℕ) (L M : List ℕ) (start : ℕ) : Type 0 where
+  pub heads : List ℕ
+  pub count : ℕ
+  pub bucket-of : ℕ
+  pub linked : Linked heads L M count
+  pub starts : start ≡ last M bucket-of count
+  pub links-fit : count ≤ length L
+  pub members-fit : count ≤ length M
+  pub places : (j : ℕ) → j < count → place (getD M j 0) < rows
+
+-- what is found on it
+abbrev pub Test : List Row → List ℕ → ℕ → ℕ → Type 0
+Test R M x j = literal-test (at-row R (place (getD M j 0))) x ≡ true
+
+pub record Seeks (R : List Row) (L M : List ℕ) (start x i : ℕ) : Type 0 where
+  pub tells : (H : List ℕ) (n k : ℕ) → Linked H L M n → start ≡ last M k n
+      → ((i ≡ 0) × Passed M n k (Test R M x) 0) ⊎ ((0 < i) × (i ≤ n) × Test R M x (i - 1))
+
+-- the block at a row stands behind others, whose literals are the members
+pub record Behind (R : List Row) (at : ℕ) (H L M : List ℕ) (n : ℕ) : Type 0 where
+  pub standing : Standing R at
+  pub from : ℕ
+  pub before : List Row
+  pub done : Blocks
+  pub after : List Row
+  pub laid : Laid R from at before done after
+  pub noted : Noted M n from done
+  pub few : n ≤ at
+  pub linked : Linked H L M n
+
+-- a literal's row
+pub record LiteralRow (R : List Row) (at kind : ℕ) : Type 0 where
+  pub is : kind ≡ (at-row R at) .kind
+  pub above : 2 < kind
+  pub below : kind ≤ 4
 
 -- the block at a row has become another that covers the same rows
-pub record Kept (R R′ : List Row) (at : ℕ) (x : Block) (ts : Forest) : Type 0 where
+pub record Kept (R R′ : List Row) (at : ℕ) (x : Block) : Type 0 where
   pub block : Block
   pub stored : R′ ≡ set R at (head block)
   pub same-rows : inner block ≡ inner x
-  pub holds : live (block ◂ none) ≡ ts
 
--- rules 2 to 4 at one block behind others
-abbrev pub Judges : List Row → List Row → ℕ → ℕ → ℕ → ℕ → Bool → Type 0
-Judges R R′ from to at kind decided =
-    (before : List Row) (done : Blocks) (after : List Row) → Laid R from to before done after → Unopposed (live done)
-    → (front : List Row) (x : Block) (back : List Row) → Stands R at front x back → (o : Op) → kind ≡ operator-kind o
-    → (decided ≡ some-child (decisive o (live done)) (live (x ◂ none))) × Kept R R′ at x (new (live done) (live (x ◂ none)))
+-- rules 2 to 4 at one block behind others: 0 if it decides the node, else one more than the members now
+pub record Judged (R R′ : List Row) (M′ : List ℕ) (from at : ℕ) (done : Blocks) (x : Block) (o : Op) (left : ℕ) : Type 0 where
+  pub decided-is : eqb left 0 ≡ some-child (decisive o (live done)) (live (x ◂ none))
+  pub kept : Kept R R′ at x
+  pub holds : (left ≡ 0 → ⊥) → live (kept .block ◂ none) ≡ new (live done) (live (x ◂ none))
+  pub noted : (left ≡ 0 → ⊥) → take (left - 1) M′ ≡ notes from done ++ note at (kept .block)
 
--- rules 2 to 4 at some children behind others: whether they decide the node, and if not, what they become
-pub record Grouped (R : List Row) (from at to : ℕ) (before : List Row) (done : Blocks) (after : List Row) (o : Op) (ts : Forest) (decided : Bool) : Type 0 where
-  pub blocks : Blocks
-  pub here : Here R from at to before done blocks after
-  pub decided-is : decided ≡ some-child (decisive o (live done)) ts
-  pub reads : decided ≡ false → live blocks ≡ new (live done) ts
+abbrev pub JudgesFor : List Row → List Row → ℕ → ℕ → List ℕ → List ℕ → ℕ → Op → Type 0
+JudgesFor R R′ at n M M′ left o =
+    (from : ℕ) (before : List Row) (done : Blocks) (after : List Row) → Laid R from at before done after → Noted M n from done
+    → Unopposed (live done) → (front : List Row) (x : Block) (back : List Row) → Stands R at front x back
+    → Judged R R′ M′ from at done x o left
 
-abbrev pub Sifts : List Row → List Row → ℕ → ℕ → ℕ → ℕ → Bool → Type 0
-Sifts R R′ from at to kind decided =
-    (before : List Row) (done : Blocks) (bs : Blocks) (after : List Row) → Here R from at to before done bs after
-    → Unopposed (live done) → (o : Op) → kind ≡ operator-kind o → Grouped R′ from at to before done after o (live bs) decided
+abbrev pub JudgesAs : List Row → List Row → ℕ → ℕ → List ℕ → List ℕ → ℕ → Type 0
+JudgesAs R R′ at n M M′ left = (o : Op) → JudgesFor R R′ at n M M′ left o
 
--- every tree is tidy
-unfoldable pub all-tidy : Forest → Type 0
-all-tidy ts = some-child (λ t. not (is-tidy t)) ts ≡ false
+abbrev pub Judges : List Row → List Row → ℕ → ℕ → ℕ → List ℕ → List ℕ → ℕ → Type 0
+Judges R R′ at kind n M M′ left = (o : Op) → kind ≡ operator-kind o → JudgesFor R R′ at n M M′ left o
 
-pub record TidyRegion (R : List Row) (from to : ℕ) : Type 0 where
-  pub region : Region R from to
-  pub tidy : all-tidy (live (region .blocks))
-
--- rules 1 to 4 at all children
-pub record Reduced (R : List Row) (from to : ℕ) (before after : List Row) (o : Op) (ts : Forest) (decided : Bool) : Type 0 where
+-- rules 2 to 4 at all blocks of a region
+pub record Sifted (R : List Row) (from to : ℕ) (before after : List Row) (o : Op) (ts : Forest) (decided : Bool) : Type 0 where
   pub blocks : Blocks
   pub laid : Laid R from to before blocks after
-  pub decided-is : decided ≡ decides o (splice o ts)
-  pub reads : decided ≡ false → live blocks ≡ firsts (splice o ts)
+  pub decided-is : decided ≡ decides o ts
+  pub reads : decided ≡ false → live blocks ≡ firsts ts
 
+abbrev pub Sifts : List Row → List Row → ℕ → ℕ → ℕ → Bool → Type 0
+Sifts R R′ from to kind decided =
+    (before : List Row) (bs : Blocks) (after : List Row) → Laid R from to before bs after → (o : Op) → kind ≡ operator-kind o
+    → Sifted R′ from to before after o (live bs) decided
+
+-- rules 1 to 4 at all children
 abbrev pub Reduces : List Row → List Row → ℕ → ℕ → ℕ → Bool → Type 0
 Reduces R R′ from to kind decided =
     (before : List Row) (bs : Blocks) (after : List Row) → Laid R from to before bs after → (o : Op) → kind ≡ operator-kind o
-    → all-tidy (live bs) → Reduced R′ from to before after o (live bs) decided
+    → Sifted R′ from to before after o (splice o (live bs)) decided

@@ -21,10 +21,6 @@ at-row R r = getD R r (row 0 0)
 unfoldable pub extent : Row → ℕ
 extent r = cond (eqb (r .kind) 3 || eqb (r .kind) 4) 1 (r .argument)
 
--- whether a row is this one
-abbrev pub row-test : Row → ℕ → ℕ → Bool
-row-test r kind argument = eqb (r .kind) kind && eqb (r .argument) argument
-
 -- one for a row whose block holds a tree, none for a dead one's
 abbrev pub Alive : Row → ℕ → Type 0
 Alive r one = ((r .kind ≡ 0) × (one ≡ 0)) ⊎ ((r .kind ≡ 0 → ⊥) × (one ≡ 1))
@@ -45,12 +41,6 @@ Finds R from to at = (before : List Row) (bs : Blocks) (after : List Row) → La
 abbrev pub Counts : List Row → ℕ → ℕ → ℕ → Type 0
 Counts R from to c = (before : List Row) (bs : Blocks) (after : List Row) → Laid R from to before bs after → c ≡ count (live bs)
 
--- whether one of the trees is the literal of this kind and variable
-abbrev pub Holds : List Row → ℕ → ℕ → ℕ → ℕ → Bool → Type 0
-Holds R from to kind v found =
-    (before : List Row) (bs : Blocks) (after : List Row) → Laid R from to before bs after
-    → (s : Bool) → kind ≡ literal-kind s → found ≡ some-child (λ t. equal t (lit s v)) (live bs)
-
 -- the first trees of a region, and those behind them
 pub record Hopped (R : List Row) (from at to : ℕ) (before after : List Row) (owed : ℕ) (ts : Forest) : Type 0 where
   pub first : Blocks
@@ -69,15 +59,3 @@ abbrev pub JoinsAt : List Row → List Row → ℕ → ℕ → ℕ → ℕ → T
 JoinsAt R R′ run at next run′ =
     (((at-row R at) .kind ≡ 0) × (R′ ≡ set R run (row 0 (next - run))) × (run′ ≡ run)) ⊎
     (((at-row R at) .kind ≡ 0 → ⊥) × (R′ ≡ R) × (run′ ≡ next))
-
--- the rows from one number up to another have become blocks that hold these trees, and those from a row on are dead
-pub record Joined (R : List Row) (from run to : ℕ) (before after : List Row) (ts : Forest) : Type 0 where
-  pub early : Blocks
-  pub dead : Blocks
-  pub here : Here R from run to before early dead after
-  pub hidden : live dead ≡ ∅
-  pub reads : live early ≡ ts
-
-abbrev pub Joins : List Row → List Row → ℕ → ℕ → ℕ → Type 0
-Joins R R′ from to run =
-    (before : List Row) (bs : Blocks) (after : List Row) → Laid R from to before bs after → Joined R′ from run to before after (live bs)

@@ -1,14 +1,12 @@
 // Dead blocks that stand side by side are joined, so that a walk passes them in one step.
 use crate::GONE;
-use crate::walk::extent_at;
 use rows::Layout;
 use rows::read::kind_at;
 use rows::write::set_row;
 ghost use Prim.Native.Nat.{_^_, _≤_, _<_};
 ghost use lib.ListN.{length};
 ghost use Rattle.rows.specs.Layouts.{total, rows-in, Room};
-ghost use Rattle.blocks.specs.Blocks.{Region};
-ghost use Rattle.blocks.specs.Walks.{JoinsAt, Joins};
+ghost use Rattle.blocks.specs.Walks.{JoinsAt};
 
 // Joins the block from `at` to `next`, if it is dead, with the dead rows from `run` to there, and returns the row from which on
 // all are dead up to `next`.
@@ -20,20 +18,5 @@ pub fn join_at(b: &mut [u8], s: Layout, run: usize, at: usize, next: usize) -> u
         return next;
     }
     set_row(b, s, run, GONE, next - run);
-    run
-}
-
-// Joins the dead blocks from `from` to `to`, and returns the row from which on all are dead up to `to`.
-pub fn join_dead(b: &mut [u8], s: Layout, from: usize, to: usize) -> usize
-    requires { ⌜ Room s (length (now b)) × (total s < 256 ^ s .width) × Region (rows-in s (now b)) from to ⌝ }
-    ensures { λ run. ⌜ Joins (rows-in s (now (b .entry))) (rows-in s (now (b .exit))) from to run ⌝ }
-{
-    let mut run = from;
-    let mut at = from;
-    while at < to {
-        let next = at + extent_at(b, s, at);
-        run = join_at(b, s, run, at, next);
-        at = next;
-    }
     run
 }

@@ -1,21 +1,43 @@
-// Rules 1 to 4 at an operator's children ("Tidy sheets").
+// Rules 1 to 4 at an operator's children ("Tidy sheets"). A child is looked for among those before it by its print; whether it is equal
+// or opposite to one of them is decided by comparing rows.
 use crate::GONE;
-use crate::dead::join_dead;
+use crate::dead::join_at;
 use crate::walk::extent_at;
 use crate::walk::first_live;
-use crate::walk::holds;
+use buckets::add;
+use buckets::behind;
+use buckets::bucket_of;
+use buckets::first;
+use buckets::member;
+use buckets::print::literal_print;
 use rows::Layout;
 use rows::NEGATIVE;
-use rows::POSITIVE;
 use rows::read::argument_at;
 use rows::read::kind_at;
+use rows::wide;
 use rows::write::set_row;
 ghost use mathlib.Core.Path.{_≡_};
-ghost use Prim.Native.Nat.{_^_, _<_};
+ghost use Prim.Native.Nat.{_-_, _+_, _^_, _≤_, _<_};
 ghost use lib.ListN.{length};
 ghost use Rattle.rows.specs.Layouts.{total, rows-in, Room};
+ghost use Rattle.buckets.specs.Chains.{Linked};
 ghost use Rattle.blocks.specs.Blocks.{Region, Standing, OperatorKind};
-ghost use Rattle.blocks.specs.Rules.{beheaded, Decides, Repeats, UnopposedRegions, Judges, Sifts, TidyRegion, Reduces};
+ghost use Rattle.blocks.specs.Walks.{at-row};
+ghost use Rattle.blocks.specs.Rules.{beheaded, Splices, Decides, literal-test, Chain, Seeks, Tables, Behind, LiteralRow, JudgesAs, Judges, Sifts, Reduces};
+
+// The child at row `at` of an operator of this kind, behind `before` members; or a literal of this kind there.
+pub struct Child {
+    pub at: usize,
+    pub kind: u8,
+    pub before: usize,
+}
+
+// The children from row `from` to row `to` of an operator of this kind.
+pub struct Span {
+    pub from: usize,
+    pub to: usize,
+    pub kind: u8,
+}
 
 // Rule 1 at the block at row `r`: of the parent's own kind, it leaves its children in its place.
 pub fn behead(b: &mut [u8], s: Layout, r: usize, kind: u8)
@@ -27,93 +49,168 @@ pub fn behead(b: &mut [u8], s: Layout, r: usize, kind: u8)
     }
 }
 
-// Whether the block at row `at`, behind the children from `from` to `to`, decides an operator of this kind.
-pub fn decides_at(b: &[u8], s: Layout, from: usize, to: usize, at: usize, kind: u8) -> bool
-    requires { ⌜ Room s (length (now b)) × Region (rows-in s (now b)) from to × Standing (rows-in s (now b)) at ⌝ }
-    ensures { λ r. ⌜ Decides (rows-in s (now (b .entry))) from to at kind r ⌝ }
+// Rule 1 at the children from `from` to `to`.
+pub fn splice(b: &mut [u8], s: Layout, from: usize, to: usize, kind: u8)
+    requires { ⌜ Room s (length (now b)) × (total s < 256 ^ s .width) × Region (rows-in s (now b)) from to × OperatorKind kind ⌝ }
+    ensures { λ _. ⌜ Splices (rows-in s (now (b .entry))) (rows-in s (now (b .exit))) from to kind ⌝ }
 {
-    let k = kind_at(b, s, at);
-    if k == GONE {
+    let mut at = from;
+    while at < to {
+        let end = at + extent_at(b, s, at);
+        behead(b, s, at, kind);
+        at = end;
+    }
+}
+
+// Whether row `r` is a literal of the variable `x`.
+pub fn literal_of(b: &[u8], s: Layout, r: usize, x: usize) -> bool
+    requires { ⌜ Room s (length (now b)) × (r < total s) ⌝ }
+    ensures { λ is. ⌜ is ≡ literal-test (at-row (rows-in s (now (b .entry))) r) x ⌝ }
+{
+    if NEGATIVE < kind_at(b, s, r) {
         return false;
     }
-    if k <= NEGATIVE {
-        return holds(
-            b,
-            s,
-            from,
-            to,
-            POSITIVE + NEGATIVE - k,
-            argument_at(b, s, at),
-        );
+    argument_at(b, s, r) == x
+}
+
+// One more than the number of a member on this chain that is a literal of the variable `x`, or 0 if there is none.
+pub fn find(b: &[u8], s: Layout, links: &[u16], members: &[u32], start: usize, x: usize) -> usize
+    requires { ⌜ Room s (length (now b)) × Chain (total s) (now links) (now members) start ⌝ }
+    ensures { λ i. ⌜ Seeks (rows-in s (now (b .entry))) (now (links .entry)) (now (members .entry)) start x i ⌝ }
+{
+    let mut i = start;
+    while 0 < i {
+        let r = member(members, i - 1) / 65536;
+        if literal_of(b, s, r, x) {
+            return i;
+        }
+        i = behind(links, i - 1);
     }
-    if k == kind {
+    0
+}
+
+// Rules 3 and 4 at a literal: 0 if it decides the operator, else one more than the members that there are now. One that is equal to a
+// member goes, and decides nothing, since no member is opposite to it.
+pub fn judge_literal(
+    b: &mut [u8],
+    s: Layout,
+    c: Child,
+    heads: &mut [u16],
+    links: &mut [u16],
+    members: &mut [u32],
+) -> usize
+    requires { ⌜ Room s (length (now b)) × (total s < 256 ^ s .width) × Tables s (now heads) (now links) (now members) × Behind (rows-in s (now b)) (c .at) (now heads) (now links) (now members) (c .before) × LiteralRow (rows-in s (now b)) (c .at) (c .kind) ⌝ }
+    ensures { λ left. ⌜ JudgesAs (rows-in s (now (b .entry))) (rows-in s (now (b .exit))) (c .at) (c .before) (now (members .entry)) (now (members .exit)) left ⌝ }
+    ensures { λ left. ⌜ Linked (now (heads .exit)) (now (links .exit)) (now (members .exit)) (left - 1) × (left ≤ c .before + 2) ⌝ }
+{
+    let at = c.at;
+    let n = c.before;
+    let x = argument_at(b, s, at);
+    let p = literal_print(wide(NEGATIVE - c.kind), x);
+    let start = first(heads, members, n, bucket_of(p));
+    let i = find(b, s, links, members, start, x);
+    if i == 0 {
+        add(heads, links, members, n, at * 65536 + p);
+        return n + 2;
+    }
+    if kind_at(b, s, member(members, i - 1) / 65536) != c.kind {
+        return 0;
+    }
+    set_row(b, s, at, GONE, 1);
+    n + 1
+}
+
+// Rule 2: whether the block at row `at` is an empty operator of another kind than this.
+pub fn decides_at(b: &[u8], s: Layout, at: usize, kind: u8) -> bool
+    requires { ⌜ Room s (length (now b)) × Standing (rows-in s (now b)) at × (4 < (at-row (rows-in s (now b)) at) .kind) ⌝ }
+    ensures { λ r. ⌜ Decides (rows-in s (now (b .entry))) at kind r ⌝ }
+{
+    if kind_at(b, s, at) == kind {
         return false;
     }
     let end = at + argument_at(b, s, at);
     first_live(b, s, at + 1, end) == end
 }
 
-// Whether the block at row `at` is a literal that is equal to one of the children from `from` to `to`.
-pub fn repeats_at(b: &[u8], s: Layout, from: usize, to: usize, at: usize) -> bool
-    requires { ⌜ Room s (length (now b)) × Region (rows-in s (now b)) from to × Standing (rows-in s (now b)) at ⌝ }
-    ensures { λ r. ⌜ Repeats (rows-in s (now (b .entry))) from to at r ⌝ }
+// Rules 2 to 4 at a child: 0 if it decides the operator, else one more than the members that there are now.
+pub fn judge(
+    b: &mut [u8],
+    s: Layout,
+    c: Child,
+    heads: &mut [u16],
+    links: &mut [u16],
+    members: &mut [u32],
+) -> usize
+    requires { ⌜ Room s (length (now b)) × (total s < 256 ^ s .width) × Tables s (now heads) (now links) (now members) × Behind (rows-in s (now b)) (c .at) (now heads) (now links) (now members) (c .before) ⌝ }
+    ensures { λ left. ⌜ Judges (rows-in s (now (b .entry))) (rows-in s (now (b .exit))) (c .at) (c .kind) (c .before) (now (members .entry)) (now (members .exit)) left ⌝ }
+    ensures { λ left. ⌜ Linked (now (heads .exit)) (now (links .exit)) (now (members .exit)) (left - 1) × (left ≤ c .before + 2) ⌝ }
 {
+    let at = c.at;
     let k = kind_at(b, s, at);
     if k == GONE {
-        return false;
+        return c.before + 1;
     }
-    if NEGATIVE < k {
-        return false;
+    if k <= NEGATIVE {
+        let l = Child {
+            at: at,
+            kind: k,
+            before: c.before,
+        };
+        return judge_literal(b, s, l, heads, links, members);
     }
-    holds(b, s, from, to, k, argument_at(b, s, at))
+    if decides_at(b, s, at, c.kind) {
+        return 0;
+    }
+    c.before + 1
 }
 
-// Rules 2 to 4 at the block at row `at`, behind the children from `from` to `to`, of which no two are opposite: whether it decides
-// an operator of this kind. A literal that is equal to one of them goes, and decides nothing, since none of them is opposite to it.
-pub fn sift_at(b: &mut [u8], s: Layout, from: usize, to: usize, at: usize, kind: u8) -> bool
-    requires { ⌜ Room s (length (now b)) × (total s < 256 ^ s .width) × Region (rows-in s (now b)) from to × Standing (rows-in s (now b)) at ⌝ }
-    ensures { λ r. ⌜ Judges (rows-in s (now (b .entry))) (rows-in s (now (b .exit))) from to at kind r ⌝ }
+// Rules 2 to 4 at spliced children: whether they decide their operator. If not, those that are equal to one before have gone. Rows that
+// have gone are joined, so that a later walk passes them in one step.
+pub fn sift(
+    b: &mut [u8],
+    s: Layout,
+    w: Span,
+    heads: &mut [u16],
+    links: &mut [u16],
+    members: &mut [u32],
+) -> bool
+    requires { ⌜ Room s (length (now b)) × (total s < 256 ^ s .width) × Tables s (now heads) (now links) (now members) × Region (rows-in s (now b)) (w .from) (w .to) × OperatorKind (w .kind) ⌝ }
+    ensures { λ r. ⌜ Sifts (rows-in s (now (b .entry))) (rows-in s (now (b .exit))) (w .from) (w .to) (w .kind) r ⌝ }
 {
-    if repeats_at(b, s, from, to, at) {
-        set_row(b, s, at, GONE, 1);
-        return false;
-    }
-    decides_at(b, s, from, to, at, kind)
-}
-
-// Rules 2 to 4 at the children from `at` to `to`, of which no two are opposite or equal, behind those from `from` on, of which no two
-// are opposite: whether they decide an operator of this kind. If not, those that are equal to one before have gone.
-pub fn sift(b: &mut [u8], s: Layout, from: usize, at: usize, to: usize, kind: u8) -> bool
-    requires { ⌜ Room s (length (now b)) × (total s < 256 ^ s .width) × UnopposedRegions (rows-in s (now b)) from at to × OperatorKind kind ⌝ }
-    ensures { λ r. ⌜ Sifts (rows-in s (now (b .entry))) (rows-in s (now (b .exit))) from at to kind r ⌝ }
-{
-    let mut p = at;
-    while p < to {
-        let step = extent_at(b, s, p);
-        if sift_at(b, s, from, at, p, kind) {
+    let mut at = w.from;
+    let mut run = w.from;
+    let mut n: usize = 0;
+    while at < w.to {
+        let next = at + extent_at(b, s, at);
+        let c = Child {
+            at: at,
+            kind: w.kind,
+            before: n,
+        };
+        let left = judge(b, s, c, heads, links, members);
+        if left == 0 {
             return true;
         }
-        p += step;
+        n = left - 1;
+        run = join_at(b, s, run, at, next);
+        at = next;
     }
     false
 }
 
-// Rules 1 to 4 at the tidied children from `from` to `to`: whether they decide an operator of this kind. If not, they are now what
-// the rules leave of them. Those that have gone are joined, so that a later one is compared with what is left alone.
-pub fn reduce(b: &mut [u8], s: Layout, from: usize, to: usize, kind: u8) -> bool
-    requires { ⌜ Room s (length (now b)) × (total s < 256 ^ s .width) × TidyRegion (rows-in s (now b)) from to × OperatorKind kind ⌝ }
-    ensures { λ r. ⌜ Reduces (rows-in s (now (b .entry))) (rows-in s (now (b .exit))) from to kind r ⌝ }
+// Rules 1 to 4 at the children: whether they decide their operator. If not, they are now what the rules leave of them. The tables may
+// hold anything.
+pub fn reduce(
+    b: &mut [u8],
+    s: Layout,
+    w: Span,
+    heads: &mut [u16],
+    links: &mut [u16],
+    members: &mut [u32],
+) -> bool
+    requires { ⌜ Room s (length (now b)) × (total s < 256 ^ s .width) × Tables s (now heads) (now links) (now members) × Region (rows-in s (now b)) (w .from) (w .to) × OperatorKind (w .kind) ⌝ }
+    ensures { λ r. ⌜ Reduces (rows-in s (now (b .entry))) (rows-in s (now (b .exit))) (w .from) (w .to) (w .kind) r ⌝ }
 {
-    let mut at = from;
-    let mut run = from;
-    while at < to {
-        let end = at + extent_at(b, s, at);
-        behead(b, s, at, kind);
-        if sift(b, s, from, at, end, kind) {
-            return true;
-        }
-        run = join_dead(b, s, run, end);
-        at = end;
-    }
-    false
+    splice(b, s, w.from, w.to, w.kind);
+    sift(b, s, w, heads, links, members)
 }

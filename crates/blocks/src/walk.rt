@@ -10,7 +10,7 @@ ghost use Prim.Native.Nat.{_^_, _≤_, _<_};
 ghost use lib.ListN.{length};
 ghost use Rattle.rows.specs.Layouts.{total, rows-in, Room};
 ghost use Rattle.blocks.specs.Blocks.{Region, Owed};
-ghost use Rattle.blocks.specs.Walks.{at-row, extent, row-test, Alive, Finds, Counts, Holds, Hops};
+ghost use Rattle.blocks.specs.Walks.{at-row, extent, Alive, Finds, Counts, Hops};
 
 // How many rows the block at row `r` covers.
 pub fn extent_at(b: &[u8], s: Layout, r: usize) -> usize
@@ -25,17 +25,6 @@ pub fn extent_at(b: &[u8], s: Layout, r: usize) -> usize
         return 1;
     }
     argument_at(b, s, r)
-}
-
-// Whether row `r` is this one.
-pub fn row_is(b: &[u8], s: Layout, r: usize, kind: u8, argument: usize) -> bool
-    requires { ⌜ Room s (length (now b)) × (r < total s) ⌝ }
-    ensures { λ is. ⌜ is ≡ row-test (at-row (rows-in s (now (b .entry))) r) kind argument ⌝ }
-{
-    if kind_at(b, s, r) != kind {
-        return false;
-    }
-    argument_at(b, s, r) == argument
 }
 
 // One for a block that holds a tree, none for a dead one.
@@ -76,21 +65,6 @@ pub fn count_live(b: &[u8], s: Layout, from: usize, to: usize) -> usize
         at += extent_at(b, s, at);
     }
     seen
-}
-
-// Whether a literal of this kind and variable stands among the trees of the blocks from `from` to `to`.
-pub fn holds(b: &[u8], s: Layout, from: usize, to: usize, kind: u8, x: usize) -> bool
-    requires { ⌜ Room s (length (now b)) × Region (rows-in s (now b)) from to ⌝ }
-    ensures { λ found. ⌜ Holds (rows-in s (now (b .entry))) from to kind x found ⌝ }
-{
-    let mut at = from;
-    while at < to {
-        if row_is(b, s, at, kind, x) {
-            return true;
-        }
-        at += extent_at(b, s, at);
-    }
-    false
 }
 
 // The row behind the first `owed` trees of the blocks from `from` on.

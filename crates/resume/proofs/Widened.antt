@@ -73,7 +73,11 @@ module _ {G : Format} (is : G ≡ wide) {s : Layout} {b first second : Bytes} (o
               record {
                 width-is = refl;
                 room = held-readable .room;
-                few-rows = omega (arith, held-readable .few-variables, held-readable .few-nodes);
+                few-rows =
+                    record {
+                      counted = omega (arith, held-readable .few-variables, held-readable .few-nodes);
+                      in-tables = omega (arith, held-readable .few-variables, held-readable .few-nodes);
+                    };
                 is-formula = held-readable .is-formula;
               };
           within = subst (Within wide) (sym held-formula) (ok .placed .within);

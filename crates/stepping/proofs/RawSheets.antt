@@ -3,7 +3,7 @@
 use mathlib.Core.Path.{_≡_, sym, ap, ap₂, _∙_}
 use mathlib.Core.Bool.{Bool, true}
 use mathlib.Core.List.{List, _++_}
-use Prim.Native.Nat.{ℕ, suc, _-_, _^_, _≤_, _<_}
+use Prim.Native.Nat.{ℕ, suc, _-_, _≤_}
 use native.Mathlib.Omega.{arith}
 use lib.ListN.{length, take, drop}
 use borrow.Author.Tests.{lt-ltb}
@@ -13,7 +13,7 @@ use Rattle.formula.proofs.Closed.{length-without}
 use Rattle.sheet.specs.Format.{Bytes, Format, sheet-length}
 use Rattle.sheet.specs.Sheet.{sheet}
 use Rattle.sheet.specs.Operations.{padded}
-use Rattle.rows.specs.Layouts.{total, Room}
+use Rattle.rows.specs.Layouts.{Room}
 use Rattle.rows.specs.Formulas.{prefix-in, matrix-in, formula-in}
 use Rattle.rows.specs.declared.Layout.{Layout}
 use Rattle.rows.proofs.Formulas.{length-prefix}
@@ -32,7 +32,7 @@ module _ {F : Format} {s : Layout} {b : Bytes} (st : Steppable F s b) where
   unfolding sheet-length
   raw-room n {len} h = record { few-bytes = st .readable .room .few-bytes; holds = rw (st .width-is) h }
 
-  raw-few : (n : ℕ) → n ≤ F .most-nodes → total (raw-layout s n) < 256 ^ s .width
+  raw-few : (n : ℕ) → n ≤ F .most-nodes → tidying.Few (raw-layout s n)
   raw-few n h = few-rows (st .countable) (raw-layout s n) (st .width-is) (omega (arith, st .few-variables)) h
 
   module _ {x i : ℕ} (nm : Named s b x i) where

@@ -1,21 +1,19 @@
 -- All five rules at a row: what the steps at an operator make of its row and its children's blocks.
 -- Assumes nothing.
-use mathlib.Core.Path.{_≡_, refl, sym, ap, ap₂, _∙_, subst}
-use mathlib.Core.Bool.{Bool, true, false, not}
+use mathlib.Core.Path.{_≡_, refl, sym, ap, ap₂, _∙_}
+use mathlib.Core.Bool.{Bool, true, false}
 use mathlib.Core.List.{List, [], _∷_, _++_, append-assoc}
 use Prim.Native.Nat.{ℕ, zero, suc, _+_, _-_, _≤_, _<_}
 use native.Mathlib.Omega.{arith}
 use lib.Seq.{append-snoc, getD-at}
-use Rattle.formula.specs.Tree.{Op, and, or, dual, Tree, lit, node, Forest, ∅, _▸_, _⧺_, some-child, count}
+use Rattle.formula.specs.Tree.{Op, and, or, dual, Tree, lit, node, Forest, ∅, _▸_, _⧺_, count}
 use Rattle.formula.specs.Tidy.{splice, decides, firsts, unwrap, combine, tidy, tidy-all}
-use Rattle.formula.proofs.Booleans.{or-none}
-use Rattle.formula.proofs.Tidy.Limits.{tidy-is-tidy}
 use Rattle.sheet.specs.Format.{Row, row, children}
 use Rattle.sheet.specs.Sheet.{literal-kind, operator-kind, front, behind, grow}
 use Rattle.sheet.proofs.Preorder.{NodeKind, literal, operator, node-kind}
 use Rattle.blocks.specs.Blocks.{Blocks, _◂_, _⊕_, head, inner, block-rows, grown, live, Region, Owed, OperatorKind}
 use Rattle.blocks.specs.Walks.{Hopped, Hops, at-row}
-use Rattle.blocks.specs.Rules.{Reduced, all-tidy, TidyRegion, Reduces}
+use Rattle.blocks.specs.Rules.{Sifted, Reduces}
 use Rattle.blocks.proofs.Blocks.{live-⊕, rows-⊕, length-⊕, done-laid}
 use Rattle.tidying.specs.Inner.Operators.{Headed, Replaced, Ready, Combines, Hollows, Concludes}
 use Rattle.blocks.specs.Blocks as blocks
@@ -39,11 +37,6 @@ count-tidy : (ts : Forest) → count (tidy-all ts) ≡ count ts
 unfolding tidy-all count
 count-tidy ∅ = refl
 count-tidy (t ▸ ts) = ap suc (count-tidy ts)
-
-all-tidied : (ts : Forest) → all-tidy (tidy-all ts)
-unfolding tidy-all all-tidy some-child
-all-tidied ∅ = refl
-all-tidied (t ▸ ts) = or-none (ap not (tidy-is-tidy t)) (all-tidied ts)
 
 -- grow
 
@@ -149,16 +142,8 @@ module _ {R : List Row} {r n k a : ℕ} (k-is : k ≡ (at-row R r) .kind) (a-is 
     kids : Forest
     kids = live (hopped .first)
 
-    owned : kids ≡ tidy-all (front a ts)
-    unfolding kids
-    owned = hopped .owned ∙ ap (front a) (h .reads) ∙ sym (tidy-front a ts)
-
-    kids-tidy : all-tidy kids
-    kids-tidy = subst all-tidy (sym owned) (all-tidied (front a ts))
-
-    pub ready-region : TidyRegion R (r + 1) end
-    unfolding kids
-    ready-region = record { region = record { before = _; blocks = _; after = _; laid = done-laid (hopped .here) }; tidy = kids-tidy }
+    pub ready-region : Region R (r + 1) end
+    ready-region = record { before = _; blocks = _; after = _; laid = done-laid (hopped .here) }
 
     pub ready-within : (r < end) × (end ≤ n)
     ready-within = (omega (arith, hopped .here .place), omega (arith, hopped .here .ends))
@@ -190,9 +175,9 @@ module _ {R : List Row} {r n k a : ℕ} (k-is : k ≡ (at-row R r) .kind) (a-is 
         }
 
     module _ {R₁ : List Row} {d : Bool} (reduce : Reduces R R₁ (r + 1) end k d) where
-      reduced : Reduced R₁ (r + 1) end (before ++ (x ∷ [])) behind-them (ready-kind .op) kids d
+      reduced : Sifted R₁ (r + 1) end (before ++ (x ∷ [])) behind-them (ready-kind .op) (splice (ready-kind .op) kids) d
       unfolding behind-them kids
-      reduced = reduce (before ++ (x ∷ [])) (hopped .first) behind-them (done-laid (hopped .here)) (ready-kind .op) (ready-kind .is) kids-tidy
+      reduced = reduce (before ++ (x ∷ [])) (hopped .first) behind-them (done-laid (hopped .here)) (ready-kind .op) (ready-kind .is)
 
       pub reduced-region : Region R₁ (r + 1) end
       reduced-region = record { before = _; blocks = _; after = _; laid = reduced .laid }

@@ -16,7 +16,7 @@ use Rattle.blocks.specs.Blocks.{gone, operator, Blocks, none, _◂_, head, inne
 use Rattle.blocks.specs.Walks.{extent, FirstLive, at-row, Finds}
 use Rattle.blocks.proofs.Blocks.{live-◂, next, rest-laid, no-rows}
 use Rattle.blocks.proofs.Walks.{here-next}
-use Rattle.blocks.proofs.SiftAt.{first-live-none}
+use Rattle.blocks.proofs.Judge.{first-live-none}
 use Rattle.blocks.proofs.Hop.{live-one}
 use Rattle.tidying.specs.Inner.Operators.{Headed, Replaced, Hollows, Concludes}
 

@@ -22,7 +22,7 @@ use Rattle.blocks.specs.Blocks.{Block, gone, literal, operator, Blocks, none, _
 use Rattle.blocks.specs.Walks.{Counts, at-row}
 use Rattle.blocks.proofs.Blocks.{rows-⊕, live-⊕, length-◂, stands-row, stands-within, laid-within, no-rows}
 use Rattle.blocks.proofs.Walks.{count-rows}
-use Rattle.blocks.proofs.SiftAt.{inner-laid}
+use Rattle.blocks.proofs.Judge.{inner-laid}
 use Rattle.tidying.specs.Inner.Packed.{packed, entered, stride, ArgumentOf, Put, Puts, Packs}
 
 -- a block is its row, if it is live, and those that come next

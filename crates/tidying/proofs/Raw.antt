@@ -3,7 +3,7 @@
 use mathlib.Core.Path.{_≡_, sym, ap, ap₂, _∙_, subst}
 use mathlib.Core.Bool.{true}
 use mathlib.Core.List.{_++_}
-use Prim.Native.Nat.{ℕ, _^_, _≤_, _<_}
+use Prim.Native.Nat.{ℕ, _≤_}
 use native.Mathlib.Omega.{arith}
 use lib.ListN.{length, drop, length-append, length-drop, length-map}
 use Rattle.formula.specs.Tree.{Formula}
@@ -14,23 +14,27 @@ use Rattle.sheet.specs.Check.{passes, check-tests}
 use Rattle.sheet.specs.Operations.{padded}
 use Rattle.sheet.proofs.CheckTests.{SizesFit, passed, passed-sizes}
 use Rattle.sheet.proofs.Accepted.{length-prefix-rows}
-use Rattle.rows.specs.Layouts.{total, rows-in, Room}
+use Rattle.rows.specs.Layouts.{rows-in, Room}
 use Rattle.rows.specs.Formulas.{formula-in, layout-of}
 use Rattle.rows.specs.declared.Layout.{Layout}
 use Rattle.rows.proofs.Layouts.{rows-in-++, all-rows-in}
 use Rattle.rows.proofs.Formulas.{formula-written, written-is-formula}
 use Rattle.sheet.proofs.Accepted.{formula-rows-formula}
 use Rattle.checking.specs.Limits.{Countable, Sheet}
-use Rattle.tidying.specs.Limits.{Raw}
+use Rattle.tidying.specs.Limits.{Few, Raw}
 
 -- so many rows can be counted
 pub few-rows : {F : Format} → Countable F → (s : Layout) → s .width ≡ F .width → s .variables ≤ F .most-variables → s .nodes ≤ F .most-nodes
-    → total s < 256 ^ s .width
-few-rows k s e few-variables few-nodes = rw e (omega (arith, k .few-rows))
+    → Few s
+few-rows k s e few-variables few-nodes =
+    record {
+      counted = rw e (omega (arith, k .few-rows));
+      in-tables = omega (arith, k .manageable .few-variables, k .manageable .few-nodes);
+    }
 
 -- These rows are those of a formula g, so what is left of them is the sheet of g tidied.
 module _ (F : Format) (s : Layout) (b : Bytes) (g : Formula) (is : rows-in s b ≡ formula-rows g) (vs : length (g .prefix) ≡ s .variables) where
-  pub raw-rows : s .width ≡ F .width → Room s (length b) → total s < 256 ^ s .width → Raw F s b
+  pub raw-rows : s .width ≡ F .width → Room s (length b) → Few s → Raw F s b
   raw-rows width room few = record { width-is = width; room = room; few-rows = few; is-formula = written-is-formula s b g is vs }
 
   pub raw-sheet : sheet F (tidied (formula-in s b)) ≡ sheet F (tidied g)

@@ -4,13 +4,16 @@ use mathlib.Core.Path.{_≡_, refl, sym, ap, _∙_, subst}
 use mathlib.Core.List.{List, [], _∷_, _++_, append-nil}
 use Prim.Native.Nat.{ℕ, zero, suc, _+_, _-_, _≤_, _<_}
 use native.Mathlib.Omega.{arith}
-use lib.ListN.{length, take, drop, drop-of-length-le}
+use lib.ListN.{length, take, drop, replicate, drop-of-length-le, length-replicate}
 use lib.Seq.{take-all, take-suc, drop-cons, drop-drop, append-snoc, length-take-le}
 use Rattle.formula.specs.Tidy.{tidy-all}
 use Rattle.sheet.specs.Format.{Row, row}
 use Rattle.sheet.specs.Sheet.{trees}
 use Rattle.blocks.specs.Blocks.{none, block-rows, live}
+use Rattle.rows.specs.declared.Layout.{Layout}
 use Rattle.blocks.specs.Walks.{at-row}
+use Rattle.blocks.specs.Rules.{Tables}
+use Rattle.tidying.specs.Limits.{Few}
 use Rattle.tidying.specs.Inner.Operators.{Ready, Preorder, Combines, Tidies}
 use Rattle.tidying.proofs.Conclude.{replaced-as}
 
@@ -75,3 +78,15 @@ module _ (R₀ : List Row) {v r n : ℕ} (counted : length R₀ ≡ n) (p : Preo
 
 pub back-end : (R₀ : List Row) {R : List Row} {v r n : ℕ} → v ≤ r → r ≤ v → Tidies R₀ R r n → Tidies R₀ R v n
 back-end R₀ {R} {v} {r} {n} l u b = subst (λ m. Tidies R₀ R m n) (omega arith) b
+
+pub blank-tables : (s : Layout) → Few s → Tables s (replicate 4096 0) (replicate 9216 0) (replicate 9216 0)
+blank-tables s f =
+    record {
+      all-heads = blank 4096;
+      links-fit = omega (arith, blank 9216);
+      members-fit = omega (arith, blank 9216);
+      countable = omega arith;
+    }
+  where
+    blank : (n : ℕ) → length {A = ℕ} (replicate n 0) ≡ n
+    blank n = length-replicate {A = ℕ} n 0

@@ -1,7 +1,7 @@
 -- `blocks::rules::behead` meets its contract. Assumes nothing.
 use mathlib.Core.Path.{sym, _∙_}
 use borrow.Author.Tests.{eq-eqb, ne-eqb}
-use Rattle.blocks.proofs.SiftAt.{cond-taken, cond-left}
+use Rattle.blocks.proofs.Splice.{cond-taken, cond-left}
 use borrow.Author.Needs.{needs}
 use Rattle.blocks.proofs.rules.behead.Statement.{statement}
 use Rattle.blocks.proofs.rules.behead.Tie as tie

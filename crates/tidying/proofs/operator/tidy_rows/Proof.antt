@@ -1,82 +1,36 @@
 -- `tidying::operator::tidy_rows` meets its contract. Assumes nothing.
-use mathlib.Core.Path.{_≡_, refl, _∙_}
-use Prim.Native.Nat.{_≤_}
-use native.Mathlib.Omega.{arith}
-use lib.ListN.{length}
-use Rattle.rows.specs.Layouts.{rows-in, total}
-use Rattle.rows.proofs.Layouts.{length-rows-in}
-use Rattle.blocks.proofs.Blocks.{room-as}
-use Rattle.tidying.specs.Inner.Operators.{Tidies}
-use Rattle.tidying.proofs.TidyRows.{back-none, back-ready, back-more, back-end}
+use Rattle.tidying.proofs.TidyRows.{blank-tables}
 use borrow.Author.Needs.{needs}
 use Rattle.tidying.proofs.operator.tidy_rows.Statement.{statement}
 use Rattle.tidying.proofs.operator.tidy_rows.Tie as tie
 
-abbrev Inv-loop : tie.InvT-loop
-Inv-loop b₀ s r₀ b r = (s .variables ≤ r) × (r ≤ total s) × Tidies (rows-in s b₀) (rows-in s b) r (total s) × (length b ≡ length b₀)
+slice-aggregate-tidy-each : tie.Need-slice-aggregate-tidy-each
+slice-aggregate-tidy-each c = search needs
 
-abbrev μ-loop : tie.MeasureT-loop
-μ-loop b₀ s r₀ b r = r
+slice-aggregate-tidy-each-2 : tie.Need-slice-aggregate-tidy-each-2
+slice-aggregate-tidy-each-2 c = search needs
 
-add-r : tie.Need-add-r Inv-loop μ-loop
-add-r c = search needs
+slice-aggregate-tidy-each-3 : tie.Need-slice-aggregate-tidy-each-3
+slice-aggregate-tidy-each-3 c = search needs
 
-loop-holds : tie.Need-loop-holds Inv-loop μ-loop
-loop-holds c =
-    let a = c .before .before in
-    (omega arith, omega arith, back-none _ _ (length-rows-in (a .args .b .now) (a .pre .0)), refl)
+tidy-each-requires : tie.Need-tidy-each-requires
+tidy-each-requires c κs =
+    let a = c .before .before .before .before .before in
+    (a .pre .0, a .pre .1 .counted, blank-tables _ (a .pre .1), a .pre .2)
 
-sub-r : tie.Need-sub-r Inv-loop μ-loop
-sub-r c = omega arith
+same-length : tie.Need-same-length
+same-length c = search needs
 
-combine-requires : tie.Need-combine-requires Inv-loop μ-loop
-combine-requires c κs =
-    let l = c .before in
-    let i = l .before .before .loop .inv in
-    let a = l .before .before .before .before .before in
-    let counted = length-rows-in (a .args .b .now) (a .pre .0) in
-    let rows = rows-in (a .args .s) (a .args .b .now) in (
-      room-as (i .3) (a .pre .0),
-      a .pre .1,
-      record { before = _; first = _; blocks = _; trees = _; ready = back-ready rows counted (a .pre .2) (l .if1 .taken) (i .1) (i .2) },
-    )
-
-loop-less : tie.Need-loop-less Inv-loop μ-loop
-loop-less c = omega arith
-
-loop-again : tie.Need-loop-again Inv-loop μ-loop
-loop-again c =
-    let combined = c .before .before in
-    let l = combined .before .before in
-    let i = l .before .before .loop .inv in
-    let a = l .before .before .before .before .before in
-    let counted = length-rows-in (a .args .b .now) (a .pre .0) in
-    let rows = rows-in (a .args .s) (a .args .b .now) in (
-      omega (arith, l .if1 .taken),
-      omega (arith, i .1),
-      back-more rows counted (a .pre .2) (l .if1 .taken) (i .1) (i .2) (combined .combine .ensures),
-      combined .combine .kept .0 ∙ i .3,
-    )
-
-same-length : tie.Need-same-length Inv-loop μ-loop
-same-length c = c .before .before .loop .inv .3
-
-returns : tie.Need-returns Inv-loop μ-loop
-returns c =
-    let i = c .before .before .loop .inv in
-    back-end _ (i .0) (c .if1 .left) (i .2)
+returns : tie.Need-returns
+returns c = search needs
 
 pub tidy-rows-spec : {M : Type 1} → statement M
 tidy-rows-spec =
     tie.close
     (tie.spec
-    Inv-loop
-    μ-loop
-    add-r
-    loop-holds
-    sub-r
-    combine-requires
-    loop-less
-    loop-again
+    slice-aggregate-tidy-each
+    slice-aggregate-tidy-each-2
+    slice-aggregate-tidy-each-3
+    tidy-each-requires
     same-length
     returns)

@@ -7,7 +7,7 @@ use Rattle.rows.specs.Layouts.{rows-in, total}
 use Rattle.rows.proofs.Layouts.{length-rows-in}
 use Rattle.blocks.specs.Blocks.{Region}
 use Rattle.blocks.proofs.Blocks.{stands-row, stands-within, laid-within}
-use Rattle.blocks.proofs.SiftAt.{inner-region}
+use Rattle.blocks.proofs.Judge.{inner-region}
 use Rattle.tidying.proofs.Packed.{argument-literal, argument-operator}
 use Rattle.tidying.proofs.pack.argument_of.Statement.{statement}
 use Rattle.tidying.proofs.pack.argument_of.Tie as tie

@@ -1,0 +1,162 @@
+-- A walk over blocks that joins dead ones which stand side by side: one step of it.
+-- Assumes nothing.
+use mathlib.Core.Path.{_≡_, refl, sym, ap, _∙_, subst}
+use mathlib.Core.List.{List, _∷_, _++_, append-assoc, append-nil}
+use mathlib.Core.Logic.{⊎-elim}
+use Prim.Native.Nat.{ℕ, suc, _+_, _-_}
+use native.Mathlib.Omega.{arith}
+use lib.ListN.{length, set, length-append}
+use lib.Seq.{set-at}
+use Rattle.formula.specs.Tree.{∅, _⧺_}
+use Rattle.formula.proofs.Tidy.Children.{⧺-none}
+use Rattle.sheet.specs.Format.{Row, row}
+use Rattle.blocks.specs.Blocks.{Block, gone, Blocks, none, _◂_, _⊕_, head, inner, block-rows, size, grown, live, Here}
+use Rattle.blocks.specs.Walks.{JoinsAt, at-row}
+use Rattle.blocks.specs.Rules.{note, notes}
+use Rattle.blocks.proofs.Blocks.{rows-⊕, live-⊕, live-snoc, length-⊕, onward, part-done, stands, stands-row}
+use Rattle.blocks.proofs.Walks.{dead-holds}
+use Rattle.blocks.proofs.Notes.{notes-⊕, notes-snoc, notes-dead, note-dead}
+
+-- the rows of dead blocks and of one more: the first, and those behind it
+record Rows (bs : Blocks) (x : Block) : Type 0 where
+  pub first : Row
+  pub others : List Row
+  pub are : block-rows bs ++ (head x ∷ inner x) ≡ first ∷ others
+
+rows-of : (bs : Blocks) (x : Block) → Rows bs x
+unfolding block-rows
+rows-of none x = record { first = head x; others = inner x; are = refl }
+rows-of (y ◂ ys) x =
+    record {
+      first = head y;
+      others = (inner y ++ block-rows ys) ++ (head x ∷ inner x);
+      are = refl;
+    }
+
+-- a dead block joins those before it
+joined-here : {R : List Row} {from run at : ℕ} {before : List Row} {early dead : Blocks} {x : Block} (others : Blocks) (after : List Row)
+    → Here R from run at before early dead (block-rows (x ◂ others) ++ after) → (r : Rows dead x)
+    → Here (set R run (row 0 (at + size x - run))) from run (at + size x) before early (gone (r .others) ◂ none)
+    (block-rows others ++ after)
+unfolding block-rows head inner
+joined-here {R} {from} {run} {at} {before} {early} {dead} {x} others after h r =
+    record {
+      whole =
+          ap (λ (l : List Row). set l run (row 0 (at + size x - run))) split ∙
+          set-at (before ++ block-rows early) (r .first) (r .others ++ back) (row 0 (at + size x - run)) run starts ∙
+          append-assoc before (block-rows early) (row 0 (at + size x - run) ∷ (r .others ++ back)) ∙
+          ap (λ m. before ++ (block-rows early ++ (row 0 m ∷ (r .others ++ back)))) (omega (arith, count)) ∙
+          ap (λ (l : List Row). before ++ (block-rows early ++ (row 0 (suc (length (r .others))) ∷ (l ++ back))))
+          (sym (append-nil (r .others)));
+      starts = h .starts;
+      place = h .place;
+      ends = omega (arith, count, ap length (append-nil (r .others)));
+    }
+  where
+    back : List Row
+    back = block-rows others ++ after
+
+    starts : length (before ++ block-rows early) ≡ run
+    starts = length-append before (block-rows early) ∙ omega (arith, h .starts, h .place)
+
+    -- how many rows are dead now
+    count : at + size x ≡ run + suc (length (r .others))
+    count = omega (arith, ap length (r .are), length-append (block-rows dead) (head x ∷ inner x), h .ends)
+
+    split : R ≡ (before ++ block-rows early) ++ (r .first ∷ (r .others ++ back))
+    split =
+        h .whole ∙
+        ap (λ (l : List Row). before ++ (block-rows early ++ (block-rows dead ++ (head x ∷ l))))
+        (append-assoc (inner x) (block-rows others) after) ∙
+        ap (λ (l : List Row). before ++ (block-rows early ++ l))
+        (sym (append-assoc (block-rows dead) (head x ∷ inner x) back) ∙ ap (λ (l : List Row). l ++ back) (r .are)) ∙
+        sym (append-assoc before (block-rows early) (r .first ∷ (r .others ++ back)))
+
+-- past a block: some blocks, and dead ones behind them
+pub record Advanced (R : List Row) (from at next to : ℕ) (before : List Row) (done : Blocks) (x : Block) (others : Blocks) (after : List Row) (run : ℕ)
+    : Type 0 where
+  pub early : Blocks
+  pub dead : Blocks
+  pub here : Here R from next to before (early ⊕ dead) others after
+  pub place : from + length (block-rows early) ≡ run
+  pub hidden : live dead ≡ ∅
+  pub reads : live (early ⊕ dead) ≡ live done ⧺ live (x ◂ none)
+  pub noted : notes from (early ⊕ dead) ≡ notes from done ++ note at x
+
+⊕-none : (bs : Blocks) → bs ⊕ none ≡ bs
+unfolding _⊕_
+⊕-none none = refl
+⊕-none (x ◂ bs) = ap (λ cs. x ◂ cs) (⊕-none bs)
+
+module _ {R : List Row} {from run at to : ℕ} {before after : List Row} (early dead : Blocks) (x : Block) (others : Blocks)
+    (h : Here R from at to before (early ⊕ dead) (x ◂ others) after) (place : from + length (block-rows early) ≡ run) (hidden : live dead ≡ ∅) where
+  pass-block : Advanced R from at (at + size x) to before (early ⊕ dead) x others after (at + size x)
+  unfolding live
+  pass-block =
+      record {
+        early = (early ⊕ dead) ⊕ (x ◂ none);
+        dead = none;
+        here = subst (λ cs. Here R from (at + size x) to before cs others after) (sym (⊕-none ((early ⊕ dead) ⊕ (x ◂ none)))) (onward h);
+        place = onward h .place;
+        hidden = refl;
+        reads = ap live (⊕-none ((early ⊕ dead) ⊕ (x ◂ none))) ∙ live-snoc (early ⊕ dead) x;
+        noted = ap (notes from) (⊕-none ((early ⊕ dead) ⊕ (x ◂ none))) ∙ notes-snoc from (early ⊕ dead) x (h .place);
+      }
+
+  behind-early : Here R from run at before early dead (block-rows (x ◂ others) ++ after)
+  behind-early =
+      record {
+        whole =
+            h .whole ∙
+            ap (λ (l : List Row). before ++ l)
+            (ap (λ (l : List Row). l ++ (block-rows (x ◂ others) ++ after)) (rows-⊕ early dead) ∙
+            append-assoc (block-rows early) (block-rows dead) (block-rows (x ◂ others) ++ after));
+        starts = h .starts;
+        place = place;
+        ends = omega (arith, length-⊕ early dead, h .place, place);
+      }
+
+  -- a dead block
+  abbrev dead-block : Blocks
+  dead-block = gone (rows-of dead x .others) ◂ none
+
+  join-block : (head x) .kind ≡ 0
+      → Advanced (set R run (row 0 (at + size x - run))) from at (at + size x) to before (early ⊕ dead) x others after run
+  unfolding live grown
+  join-block k =
+      record {
+        early = early;
+        dead = dead-block;
+        here =
+            subst (λ m. Here (set R run (row 0 (at + size x - run))) from (at + size x) m before (early ⊕ dead-block) others after)
+            (onward h .ends) (part-done others (joined-here others after behind-early (rows-of dead x)));
+        place = place;
+        hidden = refl;
+        reads =
+            live-⊕ early dead-block ∙ ⧺-none (live early) ∙
+            sym
+            (ap (λ ts. live (early ⊕ dead) ⧺ ts) (dead-holds x k) ∙ ⧺-none (live (early ⊕ dead)) ∙ live-⊕ early dead ∙
+            ap (λ ts. live early ⧺ ts) hidden ∙ ⧺-none (live early));
+        noted =
+            notes-⊕ from early dead-block ∙ ap (λ ns. notes from early ++ ns) (notes-dead _ dead-block refl) ∙
+            sym
+            (ap (λ ns. notes from (early ⊕ dead) ++ ns) (note-dead at x k) ∙ append-nil (notes from (early ⊕ dead)) ∙ notes-⊕ from early dead ∙
+            ap (λ ns. notes from early ++ ns) (notes-dead _ dead hidden));
+      }
+
+  pub advanced : {R′ : List Row} {s run′ : ℕ} → s ≡ size x → JoinsAt R R′ run at (at + s) run′
+      → Advanced R′ from at (at + s) to before (early ⊕ dead) x others after run′
+  advanced {R′} {s} {run′} e j =
+      ⊎-elim
+      (λ d.
+      moved (d .1 ∙ ap (λ q. set R run (row 0 (at + q - run))) e) (d .2)
+      (join-block (sym (ap (λ (r : Row). r .kind) (stands-row (stands h))) ∙ d .0)))
+      (λ d. moved (d .1) (d .2 ∙ ap (λ q. at + q) e) pass-block) j
+    where
+      moved : {R₁ : List Row} {run₁ : ℕ} → R′ ≡ R₁ → run′ ≡ run₁
+          → Advanced R₁ from at (at + size x) to before (early ⊕ dead) x others after run₁
+          → Advanced R′ from at (at + s) to before (early ⊕ dead) x others after run′
+      moved {R₁} {run₁} a b st =
+          subst (λ m. Advanced R′ from at (at + m) to before (early ⊕ dead) x others after run′) (sym e)
+          (subst (λ q. Advanced R′ from at (at + size x) to before (early ⊕ dead) x others after q) (sym b)
+          (subst (λ rs. Advanced rs from at (at + size x) to before (early ⊕ dead) x others after run₁) (sym a) st))

@@ -1,0 +1,361 @@
+-- Rules 2 to 4 at one block behind others.
+-- Assumes nothing.
+use mathlib.Core.Path.{_≡_, refl, sym, ap, ap₂, _∙_, subst}
+use mathlib.Core.Bool.{Bool, true, false, not, _||_, or-false}
+use mathlib.Core.List.{List, [], _∷_, _++_, append-nil}
+use Prim.Native.Nat.{ℕ, suc, _+_, _*_, _-_, _≤_, _<_}
+use native.Mathlib.Omega.{arith}
+use lib.Dec.{eqb, leb}
+use lib.ListN.{length, getD, set, take, length-append}
+use lib.Seq.{append-snoc, set-getD, take-suc-set}
+use borrow.Author.Tests.{eq-eqb, ne-eqb, eqb-true, leb-true}
+use Rattle.formula.specs.Tree.{Op, and, or, dual, same-op, Tree, lit, node, Forest, ∅, _▸_, _⧺_, some-child, keep}
+use Rattle.formula.specs.Tidy.{is-empty, opposite, equal, childless}
+use Rattle.formula.proofs.Booleans.{and-parts}
+use Rattle.formula.proofs.Tidy.Children.{keep-all, some-child-same}
+use Rattle.sheet.specs.Format.{Row, row}
+use Rattle.sheet.specs.Sheet.{literal-kind, operator-kind}
+use Rattle.buckets.specs.Chains.{bucket, Passed}
+use Rattle.buckets.specs.Prints.{literal-mix, sign}
+use Rattle.blocks.specs.Blocks.{Block, gone, literal, operator, Blocks, none, _◂_, head, inner, block-rows, size, grown, live, Laid, Here, Stands, Standing, Region}
+use Rattle.blocks.specs.Rules.{decisive, repeated, new, Unopposed, place, note, notes, literal-test, Test, Noted, LiteralRow, Kept, Judged}
+use Rattle.blocks.specs.Walks.{at-row, FirstLive, Finds}
+use Rattle.blocks.proofs.Blocks.{stands, live-◂, stands-row, start}
+use Rattle.blocks.proofs.Walks.{like, dead-holds}
+use Rattle.blocks.proofs.Hop.{live-one}
+use Rattle.blocks.proofs.Notes.{noted-count, noted-at, notes-places, unseen, seen, member-live}
+use Rattle.blocks.proofs.Grouped.{Unknown, unknown, repeated-indecisive}
+
+-- rules 2 and 3 at one block
+
+opposite-like : (s : Bool) (v : ℕ) (t : Tree) → opposite t (lit s v) ≡ like (not s) v t
+unfolding opposite equal
+opposite-like s v (node o ts) = refl
+opposite-like true v (lit true w) = refl
+opposite-like true v (lit false w) = refl
+opposite-like false v (lit true w) = refl
+opposite-like false v (lit false w) = refl
+
+no-operator : (o : Op) (ks us : Forest) → (some-child (λ t. opposite t (node o ks)) us ≡ false) × (some-child (λ t. equal t (node o ks)) us ≡ false)
+unfolding some-child opposite equal
+no-operator o ks ∅ = (refl, refl)
+no-operator o ks (lit s v ▸ us) = no-operator o ks us
+no-operator o ks (node k ts ▸ us) = no-operator o ks us
+
+pub none-dead : (P : Tree → Bool) (x : Block) → (head x) .kind ≡ 0 → some-child P (live (x ◂ none)) ≡ false
+unfolding some-child
+none-dead P x e = ap (some-child P) (dead-holds x e)
+
+decisive-literal : (o : Op) (us : Forest) (s : Bool) (v : ℕ)
+    → some-child (decisive o us) (live (literal s v ◂ none)) ≡ some-child (like (not s) v) us
+unfolding some-child decisive live grown is-empty
+decisive-literal o us s v = or-false _ ∙ some-child-same (opposite-like s v) us
+
+decisive-operator : (o : Op) (us : Forest) (k : Op) (ks : Blocks)
+    → some-child (decisive o us) (live (operator k ks ◂ none)) ≡ is-empty (dual o) (node k (live ks))
+unfolding some-child decisive live grown
+decisive-operator o us k ks =
+    or-false _ ∙ ap (λ b. is-empty (dual o) (node k (live ks)) || b) (no-operator k (live ks) us .0) ∙ or-false _
+
+is-empty-other : (k o : Op) (ts : Forest) → same-op k o ≡ false → is-empty k (node o ts) ≡ false
+unfolding is-empty
+is-empty-other k o ∅ e = e
+is-empty-other k o (t ▸ ts) e = refl
+
+is-empty-same : (k : Op) (ts : Forest) → is-empty k (node k ts) ≡ childless ts
+unfolding is-empty childless
+is-empty-same and ∅ = refl
+is-empty-same or ∅ = refl
+is-empty-same k (t ▸ ts) = refl
+
+-- a child of the node's own kind decides nothing
+pub decisive-own : (o : Op) (us : Forest) (x : Block) → (head x) .kind ≡ operator-kind o → some-child (decisive o us) (live (x ◂ none)) ≡ false
+unfolding head
+decisive-own and us (gone rs) e = absurd (omega arith)
+decisive-own or us (gone rs) e = absurd (omega arith)
+decisive-own and us (literal true v) e = absurd (omega arith)
+decisive-own and us (literal false v) e = absurd (omega arith)
+decisive-own or us (literal true v) e = absurd (omega arith)
+decisive-own or us (literal false v) e = absurd (omega arith)
+decisive-own and us (operator and ks) e = decisive-operator and us and ks ∙ is-empty-other or and (live ks) refl
+decisive-own and us (operator or ks) e = absurd (omega arith)
+decisive-own or us (operator and ks) e = absurd (omega arith)
+decisive-own or us (operator or ks) e = decisive-operator or us or ks ∙ is-empty-other and or (live ks) refl
+
+-- the rows behind an operator's are its children's
+pub inner-laid : {R : List Row} {at : ℕ} {before after : List Row} (k : Op) (ks : Blocks) → Stands R at before (operator k ks) after
+    → Laid R (at + 1) (at + (head (operator k ks)) .argument) (before ++ (head (operator k ks) ∷ [])) ks after
+unfolding head
+inner-laid {before = before} {after = after} k ks h =
+    record {
+      whole = h .whole ∙ sym (append-snoc before (head (operator k ks)) (block-rows ks ++ after));
+      starts = length-append before (head (operator k ks) ∷ []) ∙ omega (arith, h .starts);
+      ends = omega arith;
+    }
+
+inner-region-head : {R : List Row} {at : ℕ} {before after : List Row} (x : Block) → 4 < (head x) .kind → Stands R at before x after
+    → Region R (at + 1) (at + (head x) .argument)
+unfolding head
+inner-region-head (gone rs) l h = absurd (omega arith)
+inner-region-head (literal true v) l h = absurd (omega arith)
+inner-region-head (literal false v) l h = absurd (omega arith)
+inner-region-head (operator o ks) l h = record { before = _; blocks = ks; after = _; laid = inner-laid o ks h }
+
+pub inner-region : {R : List Row} {at a : ℕ} {before after : List Row} (x : Block) → 4 < (head x) .kind → a ≡ (head x) .argument
+    → Stands R at before x after → Region R (at + 1) (at + a)
+inner-region {R} {at} x l e h = subst (λ m. Region R (at + 1) (at + m)) (sym e) (inner-region-head x l h)
+
+pub standing-region : {R : List Row} {at a : ℕ} → Standing R at → 4 < (at-row R at) .kind → a ≡ (at-row R at) .argument → Region R (at + 1) (at + a)
+standing-region st l e =
+    let r = stands-row (st .stands) in
+    inner-region (st .block) (omega (arith, ap (λ (q : Row). q .kind) r)) (e ∙ ap (λ (q : Row). q .argument) r) (st .stands)
+
+pub first-live-none : {R : List Row} {from at to : ℕ} {before after : List Row} {bs : Blocks} → FirstLive R from at to before bs after
+    → eqb at to ≡ childless (live bs)
+unfolding block-rows live childless _⧺_
+first-live-none {R} {from} {at} {to} {before} {after} {bs} f = rw (f .others) (go (f .rest) (f .here))
+  where
+    go : (rest : Blocks) → Here R from at to before (f .done) rest after → eqb at to ≡ childless (live rest)
+    go none h = eq-eqb at to (omega (arith, h .ends))
+    go (y ◂ ys) h =
+        let more : at < to = omega (arith, h .ends) in
+        let t = live-one y (λ e. f .found more (ap (λ (r : Row). r .kind) (stands-row (stands h)) ∙ e)) in
+        ne-eqb at to (λ e. omega arith) ∙ sym (ap childless (live-◂ y ys ∙ ap (λ ts. ts ⧺ live ys) (t .is)))
+
+decisive-hollow : {R : List Row} {at : ℕ} {before after : List Row} (o : Op) (us : Forest) (x : Block) (p : ℕ)
+    → 4 < (head x) .kind → ((head x) .kind ≡ operator-kind o → ⊥) → Stands R at before x after
+    → Finds R (at + 1) (at + (head x) .argument) p
+    → eqb p (at + (head x) .argument) ≡ some-child (decisive o us) (live (x ◂ none))
+unfolding head
+decisive-hollow o us (gone rs) p l e h f = absurd (omega arith)
+decisive-hollow o us (literal true v) p l e h f = absurd (omega arith)
+decisive-hollow o us (literal false v) p l e h f = absurd (omega arith)
+decisive-hollow and us (operator and ks) p l e h f = absurd (e refl)
+decisive-hollow and us (operator or ks) p l e h f =
+    first-live-none (f _ ks _ (inner-laid or ks h)) ∙ sym (decisive-operator and us or ks ∙ is-empty-same or (live ks))
+decisive-hollow or us (operator and ks) p l e h f =
+    first-live-none (f _ ks _ (inner-laid and ks h)) ∙ sym (decisive-operator or us and ks ∙ is-empty-same and (live ks))
+decisive-hollow or us (operator or ks) p l e h f = absurd (e refl)
+
+-- one of the other kind does if no tree is found in it
+pub decisive-other : {R : List Row} {at a : ℕ} {before after : List Row} (o : Op) (us : Forest) (x : Block) (p : ℕ)
+    → 4 < (head x) .kind → ((head x) .kind ≡ operator-kind o → ⊥) → a ≡ (head x) .argument → Stands R at before x after
+    → Finds R (at + 1) (at + a) p
+    → eqb p (at + a) ≡ some-child (decisive o us) (live (x ◂ none))
+decisive-other {R} {at} o us x p l d e h =
+    subst (λ m. Finds R (at + 1) (at + m) p → eqb p (at + m) ≡ some-child (decisive o us) (live (x ◂ none))) (sym e) (decisive-hollow o us x p l d h)
+
+-- rule 4 at one block
+
+repeats-literal : (us : Forest) (s : Bool) (v : ℕ) → some-child (repeated us) (live (literal s v ◂ none)) ≡ some-child (like s v) us
+unfolding some-child live grown repeated
+repeats-literal us s v = or-false _
+
+-- an operator's block repeats none
+pub repeats-operator : (us : Forest) (x : Block) → 4 < (head x) .kind → some-child (repeated us) (live (x ◂ none)) ≡ false
+unfolding head some-child live grown repeated
+repeats-operator us (gone rs) l = refl
+repeats-operator us (literal true v) l = absurd (omega arith)
+repeats-operator us (literal false v) l = absurd (omega arith)
+repeats-operator us (operator o ks) l = or-false _ ∙ no-operator o (live ks) us .1
+
+-- the block stays as it is
+pub kept-same : {R : List Row} {at : ℕ} {before after : List Row} (x : Block) → Stands R at before x after → Kept R R at x
+kept-same {R} {at} x h =
+    record {
+      block = x;
+      stored = sym (set-getD R at (row 0 0)) ∙ ap (set R at) (stands-row h);
+      same-rows = refl;
+    }
+
+-- it decides the node
+pub judged-decided : {R : List Row} {M′ : List ℕ} {from at : ℕ} {before after : List Row} {done : Blocks} {x : Block} {o : Op}
+    → Stands R at before x after → some-child (decisive o (live done)) (live (x ◂ none)) ≡ true → Judged R R M′ from at done x o 0
+judged-decided {x = x} h e =
+    record { decided-is = sym e; kept = kept-same x h; holds = λ z. absurd (z refl); noted = λ z. absurd (z refl) }
+
+not-zero : (n m : ℕ) → n ≡ m + 1 → eqb n 0 ≡ false
+not-zero n m e = ne-eqb n 0 (λ z. omega arith)
+
+taken : (M N : List ℕ) (n left : ℕ) → take n M ≡ N → left ≡ n + 1 → take (left - 1) M ≡ N ++ []
+taken M N n left e l = ap (λ m. take m M) back ∙ e ∙ sym (append-nil N)
+  where
+    back : left - 1 ≡ n
+    back = omega arith
+
+-- it stays, and is no member
+pub judged-passed : {R : List Row} {M : List ℕ} {from at n left : ℕ} {before after : List Row} {done : Blocks} {x : Block} {o : Op}
+    → Stands R at before x after → some-child (decisive o (live done)) (live (x ◂ none)) ≡ false
+    → some-child (repeated (live done)) (live (x ◂ none)) ≡ false → note at x ≡ [] → Noted M n from done → left ≡ n + 1
+    → Judged R R M from at done x o left
+unfolding kept-same
+judged-passed {M = M} {from = from} {n = n} {left = left} {done = done} {x = x} h d r e noted l =
+    record {
+      decided-is = not-zero left n l ∙ sym d;
+      kept = kept-same x h;
+      holds = λ _. sym (keep-all (repeated (live done)) (live (x ◂ none)) r);
+      noted = λ _. taken M (notes from done) n left (noted .are) l ∙ ap (λ ns. notes from done ++ ns) (sym e);
+    }
+
+-- a block that is not dead
+
+pub live-above : (x : Block) → ((head x) .kind ≡ 0 → ⊥) → 2 < (head x) .kind
+unfolding head
+live-above (gone rs) e = absurd (e refl)
+live-above (literal true v) e = omega arith
+live-above (literal false v) e = omega arith
+live-above (operator and ks) e = omega arith
+live-above (operator or ks) e = omega arith
+
+pub note-operator : (r : ℕ) (x : Block) → 4 < (head x) .kind → note r x ≡ []
+unfolding note head
+note-operator r (gone rs) l = refl
+note-operator r (literal true v) l = absurd (omega arith)
+note-operator r (literal false v) l = absurd (omega arith)
+note-operator r (operator o ks) l = refl
+
+-- a literal's block
+pub record LiteralBlock (x : Block) : Type 0 where
+  pub sign-of : Bool
+  pub variable : ℕ
+  pub is : x ≡ literal sign-of variable
+
+literal-block : (x : Block) → 2 < (head x) .kind → (head x) .kind ≤ 4 → LiteralBlock x
+unfolding head
+literal-block (gone rs) l u = absurd (omega arith)
+literal-block (literal s v) l u = record { sign-of = s; variable = v; is = refl }
+literal-block (operator and ks) l u = absurd (omega arith)
+literal-block (operator or ks) l u = absurd (omega arith)
+
+opposite-kind : (s : Bool) (k : ℕ) → 2 < k → k ≤ 4 → (k ≡ literal-kind s → ⊥) → k ≡ literal-kind (not s)
+opposite-kind true k l u d = omega arith
+opposite-kind false k l u d = omega arith
+
+decisive-found : (o : Op) (us : Forest) (s : Bool) (v : ℕ) → some-child (like (not s) v) us ≡ true → decisive o us (lit s v) ≡ true
+unfolding decisive is-empty
+decisive-found o us s v e = some-child-same (opposite-like s v) us ∙ e
+
+-- members stand before the block
+pub members-within : {R : List Row} {M : List ℕ} {n from at : ℕ} {before after : List Row} {done : Blocks} → Laid R from at before done after
+    → Noted M n from done → (j : ℕ) → j < n → place (getD M j 0) < at
+members-within {from = from} {done = done} laid noted j l =
+    omega (arith, ap place (noted-at noted j l), notes-places from done j (omega (arith, noted-count noted)), laid .ends)
+
+-- A literal at a row, by the row's kind and argument.
+module _ {R : List Row} {at kind v : ℕ} (row-is : LiteralRow R at kind) (v-is : v ≡ (at-row R at) .argument)
+    {from n : ℕ} {M : List ℕ} {before after : List Row} {done : Blocks} (laid : Laid R from at before done after)
+    (noted : Noted M n from done) where
+  abbrev us : Forest
+  us = live done
+
+  counted : length (notes from done) ≡ n
+  counted = noted-count noted
+
+  module _ {front back : List Row} {x : Block} (h : Stands R at front x back) where
+    kind-is : kind ≡ (head x) .kind
+    kind-is = row-is .is ∙ ap (λ (r : Row). r .kind) (stands-row h)
+
+    b : LiteralBlock x
+    b = literal-block x (omega (arith, kind-is, row-is .above)) (omega (arith, kind-is, row-is .below))
+
+    head-is : head x ≡ row (literal-kind (b .sign-of)) (b .variable)
+    unfolding head
+    head-is = ap head (b .is)
+
+    kind-sign : kind ≡ literal-kind (b .sign-of)
+    kind-sign = kind-is ∙ ap (λ (r : Row). r .kind) head-is
+
+    variable-is : v ≡ b .variable
+    variable-is = v-is ∙ ap (λ (r : Row). r .argument) (stands-row h) ∙ ap (λ (r : Row). r .argument) head-is
+
+    sign-is : 4 - kind ≡ sign (b .sign-of)
+    sign-is = ap (λ k. 4 - k) kind-sign ∙ both (b .sign-of)
+      where
+        both : (s : Bool) → 4 - literal-kind s ≡ sign s
+        both true = refl
+        both false = refl
+
+    abbrev literal-tree : Tree
+    literal-tree = lit (b .sign-of) (b .variable)
+
+    one-tree : live (x ◂ none) ≡ literal-tree ▸ ∅
+    unfolding live grown
+    one-tree = ap (λ y. live (y ◂ none)) (b .is)
+
+    tested : (P : Tree → Bool) → some-child P (live (x ◂ none)) ≡ P literal-tree
+    unfolding some-child
+    tested P = ap (some-child P) one-tree ∙ or-false (P literal-tree)
+
+    print-is : {p : ℕ} → p ≡ literal-mix (4 - kind) v → p ≡ literal-mix (sign (b .sign-of)) (b .variable)
+    print-is e = e ∙ ap₂ literal-mix sign-is variable-is
+
+    -- none of its variable is before it
+    pub judged-new : {p left : ℕ} {M′ : List ℕ} (o : Op) → p ≡ literal-mix (4 - kind) v → Passed M n (bucket p) (Test R M v) 0
+        → M′ ≡ set M n (at * 65536 + p) → n < length M → left ≡ n + 2 → Judged R R M′ from at done x o left
+    unfolding note kept-same
+    judged-new {p} {left} {M′} o p-is passed M-is few l =
+        record {
+          decided-is = ne-eqb left 0 (λ z. omega arith) ∙ sym (tested (decisive o us) ∙ un .indecisive);
+          kept = kept-same x h;
+          holds = λ _. sym (keep-all (repeated us) (live (x ◂ none)) (tested (repeated us) ∙ un .unrepeated));
+          noted =
+              λ _.
+              ap₂ take less M-is ∙ take-suc-set M n (at * 65536 + p) few ∙ ap₂ (λ ns m. ns ++ (m ∷ [])) (noted .are) (ap (λ q. at * 65536 + q) (print-is p-is)) ∙
+              ap (λ y. notes from done ++ note at y) (sym (b .is));
+        }
+      where
+        less : left - 1 ≡ suc n
+        less = omega arith
+
+        un : Unknown o us literal-tree
+        un =
+            unknown o us (b .sign-of) (b .variable)
+            (unseen done (b .sign-of) (b .variable) (start laid)
+            (λ j u e t.
+            let i = noted-at noted j (omega (arith, counted)) in
+            passed .failed j (omega arith) (omega (arith, counted))
+            (ap bucket i ∙ e ∙ sym (ap bucket (print-is p-is)))
+            (ap (λ m. literal-test (at-row R (place m)) v) i ∙ ap (literal-test (at-row R (place (getD (notes from done) j 0)))) variable-is ∙ t)))
+
+    -- the row of a member of its variable
+    member-row : (j : ℕ) → j < n → Test R M v j → (s : Bool) → (at-row R (place (getD M j 0))) .kind ≡ literal-kind s
+        → some-child (like s (b .variable)) us ≡ true
+    member-row j l t s k =
+        let i = noted-at noted j l in
+        let a = eqb-true _ v (and-parts (leb ((at-row R (place (getD M j 0))) .kind) 4) _ t .1) in
+        seen done s (b .variable) (start laid) j (omega (arith, counted))
+        (ap (λ m. at-row R (place m)) (sym i) ∙ ap₂ row k (a ∙ variable-is))
+
+    -- one of the same kind is
+    pub judged-again : {left j : ℕ} {R′ : List Row} (o : Op) → j < n → Test R M v j → (at-row R (place (getD M j 0))) .kind ≡ kind
+        → R′ ≡ set R at (row 0 1) → Unopposed us → left ≡ n + 1 → Judged R R′ M from at done x o left
+    unfolding head inner live grown keep repeated note
+    judged-again {left} {j} {R′} o l t k R-is two e =
+        let again : repeated us literal-tree ≡ true = member-row j l t (b .sign-of) (k ∙ kind-sign) in
+        record {
+          decided-is = not-zero left n e ∙ sym (tested (decisive o us) ∙ repeated-indecisive o us (b .sign-of) (b .variable) two again);
+          kept = record { block = gone []; stored = R-is; same-rows = sym (ap inner (b .is)) };
+          holds = λ _. sym (ap (new us) one-tree ∙ gone-again again);
+          noted = λ _. taken M (notes from done) n left (noted .are) e;
+        }
+      where
+        gone-again : repeated us literal-tree ≡ true → new us (literal-tree ▸ ∅) ≡ ∅
+        gone-again r = rw r
+
+    -- one of the other kind is
+    pub judged-opposite : {j : ℕ} (o : Op) → j < n → Test R M v j → ((at-row R (place (getD M j 0))) .kind ≡ kind → ⊥)
+        → Judged R R M from at done x o 0
+    judged-opposite {j} o l t k =
+        judged-decided h
+        (tested (decisive o us) ∙ decisive-found o us (b .sign-of) (b .variable) (member-row j l t (not (b .sign-of)) other))
+      where
+        above : 2 < (at-row R (place (getD M j 0))) .kind
+        above =
+            omega
+            (arith, member-live done (start laid) j (omega (arith, counted)), ap (λ m. (at-row R (place m)) .kind) (noted-at noted j l))
+
+        below : (at-row R (place (getD M j 0))) .kind ≤ 4
+        below = leb-true _ 4 (and-parts (leb ((at-row R (place (getD M j 0))) .kind) 4) _ t .0)
+
+        other : (at-row R (place (getD M j 0))) .kind ≡ literal-kind (not (b .sign-of))
+        other = opposite-kind (b .sign-of) _ above below (λ e. k (e ∙ sym kind-sign))

@@ -1,0 +1,170 @@
+-- Members and the literals that they name.
+-- Assumes nothing.
+use mathlib.Core.Path.{_≡_, refl, sym, ap, _∙_}
+use mathlib.Core.Bool.{Bool, true, false, _&&_, _||_}
+use mathlib.Core.List.{List, [], _∷_, _++_, append-assoc, append-nil}
+use Prim.Native.Nat.{ℕ, zero, suc, _+_, _*_, _/_, _%_, _≤_, _<_}
+use native.Mathlib.Nat.{add-zero}
+use native.Mathlib.Omega.{arith}
+use lib.Dec.{eqb}
+use lib.ListN.{length, getD, take, length-append}
+use lib.Seq.{getD-take, length-take-le}
+use borrow.Author.Tests.{eq-eqb, eqb-true, le-leb, lt-leb}
+use Rattle.formula.specs.Tree.{and, or, lit, node, ∅, some-child}
+use Rattle.formula.specs.Tidy.{equal, same-variable}
+use Rattle.formula.proofs.Booleans.{and-parts, or-none, or-later}
+use Rattle.sheet.specs.Format.{Row, row}
+use Rattle.sheet.specs.Sheet.{literal-kind}
+use Rattle.buckets.specs.Chains.{bucket}
+use Rattle.buckets.specs.Prints.{literal-mix, sign}
+use Rattle.blocks.specs.Blocks.{Block, gone, literal, operator, Blocks, none, _◂_, _⊕_, head, inner, block-rows, size, grown, live, Here}
+use Rattle.blocks.specs.Walks.{at-row}
+use Rattle.blocks.specs.Rules.{place, note, notes, Noted, literal-test}
+use Rattle.blocks.proofs.Blocks.{length-◂, stands, stands-row, onward}
+use Rattle.blocks.proofs.Walks.{like}
+
+pub notes-⊕ : (r : ℕ) (bs cs : Blocks) → notes r (bs ⊕ cs) ≡ notes r bs ++ notes (r + length (block-rows bs)) cs
+unfolding notes _⊕_ block-rows
+notes-⊕ r none cs = ap (λ q. notes q cs) (sym (add-zero r))
+notes-⊕ r (x ◂ bs) cs =
+    ap (λ l. note r x ++ l) (notes-⊕ (r + size x) bs cs) ∙ sym (append-assoc (note r x) (notes (r + size x) bs) _) ∙
+    ap (λ q. (note r x ++ notes (r + size x) bs) ++ notes q cs) (omega (arith, length-◂ x bs))
+
+pub notes-snoc : (r : ℕ) (bs : Blocks) (x : Block) {at : ℕ} → r + length (block-rows bs) ≡ at
+    → notes r (bs ⊕ (x ◂ none)) ≡ notes r bs ++ note at x
+unfolding notes
+notes-snoc r bs x e = notes-⊕ r bs (x ◂ none) ∙ ap (λ l. notes r bs ++ l) (append-nil _ ∙ ap (λ q. note q x) e)
+
+pub notes-dead : (r : ℕ) (bs : Blocks) → live bs ≡ ∅ → notes r bs ≡ []
+unfolding notes note live grown
+notes-dead r none e = refl
+notes-dead r (gone rs ◂ bs) e = notes-dead (r + size (gone rs)) bs e
+notes-dead r (literal s v ◂ bs) e = let z : _≡_ {A = ℕ} 0 1 = cc in absurd (omega arith)
+notes-dead r (operator o ks ◂ bs) e = let z : _≡_ {A = ℕ} 0 1 = cc in absurd (omega arith)
+
+pub note-dead : (r : ℕ) (x : Block) → (head x) .kind ≡ 0 → note r x ≡ []
+unfolding note head
+note-dead r (gone rs) e = refl
+note-dead r (literal true v) e = absurd (omega arith)
+note-dead r (literal false v) e = absurd (omega arith)
+note-dead r (operator o ks) e = refl
+
+-- a member's row and bucket
+
+place-note : (r : ℕ) (s : Bool) (v : ℕ) → place (r * 65536 + literal-mix (sign s) v) ≡ r
+place-note r true v = omega arith
+place-note r false v = omega arith
+
+halved : (r y g : ℕ) → g < 2 → (r * 65536 + (y * 2 + g)) / 2 ≡ r * 32768 + y
+halved r y g l = omega arith
+
+low-bits : (r y : ℕ) → (r * 32768 + y) % 4096 ≡ y % 4096
+low-bits r y = omega arith
+
+sign-few : (s : Bool) → sign s < 2
+sign-few true = omega arith
+sign-few false = omega arith
+
+-- the sign is no part of the bucket
+mix-bucket : (r y g : ℕ) → g < 2 → bucket (r * 65536 + (y * 2 + g)) ≡ y % 4096
+mix-bucket r y g l = ap (λ z. z % 4096) (halved r y g l) ∙ low-bits r y
+
+bucket-note : (r : ℕ) (s s′ : Bool) (v : ℕ) → bucket (r * 65536 + literal-mix (sign s) v) ≡ bucket (literal-mix (sign s′) v)
+bucket-note r s s′ v =
+    mix-bucket r (v * 20251 % 32768) (sign s) (sign-few s) ∙ sym (alone (v * 20251 % 32768) (sign s′) (sign-few s′))
+  where
+    alone : (y g : ℕ) → g < 2 → bucket (y * 2 + g) ≡ y % 4096
+    alone y g l = ap (λ z. z % 4096) (half y g l)
+      where
+        half : (y g : ℕ) → g < 2 → (y * 2 + g) / 2 ≡ y
+        half y g l = omega arith
+
+-- members by their numbers
+
+pub notes-places : (r : ℕ) (bs : Blocks) (j : ℕ) → j < length (notes r bs) → place (getD (notes r bs) j 0) < r + length (block-rows bs)
+unfolding notes note
+notes-places r none j l = absurd (omega arith)
+notes-places r (gone rs ◂ bs) j l = omega (arith, length-◂ (gone rs) bs, notes-places (r + size (gone rs)) bs j l)
+notes-places r (operator o ks ◂ bs) j l = omega (arith, length-◂ (operator o ks) bs, notes-places (r + size (operator o ks)) bs j l)
+notes-places r (literal s v ◂ bs) zero l = omega (arith, place-note r s v, length-◂ (literal s v) bs)
+notes-places r (literal s v ◂ bs) (suc j) l =
+    omega (arith, length-◂ (literal s v) bs, notes-places (r + size (literal s v)) bs j (omega arith))
+
+pub noted-count : {M : List ℕ} {n from : ℕ} {bs : Blocks} → Noted M n from bs → length (notes from bs) ≡ n
+noted-count {M} {n} m = ap length (sym (m .are)) ∙ length-take-le n M (m .fit)
+
+pub noted-at : {M : List ℕ} {n from : ℕ} {bs : Blocks} → Noted M n from bs → (j : ℕ) → j < n → getD M j 0 ≡ getD (notes from bs) j 0
+noted-at {M} {n} m j l = sym (getD-take n M j 0 l) ∙ ap (λ (l : List ℕ). getD l j 0) (m .are)
+
+-- the test of a literal's variable
+
+pub literal-test-operator : {k : ℕ} (r : Row) (x : ℕ) → k ≡ r .kind → 4 < k → false ≡ literal-test r x
+literal-test-operator r x e l = rw (lt-leb (r .kind) 4 (omega arith))
+
+pub literal-test-literal : {k a : ℕ} (r : Row) (x : ℕ) → k ≡ r .kind → k ≤ 4 → a ≡ r .argument → eqb a x ≡ literal-test r x
+literal-test-literal r x e l f = rw (le-leb (r .kind) 4 (omega arith)) (ap (λ v. eqb v x) f)
+
+-- a literal's row passes the test of its variable
+literal-passes : (s : Bool) (v x : ℕ) → v ≡ x → literal-test (head (literal s v)) x ≡ true
+unfolding head
+literal-passes true v x e = eq-eqb v x e
+literal-passes false v x e = eq-eqb v x e
+
+literal-like : (v x : ℕ) (s′ s : Bool) → head (literal s′ v) ≡ row (literal-kind s) x → like s x (lit s′ v) ≡ true
+unfolding head equal
+literal-like v x true true e = rw (eq-eqb v x (ap (λ (r : Row). r .argument) e))
+literal-like v x true false e = absurd (omega (arith, ap (λ (r : Row). r .kind) e))
+literal-like v x false true e = absurd (omega (arith, ap (λ (r : Row). r .kind) e))
+literal-like v x false false e = rw (eq-eqb v x (ap (λ (r : Row). r .argument) e))
+
+-- where no member of a literal's bucket is a literal of its variable, no tree is
+pub unseen : {R : List Row} {from at to : ℕ} {before after : List Row} {done : Blocks} (rest : Blocks) (s : Bool) (x : ℕ)
+    → Here R from at to before done rest after
+    → ((j : ℕ) → j < length (notes at rest) → bucket (getD (notes at rest) j 0) ≡ bucket (literal-mix (sign s) x)
+    → literal-test (at-row R (place (getD (notes at rest) j 0))) x ≡ true → ⊥)
+    → some-child (λ t. same-variable t (lit s x)) (live rest) ≡ false
+unfolding notes note live grown some-child same-variable
+unseen none s x h q = refl
+unseen (gone rs ◂ rest) s x h q = unseen rest s x (onward h) q
+unseen (operator o ks ◂ rest) s x h q = unseen rest s x (onward h) q
+unseen {R} {at = at} (literal s′ v ◂ rest) s x h q =
+    or-none (go (eqb v x) refl) (unseen rest s x (onward h) (λ j l. q (suc j) (omega arith)))
+  where
+    go : (t : Bool) → eqb v x ≡ t → t ≡ false
+    go false e = refl
+    go true e =
+        let same : v ≡ x = eqb-true v x e in
+        absurd
+        (q 0 (omega arith) (bucket-note at s′ s v ∙ ap (λ w. bucket (literal-mix (sign s) w)) same)
+        (ap (λ p. literal-test (at-row R p) x) (place-note at s′ v) ∙ ap (λ (r : Row). literal-test r x) (stands-row (stands h)) ∙
+        literal-passes s′ v x same))
+
+-- a member whose row is a literal's is that literal
+pub seen : {R : List Row} {from at to : ℕ} {before after : List Row} {done : Blocks} (rest : Blocks) (s : Bool) (x : ℕ)
+    → Here R from at to before done rest after → (j : ℕ) → j < length (notes at rest)
+    → at-row R (place (getD (notes at rest) j 0)) ≡ row (literal-kind s) x → some-child (like s x) (live rest) ≡ true
+unfolding notes note live grown some-child
+seen none s x h j l e = absurd (omega arith)
+seen (gone rs ◂ rest) s x h j l e = seen rest s x (onward h) j l e
+seen (operator o ks ◂ rest) s x h j l e = or-later (like s x (node o (live ks))) (seen rest s x (onward h) j l e)
+seen {R} {at = at} (literal s′ v ◂ rest) s x h zero l e =
+    ap (λ b. b || some-child (like s x) (live rest))
+    (literal-like v x s′ s (sym (stands-row (stands h)) ∙ sym (ap (at-row R) (place-note at s′ v)) ∙ e))
+seen {at = at} (literal s′ v ◂ rest) s x h (suc j) l e = or-later (like s x (lit s′ v)) (seen rest s x (onward h) j (omega arith) e)
+
+literal-above : (s : Bool) (v : ℕ) → 2 < (head (literal s v)) .kind
+unfolding head
+literal-above true v = omega arith
+literal-above false v = omega arith
+
+-- the row of a member is no dead block's
+pub member-live : {R : List Row} {from at to : ℕ} {before after : List Row} {done : Blocks} (rest : Blocks)
+    → Here R from at to before done rest after → (j : ℕ) → j < length (notes at rest) → 2 < (at-row R (place (getD (notes at rest) j 0))) .kind
+unfolding notes note
+member-live none h j l = absurd (omega arith)
+member-live (gone rs ◂ rest) h j l = member-live rest (onward h) j l
+member-live (operator o ks ◂ rest) h j l = member-live rest (onward h) j l
+member-live {R} {at = at} (literal s v ◂ rest) h zero l =
+    let e = ap (λ p. (at-row R p) .kind) (place-note at s v) ∙ ap (λ (r : Row). r .kind) (stands-row (stands h)) in
+    omega (arith, e, literal-above s v)
+member-live (literal s v ◂ rest) h (suc j) l = member-live rest (onward h) j (omega arith)

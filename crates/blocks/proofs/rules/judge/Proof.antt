@@ -1,0 +1,134 @@
+-- `blocks::rules::judge` meets its contract. Assumes nothing.
+use mathlib.Core.Path.{_≡_, refl, sym, ap, _∙_, subst}
+use Prim.Native.Nat.{_+_, _-_, _<_}
+use native.Mathlib.Omega.{arith}
+use Rattle.sheet.specs.Format.{Row}
+use Rattle.rows.specs.Layouts.{total}
+use Rattle.rows.proofs.Layouts.{length-rows-in}
+use Rattle.buckets.specs.Chains.{Linked}
+use Rattle.buckets.proofs.Chains.{linked-none}
+use Rattle.blocks.specs.Blocks.{head, live}
+use Rattle.blocks.specs.Rules.{decisive, repeated}
+use Rattle.blocks.proofs.Blocks.{stands-row, stands-within}
+use Rattle.blocks.proofs.Notes.{note-dead}
+use Rattle.blocks.proofs.Judge.{none-dead, live-above, note-operator, repeats-operator, judged-decided, judged-passed}
+use borrow.Author.Needs.{needs}
+use Rattle.blocks.proofs.rules.judge.Statement.{statement}
+use Rattle.blocks.proofs.rules.judge.Tie as tie
+
+abbrev start-of : tie.After-kind-at → tie.Start
+start-of c = c .before .before .before .before .before .before
+
+kind-at-requires : tie.Need-kind-at-requires
+kind-at-requires c κs =
+    let a = c .before .before .before .before .before in
+    (a .pre .0, omega (arith, stands-within (a .pre .3 .standing .stands), length-rows-in (a .args .b .now) (a .pre .0)))
+
+add-result : tie.Need-add-result
+add-result c = search needs
+
+same-length : tie.Need-same-length
+same-length c = search needs
+
+returns : tie.Need-returns
+returns c =
+    let k = c .before .before in
+    let a = start-of k in
+    let n = a .args .c .before in
+    let same : n ≡ n + 1 - 1 = omega arith in (
+      (λ o _ from before done after laid noted two front x back h.
+          let dead = sym (k .kind-at .ensures ∙ ap (λ (r : Row). r .kind) (stands-row h)) ∙ c .before .if1 .taken in
+          judged-passed h (none-dead (decisive o (live done)) x dead) (none-dead (repeated (live done)) x dead) (note-dead _ x dead) noted refl),
+      (subst (Linked _ _ _) same (a .pre .3 .linked), omega arith),
+    )
+
+judge-literal-requires : tie.Need-judge-literal-requires
+judge-literal-requires c κs =
+    let t = c .before .before .before .before in
+    let k = t .before .before in
+    let a = start-of k in
+    let g = a .pre .3 .standing in
+    let same = k .kind-at .ensures ∙ ap (λ (r : Row). r .kind) (stands-row (g .stands)) in (
+      a .pre .0,
+      a .pre .1,
+      a .pre .2,
+      a .pre .3,
+      record {
+        is = k .kind-at .ensures;
+        above = omega (arith, same, live-above (g .block) (λ z. t .before .if1 .left (same ∙ z)));
+        below = t .if2 .taken;
+      },
+    )
+
+same-length-2 : tie.Need-same-length-2
+same-length-2 c = search needs
+
+same-length-3 : tie.Need-same-length-3
+same-length-3 c = search needs
+
+same-length-4 : tie.Need-same-length-4
+same-length-4 c = search needs
+
+same-length-5 : tie.Need-same-length-5
+same-length-5 c = search needs
+
+returns-2 : tie.Need-returns-2
+returns-2 c =
+    let l = c .before .before .before .before .before .before .before .before in
+    ((λ o _. l .judge-literal .ensures .0 o), l .judge-literal .ensures .1)
+
+decides-at-requires : tie.Need-decides-at-requires
+decides-at-requires c κs = search needs
+
+same-length-6 : tie.Need-same-length-6
+same-length-6 c = search needs
+
+returns-3 : tie.Need-returns-3
+returns-3 c =
+    let d = c .before in (
+      (λ o e from before done after laid noted two front x back h.
+          judged-decided h (sym (d .decides-at .ensures (live done) front x back h o e) ∙ c .if3 .taken)),
+      (linked-none _ _ _, omega arith),
+    )
+
+add-result-2 : tie.Need-add-result-2
+add-result-2 c = search needs
+
+same-length-7 : tie.Need-same-length-7
+same-length-7 c = search needs
+
+returns-4 : tie.Need-returns-4
+returns-4 c =
+    let d = c .before .before in
+    let t = d .before .before in
+    let k = t .before .before in
+    let a = start-of k in
+    let n = a .args .c .before in
+    let same : n ≡ n + 1 - 1 = omega arith in (
+      (λ o e from before done after laid noted two front x back h.
+          let above : 4 < (head x) .kind = omega (arith, k .kind-at .ensures, ap (λ (r : Row). r .kind) (stands-row h), t .if2 .left) in
+          judged-passed h (sym (d .decides-at .ensures (live done) front x back h o e) ∙ c .before .if3 .left) (repeats-operator (live done) x above)
+          (note-operator _ x above) noted refl),
+      (subst (Linked _ _ _) same (a .pre .3 .linked), omega arith),
+    )
+
+pub judge-spec : {M : Type 1} → statement M
+judge-spec =
+    tie.close
+    (tie.spec
+    kind-at-requires
+    add-result
+    same-length
+    returns
+    judge-literal-requires
+    same-length-2
+    same-length-3
+    same-length-4
+    same-length-5
+    returns-2
+    decides-at-requires
+    same-length-6
+    returns-3
+    add-result-2
+    same-length-7
+    returns-4)
