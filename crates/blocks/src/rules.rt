@@ -113,7 +113,8 @@ pub fn judge_literal(
         add(heads, links, members, n, at * 65536 + p);
         return n + 2;
     }
-    if kind_at(b, s, member(members, i - 1) / 65536) != c.kind {
+    let r = member(members, i - 1) / 65536;
+    if kind_at(b, s, r) != c.kind {
         return 0;
     }
     set_row(b, s, at, GONE, 1);

@@ -152,16 +152,16 @@ sub-member c = search needs
 
 member-requires : tie.Need-member-requires
 member-requires c κs =
-    let f = c .before .before .before in
+    let f = c .before .before in
     let a = start-of (printed f) in
-    omega (arith, found-there (c .before .before) .within, inside a, a .pre .2 .members-fit, a .pre .3 .few)
+    omega (arith, found-there (c .before) .within, inside a, a .pre .2 .members-fit, a .pre .3 .few)
 
 kind-at-requires : tie.Need-kind-at-requires
 kind-at-requires c κs =
     let e = c .before .before .before in
     let a = start-of (printed (e .before)) in
     let i = found-there e in
-    (a .pre .0, omega (arith, ap (λ m. m / 65536) (c .member .ensures .0), inside a, members-within (a .pre .3 .laid) (a .pre .3 .noted) (e .before .find .result - 1) (omega (arith, i .some, i .within))))
+    (a .pre .0, omega (arith, ap (λ m. m / 65536) (c .before .member .ensures .0), inside a, members-within (a .pre .3 .laid) (a .pre .3 .noted) (e .before .find .result - 1) (omega (arith, i .some, i .within))))
 
 same-length-5 : tie.Need-same-length-5
 same-length-5 c = search needs
@@ -178,8 +178,8 @@ same-length-8 c = search needs
 returns-2 : tie.Need-returns-2
 returns-2 c =
     let k = c .before .before in
-    let m = k .before in
-    let e = m .before .before .before in
+    let m = k .before .before in
+    let e = m .before .before in
     let g = printed (e .before) in
     let a = start-of g in
     let i = found-there e in (
@@ -218,8 +218,8 @@ returns-3 c =
     let w = c .before .before in
     let t = w .before .before in
     let k = t .before .before in
-    let m = k .before in
-    let e = m .before .before .before in
+    let m = k .before .before in
+    let e = m .before .before in
     let g = printed (e .before) in
     let a = start-of g in
     let n = a .args .c .before in
