@@ -1,18 +1,13 @@
--- A number read from its last byte to its first.
+-- A number by its bytes.
 -- Assumes nothing.
 use mathlib.Core.Path.{_≡_, refl, sym, ap, _∙_}
 use Prim.Native.Nat.{ℕ, suc, _+_, _*_, _-_, _^_, _≤_, _<_}
 use native.Mathlib.Nat.{pow-suc, pow-le-pow-right, lt-of-lt-of-le}
+use native.Mathlib.Numerals.{add-one}
 use native.Mathlib.Omega.{arith}
 use lib.ListN.{length, getD, take, drop, length-drop}
 use lib.Seq.{length-take-le, drop-cons, getD-take, getD-drop, drop-length}
 use Rattle.sheet.specs.Format.{Bytes, number}
-
--- the value of the bytes from i on
-pub record Read (b : Bytes) (at width i value : ℕ) : Type 0 where
-  pub within : i ≤ width
-  pub so-far : value ≡ number (drop i (take width (drop at b)))
-  pub bounded : value < 256 ^ (width - i)
 
 -- k bytes hold less than m bytes do
 pub few-bytes : (m : ℕ) {k value : ℕ} → k ≤ m → value < 256 ^ k → value < 256 ^ m
@@ -25,18 +20,6 @@ module _ (b : Bytes) (at width : ℕ) (inside : at + width ≤ length b) where
   length-part : length part ≡ width
   length-part = length-take-le width (drop at b) (omega (arith, length-drop at b))
 
-  pub read-none : Read b at width width 0
-  unfolding number
-  read-none =
-      record {
-        within = omega arith;
-        so-far = sym (ap number (ap (λ n. drop n part) (sym length-part) ∙ drop-length part));
-        bounded = rw (sub-self width) (omega arith);
-      }
-    where
-      sub-self : (n : ℕ) → n - n ≡ 0
-      sub-self n = omega arith
-
   -- one more byte in front
   number-cons : (j : ℕ) → j < width → number (drop j part) ≡ getD b (at + j) 0 + 256 * number (drop (suc j) part)
   unfolding number
@@ -47,26 +30,30 @@ module _ (b : Bytes) (at width : ℕ) (inside : at + width ≤ length b) where
         getD-drop at b j 0,
       )
 
-  pub read-byte : {i value byte : ℕ} → 0 < i → Read b at width i value → byte ≡ getD b (at + (i - 1)) 0 → byte < 256
-      → Read b at width (i - 1) (value * 256 + byte)
-  read-byte {i} {value} {byte} more r e small =
-      record {
-        within = omega (arith, r .within);
-        so-far = omega (arith, number-cons (i - 1) (omega (arith, r .within)), ap (λ n. number (drop n part)) back, r .so-far, e);
-        bounded = rw (exponent (r .within)) (omega (arith, pow-suc 256 (width - i), r .bounded));
-      }
-    where
-      back : suc (i - 1) ≡ i
-      back = omega arith
+-- no bytes
+pub number-none : (b : Bytes) (at : ℕ) {width : ℕ} → width ≡ 0 → (0 ≡ number (take width (drop at b))) × (0 < 256 ^ width)
+unfolding number
+number-none b at none = rw none (refl, omega arith)
 
-      exponent : i ≤ width → width - (i - 1) ≡ suc (width - i)
-      exponent h = omega arith
+-- one byte more
+pub more-bytes : (width : ℕ) → 0 < width → {low rest : ℕ} → low < 256 → rest < 256 ^ (width - 1) → low + 256 * rest < 256 ^ width
+more-bytes width some small h = rw (back) (omega (arith, pow-suc 256 (width - 1)))
+  where
+    back : width ≡ suc (width - 1)
+    back = omega arith
 
-  pub read-all : {i value : ℕ} → width ≤ 4 → i ≤ 0 → Read b at width i value
-      → (value ≡ number (take width (drop at b))) × (value < 2 ^ 32)
-  read-all {i} narrow none r =
-      let first : i ≡ 0 = omega arith in
-      (rw first at (r .so-far), few-bytes 4 (omega arith) (r .bounded))
+-- the first byte, and the number of those behind it
+pub number-first : (b : Bytes) (at width : ℕ) → at + width ≤ length b → 0 < width → {low rest : ℕ} → low ≡ getD b at 0
+    → rest ≡ number (take (width - 1) (drop (at + 1) b)) → low + 256 * rest ≡ number (take width (drop at b))
+unfolding number
+number-first b at width inside some {low} {rest} el er =
+    omega (arith, opened, el, er, ap (λ n. number (take (width - 1) (drop n b))) (add-one at)) ∙ ap (λ n. number (take n (drop at b))) back
+  where
+    back : suc (width - 1) ≡ width
+    back = omega arith
+
+    opened : number (take (suc (width - 1)) (drop at b)) ≡ getD b at 0 + 256 * number (take (width - 1) (drop (suc at) b))
+    opened = rw (drop-cons b at 0 (omega arith))
 
 -- two bytes, read at once
 pub two-bytes : (b : Bytes) (at : ℕ) → at + 2 ≤ length b → {low high : ℕ} → low ≡ getD b at 0 → high ≡ getD b (at + 1) 0

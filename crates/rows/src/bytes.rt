@@ -23,7 +23,19 @@ fn put_quad(b: &mut [u8], at: usize, value: usize)
     put_pair(b, at + 2, value / 65536);
 }
 
-// Writes a number to the `width` bytes at `at`, low byte first; two bytes or four without a loop.
+// Writes a number to the `width` bytes at `at`, byte by byte. It calls itself, so that no loop that writes numbers has it inside.
+fn put_by_bytes(b: &mut [u8], at: usize, width: usize, value: usize)
+    requires { ⌜ at + width ≤ length (now b) ⌝ }
+    ensures { λ _. ⌜ now (b .exit) ≡ take at (now (b .entry)) ++ digits width value ++ drop (at + width) (now (b .entry)) ⌝ }
+{
+    if width == 0 {
+        return;
+    }
+    put_by_bytes(b, at + 1, width - 1, value / 256);
+    b[at] = (value % 256) as u8;
+}
+
+// Writes a number to the `width` bytes at `at`, low byte first; two bytes or four at once.
 pub fn put_number(b: &mut [u8], at: usize, width: usize, value: usize)
     requires { ⌜ at + width ≤ length (now b) ⌝ }
     ensures { λ _. ⌜ now (b .exit) ≡ take at (now (b .entry)) ++ digits width value ++ drop (at + width) (now (b .entry)) ⌝ }
@@ -36,13 +48,7 @@ pub fn put_number(b: &mut [u8], at: usize, width: usize, value: usize)
         put_quad(b, at, value);
         return;
     }
-    let mut rest = value;
-    let mut i: usize = 0;
-    while i < width {
-        b[at + i] = (rest % 256) as u8;
-        rest = rest / 256;
-        i += 1;
-    }
+    put_by_bytes(b, at, width, value);
 }
 
 // Writes the number `i` of those that stand one behind the other from the first byte on.

@@ -90,8 +90,19 @@ fn quad_at(b: &[u8], at: usize) -> usize
     low + 65536 * high
 }
 
-// The number of `width` bytes that stands at `at`, low byte first. The widths of the two formats, two bytes and four, are read
-// without a loop.
+// The number of `width` bytes that stands at `at`, byte by byte. It calls itself, so that no loop that reads numbers has it inside.
+fn number_by_bytes(b: &[u8], at: usize, width: usize) -> usize
+    requires { ⌜ (at + width ≤ length (now b)) × (width ≤ 4) ⌝ }
+    ensures { λ r. ⌜ (r ≡ number (take width (drop at (now (b .entry))))) × (r < 256 ^ width) ⌝ }
+{
+    if width == 0 {
+        return 0;
+    }
+    let rest = number_by_bytes(b, at + 1, width - 1);
+    wide(b[at]) + 256 * rest
+}
+
+// The number of `width` bytes that stands at `at`, low byte first. The widths of the two formats, two bytes and four, are read at once.
 pub fn number_at(b: &[u8], at: usize, width: usize) -> usize
     requires { ⌜ (at + width ≤ length (now b)) × (width ≤ 4) ⌝ }
     ensures { λ r. ⌜ (r ≡ number (take width (drop at (now (b .entry))))) × (r < 2 ^ 32) ⌝ }
@@ -102,11 +113,5 @@ pub fn number_at(b: &[u8], at: usize, width: usize) -> usize
     if width == 4 {
         return quad_at(b, at);
     }
-    let mut value: usize = 0;
-    let mut i = width;
-    while 0 < i {
-        i -= 1;
-        value = value * 256 + wide(b[at + i]);
-    }
-    value
+    number_by_bytes(b, at, width)
 }

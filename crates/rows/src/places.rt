@@ -23,10 +23,13 @@ pub fn kind_place(s: Layout, r: usize) -> usize
     2 * s.width + r
 }
 
-// The first byte of the argument of row `r`.
+// The first byte of the argument of row `r`. The narrow format's width stands by itself, so that the compiler has it as a number.
 pub fn argument_place(s: Layout, r: usize) -> usize
     requires { ⌜ argument-place s r < 2 ^ 63 ⌝ }
     ensures { λ p. ⌜ p ≡ argument-place s r ⌝ }
 {
+    if s.width == 2 {
+        return 4 + (s.variables + s.nodes) + 2 * r;
+    }
     2 * s.width + (s.variables + s.nodes) + s.width * r
 }
