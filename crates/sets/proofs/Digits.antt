@@ -1,13 +1,13 @@
 -- The digits of a word: set, counted, and the lowest that is set.
 -- Assumes nothing.
 use mathlib.Core.Path.{_≡_, refl, sym, _∙_, ap, ap₂}
-use mathlib.Core.Bool.{Bool, true, false, _||_, cond, true≢false}
+use mathlib.Core.Bool.{Bool, true, false, not, _&&_, _||_, cond, true≢false}
 use mathlib.Core.List.{List}
-use Prim.Native.Nat.{ℕ, zero, suc, _+_, _*_, _/_, _%_, _^_, max, _≤_, _<_}
+use Prim.Native.Nat.{ℕ, zero, suc, _+_, _*_, _/_, _%_, _^_, _-_, min, max, _≤_, _<_}
 use native.Mathlib.Omega.{arith}
 use native.Mathlib.Nat.{pow-suc, mod-lt}
 use lib.Dec.{eqb}
-use lib.Bits.{bitOr, or-step, or-shr}
+use lib.Bits.{bitAnd, bitOr, and-step, or-step, and-shr, or-shr}
 use lib.Count.{onesIn, ones, ones-step, under, trailingZeros}
 use lib.ListN.{length, getD}
 use lib.Pow.{pow-lt, shr-shr}
@@ -93,6 +93,42 @@ digit-set w k j h =
     turned true false = refl
     turned false true = refl
     turned false false = refl
+
+pub digit-and : (a b k : ℕ) → digit (bitAnd a b) k ≡ (digit a k && digit b k)
+unfolding digit
+digit-and a b k =
+    ap (λ (n : ℕ). eqb (n % 2) 1) (and-shr a b k) ∙ ap (λ (n : ℕ). eqb n 1) (last (a / 2 ^ k) (b / 2 ^ k)) ∙
+    both (a / 2 ^ k % 2) (even-or-odd (a / 2 ^ k)) (b / 2 ^ k % 2) (even-or-odd (b / 2 ^ k))
+  where
+    last : (c d : ℕ) → bitAnd c d % 2 ≡ min (c % 2) (d % 2)
+    last c d = let s = and-step c d in let l = even-or-odd c in let m = even-or-odd d in omega arith
+
+    both : (m : ℕ) → m < 2 → (n : ℕ) → n < 2 → eqb (min m n) 1 ≡ (eqb m 1 && eqb n 1)
+    both m h n k =
+        two-cases m h (λ (m : ℕ). eqb (min m n) 1 ≡ (eqb m 1 && eqb n 1))
+        (two-cases n k (λ (n : ℕ). eqb (min 0 n) 1 ≡ (eqb 0 1 && eqb n 1)) refl refl)
+        (two-cases n k (λ (n : ℕ). eqb (min 1 n) 1 ≡ (eqb 1 1 && eqb n 1)) refl refl)
+
+-- the other digits of a word of n digits
+pub digit-not : (n w k : ℕ) → w < 2 ^ n → k < n → digit (2 ^ n - 1 - w) k ≡ not (digit w k)
+digit-not zero w k h l = absurd (omega arith)
+digit-not (suc n) w zero h l = digit-first (2 ^ suc n - 1 - w) ∙ by (w % 2) refl (even-or-odd w) ∙ ap not (sym (digit-first w))
+  where
+    by : (d : ℕ) → w % 2 ≡ d → d < 2 → eqb ((2 ^ suc n - 1 - w) % 2) 1 ≡ not (eqb (w % 2) 1)
+    by zero e l =
+        let p = pow-suc 2 n in
+        eq-eqb ((2 ^ suc n - 1 - w) % 2) 1 (omega (arith, p, h, e)) ∙ ap not (sym (ne-eqb (w % 2) 1 (λ q. omega (arith, e, q))))
+    by (suc zero) e l =
+        let p = pow-suc 2 n in
+        ne-eqb ((2 ^ suc n - 1 - w) % 2) 1 (λ q. omega (arith, p, h, e, q)) ∙ ap not (sym (eq-eqb (w % 2) 1 e))
+    by (suc (suc d)) e l = absurd (omega arith)
+digit-not (suc n) w (suc k) h l =
+    let p = pow-suc 2 n in
+    digit-next (2 ^ suc n - 1 - w) k ∙ ap (λ (m : ℕ). digit m k) (half p) ∙ digit-not n (w / 2) k (omega (arith, p, h)) (omega arith) ∙
+    ap not (sym (digit-next w k))
+  where
+    half : 2 ^ suc n ≡ 2 ^ n * 2 → (2 ^ suc n - 1 - w) / 2 ≡ 2 ^ n - 1 - w / 2
+    half p = omega (arith, p, h)
 
 -- digits counted
 pub ones-in : (d w : ℕ) → w < 2 ^ d → onesIn d w ≡ ones w

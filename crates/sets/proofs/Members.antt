@@ -1,23 +1,23 @@
 -- Members of a set by its words: one added, counted word by word, and the lowest.
 -- Assumes nothing.
-use mathlib.Core.Path.{_≡_, refl, sym, _∙_, ap, ap₂}
-use mathlib.Core.Bool.{Bool, true, false, _||_, cond, true≢false}
+use mathlib.Core.Path.{_≡_, refl, sym, _∙_, ap, ap₂, fun-ext}
+use mathlib.Core.Bool.{Bool, true, false, not, _&&_, _||_, cond, true≢false}
 use mathlib.Core.List.{List}
-use Prim.Native.Nat.{ℕ, zero, suc, _+_, _*_, _/_, _%_, _^_, _≤_, _<_}
+use Prim.Native.Nat.{ℕ, zero, suc, _+_, _*_, _/_, _%_, _^_, _-_, _≤_, _<_}
 use native.Mathlib.Omega.{arith}
 use native.Mathlib.Numerals.{add-one}
 use lib.Dec.{eqb, leb}
-use lib.Bits.{bitOr}
+use lib.Bits.{bitAnd, bitOr}
 use lib.Count.{onesIn, ones, trailingZeros}
 use lib.ListN.{length, getD, set}
 use lib.Seq.{getD-set-same, getD-set-other}
 use lib.Pow.{shr-shr}
 use borrow.Author.Tests.{eqb-true, eqb-false, eq-eqb, ne-eqb, leb-true, leb-false}
-use Rattle.sets.specs.Sets.{digit, holds, members, size, IsLowest}
-use Rattle.sets.proofs.Digits.{digit-first, digit-is, digit-none, digit-set, ones-in, Trails, trails}
+use Rattle.sets.specs.Sets.{digit, holds, amount, members, size, IsFirst, left-in}
+use Rattle.sets.proofs.Digits.{digit-first, digit-is, digit-none, digit-set, digit-and, digit-not, ones-in, Trails, trails}
 
 -- the word and the digit of a number
-holds-at : (ws : List ℕ) (i k : ℕ) → k < 64 → holds ws (64 * i + k) ≡ digit (getD ws i 0) k
+pub holds-at : (ws : List ℕ) (i k : ℕ) → k < 64 → holds ws (64 * i + k) ≡ digit (getD ws i 0) k
 unfolding holds
 holds-at ws i k h = ap₂ (λ (a b : ℕ). digit (getD ws a 0) b) (word i k h) (place i k h)
   where
@@ -65,7 +65,7 @@ holds-set ws v h u = by (eqb (u / 64) (v / 64)) refl
 
 -- counted word by word
 members-split : (ws : List ℕ) (m n i : ℕ) → members ws (m + n) i ≡ members ws m i + members ws n (i + m)
-unfolding members
+unfolding amount
 members-split ws zero n i = ap₂ (members ws) (zero-sum n) (sum-zero i) ∙ sym (zero-sum (members ws n (i + 0)))
   where
     zero-sum : (n : ℕ) → 0 + n ≡ n
@@ -89,7 +89,7 @@ members-split ws (suc m) n i =
     by false e = e
 
 members-word : (ws : List ℕ) (i n k : ℕ) → k + n ≤ 64 → members ws n (64 * i + k) ≡ onesIn n (getD ws i 0 / 2 ^ k)
-unfolding members onesIn
+unfolding amount onesIn
 members-word ws i zero k h = refl
 members-word ws i (suc n) k h =
     ap (λ (m : Bool). cond m (suc (members ws n (suc (64 * i + k)))) (members ws n (suc (64 * i + k)))) (holds-at ws i k (omega arith)) ∙
@@ -146,42 +146,116 @@ members-next ws i h =
     whole : (w : ℕ) → w / 1 ≡ w
     whole w = omega arith
 
--- none below word i
-abbrev pub NoneBelow : List ℕ → ℕ → Type 0
-NoneBelow ws i = (v : ℕ) → v < 64 * i → holds ws v ≡ false
+-- amount
+
+pub amount-same : (P Q : ℕ → Bool) → ((v : ℕ) → P v ≡ Q v) → (n i : ℕ) → amount P n i ≡ amount Q n i
+amount-same P Q same n i = ap (λ (R : ℕ → Bool). amount R n i) (fun-ext same)
+
+pub amount-most : (P : ℕ → Bool) (n i : ℕ) → amount P n i ≤ n
+unfolding amount
+amount-most P zero i = omega arith
+amount-most P (suc n) i = by (P i) (amount-most P n (suc i))
+  where
+    by : (m : Bool) → amount P n (suc i) ≤ n → cond m (suc (amount P n (suc i))) (amount P n (suc i)) ≤ suc n
+    by true h = omega arith
+    by false h = omega arith
+
+pub amount-none : (P : ℕ → Bool) → ((v : ℕ) → P v ≡ false) → (n i : ℕ) → amount P n i ≡ 0
+unfolding amount
+amount-none P none zero i = refl
+amount-none P none (suc n) i = rw (none i) (amount-none P none n (suc i))
+
+-- a number that is put in, and wasn't
+module _ (P Q : ℕ → Bool) (y : ℕ) (with : (u : ℕ) → Q u ≡ (eqb u y || P u)) where
+  other : (u : ℕ) → (u ≡ y → ⊥) → Q u ≡ P u
+  other u h = with u ∙ ap (λ (m : Bool). m || P u) (ne-eqb u y h)
+
+  amount-past : (n i : ℕ) → y < i → amount Q n i ≡ amount P n i
+  unfolding amount
+  amount-past zero i h = refl
+  amount-past (suc n) i h =
+      ap₂ (λ (m : Bool) (k : ℕ). cond m (suc k) k) (other i (λ e. omega (arith, e, h))) (amount-past n (suc i) (omega arith))
+
+  pub amount-more : (n i : ℕ) → i ≤ y → y < i + n → P y ≡ false → amount Q n i ≡ suc (amount P n i)
+  unfolding amount
+  amount-more zero i l h new = absurd (omega arith)
+  amount-more (suc n) i l h new = by (eqb i y) refl (λ k. amount-more n (suc i) k (omega arith) new)
+    where
+      later : (m : Bool) → cond m (suc (suc (amount P n (suc i)))) (suc (amount P n (suc i))) ≡ suc (cond m (suc (amount P n (suc i))) (amount P n (suc i)))
+      later true = refl
+      later false = refl
+
+      by : (m : Bool) → eqb i y ≡ m → (suc i ≤ y → amount Q n (suc i) ≡ suc (amount P n (suc i)))
+          → cond (Q i) (suc (amount Q n (suc i))) (amount Q n (suc i)) ≡ suc (cond (P i) (suc (amount P n (suc i))) (amount P n (suc i)))
+      by true e rest =
+          let same = eqb-true i y e in
+          ap₂ (λ (m : Bool) (k : ℕ). cond m (suc k) k) (with i ∙ ap (λ (m : Bool). m || P i) e) (amount-past n (suc i) (omega (arith, same))) ∙
+          ap suc (sym (ap (λ (m : Bool). cond m (suc (amount P n (suc i))) (amount P n (suc i))) (ap P same ∙ new)))
+      by false e rest =
+          ap₂ (λ (m : Bool) (k : ℕ). cond m (suc k) k) (other i (eqb-false i y e))
+          (rest (let apart = eqb-false i y e in omega (arith, apart))) ∙
+          later (P i)
+
+-- size
+
+pub size-most : (ws : List ℕ) → size ws ≤ 64 * length ws
+unfolding size
+size-most ws = amount-most (holds ws) (64 * length ws) 0
+
+pub size-more : (ws us : List ℕ) (y : ℕ) → length us ≡ length ws → ((u : ℕ) → holds us u ≡ (eqb u y || holds ws u)) → y < 64 * length ws
+    → holds ws y ≡ false → size us ≡ suc (size ws)
+unfolding size
+size-more ws us y same with h new =
+    ap (λ (n : ℕ). amount (holds us) (64 * n) 0) same ∙ amount-more (holds ws) (holds us) y with (64 * length ws) 0 (omega arith) (omega arith) new
+
+-- A test on numbers by words of 64 digits: none passes below word i.
+abbrev pub NoneBelow : (ℕ → Bool) → ℕ → Type 0
+NoneBelow P i = (v : ℕ) → v < 64 * i → P v ≡ false
+
+-- the digits of w are the test on the numbers of word i
+abbrev pub Tells : (ℕ → Bool) → ℕ → ℕ → Type 0
+Tells P i w = (k : ℕ) → k < 64 → P (64 * i + k) ≡ digit w k
 
 in-word : (i v : ℕ) → 64 * i ≤ v → v < 64 * i + 64 → v ≡ 64 * i + v % 64
 in-word i v l h = omega arith
 
-pub none-next : (ws : List ℕ) (i j : ℕ) → j ≡ i + 1 → NoneBelow ws i → getD ws i 0 ≡ 0 → NoneBelow ws j
-none-next ws i j next none z v h = by (leb (64 * i) v) refl
+pub none-next : (P : ℕ → Bool) (i j : ℕ) {w : ℕ} → Tells P i w → j ≡ i + 1 → NoneBelow P i → w ≡ 0 → NoneBelow P j
+none-next P i j {w} tells next none z v h = by (leb (64 * i) v) refl
   where
-    by : (m : Bool) → leb (64 * i) v ≡ m → holds ws v ≡ false
+    by : (m : Bool) → leb (64 * i) v ≡ m → P v ≡ false
     by true e =
-        ap (holds ws) (in-word i v (leb-true (64 * i) v e) (omega arith)) ∙ holds-at ws i (v % 64) (omega arith) ∙
+        ap P (in-word i v (leb-true (64 * i) v e) (omega arith)) ∙ tells (v % 64) (omega arith) ∙
         ap (λ (w : ℕ). digit w (v % 64)) z ∙ digit-none (v % 64)
     by false e = none v (let l = leb-false (64 * i) v e in omega (arith, l))
 
-pub lowest-found : (ws : List ℕ) (i : ℕ) → i < length ws → NoneBelow ws i → getD ws i 0 < 2 ^ 64 → (getD ws i 0 ≡ 0 → ⊥)
-    → IsLowest ws (64 * i + trailingZeros 64 (getD ws i 0))
-lowest-found ws i h none l z =
-    let t = trails 64 (getD ws i 0) l z in
+pub first-found : (P : ℕ → Bool) (n i : ℕ) {w : ℕ} → Tells P i w → i < n → NoneBelow P i → w < 2 ^ 64 → (w ≡ 0 → ⊥)
+    → IsFirst P (64 * n) (64 * i + trailingZeros 64 w)
+first-found P n i {w} tells h none l z =
+    let t = trails 64 w l z in
     record {
       within = omega (arith, t .within);
-      is-in = λ k. holds-at ws i (trailingZeros 64 (getD ws i 0)) (t .within) ∙ t .is-set;
+      is-in = λ k. tells (trailingZeros 64 w) (t .within) ∙ t .is-set;
       none-below = below t;
     }
   where
-    below : Trails (getD ws i 0) 64 (trailingZeros 64 (getD ws i 0)) → (v : ℕ) → v < 64 * i + trailingZeros 64 (getD ws i 0)
-        → holds ws v ≡ false
+    below : Trails w 64 (trailingZeros 64 w) → (v : ℕ) → v < 64 * i + trailingZeros 64 w → P v ≡ false
     below t v k = by (leb (64 * i) v) refl
       where
-        by : (m : Bool) → leb (64 * i) v ≡ m → holds ws v ≡ false
+        by : (m : Bool) → leb (64 * i) v ≡ m → P v ≡ false
         by true e =
             let q = in-word i v (leb-true (64 * i) v e) (omega (arith, t .within)) in
-            ap (holds ws) q ∙ holds-at ws i (v % 64) (omega arith) ∙ t .none-below (v % 64) (omega (arith, q))
+            ap P q ∙ tells (v % 64) (omega arith) ∙ t .none-below (v % 64) (omega (arith, q))
         by false e = none v (let l = leb-false (64 * i) v e in omega (arith, l))
 
-pub lowest-none : (ws : List ℕ) (i : ℕ) → i ≤ length ws → length ws ≤ i → NoneBelow ws i → IsLowest ws (64 * i)
-lowest-none ws i l h none =
+pub first-none : (P : ℕ → Bool) (n i : ℕ) → i ≤ n → n ≤ i → NoneBelow P i → IsFirst P (64 * n) (64 * i)
+first-none P n i l h none =
     record { within = omega arith; is-in = λ k. absurd (omega arith); none-below = none }
+
+-- a word of two sets without a third
+pub tells-left : (ws us ts : List ℕ) (i : ℕ) → getD ts i 0 < 2 ^ 64
+    → Tells (left-in ws us ts) i (bitAnd (bitAnd (getD ws i 0) (getD us i 0)) (18446744073709551615 - getD ts i 0))
+tells-left ws us ts i h k l =
+    ap₂ _&&_ (ap₂ _&&_ (holds-at ws i k l) (holds-at us i k l)) (ap not (holds-at ts i k l)) ∙
+    sym
+    (digit-and (bitAnd (getD ws i 0) (getD us i 0)) (18446744073709551615 - getD ts i 0) k ∙
+    ap₂ _&&_ (digit-and (getD ws i 0) (getD us i 0) k) (digit-not 64 (getD ts i 0) k h l))

@@ -4,7 +4,7 @@ ghost use mathlib.Core.Bool.{_||_};
 ghost use Prim.Native.Nat.{ℕ, _+_, _*_, _^_, _≤_, _<_};
 ghost use lib.Dec.{eqb};
 ghost use lib.ListN.{length, getD};
-ghost use Rattle.sets.specs.Sets.{holds, IsLowest, size};
+ghost use Rattle.sets.specs.Sets.{holds, IsFirst, IsLowest, left-in, size};
 
 // Words that are enough for the numbers of the wider format, 0 to 1,024.
 pub const WORDS: usize = 17;
@@ -50,6 +50,22 @@ pub fn lowest(set: &[u64]) -> usize
     while i < set.len() {
         if set[i] != 0 {
             return 64 * i + u64::trailing_zeros(set[i]) as usize;
+        }
+        i += 1;
+    }
+    64 * i
+}
+
+// The lowest number that is in two sets and not in a third, or 64 times the words if there is none.
+pub fn lowest_left(first: &[u64], second: &[u64], taken: &[u64]) -> usize
+    requires { ⌜ (length (now first) ≤ 17) × (length (now second) ≡ length (now first)) × (length (now taken) ≡ length (now first)) ⌝ }
+    ensures { λ r. ⌜ IsFirst (left-in (now (first .entry)) (now (second .entry)) (now (taken .entry))) (64 * length (now (first .entry))) r ⌝ }
+{
+    let mut i: usize = 0;
+    while i < first.len() {
+        let word = first[i] & second[i] & !taken[i];
+        if word != 0 {
+            return 64 * i + u64::trailing_zeros(word) as usize;
         }
         i += 1;
     }

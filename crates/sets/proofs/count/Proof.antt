@@ -4,7 +4,7 @@ use Prim.Native.Nat.{ℕ, _+_, _*_, _-_, _≤_}
 use native.Mathlib.Omega.{arith}
 use lib.ListN.{length, getD}
 use lib.Count.{ones, ones-le}
-use Rattle.sets.specs.Sets.{members, size}
+use Rattle.sets.specs.Sets.{amount, members, size}
 use Rattle.sets.proofs.Members.{members-next}
 use Rattle.sets.proofs.count.Statement.{statement}
 use Rattle.sets.proofs.count.Tie as tie
@@ -16,7 +16,7 @@ abbrev μ-loop : tie.MeasureT-loop
 μ-loop set sum₀ i₀ sum i = length set - i
 
 loop-holds : tie.Need-loop-holds Inv-loop μ-loop
-unfolding members
+unfolding amount
 loop-holds c = (omega arith, omega arith, omega arith)
 
 mul-sum : tie.Need-mul-sum Inv-loop μ-loop

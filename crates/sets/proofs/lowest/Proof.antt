@@ -4,14 +4,13 @@ use Prim.Native.Nat.{_+_, _-_, _≤_}
 use native.Mathlib.Omega.{arith}
 use lib.ListN.{length, getD}
 use lib.Count.{trailing-le}
-use Rattle.sets.proofs.Members.{NoneBelow, none-next, lowest-found, lowest-none}
+use Rattle.sets.specs.Sets.{holds}
+use Rattle.sets.proofs.Members.{holds-at, NoneBelow, none-next, first-found, first-none}
 use Rattle.sets.proofs.lowest.Statement.{statement}
 use Rattle.sets.proofs.lowest.Tie as tie
-use Rattle.sets.proofs.lowest.Reads as reads
-use Rattle.sets.proofs.lowest.Lts as lts
 
 abbrev Inv-loop : tie.InvT-loop
-Inv-loop set i₀ i = (i ≤ length set) × NoneBelow set i
+Inv-loop set i₀ i = (i ≤ length set) × NoneBelow (holds set) i
 
 abbrev μ-loop : tie.MeasureT-loop
 μ-loop set i₀ i = length set - i
@@ -48,7 +47,8 @@ add-result c =
 returns : tie.Need-returns Inv-loop μ-loop
 returns c =
     let l = c .before .before .before .before .loop in
-    lowest-found (c .before .before .before .before .before .args .set .now) (l .i) (c .before .before .before .loop-test .taken) (l .inv .1)
+    let set = c .before .before .before .before .before .args .set .now in
+    first-found (holds set) (length set) (l .i) (holds-at set (l .i)) (c .before .before .before .loop-test .taken) (l .inv .1)
     (omega (arith, c .shared-slice-known2 .given (l .i))) (c .before .if1 .taken)
 
 add-i : tie.Need-add-i Inv-loop μ-loop
@@ -60,7 +60,8 @@ loop-less c = omega arith
 loop-again : tie.Need-loop-again Inv-loop μ-loop
 loop-again c =
     let l = c .before .before .before .loop in
-    (omega arith, none-next (c .before .before .before .before .args .set .now) (l .i) (l .i + 1) refl (l .inv .1) (c .if1 .left))
+    let set = c .before .before .before .before .args .set .now in
+    (omega arith, none-next (holds set) (l .i) (l .i + 1) (holds-at set (l .i)) refl (l .inv .1) (c .if1 .left))
 
 mul-result-3 : tie.Need-mul-result-3 Inv-loop μ-loop
 mul-result-3 c = omega arith
@@ -68,7 +69,8 @@ mul-result-3 c = omega arith
 returns-2 : tie.Need-returns-2 Inv-loop μ-loop
 returns-2 c =
     let l = c .before .loop in
-    lowest-none (c .before .before .args .set .now) (l .i) (l .inv .0) (c .loop-test .left) (l .inv .1)
+    let set = c .before .before .args .set .now in
+    first-none (holds set) (length set) (l .i) (l .inv .0) (c .loop-test .left) (l .inv .1)
 
 pub lowest-spec : {M : Type 1} → statement M
 lowest-spec =
