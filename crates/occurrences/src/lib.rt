@@ -14,7 +14,7 @@ ghost use Rattle.subtrees.specs.Subtrees.{subtree-in};
 ghost use Rattle.occurrences.specs.Occurrences.{Occurrences, variable-of, Firsts, Nexts, Lasts, FirstsKept};
 
 // The variable of the literal at node row `i`; a number that no table has if an operator stands there.
-fn variable_at(b: &[u8], s: Layout, i: usize) -> usize
+pub fn variable_at(b: &[u8], s: Layout, i: usize) -> usize
     requires { ⌜ Readable s (now b) × (i < s .nodes) ⌝ }
     ensures { λ r. ⌜ (r ≡ variable-of (subtree-in s (now (b .entry)) i)) × (r < 2 ^ 32) ⌝ }
 {

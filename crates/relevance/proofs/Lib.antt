@@ -1,5 +1,5 @@
 -- Laws of the relevant part, and the turns of this crate's loops.
 pub mod Growth
 pub mod Descent
-mod TurnPart
+pub mod TurnPart
 mod TurnCuts

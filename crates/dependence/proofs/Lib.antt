@@ -1,0 +1,3 @@
+-- The turns of marking.
+mod Marks
+mod Within

@@ -1,0 +1,74 @@
+-- `dependence::mark::mark_part` meets its contract: the relevant subtree is the one literal or has the operator's relevant children.
+-- Assumes nothing.
+use borrow.Author.Needs.{needs}
+use mathlib.Core.Path.{_≡_, sym, ap}
+use Prim.Native.Nat.{_<_}
+use Rattle.formula.specs.Tree.{Literals, of}
+use Rattle.rows.specs.Formulas.{matrix-in}
+use Rattle.occurrences.specs.Chains.{Chain}
+use Rattle.relevance.specs.Parts.{relevant-part}
+use Rattle.relevance.specs.declared.Relevant.{Relevant}
+use Rattle.relevance.proofs.Descent.{found-before}
+use Rattle.dependence.proofs.Marks.{marked-as}
+use Rattle.dependence.proofs.Within.{within-literal, within-operator}
+use Rattle.dependence.proofs.mark.mark_part.Statement.{statement}
+use Rattle.dependence.proofs.mark.mark_part.Tie as tie
+
+relevant-part-requires : tie.Need-relevant-part-requires
+relevant-part-requires c κs = search needs
+
+-- the operator that is found
+at : (c : tie.After-relevant-part) →
+    let a = c .before .before .before .before .before .args in
+    (L : Literals) → Chain L (a .s) (a .b .now) (a .next .now) (a .range .first) (a .range .last)
+    → c .relevant-part .result .operator ≡ (relevant-part L 0 (matrix-in (a .s) (a .b .now))) .operator
+at c L k = ap (λ (p : Relevant). p .operator) (c .relevant-part .ensures L k)
+
+mark-row-requires : tie.Need-mark-row-requires
+mark-row-requires c κs = search needs
+
+same-length : tie.Need-same-length
+same-length c = search needs
+
+returns : tie.Need-returns
+returns c =
+    let a = c .before .before .before .before .before .before .before .before .before .before .before .before in
+    λ L k.
+    marked-as (c .before .before .mark-row .ensures)
+    (λ v h. sym
+    (within-literal L (of v) (a .args .b .now) (a .pre .0 .indexed .readable) (a .args .range) (k .bounds) (at (c .before .before .before .before .before .before .before) L k) (c .before .before .before .before .if1 .taken)))
+
+before : (c : tie.Else1) → c .before .before .before .relevant-part .result .operator < c .before .before .before .before .before .before .before .before .args .range .first
+before c =
+    let a = c .before .before .before .before .before .before .before .before in
+    let k = a .pre .0 .chain in
+    found-before (a .pre .0 .chosen) (a .args .b .now) (a .pre .0 .indexed .readable) (a .args .range) (k .bounds) (at (c .before .before .before) (a .pre .0 .chosen) k)
+    (c .if1 .left)
+
+mark-children-requires : tie.Need-mark-children-requires
+mark-children-requires c κs =
+    let a = c .before .before .before .before .before .before .before .before .before in
+    (record { last = a .args .range .last; chained = a .pre .0; before = before (c .before) }, a .pre .1)
+
+same-length-2 : tie.Need-same-length-2
+same-length-2 c = search needs
+
+returns-2 : tie.Need-returns-2
+returns-2 c =
+    let a = c .before .before .before .before .before .before .before .before .before .before .before .before in
+    λ L k.
+    marked-as (c .before .before .mark-children .ensures L (a .args .range .last) k)
+    (λ v h. sym
+    (within-operator L (of v) (a .args .b .now) (a .pre .0 .indexed .readable) (a .args .range) (k .bounds) (at (c .before .before .before .before .before .before .before) L k) (c .before .before .before .before .if1 .left)))
+
+pub mark-part-spec : {M : Type 1} → statement M
+mark-part-spec =
+    tie.close
+    (tie.spec
+    relevant-part-requires
+    mark-row-requires
+    same-length
+    returns
+    mark-children-requires
+    same-length-2
+    returns-2)

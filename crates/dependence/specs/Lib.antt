@@ -1,0 +1,2 @@
+-- The variables that depend on a universal variable one block out.
+pub mod Marks
