@@ -9,7 +9,7 @@ use native.Mathlib.Numerals.{add-one}
 use lib.Dec.{eqb, leb}
 use lib.Bits.{bitAnd, bitOr}
 use lib.Count.{onesIn, ones, trailingZeros}
-use lib.ListN.{length, getD, set}
+use lib.ListN.{length, getD, set, replicate}
 use lib.Seq.{getD-set-same, getD-set-other}
 use lib.Pow.{shr-shr}
 use borrow.Author.Tests.{eqb-true, eqb-false, eq-eqb, ne-eqb, leb-true, leb-false}
@@ -26,6 +26,16 @@ holds-at ws i k h = ap₂ (λ (a b : ℕ). digit (getD ws a 0) b) (word i k h) (
 
     place : (i k : ℕ) → k < 64 → (64 * i + k) % 64 ≡ k
     place i k h = omega arith
+
+-- no number
+pub holds-none : (n v : ℕ) → holds (replicate n 0) v ≡ false
+unfolding holds
+holds-none n v = ap (λ (w : ℕ). digit w (v % 64)) (zeros n (v / 64)) ∙ digit-none (v % 64)
+  where
+    zeros : (n i : ℕ) → getD {A = ℕ} (replicate n 0) i 0 ≡ 0
+    zeros zero i = refl
+    zeros (suc n) zero = refl
+    zeros (suc n) (suc i) = zeros n i
 
 -- a number put in
 pub holds-set : (ws : List ℕ) (v : ℕ) → v < 64 * length ws → (u : ℕ)
