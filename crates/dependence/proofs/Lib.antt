@@ -1,4 +1,5 @@
--- The turns of marking, and of the walks over the prefix.
+-- The turns of marking, of the walks over the prefix, and of the growing set.
 mod Marks
 mod Within
 mod Blocks
+mod Growing

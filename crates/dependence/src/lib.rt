@@ -4,6 +4,7 @@
 use rows::Layout;
 
 pub mod block;
+pub mod closure;
 pub mod mark;
 
 // A variable of a sheet: the sheet's layout, the variable's prefix row and its number.

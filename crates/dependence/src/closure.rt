@@ -1,0 +1,62 @@
+// The depending variables: one set grows until no member of the block that is found is left. Each member costs a walk over the rows of
+// its relevant subtree, and no pair of variables is looked at.
+use crate::Target;
+use crate::block::fill_block;
+use crate::mark::mark_part;
+use occurrences::occurs;
+use relevance::Range;
+use rows::NUMBERS;
+use sets::WORDS;
+use sets::add;
+use sets::lowest_left;
+ghost use mathlib.Core.Path.{_≡_};
+ghost use Prim.Native.Nat.{_≤_};
+ghost use lib.ListN.{length, replicate};
+ghost use Rattle.rows.specs.Formulas.{formula-in};
+ghost use Rattle.subtrees.specs.Ends.{Indexed};
+ghost use Rattle.occurrences.specs.Occurrences.{Occurrences};
+ghost use Rattle.dependence.specs.Blocks.{Located};
+ghost use Rattle.dependence.specs.Dependents.{range-at, Dependents};
+
+// The rows of the first and the last literal of the variable `y`, if it has one.
+fn range_of(ranges: &[u16], y: usize) -> Range
+    requires { ⌜ (length (now ranges) ≡ 2050) × (y ≤ 1024) ⌝ }
+    ensures { λ r. ⌜ r ≡ range-at (now (ranges .entry)) y ⌝ }
+{
+    Range {
+        first: ranges[2 * y] as usize,
+        last: ranges[2 * y + 1] as usize,
+    }
+}
+
+// Fills a set of no numbers with the variables that depend on a variable. `found` are all that have a literal in the relevant subtree of
+// the variable or of a member.
+pub fn fill_dependents(
+    b: &[u8],
+    t: Target,
+    ends: &[u16],
+    ranges: &[u16],
+    next: &[u16],
+    set: &mut [u64],
+)
+    requires { ⌜ Indexed (t .layout) (now b) (now ends) × Occurrences (t .layout) (now b) (now ranges) (now next) × Located (t .layout) (now b) t × (now set ≡ replicate 17 0) ⌝ }
+    ensures { λ _. ⌜ Dependents (t .variable) (formula-in (t .layout) (now (b .entry))) (now (set .exit)) ⌝ }
+{
+    let s = t.layout;
+    let x = t.variable;
+    if !occurs(s, ranges, x) {
+        return;
+    }
+    let mut block = [0u64; WORDS];
+    fill_block(b, ranges, t, &mut block);
+    let mut found = [0u64; WORDS];
+    let own = range_of(ranges, x);
+    mark_part(b, s, ends, next, own, &mut found);
+    let mut y = lowest_left(&block, &found, set);
+    while y < NUMBERS {
+        add(set, y);
+        let range = range_of(ranges, y);
+        mark_part(b, s, ends, next, range, &mut found);
+        y = lowest_left(&block, &found, set);
+    }
+}
