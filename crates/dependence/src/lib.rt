@@ -3,6 +3,7 @@
 // are words of 64 numbers.
 use rows::Layout;
 
+pub mod answer;
 pub mod block;
 pub mod closure;
 pub mod mark;
