@@ -4,19 +4,19 @@ use mathlib.Core.Path.{_≡_, refl, sym, _∙_, ap, ap₂}
 use mathlib.Core.Bool.{Bool, true, false, not, _&&_, _||_, cond, true≢false, false≢true}
 use mathlib.Core.List.{List, [], _∷_}
 use mathlib.Core.Logic.{⊎-elim}
-use Prim.Native.Nat.{ℕ, zero, suc, _+_, _*_, _≤_, _<_}
+use Prim.Native.Nat.{ℕ, suc, _*_, _≤_, _<_}
 use native.Mathlib.Omega.{arith}
 use lib.Dec.{eqb, ltb}
 use lib.ListN.{length}
-use borrow.Author.Tests.{eqb-true, eqb-false, eq-eqb, ne-eqb, ltb-true, ltb-false, not-true}
+use borrow.Author.Tests.{eqb-true, eq-eqb, ltb-true, ltb-false, not-true}
 use Rattle.formula.specs.Tree.{same-op, exists, Binding, Prefix, Formula, binds, distinct}
 use Rattle.formula.specs.Expand.{after, among, occurs, occurring, later}
 use Rattle.formula.specs.Solve.{those}
-use Rattle.formula.specs.Outer.{existentials, block, depends, dependents, lowest-of, existential}
+use Rattle.formula.specs.Outer.{existentials, block, depends, dependents, lowest-of}
 use Rattle.formula.proofs.Booleans.{and-parts, or-parts, or-cases, or-later, eqb-comm}
 use Rattle.formula.proofs.Outer.Closure.{stage-binds}
 use Rattle.formula.proofs.Outer.Fresh.{rows-of, those-binds}
-use Rattle.sets.specs.Sets.{holds, amount, size, IsFirst, IsLowest}
+use Rattle.sets.specs.Sets.{holds, amount, size, IsLowest}
 use Rattle.sets.proofs.Members.{amount-same, amount-none, amount-more}
 use Rattle.dependence.specs.Dependents.{Dependents}
 

@@ -1,16 +1,16 @@
 -- The turns of the walks over the rows after that of a variable.
 -- Assumes nothing.
 use mathlib.Core.Path.{_≡_, refl, sym, _∙_, ap, ap₂}
-use mathlib.Core.Bool.{Bool, true, false, not, _&&_, _||_, cond, Bool·beq, or-false, or-assoc, true≢false, false≢true}
+use mathlib.Core.Bool.{Bool, true, false, not, _&&_, _||_, cond, Bool·beq, or-false, or-assoc, false≢true}
 use mathlib.Core.List.{List, [], _∷_}
 use mathlib.Core.Logic.{⊎-elim}
-use Prim.Native.Nat.{ℕ, zero, suc, _+_, _-_, _≤_, _<_}
+use Prim.Native.Nat.{ℕ, suc, _+_, _≤_, _<_}
 use native.Mathlib.Omega.{arith}
-use lib.Dec.{eqb, ltb, leb}
+use lib.Dec.{eqb, leb}
 use lib.ListN.{length, drop, replicate, length-drop, length-replicate}
 use lib.Seq.{drop-drop}
 use borrow.Author.Tests.{eqb-true, lt-ltb, le-leb, lt-leb, leb-true, leb-false}
-use Rattle.formula.specs.Tree.{and, or, Quantifier, same-op, exists, for-all, Tree, Binding, Prefix, Formula, binds, quantifier-of}
+use Rattle.formula.specs.Tree.{and, or, Quantifier, same-op, exists, for-all, Tree, Binding, Prefix, binds, quantifier-of}
 use Rattle.formula.specs.Expand.{all-of, after, among, occurs, occurring, later}
 use Rattle.formula.specs.Outer.{universal-then-existential, one-block-out, existentials, block}
 use Rattle.formula.proofs.Booleans.{eqb-comm, and-parts, or-cases}

@@ -1,18 +1,18 @@
 -- The growing set: its members depend on x, and when none is left to find it has all that do.
 -- Assumes nothing.
 use mathlib.Core.Path.{_≡_, refl, sym, _∙_, ap, ap₂}
-use mathlib.Core.Bool.{Bool, true, false, not, _&&_, _||_, cond, or-false, true≢false, false≢true}
+use mathlib.Core.Bool.{Bool, true, false, not, _&&_, _||_, cond, true≢false, false≢true}
 use mathlib.Core.List.{List, [], _∷_}
 use mathlib.Core.Logic.{⊎-elim}
-use Prim.Native.Nat.{ℕ, zero, suc, _+_, _-_, _*_, _≤_, _<_}
+use Prim.Native.Nat.{ℕ, zero, suc, _-_, _*_, _≤_, _<_}
 use native.Mathlib.Omega.{arith}
 use lib.Dec.{eqb, ltb}
 use lib.ListN.{length, getD, replicate, length-replicate}
-use borrow.Author.Tests.{eqb-true, eq-eqb}
-use Rattle.formula.specs.Tree.{same-op, exists, Tree, Binding, Prefix, Formula, of, has, binds}
+use borrow.Author.Tests.{eqb-true}
+use Rattle.formula.specs.Tree.{same-op, exists, Tree, Prefix, Formula, of, has, binds}
 use Rattle.formula.specs.Expand.{after, among, occurs, occurring, later}
 use Rattle.formula.specs.Outer.{existentials, block, within, touches, some-row, touched, grown, stage, depends}
-use Rattle.formula.proofs.Booleans.{Leads, and-parts, or-cases, or-later}
+use Rattle.formula.proofs.Booleans.{and-parts, or-cases, or-later}
 use Rattle.formula.proofs.Outer.Closure.{shut, stage-binds}
 use Rattle.sheet.specs.Format.{Bytes}
 use Rattle.rows.specs.Formulas.{formula-in}

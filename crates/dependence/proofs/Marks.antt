@@ -1,15 +1,15 @@
 -- The turns of marking.
 -- Assumes nothing.
 use mathlib.Core.Path.{_≡_, refl, sym, _∙_, ap, ap₂}
-use mathlib.Core.Bool.{Bool, true, false, _&&_, _||_, cond, or-false, or-assoc, true≢false, false≢true}
+use mathlib.Core.Bool.{Bool, true, false, _&&_, _||_, cond, or-false, or-assoc}
 use mathlib.Core.List.{List, _++_}
 use Prim.Native.Nat.{ℕ, zero, suc, _+_, _-_, _≤_, _<_}
 use native.Mathlib.Omega.{arith}
 use lib.Dec.{eqb, ltb}
 use lib.ListN.{length, getD, take}
 use lib.Seq.{take-append-seam}
-use borrow.Author.Tests.{eqb-true, eqb-false, eq-eqb, ne-eqb, lt-ltb, le-ltb}
-use Rattle.formula.specs.Tree.{Tree, lit, node, Forest, ∅, _▸_, Literals, of, rows, has, has-any, keep}
+use borrow.Author.Tests.{ne-eqb, lt-ltb, le-ltb}
+use Rattle.formula.specs.Tree.{Tree, lit, node, Forest, _▸_, Literals, of, rows, has, has-any, keep}
 use Rattle.formula.specs.Tidy.{any}
 use Rattle.formula.specs.Settle.{is-lit}
 use Rattle.formula.specs.Expand.{relevant}
@@ -24,7 +24,7 @@ use Rattle.occurrences.specs.Chains.{hits, hits-all}
 use Rattle.occurrences.specs.Occurrences.{variable-of}
 use Rattle.occurrences.proofs.Hits.{has-hits, length-hits, hits-row, hits-subtree}
 use Rattle.relevance.specs.Walks.{Way}
-use Rattle.relevance.proofs.TurnPart.{Begun, Walk, walk-start, walked, end-later, held-by, walk-next}
+use Rattle.relevance.proofs.TurnPart.{Begun, Walk, walk-start, walked, held-by, walk-next}
 use Rattle.dependence.specs.Marks.{Marked, literal-in}
 
 -- a test that no number passes marks nothing

@@ -1,7 +1,7 @@
 -- Members of a set by its words: one added, counted word by word, and the lowest.
 -- Assumes nothing.
 use mathlib.Core.Path.{_≡_, refl, sym, _∙_, ap, ap₂, fun-ext}
-use mathlib.Core.Bool.{Bool, true, false, not, _&&_, _||_, cond, true≢false}
+use mathlib.Core.Bool.{Bool, true, false, not, _&&_, _||_, cond}
 use mathlib.Core.List.{List}
 use Prim.Native.Nat.{ℕ, zero, suc, _+_, _*_, _/_, _%_, _^_, _-_, _≤_, _<_}
 use native.Mathlib.Omega.{arith}
@@ -14,7 +14,7 @@ use lib.Seq.{getD-set-same, getD-set-other}
 use lib.Pow.{shr-shr}
 use borrow.Author.Tests.{eqb-true, eqb-false, eq-eqb, ne-eqb, leb-true, leb-false}
 use Rattle.sets.specs.Sets.{digit, holds, amount, members, size, IsFirst, left-in}
-use Rattle.sets.proofs.Digits.{digit-first, digit-is, digit-none, digit-set, digit-and, digit-not, ones-in, Trails, trails}
+use Rattle.sets.proofs.Digits.{digit-is, digit-none, digit-set, digit-and, digit-not, ones-in, Trails, trails}
 
 -- the word and the digit of a number
 pub holds-at : (ws : List ℕ) (i k : ℕ) → k < 64 → holds ws (64 * i + k) ≡ digit (getD ws i 0) k

@@ -1,9 +1,9 @@
 // Sets of variable numbers as 64-bit words, 64 numbers to a word: what is looked up by number, counted, and asked for its lowest member.
 ghost use mathlib.Core.Path.{_≡_};
 ghost use mathlib.Core.Bool.{_||_};
-ghost use Prim.Native.Nat.{ℕ, _+_, _*_, _^_, _≤_, _<_};
+ghost use Prim.Native.Nat.{ℕ, _+_, _*_, _≤_, _<_};
 ghost use lib.Dec.{eqb};
-ghost use lib.ListN.{length, getD};
+ghost use lib.ListN.{length};
 ghost use Rattle.sets.specs.Sets.{holds, IsFirst, IsLowest, left-in, size};
 
 // Words that are enough for the numbers of the wider format, 0 to 1,024.

@@ -1,8 +1,8 @@
 -- `dependence::closure::fill_dependents` meets its contract: the set grows. Assumes nothing.
 use borrow.Author.Tests.{not-true, not-false}
 use mathlib.Core.Path.{_≡_, refl, sym, _∙_}
-use mathlib.Core.Bool.{true, false}
-use Prim.Native.Nat.{ℕ, _-_, _*_}
+use mathlib.Core.Bool.{true}
+use Prim.Native.Nat.{_-_, _*_}
 use native.Mathlib.Omega.{arith}
 use lib.ListN.{length}
 use Rattle.formula.specs.Tree.{of, has}
@@ -19,6 +19,10 @@ Inv-loop b ends ranges next set₀ s x block found₀ y₀ set found y =
 
 abbrev μ-loop : tie.MeasureT-loop
 μ-loop b ends ranges next set₀ s x block found₀ y₀ set found y = 1088 - size set
+
+-- the function's entry, from the head of the loop
+abbrev entry : tie.At-loop Inv-loop μ-loop → tie.Start Inv-loop μ-loop
+entry c = c .before .before .before .before .before .before .before .before .before .before .before .before .before .before .before .before .before .before .before .before
 
 occurs-requires : tie.Need-occurs-requires Inv-loop μ-loop
 occurs-requires c κs = let a = c .before .before .before .before .before .before in (a .pre .1 .holds, a .pre .2 .few)
@@ -78,9 +82,9 @@ loop-holds : tie.Need-loop-holds Inv-loop μ-loop
 loop-holds c = (c .before .before .before .before .before .before .before .before .before .fill-block .ensures, growing (c .before .before .before .before .before), c .lowest-left .ensures)
 
 taken : (c : tie.In-loop Inv-loop μ-loop) →
-    let a = c .before .before .before .before .before .before .before .before .before .before .before .before .before .before .before .before .before .before .before .before .before .args in Taken (a .t .variable) (formula-in (a .t .layout) (a .b .now)) (c .before .loop .set) (c .before .loop .y)
+    let a = entry (c .before) .args in Taken (a .t .variable) (formula-in (a .t .layout) (a .b .now)) (c .before .loop .set) (c .before .loop .y)
 taken c =
-    let a = c .before .before .before .before .before .before .before .before .before .before .before .before .before .before .before .before .before .before .before .before .before .args in
+    let a = entry (c .before) .args in
     let inv = c .before .loop .inv in
     take-left (a .t .variable) (formula-in (a .t .layout) (a .b .now)) (inv .0) (inv .1) refl (inv .2) (c .loop-test .taken)
 
@@ -88,24 +92,26 @@ add-requires : tie.Need-add-requires Inv-loop μ-loop
 add-requires c κs = omega (arith, taken (c .before) .near, c .before .before .loop .inv .1 .words)
 
 range-of-requires-2 : tie.Need-range-of-requires-2 Inv-loop μ-loop
-range-of-requires-2 c κs = (c .before .before .before .before .before .before .before .before .before .before .before .before .before .before .before .before .before .before .before .before .before .before .before .before .before .pre .1 .holds, taken (c .before .before .before .before) .near)
+range-of-requires-2 c κs =
+    let a = entry (c .before .before .before .before .before) in
+    (a .pre .1 .holds, omega (arith, a .pre .2 .few, taken (c .before .before .before .before) .near))
 
 slice-aggregate-mark-part-2 : tie.Need-slice-aggregate-mark-part-2 Inv-loop μ-loop
 slice-aggregate-mark-part-2 c = sym (c .before .before .before .before .before .before .before .loop .inv .1 .room)
 
 mark-part-requires-2 : tie.Need-mark-part-requires-2 Inv-loop μ-loop
 mark-part-requires-2 c κs =
-    let a = c .before .before .before .before .before .before .before .before .before .before .before .before .before .before .before .before .before .before .before .before .before .before .before .before .before .before .before in
+    let a = entry (c .before .before .before .before .before .before .before) in
     let k = taken (c .before .before .before .before .before .before) in (
       chained-range (a .args .b .now) (a .pre .1) (k .near) (c .before .range-of2 .ensures) (k .occurs) (a .pre .0),
       c .before .before .before .before .before .before .before .loop .inv .1 .room,
     )
 
 grown : (c : tie.After-mark-part2 Inv-loop μ-loop) →
-    let a = c .before .before .before .before .before .before .before .before .before .before .before .before .before .before .before .before .before .before .before .before .before .before .before .before .before .before .before .before .args in
+    let a = entry (c .before .before .before .before .before .before .before .before) .args in
     Growing (a .t .variable) (formula-in (a .t .layout) (a .b .now)) (c .mark-part2 .last .1 .1 .1 .1 .1 .0) (c .before .before .before .before .before .add .last .0)
 grown c =
-    let a = c .before .before .before .before .before .before .before .before .before .before .before .before .before .before .before .before .before .before .before .before .before .before .before .before .before .before .before .before in
+    let a = entry (c .before .before .before .before .before .before .before .before) in
     let k = taken (c .before .before .before .before .before .before .before) in
     grow-on (a .args .t .variable) (formula-in (a .args .t .layout) (a .args .b .now)) k (c .before .before .before .before .before .before .before .before .loop .inv .1) (c .before .before .before .before .before .add .ensures .0) (c .before .before .before .before .before .add .ensures .1)
     (marked-range (a .args .b .now) (a .pre .1) (k .near) (c .before .before .range-of2 .ensures) (k .occurs) (c .mark-part2 .ensures))
@@ -124,19 +130,23 @@ lowest-left-requires-2 c κs =
 
 loop-less : tie.Need-loop-less Inv-loop μ-loop
 loop-less c =
-    let a = c .before .before .before .before .before .before .before .before .before .before .before .before .before .before .before .before .before .before .before .before .before .before .before .before .before .before .before .before .before .before .before .before .before .args in
-    grow-less (a .t .variable) (formula-in (a .t .layout) (a .b .now)) (c .before .before .before .before .before .before .before .before .before .before .before .before .before .loop .set) (c .before .before .before .before .before .before .before .before .before .before .add .last .0) (taken (c .before .before .before .before .before .before .before .before .before .before .before .before)) (c .before .before .before .before .before .before .before .before .before .before .before .before .before .loop .inv .1)
-    (c .before .before .before .before .before .before .before .before .before .before .add .ensures .0) (c .before .before .before .before .before .before .before .before .before .before .add .ensures .1)
+    let turn = c .before .before .before .before .before .before .before .before .before .before in
+    let head = turn .before .before .before in
+    let a = entry head .args in
+    grow-less (a .t .variable) (formula-in (a .t .layout) (a .b .now)) (head .loop .set) (turn .add .last .0) (taken (turn .before .before))
+    (head .loop .inv .1) (turn .add .ensures .0) (turn .add .ensures .1)
 
 loop-again : tie.Need-loop-again Inv-loop μ-loop
-loop-again c = (c .before .before .before .before .before .before .before .before .before .before .before .before .before .loop .inv .0, grown (c .before .before .before .before .before), c .lowest-left2 .ensures)
+loop-again c =
+    let marked = c .before .before .before .before .before in
+    (marked .before .before .before .before .before .before .before .before .loop .inv .0, grown marked, c .lowest-left2 .ensures)
 
 same-length : tie.Need-same-length Inv-loop μ-loop
-same-length c = c .before .loop .inv .1 .words ∙ sym (seventeen (c .before .before .before .before .before .before .before .before .before .before .before .before .before .before .before .before .before .before .before .before .before .pre .3))
+same-length c = c .before .loop .inv .1 .words ∙ sym (seventeen (entry (c .before) .pre .3))
 
 returns-2 : tie.Need-returns-2 Inv-loop μ-loop
 returns-2 c =
-    let a = c .before .before .before .before .before .before .before .before .before .before .before .before .before .before .before .before .before .before .before .before .before .args in
+    let a = entry (c .before) .args in
     let inv = c .before .loop .inv in
     grow-done (a .t .variable) (formula-in (a .t .layout) (a .b .now)) (inv .0) (inv .1) (inv .2) (c .loop-test .left)
 

@@ -1,6 +1,5 @@
 -- `dependence::mark::mark_row` meets its contract: by the row's variable. Assumes nothing.
 use borrow.Author.Needs.{needs}
-use native.Mathlib.Omega.{arith}
 use Rattle.dependence.proofs.Marks.{row-marked, row-unmarked}
 use Rattle.dependence.proofs.mark.mark_row.Statement.{statement}
 use Rattle.dependence.proofs.mark.mark_row.Tie as tie
