@@ -3,7 +3,7 @@
 use mathlib.Core.Path.{_≡_, refl, sym, _∙_, ap, ap₂}
 use mathlib.Core.Bool.{Bool, true, false, not, _&&_, _||_, cond, true≢false, false≢true}
 use mathlib.Core.List.{List, [], _∷_}
-use mathlib.Core.Logic.{⊎-elim}
+use mathlib.Core.Logic.{inl, inr, ⊎-elim}
 use Prim.Native.Nat.{ℕ, zero, suc, _-_, _*_, _≤_, _<_}
 use native.Mathlib.Omega.{arith}
 use lib.Dec.{eqb, ltb}
@@ -26,7 +26,7 @@ use Rattle.relevance.specs.Walks.{Chained}
 use Rattle.relevance.specs.declared.Range.{Range}
 use Rattle.dependence.specs.Marks.{Marked, MarkedPart}
 use Rattle.dependence.specs.Blocks.{IsBlock}
-use Rattle.dependence.specs.Dependents.{range-at, Dependents}
+use Rattle.dependence.specs.Dependents.{range-at, IsNext, Dependents}
 
 -- the block's variables have literals
 
@@ -134,8 +134,6 @@ module _ (x : ℕ) (f : Formula) where
   pub record Growing (found set : List ℕ) : Type 0 where
     pub room : length found ≡ 17
     pub words : length set ≡ 17
-    pub few : (v : ℕ) → holds set v ≡ true → v ≤ 1024
-    pub sound : (v : ℕ) → holds set v ≡ true → depends x f v ≡ true
     pub reached : (v : ℕ) → v ≤ 1024 → binds p v ≡ true → holds found v ≡ true → depends x f v ≡ true
     pub of-own : (v : ℕ) → v ≤ 1024 → touches t x v ≡ true → holds found v ≡ true
     pub of-members : (y v : ℕ) → holds set y ≡ true → v ≤ 1024 → touches t y v ≡ true → holds found v ≡ true
@@ -146,8 +144,6 @@ module _ (x : ℕ) (f : Formula) where
       record {
         room = m .same-length ∙ seventeen empty;
         words = seventeen zeros;
-        few = λ v. none-in zeros v;
-        sound = λ v. none-in zeros v;
         reached = λ v k b e. depends-first v b (sym (is v k) ∙ e);
         of-own = λ v k e. is v k ∙ e;
         of-members = λ y v e k q. none-in zeros y e;
@@ -163,10 +159,9 @@ module _ (x : ℕ) (f : Formula) where
     pub member : depends x f y ≡ true
     pub new : holds set y ≡ false
 
-  pub take-left : {bs found set : List ℕ} {n y : ℕ} → IsBlock x f bs → Growing found set → n ≡ length bs → IsFirst (left-in bs found set) (64 * n) y → y < 1025
-      → Taken set y
-  take-left {bs} {found} {set} {n} {y} is-block g size l h =
-      let both = and-parts (holds bs y && holds found y) (not (holds set y)) (l .is-in (omega (arith, h, size, is-block .words))) in
+  pub take-left : {bs found set : List ℕ} {y : ℕ} → IsBlock x f bs → Growing found set → IsNext bs found set y → y < 1025 → Taken set y
+  take-left {bs} {found} {set} {y} is-block g l h =
+      let both = and-parts (holds bs y && holds found y) (not (holds set y)) (l .is-left h) in
       let parts = and-parts (holds bs y) (holds found y) (both .0) in
       let bound : binds p y ≡ true = sym (is-block .is y) ∙ parts .0 in
       record {
@@ -186,8 +181,6 @@ module _ (x : ℕ) (f : Formula) where
       record {
         room = m .same-length ∙ g .room;
         words = l ∙ g .words;
-        few = λ v e. in-set v (v ≤ 1024) (λ q. omega (arith, q, k .near)) (g .few v) e;
-        sound = λ v e. in-set v (depends x f v ≡ true) (λ q. ap (depends x f) q ∙ k .member) (g .sound v) e;
         reached = λ v n b e.
             ⊎-elim (λ q. g .reached v n b q) (λ q. depends-next y v (k .member) b (touches-within y v (k .occurs) ∙ q))
             (or-cases (holds found v) (within (of y) (of v) t) (sym (m .is v n) ∙ e));
@@ -212,24 +205,39 @@ module _ (x : ℕ) (f : Formula) where
       let most = size-most set′ in
       omega (arith, more, most, l, g .words)
 
-  pub grow-done : {bs found set : List ℕ} {n y : ℕ} → IsBlock x f bs → Growing found set → IsFirst (left-in bs found set) n y → 1025 ≤ y
-      → Dependents x f set
-  grow-done {bs} {found} {set} {n} {y} is-block g l h =
+  -- in the end, what is found of the block
+  pub grow-done : {bs found set last : List ℕ} {y : ℕ} → IsBlock x f bs → Growing found set → IsNext bs found set y → 1025 ≤ y
+      → length last ≡ length set → ((v : ℕ) → holds last v ≡ (holds bs v && holds found v)) → Dependents x f last
+  grow-done {bs} {found} {set} {last} {y} is-block g l h size both =
       record {
-        words = g .words;
-        few = g .few;
-        is = is-closed (holds set) (g .sound) (λ v b e. in-it v b (λ k. g .of-own v k e)) (λ w v e b q. in-it v b (λ k. g .of-members w v e k q));
+        words = size ∙ g .words;
+        few = λ v e. is-block .few v (parts v e .0);
+        is = is-closed (holds last) (λ v e. g .reached v (is-block .few v (parts v e .0)) (sym (is-block .is v) ∙ parts v e .0) (parts v e .1))
+            (λ v b e. in-it v b (λ k. g .of-own v k e)) (λ w v e b q. in-it v b (λ k. by-member w v e k b q));
       }
     where
-      in-it : (v : ℕ) → binds p v ≡ true → (v ≤ 1024 → holds found v ≡ true) → holds set v ≡ true
+      parts : (v : ℕ) → holds last v ≡ true → (holds bs v ≡ true) × (holds found v ≡ true)
+      parts v e = and-parts (holds bs v) (holds found v) (sym (both v) ∙ e)
+
+      in-it : (v : ℕ) → binds p v ≡ true → (v ≤ 1024 → holds found v ≡ true) → holds last v ≡ true
       in-it v b reach =
-          let in-block : holds bs v ≡ true = is-block .is v ∙ b in
-          let near : v ≤ 1024 = is-block .few v in-block in
-          by (holds set v) (sym (ap₂ (λ (c d : Bool). c && d && not (holds set v)) in-block (reach near)) ∙ l .none-below v (omega (arith, near, h)))
-        where
-          by : (m : Bool) → not m ≡ false → m ≡ true
-          by true e = refl
-          by false e = absurd (true≢false e)
+          let own : holds bs v ≡ true = is-block .is v ∙ b in
+          both v ∙ ap₂ _&&_ own (reach (is-block .few v own))
+
+      one : (m : Bool) → not m ≡ false → m ≡ true
+      one true e = refl
+      one false e = absurd (true≢false e)
+
+      -- what is left out of the third set, if none of the two others is left
+      in-third : (ws us ts : List ℕ) (v : ℕ) → holds ws v ≡ true → holds us v ≡ true → left-in ws us ts v ≡ false → holds ts v ≡ true
+      in-third ws us ts v e k none = one (holds ts v) (sym (ap₂ (λ (a c : Bool). a && c && not (holds ts v)) e k) ∙ none)
+
+      by-member : (w v : ℕ) → holds last w ≡ true → v ≤ 1024 → binds p v ≡ true → touches t w v ≡ true → holds found v ≡ true
+      by-member w v e k b q =
+          ⊎-elim
+          (λ none. g .of-members w v
+          (in-third bs found set w (parts w e .0) (parts w e .1) (none w (is-block .few w (parts w e .0)))) k q)
+          (λ none. in-third bs bs found v (is-block .is v ∙ b) (is-block .is v ∙ b) (none v k)) (l .is-last h)
 
   -- without a literal of x nothing depends on it
   no-stage : has (of x) t ≡ false → (n v : ℕ) → stage t p x n v ≡ false
@@ -255,6 +263,18 @@ module _ (x : ℕ) (f : Formula) where
   unfolding depends
   grow-none {set} h zeros =
       record { words = seventeen zeros; few = λ v. none-in zeros v; is = λ v. no-member zeros v ∙ sym (no-stage h (length p) v) }
+
+-- the next number
+
+pub next-none : {bs fs ts : List ℕ} {n r : ℕ} → IsFirst (left-in bs bs fs) n r → 1025 ≤ r → IsNext bs fs ts 1025
+next-none l h = record { is-left = λ k. absurd (omega arith); is-last = λ k. inr (λ v near. l .none-below v (omega (arith, near, h))) }
+
+pub next-left : {bs fs ts : List ℕ} {n r : ℕ} → n ≡ 17 → IsFirst (left-in bs fs ts) (64 * n) r → IsNext bs fs ts r
+next-left size l =
+    record {
+      is-left = λ k. l .is-in (omega (arith, k, size));
+      is-last = λ k. inl (λ v near. l .none-below v (omega (arith, near, k)));
+    }
 
 -- the chain of one variable
 module _ {s : Layout} (b : Bytes) {ranges next : List ℕ} (o : Occurrences s b ranges next) {y : ℕ} (near : y ≤ 1024) where

@@ -1,5 +1,5 @@
-// The depending variables: one set grows until no member of the block that is found is left. Each member costs a walk over the rows of
-// its relevant subtree, and no pair of variables is looked at.
+// The depending variables: one set grows until no member of the block that is found is left, or the whole block is found. Each member
+// costs at most a walk over the rows of its relevant subtree, and no pair of variables is looked at.
 use crate::Target;
 use crate::block::fill_block;
 use crate::mark::mark_part;
@@ -8,6 +8,7 @@ use relevance::Range;
 use rows::NUMBERS;
 use sets::WORDS;
 use sets::add;
+use sets::intersect;
 use sets::lowest_left;
 ghost use mathlib.Core.Path.{_≡_};
 ghost use Prim.Native.Nat.{_≤_};
@@ -16,7 +17,7 @@ ghost use Rattle.rows.specs.Formulas.{formula-in};
 ghost use Rattle.subtrees.specs.Ends.{Indexed};
 ghost use Rattle.occurrences.specs.Occurrences.{Occurrences};
 ghost use Rattle.dependence.specs.Blocks.{Located};
-ghost use Rattle.dependence.specs.Dependents.{range-at, Dependents};
+ghost use Rattle.dependence.specs.Dependents.{range-at, IsNext, Dependents};
 
 // The rows of the first and the last literal of the variable `y`, if it has one.
 fn range_of(ranges: &[u16], y: usize) -> Range
@@ -29,8 +30,19 @@ fn range_of(ranges: &[u16], y: usize) -> Range
     }
 }
 
+// The lowest number of the block that is found and not taken. None, where the whole block is found: no other can be found then.
+fn next_member(block: &[u64], found: &[u64], taken: &[u64]) -> usize
+    requires { ⌜ (length (now block) ≡ 17) × (length (now found) ≡ 17) × (length (now taken) ≡ 17) ⌝ }
+    ensures { λ r. ⌜ IsNext (now (block .entry)) (now (found .entry)) (now (taken .entry)) r ⌝ }
+{
+    if NUMBERS <= lowest_left(block, block, found) {
+        return NUMBERS;
+    }
+    lowest_left(block, found, taken)
+}
+
 // Fills a set of no numbers with the variables that depend on a variable. `found` are all that have a literal in the relevant subtree of
-// the variable or of a member.
+// the variable or of a member that is taken; the set has those taken, and in the end the members of the block that are found.
 pub fn fill_dependents(
     b: &[u8],
     t: Target,
@@ -52,11 +64,12 @@ pub fn fill_dependents(
     let mut found = [0u64; WORDS];
     let own = range_of(ranges, x);
     mark_part(b, s, ends, next, own, &mut found);
-    let mut y = lowest_left(&block, &found, set);
+    let mut y = next_member(&block, &found, set);
     while y < NUMBERS {
         add(set, y);
         let range = range_of(ranges, y);
         mark_part(b, s, ends, next, range, &mut found);
-        y = lowest_left(&block, &found, set);
+        y = next_member(&block, &found, set);
     }
+    intersect(&block, &found, set);
 }

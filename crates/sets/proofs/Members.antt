@@ -6,13 +6,13 @@ use mathlib.Core.List.{List}
 use Prim.Native.Nat.{ℕ, zero, suc, _+_, _*_, _/_, _%_, _^_, _-_, _≤_, _<_}
 use native.Mathlib.Omega.{arith}
 use native.Mathlib.Numerals.{add-one}
-use lib.Dec.{eqb, leb}
-use lib.Bits.{bitAnd, bitOr}
+use lib.Dec.{eqb, ltb, leb}
+use lib.Bits.{bitAnd, bitOr, and-zero-l}
 use lib.Count.{onesIn, ones, trailingZeros}
-use lib.ListN.{length, getD, set, replicate}
+use lib.ListN.{length, getD, set, replicate, length-set, List·getD-eq-default}
 use lib.Seq.{getD-set-same, getD-set-other}
 use lib.Pow.{shr-shr}
-use borrow.Author.Tests.{eqb-true, eqb-false, eq-eqb, ne-eqb, leb-true, leb-false}
+use borrow.Author.Tests.{eqb-true, eqb-false, eq-eqb, ne-eqb, leb-true, leb-false, ltb-true, ltb-false}
 use Rattle.sets.specs.Sets.{digit, holds, amount, members, size, IsFirst, left-in}
 use Rattle.sets.proofs.Digits.{digit-is, digit-none, digit-set, digit-and, digit-not, ones-in, Trails, trails}
 
@@ -269,3 +269,45 @@ tells-left ws us ts i h k l =
     sym
     (digit-and (bitAnd (getD ws i 0) (getD us i 0)) (18446744073709551615 - getD ts i 0) k ∙
     ap₂ _&&_ (digit-and (getD ws i 0) (getD us i 0) k) (digit-not 64 (getD ts i 0) k h l))
+
+-- the numbers of two sets
+
+-- the words below i are those of both
+pub record Both (ws us : List ℕ) (i : ℕ) (old new : List ℕ) : Type 0 where
+  pub within : i ≤ length ws
+  pub same-length : length new ≡ length old
+  pub are : (k : ℕ) → k < i → getD new k 0 ≡ bitAnd (getD ws k 0) (getD us k 0)
+
+pub both-next : (ws us : List ℕ) (i : ℕ) {old new : List ℕ} → i < length ws → length old ≡ length ws → {j : ℕ} → j ≡ i + 1 → Both ws us i old new
+    → Both ws us j old (set new i (bitAnd (getD ws i 0) (getD us i 0)))
+both-next ws us i {old} {new} h size {j} next b =
+    record {
+      within = omega arith;
+      same-length = length-set new i (bitAnd (getD ws i 0) (getD us i 0)) ∙ b .same-length;
+      are = λ k l. by k l (eqb k i) refl;
+    }
+  where
+    inside : i < length new
+    inside = omega (arith, h, size, b .same-length)
+
+    by : (k : ℕ) → k < j → (m : Bool) → eqb k i ≡ m → getD (set new i (bitAnd (getD ws i 0) (getD us i 0))) k 0 ≡ bitAnd (getD ws k 0) (getD us k 0)
+    by k l true e =
+        let same = eqb-true k i e in
+        ap (λ (n : ℕ). getD (set new i (bitAnd (getD ws i 0) (getD us i 0))) n 0) same ∙ getD-set-same new i _ 0 inside ∙
+        sym (ap (λ (n : ℕ). bitAnd (getD ws n 0) (getD us n 0)) same)
+    by k l false e =
+        let apart = eqb-false k i e in
+        getD-set-other new i k _ 0 (λ p. apart p) ∙ b .are k (omega (arith, l, next, apart))
+
+pub both-hold : (ws us : List ℕ) (i : ℕ) {old new : List ℕ} → length us ≡ length ws → length old ≡ length ws → length ws ≤ i → Both ws us i old new
+    → (v : ℕ) → holds new v ≡ (holds ws v && holds us v)
+unfolding holds
+both-hold ws us i {old} {new} same size h b v =
+    ap (λ (w : ℕ). digit w (v % 64)) (word (ltb (v / 64) (length ws)) refl) ∙ digit-and (getD ws (v / 64) 0) (getD us (v / 64) 0) (v % 64)
+  where
+    word : (m : Bool) → ltb (v / 64) (length ws) ≡ m → getD new (v / 64) 0 ≡ bitAnd (getD ws (v / 64) 0) (getD us (v / 64) 0)
+    word true e = let l = ltb-true (v / 64) (length ws) e in b .are (v / 64) (omega (arith, l, h))
+    word false e =
+        let l = ltb-false (v / 64) (length ws) e in
+        List·getD-eq-default new 0 (omega (arith, l, size, b .same-length)) ∙ sym (and-zero-l (getD us (v / 64) 0)) ∙
+        ap (λ (w : ℕ). bitAnd w (getD us (v / 64) 0)) (sym (List·getD-eq-default ws 0 l))

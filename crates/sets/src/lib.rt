@@ -1,6 +1,6 @@
 // Sets of variable numbers as 64-bit words, 64 numbers to a word: what is looked up by number, counted, and asked for its lowest member.
 ghost use mathlib.Core.Path.{_≡_};
-ghost use mathlib.Core.Bool.{_||_};
+ghost use mathlib.Core.Bool.{_&&_, _||_};
 ghost use Prim.Native.Nat.{ℕ, _+_, _*_, _≤_, _<_};
 ghost use lib.Dec.{eqb};
 ghost use lib.ListN.{length};
@@ -70,4 +70,17 @@ pub fn lowest_left(first: &[u64], second: &[u64], taken: &[u64]) -> usize
         i += 1;
     }
     64 * i
+}
+
+// Makes the set that of the numbers which are in both others.
+pub fn intersect(first: &[u64], second: &[u64], set: &mut [u64])
+    requires { ⌜ (length (now second) ≡ length (now first)) × (length (now set) ≡ length (now first)) ⌝ }
+    ensures { λ _. ⌜ length (now (set .exit)) ≡ length (now (set .entry)) ⌝ }
+    ensures { λ _. ⌜ ((v : ℕ) → holds (now (set .exit)) v ≡ (holds (now (first .entry)) v && holds (now (second .entry)) v)) ⌝ }
+{
+    let mut i: usize = 0;
+    while i < set.len() {
+        set[i] = first[i] & second[i];
+        i += 1;
+    }
 }

@@ -2,20 +2,20 @@
 use borrow.Author.Tests.{not-true, not-false}
 use mathlib.Core.Path.{_≡_, refl, sym, _∙_}
 use mathlib.Core.Bool.{true}
-use Prim.Native.Nat.{_-_, _*_}
+use Prim.Native.Nat.{_-_}
 use native.Mathlib.Omega.{arith}
-use lib.ListN.{length}
 use Rattle.formula.specs.Tree.{of, has}
 use Rattle.rows.specs.Formulas.{formula-in}
-use Rattle.sets.specs.Sets.{size, IsFirst, left-in}
+use Rattle.sets.specs.Sets.{size}
 use Rattle.dependence.specs.Blocks.{IsBlock}
+use Rattle.dependence.specs.Dependents.{IsNext}
 use Rattle.dependence.proofs.Growing.{Growing, grow-start, Taken, take-left, grow-on, grow-less, grow-done, grow-none, occurs-read, chained-range, marked-range, seventeen}
 use Rattle.dependence.proofs.closure.fill_dependents.Statement.{statement}
 use Rattle.dependence.proofs.closure.fill_dependents.Tie as tie
 
 abbrev Inv-loop : tie.InvT-loop
 Inv-loop b ends ranges next set₀ s x block found₀ y₀ set found y =
-    IsBlock x (formula-in s b) block × Growing x (formula-in s b) found set × IsFirst (left-in block found set) (64 * length block) y
+    IsBlock x (formula-in s b) block × Growing x (formula-in s b) found set × IsNext block found set y
 
 abbrev μ-loop : tie.MeasureT-loop
 μ-loop b ends ranges next set₀ s x block found₀ y₀ set found y = 1088 - size set
@@ -59,8 +59,8 @@ mark-part-requires c κs =
     let a = c .before .before .before .before .before .before .before .before .before .before .before .before .before in
     (chained-range (a .args .b .now) (a .pre .1) (a .pre .2 .few) (c .before .range-of .ensures) (occurs (c .before .before .before .before .before)) (a .pre .0), refl)
 
-slice-aggregate-lowest-left : tie.Need-slice-aggregate-lowest-left Inv-loop μ-loop
-slice-aggregate-lowest-left c = sym (c .before .before .before .before .before .before .fill-block .ensures .words)
+slice-aggregate-next-member : tie.Need-slice-aggregate-next-member Inv-loop μ-loop
+slice-aggregate-next-member c = sym (c .before .before .before .before .before .before .fill-block .ensures .words)
 
 growing : (c : tie.After-mark-part Inv-loop μ-loop) →
     let a = c .before .before .before .before .before .before .before .before .before .before .before .before .before .before .args in Growing (a .t .variable) (formula-in (a .t .layout) (a .b .now)) (c .mark-part .last .1 .1 .1 .1 .1 .0) (a .set .now)
@@ -69,24 +69,24 @@ growing c =
     grow-start (a .args .t .variable) _ (occurs (c .before .before .before .before .before .before)) refl (a .pre .3)
     (marked-range (a .args .b .now) (a .pre .1) (a .pre .2 .few) (c .before .before .range-of .ensures) (occurs (c .before .before .before .before .before .before)) (c .mark-part .ensures))
 
-slice-aggregate-lowest-left-2 : tie.Need-slice-aggregate-lowest-left-2 Inv-loop μ-loop
-slice-aggregate-lowest-left-2 c = sym (growing (c .before .before .before) .room)
+slice-aggregate-next-member-2 : tie.Need-slice-aggregate-next-member-2 Inv-loop μ-loop
+slice-aggregate-next-member-2 c = sym (growing (c .before .before .before) .room)
 
-lowest-left-requires : tie.Need-lowest-left-requires Inv-loop μ-loop
-lowest-left-requires c κs =
+next-member-requires : tie.Need-next-member-requires Inv-loop μ-loop
+next-member-requires c κs =
     let words = c .before .before .before .before .before .before .before .before .fill-block .ensures .words in
     let g = growing (c .before .before .before .before) in
-    (omega (arith, words), g .room ∙ sym words, g .words ∙ sym words)
+    (words, g .room, g .words)
 
 loop-holds : tie.Need-loop-holds Inv-loop μ-loop
-loop-holds c = (c .before .before .before .before .before .before .before .before .before .fill-block .ensures, growing (c .before .before .before .before .before), c .lowest-left .ensures)
+loop-holds c = (c .before .before .before .before .before .before .before .before .before .fill-block .ensures, growing (c .before .before .before .before .before), c .next-member .ensures)
 
 taken : (c : tie.In-loop Inv-loop μ-loop) →
     let a = entry (c .before) .args in Taken (a .t .variable) (formula-in (a .t .layout) (a .b .now)) (c .before .loop .set) (c .before .loop .y)
 taken c =
     let a = entry (c .before) .args in
     let inv = c .before .loop .inv in
-    take-left (a .t .variable) (formula-in (a .t .layout) (a .b .now)) (inv .0) (inv .1) refl (inv .2) (c .loop-test .taken)
+    take-left (a .t .variable) (formula-in (a .t .layout) (a .b .now)) (inv .0) (inv .1) (inv .2) (c .loop-test .taken)
 
 add-requires : tie.Need-add-requires Inv-loop μ-loop
 add-requires c κs = omega (arith, taken (c .before) .near, c .before .before .loop .inv .1 .words)
@@ -116,17 +116,17 @@ grown c =
     grow-on (a .args .t .variable) (formula-in (a .args .t .layout) (a .args .b .now)) k (c .before .before .before .before .before .before .before .before .loop .inv .1) (c .before .before .before .before .before .add .ensures .0) (c .before .before .before .before .before .add .ensures .1)
     (marked-range (a .args .b .now) (a .pre .1) (k .near) (c .before .before .range-of2 .ensures) (k .occurs) (c .mark-part2 .ensures))
 
-slice-aggregate-lowest-left-3 : tie.Need-slice-aggregate-lowest-left-3 Inv-loop μ-loop
-slice-aggregate-lowest-left-3 c = sym (c .before .before .before .before .before .before .before .before .before .before .loop .inv .0 .words)
+slice-aggregate-next-member-3 : tie.Need-slice-aggregate-next-member-3 Inv-loop μ-loop
+slice-aggregate-next-member-3 c = sym (c .before .before .before .before .before .before .before .before .before .before .loop .inv .0 .words)
 
-slice-aggregate-lowest-left-4 : tie.Need-slice-aggregate-lowest-left-4 Inv-loop μ-loop
-slice-aggregate-lowest-left-4 c = sym (grown (c .before .before .before) .room)
+slice-aggregate-next-member-4 : tie.Need-slice-aggregate-next-member-4 Inv-loop μ-loop
+slice-aggregate-next-member-4 c = sym (grown (c .before .before .before) .room)
 
-lowest-left-requires-2 : tie.Need-lowest-left-requires-2 Inv-loop μ-loop
-lowest-left-requires-2 c κs =
+next-member-requires-2 : tie.Need-next-member-requires-2 Inv-loop μ-loop
+next-member-requires-2 c κs =
     let words = c .before .before .before .before .before .before .before .before .before .before .before .before .loop .inv .0 .words in
     let g = grown (c .before .before .before .before) in
-    (omega (arith, words), g .room ∙ sym words, g .words ∙ sym words)
+    (words, g .room, g .words)
 
 loop-less : tie.Need-loop-less Inv-loop μ-loop
 loop-less c =
@@ -139,16 +139,31 @@ loop-less c =
 loop-again : tie.Need-loop-again Inv-loop μ-loop
 loop-again c =
     let marked = c .before .before .before .before .before in
-    (marked .before .before .before .before .before .before .before .before .loop .inv .0, grown marked, c .lowest-left2 .ensures)
+    (marked .before .before .before .before .before .before .before .before .loop .inv .0, grown marked, c .next-member2 .ensures)
+
+slice-aggregate-intersect : tie.Need-slice-aggregate-intersect Inv-loop μ-loop
+slice-aggregate-intersect c = sym (c .before .before .loop .inv .0 .words)
+
+slice-aggregate-intersect-2 : tie.Need-slice-aggregate-intersect-2 Inv-loop μ-loop
+slice-aggregate-intersect-2 c = sym (c .before .before .before .loop .inv .1 .room)
+
+intersect-requires : tie.Need-intersect-requires Inv-loop μ-loop
+intersect-requires c κs =
+    let inv = c .before .before .before .before .loop .inv in
+    (inv .1 .room ∙ sym (inv .0 .words), inv .1 .words ∙ sym (inv .0 .words))
 
 same-length : tie.Need-same-length Inv-loop μ-loop
-same-length c = c .before .loop .inv .1 .words ∙ sym (seventeen (entry (c .before) .pre .3))
+same-length c =
+    let head = c .before .before .before .before .before .before .before in
+    c .before .before .intersect .ensures .0 ∙ head .loop .inv .1 .words ∙ sym (seventeen (entry head .pre .3))
 
 returns-2 : tie.Need-returns-2 Inv-loop μ-loop
 returns-2 c =
-    let a = entry (c .before) .args in
-    let inv = c .before .loop .inv in
-    grow-done (a .t .variable) (formula-in (a .t .layout) (a .b .now)) (inv .0) (inv .1) (inv .2) (c .loop-test .left)
+    let head = c .before .before .before .before .before .before .before in
+    let a = entry head .args in
+    let inv = head .loop .inv in
+    grow-done (a .t .variable) (formula-in (a .t .layout) (a .b .now)) (inv .0) (inv .1) (inv .2) (c .before .before .before .before .before .before .loop-test .left)
+    (c .before .before .intersect .ensures .0) (c .before .before .intersect .ensures .1)
 
 pub fill-dependents-spec : {M : Type 1} → statement M
 fill-dependents-spec =
@@ -163,18 +178,21 @@ fill-dependents-spec =
     range-of-requires
     slice-aggregate-mark-part
     mark-part-requires
-    slice-aggregate-lowest-left
-    slice-aggregate-lowest-left-2
-    lowest-left-requires
+    slice-aggregate-next-member
+    slice-aggregate-next-member-2
+    next-member-requires
     loop-holds
     add-requires
     range-of-requires-2
     slice-aggregate-mark-part-2
     mark-part-requires-2
-    slice-aggregate-lowest-left-3
-    slice-aggregate-lowest-left-4
-    lowest-left-requires-2
+    slice-aggregate-next-member-3
+    slice-aggregate-next-member-4
+    next-member-requires-2
     loop-less
     loop-again
+    slice-aggregate-intersect
+    slice-aggregate-intersect-2
+    intersect-requires
     same-length
     returns-2)
