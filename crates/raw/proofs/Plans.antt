@@ -1,19 +1,20 @@
 -- What is written in place of the subtree that an expansion replaces: its parts, and the room for them.
 -- Assumes nothing.
-use mathlib.Core.Path.{_≡_, sym, ap, ap₂, _∙_, subst, subst₂}
-use mathlib.Core.Bool.{true, false}
+use mathlib.Core.Path.{_≡_, refl, sym, ap, ap₂, _∙_, subst, subst₂}
+use mathlib.Core.Bool.{true, false, cond}
 use mathlib.Core.List.{List, [], _∷_, _++_, map}
 use Prim.Native.Nat.{ℕ, suc, _+_, _-_, _^_, _≤_, _<_}
 use native.Mathlib.Nat.{lt-of-lt-of-le, pow-le-pow-right}
 use native.Mathlib.Omega.{arith}
 use lib.ListN.{length, getD, take, drop, length-append, length-drop, length-map}
 use lib.Seq.{slice, drop-cons, take-all, length-slice}
-use Rattle.formula.specs.Tree.{Tree, count}
+use Rattle.formula.specs.Tree.{Tree, has, count}
+use Rattle.formula.specs.Expand.{expand-tree, raw-tree}
 use Rattle.sheet.specs.Format.{Bytes, Row, row}
 use Rattle.sheet.specs.Sheet.{binding-row, tree-rows, formula-rows}
 use Rattle.sheet.proofs.Preorder.{count-rows, length-tree-rows}
 use Rattle.rows.specs.Layouts.{total, rows-in}
-use Rattle.rows.specs.Formulas.{prefix-in, node-rows-in, formula-in}
+use Rattle.rows.specs.Formulas.{prefix-in, node-rows-in, matrix-in, formula-in}
 use Rattle.rows.specs.declared.Layout.{Layout}
 use Rattle.rows.proofs.Formulas.{length-nodes}
 use Rattle.subtrees.specs.Subtrees.{top, kids}
@@ -21,49 +22,65 @@ use Rattle.subtrees.proofs.Forest.{rows-kids}
 use Rattle.relevance.specs.declared.Relevant.{Relevant}
 use Rattle.changing.specs.Changes.{changed-row, copied}
 use Rattle.changing.specs.Output.{Ready}
+use Rattle.changing.proofs.Changed.{replace-kept}
 use Rattle.raw.specs.Formulas.{without-row, first-table, second-table, chosen-by, operator-of, copying-by, expanded-raw}
-use Rattle.raw.specs.Expansions.{Climbs, runs-in, joined, Expandable, Located, part-in, cuts-in, new-rows, new-at, joined-in, joined-at}
+use Rattle.raw.specs.Expansions.{Climbs, runs-in, joined, Copyable, Expandable, Located, part-in, cuts-in, new-rows, new-at, joined-in, joined-at, raw-matrix}
 use Rattle.raw.specs.declared.expand.Expansion.{Expansion}
 use Rattle.raw.proofs.Around.{own-part}
 use Rattle.raw.proofs.Cuts.{climbs-from, Parted, parted}
-use Rattle.raw.proofs.Source.{nodes-copied}
+use Rattle.raw.proofs.Source.{nodes-copied, matrix-copied}
 use Rattle.raw.proofs.Copies.{relevant-few, whole-rows, some-rows}
 use Rattle.raw.proofs.Turn.{climbs-most}
-use Rattle.raw.proofs.Raws.{room-on}
+use Rattle.raw.proofs.Raws.{room-on, rows-raw, rows-absent}
 use Rattle.raw.proofs.Sited.{Sited, sited}
 
-pub ready-raw : {s : Layout} {b : Bytes} {tables : List ℕ} {e : Expansion} {out : Bytes} → Expandable s b tables e out
+pub ready-raw : {s : Layout} {b : Bytes} {tables : List ℕ} {e : Expansion} {out : Bytes} → Copyable s b tables e out
     → Ready s b (e .layout) out
-ready-raw x = record { source = x .readable .room; room = x .room; same-width = ap (λ (t : Layout). t .width) (x .layout-is); two-bytes = x .two-bytes }
+ready-raw x = record { source = x .readable .room; room = x .room; same-width = x .same-width; two-bytes = x .two-bytes }
 
-module _ {s : Layout} {b : Bytes} {tables : List ℕ} {e : Expansion} {out : Bytes} (x : Expandable s b tables e out)
+module _ {s : Layout} {b : Bytes} {tables : List ℕ} {e : Expansion} {out : Bytes} (x : Copyable s b tables e out)
     (l : Located s b tables e) where
   abbrev site : Sited s b tables e
   site = sited s b tables e x l
 
   -- numbers of rows fit, by either width
   pub enough : (8192 < 256 ^ s .width) × (8192 < 256 ^ e .layout .width)
-  enough = (fits (s .width) (x .two-bytes), fits (e .layout .width) (omega (arith, x .two-bytes, ap (λ (t : Layout). t .width) (x .layout-is))))
+  enough = (fits (s .width) (x .two-bytes), fits (e .layout .width) (omega (arith, x .two-bytes, x .same-width)))
     where
       fits : (w : ℕ) → 2 ≤ w → 8192 < 256 ^ w
       fits w h = lt-of-lt-of-le (omega arith) (pow-le-pow-right {n = 256} (omega arith) {i = 2} {j = w} h)
 
   -- the new rows have their place
-  pub new-within : new-at s e + length (new-rows s b tables e) ≤ total (e .layout)
-  new-within = omega (arith, site .measured, ap (λ (t : Layout). t .variables) (x .layout-is))
+  pub new-within : new-at e + length (new-rows s b tables e) ≤ total (e .layout)
+  new-within = omega (arith, site .measured)
 
 -- after a write there is as much room
-pub expandable-on : {s : Layout} {b : Bytes} {tables : List ℕ} {e : Expansion} {old new : Bytes} → Expandable s b tables e old
-    → length new ≡ length old → Expandable s b tables e new
-expandable-on x h =
+pub copyable-on : {s : Layout} {b : Bytes} {tables : List ℕ} {e : Expansion} {old new : Bytes} → Copyable s b tables e old
+    → length new ≡ length old → Copyable s b tables e new
+copyable-on x h =
     record {
       readable = x .readable;
       two-bytes = x .two-bytes;
       two-tables = x .two-tables;
-      in-prefix = x .in-prefix;
       joins = x .joins;
-      layout-is = x .layout-is;
+      same-width = x .same-width;
+      few-variables = x .few-variables;
+      nodes-are = x .nodes-are;
       room = room-on (x .room) h;
+    }
+
+-- with the prefix of V - 1 rows
+pub copyable : {s : Layout} {b : Bytes} {tables : List ℕ} {e : Expansion} {out : Bytes} → Expandable s b tables e out → Copyable s b tables e out
+copyable x =
+    record {
+      readable = x .readable;
+      two-bytes = x .two-bytes;
+      two-tables = x .two-tables;
+      joins = x .joins;
+      same-width = ap (λ (t : Layout). t .width) (x .layout-is);
+      few-variables = omega (arith, ap (λ (t : Layout). t .variables) (x .layout-is), x .readable .few-variables);
+      nodes-are = ap (λ (t : Layout). t .nodes) (x .layout-is);
+      room = x .room;
     }
 
 -- a part lent from row a on
@@ -75,13 +92,13 @@ pub record Whole (s : Layout) (b : Bytes) (tables : List ℕ) (e : Expansion) : 
   pub inside : e .part .operator < e .end
   pub end-in : e .end ≤ s .nodes
   pub fits-two : 2 < 256 ^ e .layout .width
-  pub room : new-at s e + (1 + ((e .end - e .part .operator) + (e .end - e .part .operator))) ≤ total (e .layout)
+  pub room : new-at e + (1 + ((e .end - e .part .operator) + (e .end - e .part .operator))) ≤ total (e .layout)
   pub written : row (e .joint) 2 ∷
       (copied (first-table tables) (s .variables + e .part .operator) (s .variables + e .end) (rows-in s b) ++
       copied (second-table tables) (s .variables + e .part .operator) (s .variables + e .end) (rows-in s b)) ≡
       new-rows s b tables e
 
-pub whole : {s : Layout} {b : Bytes} {tables : List ℕ} {e : Expansion} {out : Bytes} → Expandable s b tables e out
+pub whole : {s : Layout} {b : Bytes} {tables : List ℕ} {e : Expansion} {out : Bytes} → Copyable s b tables e out
     → Located s b tables e → e .part .all ≡ true → Whole s b tables e
 whole {s} {b} {tables} {e} x l h =
     record {
@@ -135,7 +152,7 @@ pub record Some (s : Layout) (b : Bytes) (tables cs : List ℕ) (e : Expansion) 
   pub fits-children : count (kids (part-in s b e)) - e .part .children + 1 < 256 ^ e .layout .width
   pub joined-length : length (joined-in s b tables cs e) ≡
       1 + ((1 + length (runs-in s b (drop 1 cs))) + (1 + length (runs-in s b (drop 1 cs))))
-  pub room : new-at s e +
+  pub room : new-at e +
       (1 + ((getD cs 1 0 - getD cs 0 0) + (length (joined-in s b tables cs e) + length (runs-in s b (drop 2 cs))))) ≤
       total (e .layout)
   pub written : row ((top (part-in s b e)) .kind) (count (kids (part-in s b e)) - e .part .children + 1) ∷
@@ -143,7 +160,7 @@ pub record Some (s : Layout) (b : Bytes) (tables cs : List ℕ) (e : Expansion) 
       (joined-in s b tables cs e ++ map (changed-row (second-table tables)) (runs-in s b (drop 2 cs)))) ≡
       new-rows s b tables e
 
-pub some : {s : Layout} {b : Bytes} {tables cs : List ℕ} {e : Expansion} {out : Bytes} → Expandable s b tables e out
+pub some : {s : Layout} {b : Bytes} {tables cs : List ℕ} {e : Expansion} {out : Bytes} → Copyable s b tables e out
     → Located s b tables e → e .part .all ≡ false → cs ≡ cuts-in s b tables e → Some s b tables cs e
 unfolding joined
 some {s} {b} {tables} {cs} {e} x l h c =
@@ -278,18 +295,42 @@ some-parts s b tables cs e p {k} {n} is-kind is-count =
     is-kind is-count ∙
     p .written
 
--- the prefix, the rows before the subtree, what replaces it, and the rows behind it
+-- the rows before the subtree, what replaces it, and the rows behind it
 pub expanded-parts : {s : Layout} {b : Bytes} {tables : List ℕ} {e : Expansion} → Sited s b tables e
     → let t = take (length tables - 1025) (drop 1025 tables) in
-    map binding-row (without-row (e .row) (prefix-in s b)) ++
-    (copied t (s .variables) (s .variables + e .part .operator) (rows-in s b) ++
-    (new-rows s b tables e ++ copied t (s .variables + e .end) (total s) (rows-in s b))) ≡
-    formula-rows (expanded-raw (e .row) (copying-by tables (e .joint)) (formula-in s b))
-unfolding formula-rows expanded-raw formula-in
+    copied t (s .variables) (s .variables + e .part .operator) (rows-in s b) ++
+    (new-rows s b tables e ++ copied t (s .variables + e .end) (total s) (rows-in s b)) ≡
+    raw-matrix s b tables e
 expanded-parts {s} {b} {tables} {e} site =
     ap
-    (λ t. map binding-row (without-row (e .row) (prefix-in s b)) ++
-    (copied t (s .variables) (s .variables + e .part .operator) (rows-in s b) ++
-    (new-rows s b tables e ++ copied t (s .variables + e .end) (total s) (rows-in s b))))
+    (λ t. copied t (s .variables) (s .variables + e .part .operator) (rows-in s b) ++
+    (new-rows s b tables e ++ copied t (s .variables + e .end) (total s) (rows-in s b)))
     (rest-of 1025 tables) ∙
-    ap (λ l. map binding-row (without-row (e .row) (prefix-in s b)) ++ l) (sym (site .raw))
+    sym (site .raw)
+
+module _ {s : Layout} {b : Bytes} {tables : List ℕ} {e : Expansion} {out : Bytes} (x : Copyable s b tables e out) where
+  -- as many rows as the layout has nodes
+  pub matrix-rows : length (raw-matrix s b tables e) ≡ e .layout .nodes
+  matrix-rows =
+      length-tree-rows (raw-tree (copying-by tables (e .joint)) (matrix-in s b)) ∙ rows-raw tables (e .joint) (matrix-in s b) ∙ sym (x .nodes-are)
+
+  -- with no literal chosen, the matrix as it is by the table that chooses
+  module _ (absent : has (chosen-by tables) (matrix-in s b) ≡ false) where
+    pub absent-nodes : e .layout .nodes ≡ s .nodes
+    absent-nodes = x .nodes-are ∙ rows-absent s b (x .readable) tables absent
+
+    pub absent-parts : copied (take (length tables - 1025) (drop 1025 tables)) (s .variables) (total s) (rows-in s b) ≡ raw-matrix s b tables e
+    unfolding raw-tree
+    absent-parts =
+        ap (λ t. copied t (s .variables) (total s) (rows-in s b)) (rest-of 1025 tables) ∙
+        matrix-copied s b (x .readable) (second-table tables) ∙
+        ap tree-rows
+        (replace-kept (second-table tables) (matrix-in s b) absent ∙
+        sym (ap (λ m. cond m (expand-tree (copying-by tables (e .joint)) (matrix-in s b)) (matrix-in s b)) absent))
+
+-- the prefix and the matrix
+pub expanded-rows : (s : Layout) (b : Bytes) (tables : List ℕ) (e : Expansion)
+    → map binding-row (without-row (e .row) (prefix-in s b)) ++ raw-matrix s b tables e ≡
+    formula-rows (expanded-raw (e .row) (copying-by tables (e .joint)) (formula-in s b))
+unfolding formula-rows expanded-raw formula-in
+expanded-rows s b tables e = refl

@@ -17,9 +17,9 @@ use Rattle.rows.specs.declared.Layout.{Layout}
 use Rattle.rows.proofs.Formulas.{rows-nodes}
 use Rattle.changing.specs.Changes.{copied}
 use Rattle.changing.specs.Output.{Laid}
-use Rattle.changing.proofs.Changed.{one-row, replace-kept}
+use Rattle.changing.proofs.Changed.{one-row}
 use Rattle.changing.proofs.Splice.{laid-all}
-use Rattle.raw.specs.Formulas.{without-row, settled-raw, first-table, second-table, chosen-by, copying-by, expanded-raw, Raw}
+use Rattle.raw.specs.Formulas.{without-row, settled-raw, first-table, second-table, chosen-by, copying-by, Raw}
 use Rattle.raw.proofs.Source.{matrix-copied}
 
 -- after a write there is as much room
@@ -57,16 +57,8 @@ rows-raw tables k u = by (has (chosen-by tables) u) refl
     by true e = rows-expand (copying-by tables k) (one-row (first-table tables)) (one-row (second-table tables)) u e
     by false e = refl
 
--- with no literal chosen the raw sheet is that of settling by the table that chooses
-
-module _ (s : Layout) (b : Bytes) (ok : Readable s b) (tables : List ℕ) (absent : has (chosen-by tables) (matrix-in s b) ≡ false) where
-  pub rows-absent : raw-rows (chosen-by tables) (matrix-in s b) ≡ s .nodes
-  unfolding raw-rows
-  rows-absent = rw absent (rows-nodes b ok)
-
-  pub raw-absent : (i k : ℕ) → settled-raw i (second-table tables) (formula-in s b) ≡ expanded-raw i (copying-by tables k) (formula-in s b)
-  unfolding settled-raw expanded-raw formula-in raw-tree
-  raw-absent i k =
-      ap (λ (u : Tree). record { prefix = without-row i (prefix-in s b); matrix = u })
-      (replace-kept (second-table tables) (matrix-in s b) absent ∙
-      sym (ap (λ m. cond m (expand-tree (copying-by tables k) (matrix-in s b)) (matrix-in s b)) absent))
+-- with no literal chosen as many as before
+pub rows-absent : (s : Layout) (b : Bytes) → Readable s b → (tables : List ℕ) → has (chosen-by tables) (matrix-in s b) ≡ false
+    → raw-rows (chosen-by tables) (matrix-in s b) ≡ s .nodes
+unfolding raw-rows
+rows-absent s b ok tables absent = rw absent (rows-nodes b ok)

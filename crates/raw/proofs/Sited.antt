@@ -23,7 +23,7 @@ use Rattle.relevance.specs.Parts.{operator-part, relevant-part}
 use Rattle.relevance.specs.declared.Relevant.{Relevant}
 use Rattle.changing.specs.Changes.{changed, changed-row, copied}
 use Rattle.raw.specs.Formulas.{first-table, second-table, chosen-by, operator-of, copying-by, raw-layout}
-use Rattle.raw.specs.Expansions.{runs-in, Expandable, Located, part-in, cuts-in, new-rows, new-at, joined-in, joined-at}
+use Rattle.raw.specs.Expansions.{runs-in, Copyable, Located, part-in, cuts-in, new-rows, new-at, joined-in, joined-at}
 use Rattle.raw.specs.declared.expand.Expansion.{Expansion}
 use Rattle.raw.proofs.Cuts.{slice-take, Stands, Parted, parted}
 use Rattle.raw.proofs.Around.{Deepest, own-part, Around, around}
@@ -68,7 +68,7 @@ pub record Sited (s : Layout) (b : Bytes) (tables : List ℕ) (e : Expansion) : 
       (new-rows s b tables e ++ copied (second-table tables) (s .variables + e .end) (total s) (rows-in s b))
   pub measured : e .part .operator + (length (new-rows s b tables e) + (s .nodes - e .end)) ≡ e .layout .nodes
 
-module _ (s : Layout) (b : Bytes) (tables : List ℕ) (e : Expansion) {out : Bytes} (x : Expandable s b tables e out)
+module _ (s : Layout) (b : Bytes) (tables : List ℕ) (e : Expansion) {out : Bytes} (x : Copyable s b tables e out)
     (l : Located s b tables e) where
   abbrev L : Literals
   L = chosen-by tables
@@ -171,7 +171,7 @@ module _ (s : Layout) (b : Bytes) (tables : List ℕ) (e : Expansion) {out : Byt
       sizes : op + (length (new-rows s b tables e) + (s .nodes - e .end)) ≡ e .layout .nodes
       sizes =
           sym
-          (ap (λ (t : Layout). t .nodes) (x .layout-is) ∙ sym (rows-raw tables (e .joint) (matrix-in s b)) ∙ sym (length-tree-rows (raw-tree c (matrix-in s b))) ∙
+          (x .nodes-are ∙ sym (rows-raw tables (e .joint) (matrix-in s b)) ∙ sym (length-tree-rows (raw-tree c (matrix-in s b))) ∙
           ap length
           (raw-is ∙ ap₂ (λ f r. f ++ (new-rows s b tables e ++ r)) front-is back-is) ∙
           omega (

@@ -6,7 +6,7 @@ use mathlib.Core.List.{List, [], _∷_, _++_, map}
 use Prim.Native.Nat.{ℕ, suc, _+_, _-_, _≤_, _<_}
 use lib.ListN.{length, getD, drop}
 use Rattle.formula.specs.Tree.{Tree, rows, has}
-use Rattle.formula.specs.Expand.{expand-tree, raw-rows}
+use Rattle.formula.specs.Expand.{expand-tree, raw-tree, raw-rows}
 use Rattle.sheet.specs.Format.{Bytes, Row, row}
 use Rattle.sheet.specs.Sheet.{operator-kind, tree-rows}
 use Rattle.rows.specs.Layouts.{total, Room}
@@ -48,7 +48,18 @@ below head t rs = head ∷ map (changed-row t) rs
 unfoldable pub joined : ℕ → Row → List ℕ → List ℕ → List Row → List Row
 joined k head first second rs = row k 2 ∷ (below head first rs ++ below head second rs)
 
--- a sheet, two tables, the prefix row that goes, the joint's kind, the raw sheet's layout, and room for it
+-- a sheet, two tables, the joint's kind, a layout with the raw sheet's nodes and any number of variables, and room for it
+pub record Copyable (s : Layout) (b : Bytes) (tables : List ℕ) (e : Expansion) (out : Bytes) : Type 0 where
+  pub readable : Readable s b
+  pub two-bytes : 2 ≤ s .width
+  pub two-tables : length tables ≡ 2050
+  pub joins : e .joint ≡ operator-kind (operator-of (e .joint))
+  pub same-width : e .layout .width ≡ s .width
+  pub few-variables : e .layout .variables ≤ 1024
+  pub nodes-are : e .layout .nodes ≡ raw-rows (chosen-by tables) (matrix-in s b)
+  pub room : Room (e .layout) (length out)
+
+-- the same with the prefix row that goes, where no row is added to the prefix
 pub record Expandable (s : Layout) (b : Bytes) (tables : List ℕ) (e : Expansion) (out : Bytes) : Type 0 where
   pub readable : Readable s b
   pub two-bytes : 2 ≤ s .width
@@ -75,12 +86,20 @@ pub record Located (s : Layout) (b : Bytes) (tables : List ℕ) (e : Expansion) 
 abbrev pub Found : Layout → Bytes → List ℕ → List ℕ → Expansion → Type 0
 Found s b tables cs e = Located s b tables e × (e .part .all ≡ false → cs ≡ cuts-in s b tables e)
 
+-- whether a chosen literal occurs, and if so the part
+abbrev pub Told : Layout → Bytes → List ℕ → List ℕ → Expansion → Type 0
+Told s b tables cs e = (e .occurs ≡ has (chosen-by tables) (matrix-in s b)) × (e .occurs ≡ true → Found s b tables cs e)
+
+-- the rows of the raw sheet's matrix
+abbrev pub raw-matrix : Layout → Bytes → List ℕ → Expansion → List Row
+raw-matrix s b tables e = tree-rows (raw-tree (copying-by tables (e .joint)) (matrix-in s b))
+
 -- what replaces the subtree, and the row from which it is written
 abbrev pub new-rows : Layout → Bytes → List ℕ → Expansion → List Row
 new-rows s b tables e = tree-rows (expand-tree (copying-by tables (e .joint)) (part-in s b e))
 
-abbrev pub new-at : Layout → Expansion → ℕ
-new-at s e = s .variables - 1 + e .part .operator
+abbrev pub new-at : Expansion → ℕ
+new-at e = e .layout .variables + e .part .operator
 
 -- where not every child is relevant: the joint over the copies, and the row from which they are written
 abbrev pub joined-in : Layout → Bytes → List ℕ → List ℕ → Expansion → List Row
@@ -88,5 +107,5 @@ joined-in s b tables cs e =
     joined (e .joint) (row ((top (part-in s b e)) .kind) (e .part .children)) (first-table tables) (second-table tables)
     (runs-in s b (drop 1 cs))
 
-abbrev pub joined-at : Layout → List ℕ → ℕ
-joined-at s cs = s .variables - 1 + getD cs 1 0
+abbrev pub joined-at : Expansion → List ℕ → ℕ
+joined-at e cs = e .layout .variables + getD cs 1 0

@@ -4,7 +4,6 @@ use crate::runs::Head;
 use crate::runs::write_below;
 use crate::runs::write_runs;
 use crate::settle::write_prefix;
-use crate::settle::write_settled;
 use changing::Span;
 use changing::Target;
 use changing::write::write_copy;
@@ -20,7 +19,7 @@ ghost use Rattle.formula.specs.Tree.{has};
 ghost use Rattle.rows.specs.Formulas.{matrix-in, formula-in};
 ghost use Rattle.changing.specs.Output.{Laid};
 ghost use Rattle.raw.specs.Formulas.{chosen-by, copying-by, expanded-raw, Raw};
-ghost use Rattle.raw.specs.Expansions.{Expandable, Located, Found, cuts-in, new-rows, new-at, joined-in, joined-at};
+ghost use Rattle.raw.specs.Expansions.{Copyable, Expandable, Located, Found, Told, cuts-in, new-rows, new-at, joined-in, joined-at, raw-matrix};
 
 // An expansion: whether a chosen literal occurs, the relevant part, the node row at which its subtree ends, the prefix row that goes,
 // the kind of the operator that joins the copies, and the raw sheet's layout.
@@ -35,8 +34,8 @@ pub struct Expansion {
 
 // Every child is relevant, or a literal is alone: writes the joint and below it the subtree twice, by the first table and by the second.
 fn write_whole(b: &[u8], s: Layout, tables: &[u16], e: Expansion, out: &mut [u8]) -> usize
-    requires { ⌜ Expandable s (now b) (now tables) e (now out) × Located s (now b) (now tables) e × (e .part .all ≡ true) ⌝ }
-    ensures { λ next. ⌜ Laid (e .layout) (now (out .entry)) (now (out .exit)) (new-at s e) next (new-rows s (now (b .entry)) (now (tables .entry)) e) ⌝ }
+    requires { ⌜ Copyable s (now b) (now tables) e (now out) × Located s (now b) (now tables) e × (e .part .all ≡ true) ⌝ }
+    ensures { λ next. ⌜ Laid (e .layout) (now (out .entry)) (now (out .exit)) (new-at e) next (new-rows s (now (b .entry)) (now (tables .entry)) e) ⌝ }
 {
     let t = e.layout;
     let v = s.variables;
@@ -47,7 +46,7 @@ fn write_whole(b: &[u8], s: Layout, tables: &[u16], e: Expansion, out: &mut [u8]
     };
     let start = Target {
         layout: t,
-        at: v - 1 + operator,
+        at: t.variables + operator,
     };
     let at = write_row(out, start, e.joint, 2);
     let first = Target { layout: t, at: at };
@@ -66,15 +65,15 @@ fn write_copies(
     e: Expansion,
     out: &mut [u8],
 ) -> usize
-    requires { ⌜ Expandable s (now b) (now tables) e (now out) × Located s (now b) (now tables) e × (e .part .all ≡ false) × (now cuts ≡ cuts-in s (now b) (now tables) e) ⌝ }
-    ensures { λ next. ⌜ Laid (e .layout) (now (out .entry)) (now (out .exit)) (joined-at s (now (cuts .entry))) next (joined-in s (now (b .entry)) (now (tables .entry)) (now (cuts .entry)) e) ⌝ }
+    requires { ⌜ Copyable s (now b) (now tables) e (now out) × Located s (now b) (now tables) e × (e .part .all ≡ false) × (now cuts ≡ cuts-in s (now b) (now tables) e) ⌝ }
+    ensures { λ next. ⌜ Laid (e .layout) (now (out .entry)) (now (out .exit)) (joined-at e (now (cuts .entry))) next (joined-in s (now (b .entry)) (now (tables .entry)) (now (cuts .entry)) e) ⌝ }
 {
     let t = e.layout;
     let children = e.part.children;
     let kind = kind_at(b, s, e.part.operator);
     let start = Target {
         layout: t,
-        at: s.variables - 1 + cuts[1] as usize,
+        at: t.variables + cuts[1] as usize,
     };
     let at = write_row(out, start, e.joint, 2);
     let first = Head {
@@ -103,8 +102,8 @@ fn write_some(
     e: Expansion,
     out: &mut [u8],
 ) -> usize
-    requires { ⌜ Expandable s (now b) (now tables) e (now out) × Located s (now b) (now tables) e × (e .part .all ≡ false) × (now cuts ≡ cuts-in s (now b) (now tables) e) ⌝ }
-    ensures { λ next. ⌜ Laid (e .layout) (now (out .entry)) (now (out .exit)) (new-at s e) next (new-rows s (now (b .entry)) (now (tables .entry)) e) ⌝ }
+    requires { ⌜ Copyable s (now b) (now tables) e (now out) × Located s (now b) (now tables) e × (e .part .all ≡ false) × (now cuts ≡ cuts-in s (now b) (now tables) e) ⌝ }
+    ensures { λ next. ⌜ Laid (e .layout) (now (out .entry)) (now (out .exit)) (new-at e) next (new-rows s (now (b .entry)) (now (tables .entry)) e) ⌝ }
 {
     let t = e.layout;
     let operator = e.part.operator;
@@ -116,7 +115,7 @@ fn write_some(
     };
     let start = Target {
         layout: t,
-        at: s.variables - 1 + operator,
+        at: t.variables + operator,
     };
     let at = write_row(out, start, kind, children - e.part.children + 1);
     let below = Target { layout: t, at: at };
@@ -135,8 +134,8 @@ fn write_subtree(
     e: Expansion,
     out: &mut [u8],
 ) -> usize
-    requires { ⌜ Expandable s (now b) (now tables) e (now out) × Found s (now b) (now tables) (now cuts) e ⌝ }
-    ensures { λ next. ⌜ Laid (e .layout) (now (out .entry)) (now (out .exit)) (new-at s e) next (new-rows s (now (b .entry)) (now (tables .entry)) e) ⌝ }
+    requires { ⌜ Copyable s (now b) (now tables) e (now out) × Found s (now b) (now tables) (now cuts) e ⌝ }
+    ensures { λ next. ⌜ Laid (e .layout) (now (out .entry)) (now (out .exit)) (new-at e) next (new-rows s (now (b .entry)) (now (tables .entry)) e) ⌝ }
 {
     if e.part.all {
         return write_whole(b, s, tables, e, out);
@@ -144,17 +143,17 @@ fn write_subtree(
     write_some(b, s, tables, cuts, e, out)
 }
 
-// A chosen literal occurs: writes the prefix without the row that goes, and the matrix with the relevant subtree expanded.
-pub fn write_expanded(
+// A chosen literal occurs: writes the matrix with the relevant subtree expanded, behind the prefix.
+fn write_expanded(
     b: &[u8],
     s: Layout,
     tables: &[u16],
     cuts: &[u16],
     e: Expansion,
     out: &mut [u8],
-)
-    requires { ⌜ Expandable s (now b) (now tables) e (now out) × Found s (now b) (now tables) (now cuts) e ⌝ }
-    ensures { λ _. ⌜ Raw (e .layout) (now (out .entry)) (now (out .exit)) (expanded-raw (e .row) (copying-by (now (tables .entry)) (e .joint)) (formula-in s (now (b .entry)))) ⌝ }
+) -> usize
+    requires { ⌜ Copyable s (now b) (now tables) e (now out) × Found s (now b) (now tables) (now cuts) e ⌝ }
+    ensures { λ next. ⌜ Laid (e .layout) (now (out .entry)) (now (out .exit)) (e .layout .variables) next (raw-matrix s (now (b .entry)) (now (tables .entry)) e) ⌝ }
 {
     let t = e.layout;
     let above = Span {
@@ -165,25 +164,49 @@ pub fn write_expanded(
         from: s.variables + e.end,
         to: s.variables + s.nodes,
     };
-    let matrix = write_prefix(b, s, &tables[NUMBERS..], e.row, out, t);
     let front = Target {
         layout: t,
-        at: matrix,
+        at: t.variables,
     };
     write_copy(b, s, &tables[NUMBERS..], above, out, front);
     let end = write_subtree(b, s, tables, cuts, e, out);
     let back = Target { layout: t, at: end };
-    write_copy(b, s, &tables[NUMBERS..], behind, out, back);
+    write_copy(b, s, &tables[NUMBERS..], behind, out, back)
 }
 
-// Writes the raw sheet of an expansion; with no literal chosen only the prefix row goes.
+// Writes the matrix of the raw sheet behind the prefix, of as many rows as the layout says; with no literal chosen it stays.
+pub fn write_matrix(
+    b: &[u8],
+    s: Layout,
+    tables: &[u16],
+    cuts: &[u16],
+    e: Expansion,
+    out: &mut [u8],
+) -> usize
+    requires { ⌜ Copyable s (now b) (now tables) e (now out) × Told s (now b) (now tables) (now cuts) e ⌝ }
+    ensures { λ next. ⌜ Laid (e .layout) (now (out .entry)) (now (out .exit)) (e .layout .variables) next (raw-matrix s (now (b .entry)) (now (tables .entry)) e) ⌝ }
+{
+    if e.occurs {
+        return write_expanded(b, s, tables, cuts, e, out);
+    }
+    let t = e.layout;
+    let matrix = Span {
+        from: s.variables,
+        to: s.variables + s.nodes,
+    };
+    let front = Target {
+        layout: t,
+        at: t.variables,
+    };
+    write_copy(b, s, &tables[NUMBERS..], matrix, out, front)
+}
+
+// Writes the raw sheet of an expansion: the prefix without the row that goes, and the matrix.
 pub fn write_raw(b: &[u8], s: Layout, tables: &[u16], cuts: &[u16], e: Expansion, out: &mut [u8])
     requires { ⌜ Expandable s (now b) (now tables) e (now out) × (e .occurs ≡ has (chosen-by (now tables)) (matrix-in s (now b))) × (e .occurs ≡ true → Found s (now b) (now tables) (now cuts) e) ⌝ }
     ensures { λ _. ⌜ Raw (e .layout) (now (out .entry)) (now (out .exit)) (expanded-raw (e .row) (copying-by (now (tables .entry)) (e .joint)) (formula-in s (now (b .entry)))) ⌝ }
 {
-    if !e.occurs {
-        write_settled(b, s, &tables[NUMBERS..], e.row, out);
-        return;
-    }
-    write_expanded(b, s, tables, cuts, e, out);
+    let t = e.layout;
+    write_prefix(b, s, &tables[NUMBERS..], e.row, out, t);
+    write_matrix(b, s, tables, cuts, e, out);
 }

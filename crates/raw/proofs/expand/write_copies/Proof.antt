@@ -19,23 +19,20 @@ kind-at-requires c κs =
     let a = c .before .before .before .before .before in
     (a .pre .0 .readable, some (a .pre .0) (a .pre .1) (a .pre .2) (a .pre .3) .operator-in)
 
-sub-write-below : tie.Need-sub-write-below
-sub-write-below c = search needs
-
 shared-slice-read-write-below : tie.Need-shared-slice-read-write-below
 shared-slice-read-write-below c =
-    let a = c .before .before .before .before .before .before .before .before in
+    let a = c .before .before .before .before .before .before .before in
     omega (arith, some (a .pre .0) (a .pre .1) (a .pre .2) (a .pre .3) .two)
 
 cast-write-below : tie.Need-cast-write-below
 cast-write-below c =
-    let a = c .before .before .before .before .before .before .before .before in
+    let a = c .before .before .before .before .before .before .before in
     omega (arith, some (a .pre .0) (a .pre .1) (a .pre .2) (a .pre .3) .within, a .pre .0 .readable .few-variables, a .pre .0 .readable .few-nodes)
 
 add-write-below : tie.Need-add-write-below
 add-write-below c =
     let a = c .before .before .before .before .before .before .before .before in
-    omega (arith, some (a .pre .0) (a .pre .1) (a .pre .2) (a .pre .3) .within, a .pre .0 .readable .few-variables, a .pre .0 .readable .few-nodes)
+    omega (arith, some (a .pre .0) (a .pre .1) (a .pre .2) (a .pre .3) .within, a .pre .0 .few-variables, a .pre .0 .readable .few-nodes)
 
 write-row-requires : tie.Need-write-row-requires
 write-row-requires c κs =
@@ -48,8 +45,8 @@ slice-aggregate-write-below c =
     let a = c .before .before .before .before .before .before .before .before .before .before .before .before .before in
     sym (length-take-le 1025 (a .args .tables .now) (omega (arith, a .pre .0 .two-tables)))
 
-sub-write-below-2 : tie.Need-sub-write-below-2
-sub-write-below-2 c =
+sub-write-below : tie.Need-sub-write-below
+sub-write-below c =
     let a = c .before .before .before .before .before .before .before .before .before .before .before .before .before in
     omega (arith, some (a .pre .0) (a .pre .1) (a .pre .2) (a .pre .3) .two)
 
@@ -75,8 +72,8 @@ write-below-requires c κs =
       p .fits-relevant,
     )
 
-sub-write-below-3 : tie.Need-sub-write-below-3
-sub-write-below-3 c = search needs
+sub-write-below-2 : tie.Need-sub-write-below-2
+sub-write-below-2 c = search needs
 
 part-write-below-start-2 : tie.Need-part-write-below-start-2
 part-write-below-start-2 c = search needs
@@ -84,8 +81,8 @@ part-write-below-start-2 c = search needs
 part-write-below-end-2 : tie.Need-part-write-below-end-2
 part-write-below-end-2 c = search needs
 
-sub-write-below-4 : tie.Need-sub-write-below-4
-sub-write-below-4 c =
+sub-write-below-3 : tie.Need-sub-write-below-3
+sub-write-below-3 c =
     let a = c .before .before .before .before .before .before .before .before .before .before .before .before .before .before .before .before .before .before .before in
     omega (arith, some (a .pre .0) (a .pre .1) (a .pre .2) (a .pre .3) .two)
 
@@ -129,7 +126,7 @@ same-length c = search needs
 returns : tie.Need-returns
 returns c =
     let a = c .before .before .before .before .before .before .before .before .before .before .before .before .before .before .before .before .before .before .before .before .before .before .before .before in
-    subst (Laid (a .args .e .layout) (a .args .out .now) _ (joined-at (a .args .s) (a .args .cuts .now)) _)
+    subst (Laid (a .args .e .layout) (a .args .out .now) _ (joined-at (a .args .e) (a .args .cuts .now)) _)
     (joined-parts (a .args .s) (a .args .b .now) (a .args .tables .now) (a .args .cuts .now) (a .args .e) (c .before .before .before .before .before .before .before .before .before .before .before .before .before .before .before .before .before .before .kind-at .ensures))
     (laid-on (c .before .before .before .before .before .before .before .before .before .before .before .before .before .before .write-row .ensures) (laid-on (c .before .before .before .before .before .before .before .before .write-below .ensures) (c .before .before .write-below2 .ensures)))
 
@@ -138,20 +135,19 @@ write-copies-spec =
     tie.close
     (tie.spec
     kind-at-requires
-    sub-write-below
     shared-slice-read-write-below
     cast-write-below
     add-write-below
     write-row-requires
     slice-aggregate-write-below
-    sub-write-below-2
+    sub-write-below
     part-write-below-start
     part-write-below-end
     write-below-requires
-    sub-write-below-3
+    sub-write-below-2
     part-write-below-start-2
     part-write-below-end-2
-    sub-write-below-4
+    sub-write-below-3
     part-write-below-start-3
     part-write-below-end-3
     write-below-requires-2

@@ -6,7 +6,7 @@ use Rattle.changing.specs.Output.{Laid}
 use Rattle.changing.proofs.Splice.{ready-on, laid-on}
 use Rattle.raw.specs.Expansions.{Climbs, runs-in, new-at, joined-at}
 use Rattle.raw.proofs.Raws.{laid-to}
-use Rattle.raw.proofs.Plans.{ready-raw, expandable-on, rest-of, some, some-parts}
+use Rattle.raw.proofs.Plans.{ready-raw, copyable-on, rest-of, some, some-parts}
 use borrow.Author.Needs.{needs}
 use Rattle.raw.proofs.expand.write_some.Statement.{statement}
 use Rattle.raw.proofs.expand.write_some.Tie as tie
@@ -55,17 +55,14 @@ add-write-row c =
     let p = some (a .pre .0) (a .pre .1) (a .pre .2) (a .pre .3) in
     omega (arith, p .ordered, p .within, p .operator-in, a .pre .0 .readable .few-variables, a .pre .0 .readable .few-nodes)
 
-sub-write-row : tie.Need-sub-write-row
-sub-write-row c = search needs
-
 add-write-row-2 : tie.Need-add-write-row-2
 add-write-row-2 c =
     let a = c .before .before .before .before .before .before .before .before .before .before .before .before in
     let p = some (a .pre .0) (a .pre .1) (a .pre .2) (a .pre .3) in
-    omega (arith, p .ordered, p .within, p .operator-in, a .pre .0 .readable .few-variables, a .pre .0 .readable .few-nodes)
+    omega (arith, p .ordered, p .within, p .operator-in, a .pre .0 .few-variables, a .pre .0 .readable .few-nodes)
 
-sub-write-row-2 : tie.Need-sub-write-row-2
-sub-write-row-2 c =
+sub-write-row : tie.Need-sub-write-row
+sub-write-row c =
     let a = c .before .before .before .before .before .before .before .before .before .before .before .before .before .before in
     omega (arith, some (a .pre .0) (a .pre .1) (a .pre .2) (a .pre .3) .few, c .before .before .before .before .before .before .before .children-at .ensures .0)
 
@@ -100,7 +97,7 @@ write-copy-requires c κs =
 write-copies-requires : tie.Need-write-copies-requires
 write-copies-requires c κs =
     let a = c .before .before .before .before .before .before .before .before .before .before .before .before .before .before .before .before .before .before .before .before .before .before .before in
-    (expandable-on (a .pre .0) (c .before .before .before .write-copy .kept .1 .1 .1 .1 .0 ∙ c .before .before .before .before .before .before .before .before .write-row .kept .0), a .pre .1, a .pre .2, a .pre .3)
+    (copyable-on (a .pre .0) (c .before .before .before .write-copy .kept .1 .1 .1 .1 .0 ∙ c .before .before .before .before .before .before .before .before .write-row .kept .0), a .pre .1, a .pre .2, a .pre .3)
 
 sub-write-runs : tie.Need-sub-write-runs
 sub-write-runs c =
@@ -156,9 +153,9 @@ returns c =
     let p = some (a .pre .0) (a .pre .1) (a .pre .2) (a .pre .3) in
     let first = c .before .before .before .before .before .before .before .before .before .before .before .before .before .before .before .before .before in
     let lead = c .before .before .before .before .before .before .before .before .before .before .before .before in
-    let at : lead .write-copy .result ≡ joined-at (a .args .s) (a .args .cuts .now)
+    let at : lead .write-copy .result ≡ joined-at (a .args .e) (a .args .cuts .now)
     = omega (arith, first .write-row .ensures .next-row, lead .write-copy .ensures .1, p .begins, p .ordered) in
-    subst (Laid (a .args .e .layout) (a .args .out .now) _ (new-at (a .args .s) (a .args .e)) _)
+    subst (Laid (a .args .e .layout) (a .args .out .now) _ (new-at (a .args .e)) _)
     (some-parts (a .args .s) (a .args .b .now) (a .args .tables .now) (a .args .cuts .now) (a .args .e) p (c .before .before .before .before .before .before .before .before .before .before .before .before .before .before .before .before .before .before .before .before .before .before .before .before .before .before .kind-at .ensures)
     (c .before .before .before .before .before .before .before .before .before .before .before .before .before .before .before .before .before .before .before .before .before .before .before .before .before .children-at .ensures .0))
     (laid-on (first .write-row .ensures)
@@ -177,9 +174,8 @@ write-some-spec =
     shared-slice-read-write-row
     cast-write-row
     add-write-row
-    sub-write-row
     add-write-row-2
-    sub-write-row-2
+    sub-write-row
     add-write-row-3
     write-row-requires
     sub-write-copy

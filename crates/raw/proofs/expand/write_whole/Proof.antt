@@ -22,35 +22,32 @@ add-t15 c =
     let w = whole (a .pre .0) (a .pre .1) (a .pre .2) in
     omega (arith, w .inside, w .end-in, a .pre .0 .readable .few-variables, a .pre .0 .readable .few-nodes)
 
-add-t16 : tie.Need-add-t16
-add-t16 c =
+add-write-copy : tie.Need-add-write-copy
+add-write-copy c =
     let a = c .before .before .before .before .before in
     let w = whole (a .pre .0) (a .pre .1) (a .pre .2) in
     omega (arith, w .end-in, a .pre .0 .readable .few-variables, a .pre .0 .readable .few-nodes)
 
-sub-t15 : tie.Need-sub-t15
-sub-t15 c = search needs
-
-add-t16-2 : tie.Need-add-t16-2
-add-t16-2 c =
-    let a = c .before .before .before .before .before in
+add-t15-2 : tie.Need-add-t15-2
+add-t15-2 c =
+    let a = c .before .before .before .before .before .before in
     let w = whole (a .pre .0) (a .pre .1) (a .pre .2) in
-    omega (arith, w .inside, w .end-in, a .pre .0 .readable .few-variables, a .pre .0 .readable .few-nodes)
+    omega (arith, w .inside, w .end-in, a .pre .0 .few-variables, a .pre .0 .readable .few-nodes)
 
 write-row-requires : tie.Need-write-row-requires
 write-row-requires c κs =
-    let a = c .before .before .before .before .before .before in
+    let a = c .before .before .before .before .before .before .before in
     let w = whole (a .pre .0) (a .pre .1) (a .pre .2) in
     (a .pre .0 .room, omega (arith, w .room), w .fits-two)
 
 slice-aggregate-write-copy : tie.Need-slice-aggregate-write-copy
 slice-aggregate-write-copy c =
-    let a = c .before .before .before .before .before .before .before .before .before .before in
+    let a = c .before .before .before .before .before .before .before .before .before .before .before in
     sym (length-take-le 1025 (a .args .tables .now) (omega (arith, a .pre .0 .two-tables)))
 
 write-copy-requires : tie.Need-write-copy-requires
 write-copy-requires c κs =
-    let a = c .before .before .before .before .before .before .before .before .before .before .before in
+    let a = c .before .before .before .before .before .before .before .before .before .before .before .before in
     let w = whole (a .pre .0) (a .pre .1) (a .pre .2) in
     let first = c .before .before .before .before in (
       ready-on (ready-raw (a .pre .0)) (first .write-row .kept .0),
@@ -69,7 +66,7 @@ part-write-copy-end c = search needs
 
 write-copy-requires-2 : tie.Need-write-copy-requires-2
 write-copy-requires-2 c κs =
-    let a = c .before .before .before .before .before .before .before .before .before .before .before .before .before .before .before .before in
+    let a = c .before .before .before .before .before .before .before .before .before .before .before .before .before .before .before .before .before in
     let w = whole (a .pre .0) (a .pre .1) (a .pre .2) in
     let first = c .before .before .before .before .before .before .before .before .before in
     let second = c .before .before .before .before in (
@@ -83,11 +80,11 @@ same-length c = search needs
 
 returns : tie.Need-returns
 returns c =
-    let a = c .before .before .before .before .before .before .before .before .before .before .before .before .before .before .before .before .before .before .before in
+    let a = c .before .before .before .before .before .before .before .before .before .before .before .before .before .before .before .before .before .before .before .before in
     let from = a .args .s .variables + a .args .e .part .operator in
     let to = a .args .s .variables + a .args .e .end in
     let R = rows-in (a .args .s) (a .args .b .now) in
-    subst (Laid (a .args .e .layout) (a .args .out .now) _ (new-at (a .args .s) (a .args .e)) _)
+    subst (Laid (a .args .e .layout) (a .args .out .now) _ (new-at (a .args .e)) _)
     (ap (λ t. row (a .args .e .joint) 2 ∷ (copied (first-table (a .args .tables .now)) from to R ++ copied t from to R))
     (rest-of 1025 (a .args .tables .now)) ∙
     whole (a .pre .0) (a .pre .1) (a .pre .2) .written)
@@ -98,9 +95,8 @@ write-whole-spec =
     tie.close
     (tie.spec
     add-t15
-    add-t16
-    sub-t15
-    add-t16-2
+    add-write-copy
+    add-t15-2
     write-row-requires
     slice-aggregate-write-copy
     write-copy-requires

@@ -1,0 +1,70 @@
+-- `raw::expand::write_matrix` meets its contract. Assumes nothing.
+use mathlib.Core.Path.{_≡_, sym, _∙_, subst}
+use mathlib.Core.Bool.{false}
+use native.Mathlib.Omega.{arith}
+use Rattle.formula.specs.Tree.{has}
+use Rattle.rows.specs.Formulas.{matrix-in}
+use Rattle.changing.specs.Output.{Laid}
+use Rattle.raw.specs.Formulas.{chosen-by}
+use Rattle.raw.proofs.Plans.{ready-raw, absent-nodes, absent-parts}
+use borrow.Author.Needs.{needs}
+use Rattle.raw.proofs.expand.write_matrix.Statement.{statement}
+use Rattle.raw.proofs.expand.write_matrix.Tie as tie
+
+absent : (c : tie.Else1) → let a = c .before .before .before .before .before in has (chosen-by (a .args .tables .now)) (matrix-in (a .args .s) (a .args .b .now)) ≡ false
+absent c = let a = c .before .before .before .before .before in sym (a .pre .1 .0) ∙ c .if1 .left
+
+write-expanded-requires : tie.Need-write-expanded-requires
+write-expanded-requires c κs =
+    let a = c .before .before .before .before .before .before in
+    (a .pre .0, a .pre .1 .1 (c .before .if1 .taken))
+
+same-length : tie.Need-same-length
+same-length c = search needs
+
+returns : tie.Need-returns
+returns c = search needs
+
+add-write-copy : tie.Need-add-write-copy
+add-write-copy c = search needs
+
+sub-write-copy : tie.Need-sub-write-copy
+sub-write-copy c = search needs
+
+part-write-copy-start : tie.Need-part-write-copy-start
+part-write-copy-start c = search needs
+
+part-write-copy-end : tie.Need-part-write-copy-end
+part-write-copy-end c = search needs
+
+write-copy-requires : tie.Need-write-copy-requires
+write-copy-requires c κs =
+    let a = c .before .before .before .before .before .before .before .before .before in (
+      ready-raw (a .pre .0),
+      record { ordered = omega arith; inside = omega arith },
+      omega (arith, absent-nodes (a .pre .0) (absent (c .before .before .before .before))),
+    )
+
+same-length-2 : tie.Need-same-length-2
+same-length-2 c = search needs
+
+returns-2 : tie.Need-returns-2
+returns-2 c =
+    let a = c .before .before .before .before .before .before .before .before .before .before .before .before in
+    subst (Laid (a .args .e .layout) (a .args .out .now) _ (a .args .e .layout .variables) _) (absent-parts (a .pre .0) (absent (c .before .before .before .before .before .before .before)))
+    (c .before .before .write-copy .ensures .0)
+
+pub write-matrix-spec : {M : Type 1} → statement M
+write-matrix-spec =
+    tie.close
+    (tie.spec
+    write-expanded-requires
+    same-length
+    returns
+    add-write-copy
+    sub-write-copy
+    part-write-copy-start
+    part-write-copy-end
+    write-copy-requires
+    same-length-2
+    returns-2)
