@@ -1,0 +1,2 @@
+-- The turns of the loops, and what is written.
+mod Linking

@@ -1,0 +1,2 @@
+-- Expansion one block out (N6).
+pub mod Inner

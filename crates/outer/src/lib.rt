@@ -1,0 +1,2 @@
+// Expansion of a universal variable one block out (N6).
+pub mod chain;
