@@ -1,2 +1,4 @@
 -- The turns of the loops, and what is written.
 mod Linking
+mod Renumbering
+mod Copied

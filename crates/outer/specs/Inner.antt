@@ -1,2 +1,4 @@
 -- Definitions that no entry point cites.
 pub mod Chain
+pub mod Numbers
+pub mod Prefixes

@@ -1,2 +1,4 @@
 // Expansion of a universal variable one block out (N6).
 pub mod chain;
+pub mod numbers;
+pub mod prefix;

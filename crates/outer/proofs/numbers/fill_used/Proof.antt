@@ -1,0 +1,69 @@
+-- `outer::numbers::fill_used` meets its contract. Assumes nothing.
+use mathlib.Core.Path.{_≡_, refl, _∙_}
+use Prim.Native.Nat.{_-_, _≤_}
+use native.Mathlib.Omega.{arith}
+use lib.ListN.{length}
+use Rattle.rows.specs.Formulas.{prefix-in}
+use Rattle.outer.proofs.Renumbering.{Using, using-none, using-next, using-all}
+use Rattle.outer.proofs.numbers.fill_used.Statement.{statement}
+use Rattle.outer.proofs.numbers.fill_used.Tie as tie
+
+abbrev Inv-loop : tie.InvT-loop
+Inv-loop b s used₀ v j₀ used j = Using (prefix-in s b) used j × (j ≤ s .variables) × (length used ≡ length used₀)
+
+abbrev μ-loop : tie.MeasureT-loop
+μ-loop b s used₀ v j₀ used j = s .variables - j
+
+loop-holds : tie.Need-loop-holds Inv-loop μ-loop
+loop-holds c =
+    let a = c .before .before in
+    (using-none (a .args .b .now) (a .pre .0) (a .pre .2), omega arith, refl)
+
+variable-at-requires : tie.Need-variable-at-requires Inv-loop μ-loop
+variable-at-requires c κs =
+    (c .before .before .before .before .before .pre .0, omega arith)
+
+add-requires : tie.Need-add-requires Inv-loop μ-loop
+add-requires c κs =
+    let a = c .before .before .before .before .before .before in
+    omega (arith, c .before .before .before .loop .inv .0 .words, c .variable-at .ensures .0, a .pre .1 .few-numbers (c .before .before .before .loop .j) (omega arith))
+
+add-j : tie.Need-add-j Inv-loop μ-loop
+add-j c =
+    omega (arith, c .before .before .before .before .before .before .loop .inv .1)
+
+loop-less : tie.Need-loop-less Inv-loop μ-loop
+loop-less c = omega arith
+
+loop-again : tie.Need-loop-again Inv-loop μ-loop
+loop-again c =
+    let a = c .before .before .before .before .before .before .before .before .before in
+    let l = c .before .before .before .before .before .before .loop in (
+      using-next (a .args .b .now) (a .pre .0) (omega arith) (omega arith) (c .before .before .before .variable-at .ensures .0) (l .inv .0) (c .before .before .add .ensures .0) (c .before .before .add .ensures .1),
+      omega arith,
+      c .before .before .add .ensures .0 ∙ l .inv .2,
+    )
+
+same-length : tie.Need-same-length Inv-loop μ-loop
+same-length c =
+    c .before .loop .inv .2
+
+returns : tie.Need-returns Inv-loop μ-loop
+returns c =
+    let a = c .before .before .before .before in
+    using-all (a .args .b .now) (a .pre .0) (omega (arith, c .before .loop .inv .1)) (c .before .loop .inv .0)
+
+pub fill-used-spec : {M : Type 1} → statement M
+fill-used-spec =
+    tie.close
+    (tie.spec
+    Inv-loop
+    μ-loop
+    loop-holds
+    variable-at-requires
+    add-requires
+    add-j
+    loop-less
+    loop-again
+    same-length
+    returns)

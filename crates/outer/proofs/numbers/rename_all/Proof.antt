@@ -1,0 +1,74 @@
+-- `outer::numbers::rename_all` meets its contract. Assumes nothing.
+use mathlib.Core.Path.{_≡_, refl, sym, _∙_}
+use Prim.Native.Nat.{_-_, _≤_}
+use native.Mathlib.Omega.{arith}
+use lib.ListN.{length}
+use Rattle.rows.specs.Formulas.{prefix-in}
+use Rattle.outer.proofs.Renumbering.{Renaming, renaming-none, some-left, renaming-next, renaming-all}
+use Rattle.outer.proofs.numbers.rename_all.Statement.{statement}
+use Rattle.outer.proofs.numbers.rename_all.Tie as tie
+
+abbrev Inv-loop : tie.InvT-loop
+Inv-loop b s set used highest table₀ count from₀ j₀ table from j = Renaming (prefix-in s b) set used highest table₀ table from j × (j ≤ s .variables)
+
+abbrev μ-loop : tie.MeasureT-loop
+μ-loop b s set used highest table₀ count from₀ j₀ table from j = s .variables - j
+
+loop-holds : tie.Need-loop-holds Inv-loop μ-loop
+loop-holds c =
+    let a = c .before .before .before .before in
+    (renaming-none (a .args .b .now) (a .pre .0 .0) (a .args .set .now) (a .args .used .now) (a .args .highest) (a .args .table .now) (a .pre .1), omega arith)
+
+variable-at-requires : tie.Need-variable-at-requires Inv-loop μ-loop
+variable-at-requires c κs =
+    (c .before .before .before .before .before .before .pre .0 .0, omega arith)
+
+rename-requires : tie.Need-rename-requires Inv-loop μ-loop
+rename-requires c κs =
+    let a = c .before .before .before .before .before .before .before .before in
+    let l = c .before .before .before .loop in (
+      (a .pre .0 .2, a .pre .0 .3, a .pre .0 .4, l .inv .0 .within),
+      (
+        (omega (arith, c .before .variable-at .ensures .0, a .pre .0 .1 .few-numbers (l .j) (omega arith)), l .inv .0 .same-length ∙ a .pre .0 .5),
+        some-left (a .args .b .now) (a .pre .0 .0) (a .args .set .now) (a .args .used .now) (a .args .highest) (omega arith) (l .inv .0) (c .before .variable-at .ensures .0),
+      ),
+    )
+
+add-j : tie.Need-add-j Inv-loop μ-loop
+add-j c =
+    omega (arith, c .before .before .before .before .before .before .loop .inv .1)
+
+loop-less : tie.Need-loop-less Inv-loop μ-loop
+loop-less c = omega arith
+
+loop-again : tie.Need-loop-again Inv-loop μ-loop
+loop-again c =
+    let a = c .before .before .before .before .before .before .before .before .before .before .before in
+    let l = c .before .before .before .before .before .before .loop in (
+      renaming-next (a .args .b .now) (a .pre .0 .0) (a .args .set .now) (a .args .used .now) (a .args .highest) (omega arith) (l .inv .0) (c .before .before .before .before .variable-at .ensures .0) (omega arith) (c .before .before .rename .ensures),
+      omega arith,
+    )
+
+same-length : tie.Need-same-length Inv-loop μ-loop
+same-length c =
+    c .before .loop .inv .0 .same-length
+
+returns : tie.Need-returns Inv-loop μ-loop
+returns c =
+    let a = c .before .before .before .before .before .before in
+    renaming-all (a .args .b .now) (a .pre .0 .0) (a .args .set .now) (a .args .used .now) (a .args .highest) (omega (arith, c .before .loop .inv .1)) (c .before .loop .inv .0)
+
+pub rename-all-spec : {M : Type 1} → statement M
+rename-all-spec =
+    tie.close
+    (tie.spec
+    Inv-loop
+    μ-loop
+    loop-holds
+    variable-at-requires
+    rename-requires
+    add-j
+    loop-less
+    loop-again
+    same-length
+    returns)
