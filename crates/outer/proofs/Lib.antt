@@ -2,3 +2,4 @@
 mod Linking
 mod Renumbering
 mod Copied
+mod Surveying

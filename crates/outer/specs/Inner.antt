@@ -2,3 +2,4 @@
 pub mod Chain
 pub mod Numbers
 pub mod Prefixes
+pub mod Survey

@@ -2,3 +2,4 @@
 pub mod chain;
 pub mod numbers;
 pub mod prefix;
+pub mod survey;
