@@ -3,3 +3,6 @@ mod Linking
 mod Renumbering
 mod Copied
 mod Surveying
+mod Depending
+mod Raws
+mod Written

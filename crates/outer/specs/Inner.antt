@@ -3,3 +3,4 @@ pub mod Chain
 pub mod Numbers
 pub mod Prefixes
 pub mod Survey
+pub mod Writing

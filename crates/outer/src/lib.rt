@@ -3,3 +3,4 @@ pub mod chain;
 pub mod numbers;
 pub mod prefix;
 pub mod survey;
+pub mod writing;

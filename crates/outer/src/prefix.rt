@@ -29,7 +29,7 @@ fn write_copied(out: &mut [u8], table: &[u16], v: usize, to: Target) -> usize
 }
 
 // Writes the rows of all copies.
-fn write_all_copied(b: &[u8], s: Layout, table: &[u16], out: &mut [u8], to: Target) -> usize
+pub fn write_all_copied(b: &[u8], s: Layout, table: &[u16], out: &mut [u8], to: Target) -> usize
     requires { ⌜ Readable s (now b) × Room (to .layout) (length (now out)) × (1024 < 256 ^ to .layout .width) × (to .at + length (rows-from (now table) (prefix-in s (now b))) ≤ total (to .layout)) ⌝ }
     ensures { λ next. ⌜ Laid (to .layout) (now (out .entry)) (now (out .exit)) (to .at) next (rows-from (now (table .entry)) (prefix-in s (now (b .entry)))) ⌝ }
 {

@@ -6,5 +6,5 @@ pub mod Source
 mod Copies
 mod Turn
 pub mod Raws
-mod Sited
-mod Plans
+pub mod Sited
+pub mod Plans
