@@ -6,3 +6,5 @@ mod Surveying
 mod Depending
 mod Raws
 mod Written
+mod Deciding
+mod Sheets

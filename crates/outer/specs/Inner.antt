@@ -4,3 +4,4 @@ pub mod Numbers
 pub mod Prefixes
 pub mod Survey
 pub mod Writing
+pub mod Plan

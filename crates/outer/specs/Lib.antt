@@ -1,2 +1,3 @@
--- Expansion one block out (N6).
+-- The step's answer, and definitions that no entry point cites.
+pub mod Answers
 pub mod Inner

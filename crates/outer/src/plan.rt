@@ -1,0 +1,118 @@
+// What the step decides before it looks at the output: 1 to 11 and 18, in the paper's order, or all that the writing needs.
+use crate::numbers::fill_tables;
+use crate::survey::Place;
+use crate::survey::Survey;
+use crate::survey::survey_part;
+use dependence::Target;
+use dependence::answer::count_dependents;
+use dependence::answer::lowest_dependent;
+use dependence::block::one_block_out;
+use dependence::closure::fill_dependents;
+use occurrences::fill_occurrences;
+use rows::Format;
+use rows::Layout;
+use rows::NUMBERS;
+use rows::ROWS;
+use sets::WORDS;
+use stepping::admission::Admission;
+use stepping::admission::admit;
+ghost use mathlib.Core.Path.{_≡_};
+ghost use Prim.Native.Nat.{_<_};
+ghost use lib.ListN.{length, replicate};
+ghost use Rattle.rows.specs.Formats.{format-of};
+ghost use Rattle.rows.specs.Formulas.{formula-in};
+ghost use Rattle.checking.specs.Limits.{Countable};
+ghost use Rattle.subtrees.specs.Ends.{Indexed};
+ghost use Rattle.dependence.specs.Blocks.{Located};
+ghost use Rattle.stepping.specs.Admission.{Admitted};
+ghost use Rattle.outer.specs.Inner.Plan.{Finds, Plans};
+
+// The variable and the sheet's layout; how many variables are copied, and the lowest of them; what is written.
+pub struct Copying {
+    pub variable: usize,
+    pub from: Layout,
+    pub copied: usize,
+    pub lowest: usize,
+    pub survey: Survey,
+}
+
+// A refusal's number and place; or what is written.
+pub enum Plan {
+    Refused(usize, usize),
+    Copies(Copying),
+}
+
+// Whether a variable is one block out; if so, an empty set is filled with the variables that depend on it.
+fn find_dependents(sheet: &[u8], t: Target, ends: &[u16], set: &mut [u64]) -> bool
+    requires { ⌜ Indexed (t .layout) (now sheet) (now ends) × Located (t .layout) (now sheet) t × (now set ≡ replicate 17 0) ⌝ }
+    ensures { λ r. ⌜ Finds (t .variable) (formula-in (t .layout) (now (sheet .entry))) (now (set .exit)) r ⌝ }
+{
+    let s = t.layout;
+    let mut ranges = [0u16; 2 * NUMBERS];
+    let mut next = [0u16; ROWS];
+    fill_occurrences(sheet, s, &mut ranges, &mut next);
+    if !one_block_out(sheet, &ranges, t) {
+        return false;
+    }
+    fill_dependents(sheet, t, ends, &ranges, &next, set);
+    true
+}
+
+// Decides on a variable that tests 1 to 10 admit: 11 not one block out, 18 fewer unused numbers are left than variables to copy. The
+// tables of the copies and the cuts are filled.
+fn plan_admitted(
+    sheet: &[u8],
+    f: Format,
+    t: Target,
+    ends: &[u16],
+    tables: &mut [u16],
+    cuts: &mut [u16],
+) -> Plan
+    requires { ⌜ Countable (format-of f) × Admitted (format-of f) (now sheet) (t .variable) (t .layout) (t .row) (now ends) × (length (now tables) ≡ 2050) × (8192 < length (now cuts)) ⌝ }
+    ensures { λ r. ⌜ Plans (format-of f) (now (sheet .entry)) (t .variable) (now (tables .exit)) (now (cuts .exit)) r ⌝ }
+{
+    let s = t.layout;
+    let mut set = [0u64; WORDS];
+    if !find_dependents(sheet, t, ends, &mut set) {
+        return Plan::Refused(11, 0);
+    }
+    let copied = count_dependents(&set);
+    if f.most_variables - s.variables < copied {
+        return Plan::Refused(18, 0);
+    }
+    let lowest = lowest_dependent(&set);
+    fill_tables(sheet, s, &set, f.most_variables, t.variable, tables);
+    let place = Place {
+        row: t.row,
+        variables: s.variables - 1 + copied,
+    };
+    let w = survey_part(sheet, s, ends, &tables[NUMBERS..], place, cuts);
+    let c = Copying {
+        variable: t.variable,
+        from: s,
+        copied: copied,
+        lowest: lowest,
+        survey: w,
+    };
+    Plan::Copies(c)
+}
+
+// Decides what the step does with `x` in a sheet, whatever the output.
+pub fn plan_outer(sheet: &[u8], f: Format, x: usize, tables: &mut [u16], cuts: &mut [u16]) -> Plan
+    requires { ⌜ Countable (format-of f) × (length (now tables) ≡ 2050) × (8192 < length (now cuts)) ⌝ }
+    ensures { λ r. ⌜ Plans (format-of f) (now (sheet .entry)) x (now (tables .exit)) (now (cuts .exit)) r ⌝ }
+{
+    let mut ends = [0u16; ROWS];
+    let a = admit(sheet, f, x, &mut ends);
+    match a {
+        Admission::Refused(number, place) => Plan::Refused(number, place),
+        Admission::Admitted(s, z) => {
+            let t = Target {
+                layout: s,
+                row: z.row,
+                variable: x,
+            };
+            plan_admitted(sheet, f, t, &ends, tables, cuts)
+        }
+    }
+}
