@@ -17,6 +17,7 @@ ghost use Rattle.sheet.specs.Order.{sort-call, compare-call};
 ghost use Rattle.packing.specs.Order.{packed-compared};
 ghost use Rattle.packing.specs.Packed.{packed-check, packed-trial, packed-written, packed-quote, packed-solved, packed-guards};
 
+pub mod copies;
 mod panel;
 pub mod resuming;
 pub mod wide;

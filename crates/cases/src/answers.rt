@@ -19,7 +19,7 @@ use trial::Tried;
 // Longer than any output: no sheet is written.
 const NO_SHEET: usize = 65536;
 
-fn print_refused(number: usize, place: usize) {
+pub fn print_refused(number: usize, place: usize) {
     io::write_all(1, b" refused");
     print_number(number);
     print_number(place);

@@ -9,6 +9,7 @@ use crate::answers::print_quoted;
 use crate::answers::print_solved;
 use crate::answers::print_tried;
 use crate::answers::print_written;
+use crate::copies::run_outer;
 use crate::outputs::fill;
 use crate::wide::run_capital;
 use printing::print_number;
@@ -211,6 +212,10 @@ pub fn run(operation: u8, number: usize, sheet: &[u8], list: &[u8], out: &mut [u
     }
     if operation == b'x' {
         run_execute(sheet, number, list, out);
+        return;
+    }
+    if operation == b'u' {
+        run_outer(sheet, number, out);
         return;
     }
     if operation == b'k' {

@@ -10,6 +10,7 @@ use crate::answers::print_quoted;
 use crate::answers::print_solved;
 use crate::answers::print_tried;
 use crate::answers::print_written;
+use crate::copies::run_outer_wide;
 use crate::outputs::fill;
 use printing::print_number;
 
@@ -164,6 +165,10 @@ fn run_writing(operation: u8, number: usize, sheet: &[u8], list: &[u8], out: &mu
     }
     if operation == b'X' {
         run_execute(sheet, number, list, out);
+        return;
+    }
+    if operation == b'U' {
+        run_outer_wide(sheet, number, out);
         return;
     }
     if operation == b'K' {

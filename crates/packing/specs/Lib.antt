@@ -2,3 +2,4 @@
 pub mod Packed
 pub mod Panel
 pub mod Order
+pub mod Copies

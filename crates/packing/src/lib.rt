@@ -9,6 +9,7 @@ ghost use Rattle.order.specs.Answers.{compared-answer};
 ghost use Rattle.packing.specs.Order.{packed-compared};
 ghost use Rattle.packing.specs.Packed.{packed, packed-check, packed-trial, verdict-word, packed-written, packed-quote, packed-solved, packed-guards};
 
+pub mod copies;
 pub mod panel;
 
 // An answer in one number: refusal number, word and two values.

@@ -1,0 +1,39 @@
+// The step one block out (N6).
+use crate::answers::print_refused;
+use crate::outputs::fill;
+use crate::outputs::print_short;
+use crate::outputs::print_sum;
+use outer::Outcome;
+use printing::print_number;
+
+fn print_copied(answer: Outcome, out: &[u8]) {
+    match answer {
+        Outcome::Copied(length, copied, lowest) => {
+            io::write_all(1, b" accepted");
+            print_number(length);
+            print_number(copied);
+            print_number(lowest);
+            print_sum(out);
+            print_short(out, length);
+        }
+        Outcome::Refused(number, place) => {
+            print_refused(number, place);
+            print_sum(out);
+        }
+    }
+}
+
+pub fn run_outer(sheet: &[u8], x: usize, out: &mut [u8]) {
+    fill(out);
+    io::write_all(1, b"outer");
+    print_number(x);
+    let answer = outer::outer(sheet, x, out);
+    print_copied(answer, out);
+}
+
+pub fn run_outer_wide(sheet: &[u8], x: usize, out: &mut [u8]) {
+    io::write_all(1, b"outer");
+    print_number(x);
+    let answer = outer::outer_wide(sheet, x, out);
+    print_copied(answer, out);
+}
