@@ -8,6 +8,7 @@ mod limit_sheets;
 mod prefix;
 mod profile;
 mod random;
+mod texts;
 mod trees;
 
 pub use calls::{call, ceiling_around, dirty, length_around, Call};
@@ -21,3 +22,4 @@ pub use limit_sheets::{
 };
 pub use profile::{clause_formula, near_miss};
 pub use random::{cases, run_seed, Rng};
+pub use texts::{clause_set, damage_text, qdimacs_text};

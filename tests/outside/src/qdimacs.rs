@@ -98,6 +98,26 @@ impl Qdimacs {
         Qdimacs { variables: prefix.len(), blocks: blocks_of(prefix), clauses }
     }
 
+    /// The clause set that a formula is: AND of literals and of ORs of literals.
+    pub fn of_formula(formula: &Formula) -> Option<Qdimacs> {
+        let literal = |node: &Node| match node {
+            Node::Lit { positive, var } => {
+                Some(if *positive { signed(*var) } else { -signed(*var) })
+            }
+            Node::Op { .. } => None,
+        };
+        let clause = |node: &Node| match node {
+            Node::Op { kind: Kind::Or, children } => children.iter().map(literal).collect(),
+            node => literal(node).map(|literal| vec![literal]),
+        };
+        let Node::Op { kind: Kind::And, children } = &formula.matrix else {
+            return None;
+        };
+        let clauses = children.iter().map(clause).collect::<Option<_>>()?;
+        let variables = formula.highest_variable();
+        Some(Qdimacs { variables, blocks: blocks_of(&formula.prefix), clauses })
+    }
+
     pub fn text(&self) -> String {
         let mut text = format!("p cnf {} {}\n", self.variables, self.clauses.len());
         for (quantifier, variables) in &self.blocks {

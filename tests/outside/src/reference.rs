@@ -18,6 +18,7 @@ mod sheet;
 mod solve;
 mod step;
 mod steps;
+mod text;
 mod tidy;
 mod tree;
 mod trial;
