@@ -5,6 +5,7 @@ mod clauses;
 mod damage;
 mod families;
 mod limit_sheets;
+mod pairs;
 mod prefix;
 mod profile;
 mod random;
@@ -20,6 +21,7 @@ pub use families::{
 pub use limit_sheets::{
     deep_formula, ladder_formula, limit_sheets, wide_formula, with_variables, LimitSheet,
 };
+pub use pairs::paired_formula;
 pub use profile::{clause_formula, near_miss};
 pub use random::{cases, run_seed, Rng};
 pub use texts::{clause_set, damage_text, qdimacs_text};

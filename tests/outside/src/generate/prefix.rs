@@ -52,7 +52,7 @@ fn next_quantifier(rng: &mut Rng, style: Style, last: Quantifier) -> Quantifier 
 
 /// Numbers without repetition: 1 to `count`, in order or not, or any that the
 /// format has.
-fn variable_numbers(rng: &mut Rng, format: Format, count: usize) -> Vec<Variable> {
+pub(super) fn variable_numbers(rng: &mut Rng, format: Format, count: usize) -> Vec<Variable> {
     let highest = if rng.one_in(3) { format.most_variables.max(count) } else { count };
     let mut numbers: Vec<Variable> = (1..=highest).collect();
     if highest > count || rng.one_in(2) {

@@ -1,12 +1,13 @@
 //! Expanding: the relevant subtree, its price, the raw sheet, Expand.
 
-use super::{Answer, Format, Formula, Kind, Node, Operation, Reading, Refusal, Rules, Variable};
+use super::{Answer, Format, Formula, Node, Operation, Reading, Refusal, Rules, Variable};
+use std::collections::BTreeSet;
 
 /// Child indices from the root down.
 type Path = Vec<usize>;
 
-/// What Expand copies for a variable.
-enum Relevant {
+/// What is copied for a variable, or for several.
+pub(super) enum Relevant {
     Nothing,
     Literal {
         path: Path,
@@ -19,9 +20,9 @@ enum Relevant {
     },
 }
 
-fn relevant(matrix: &Node, x: Variable) -> Relevant {
+pub(super) fn relevant(matrix: &Node, chosen: &dyn Fn(Variable) -> bool) -> Relevant {
     let mut paths = Vec::new();
-    collect_paths(matrix, x, &mut Vec::new(), &mut paths);
+    collect_paths(matrix, chosen, &mut Vec::new(), &mut paths);
     match paths.as_slice() {
         [] => Relevant::Nothing,
         [path] => Relevant::Literal { path: path.clone() },
@@ -36,13 +37,18 @@ fn relevant(matrix: &Node, x: Variable) -> Relevant {
     }
 }
 
-fn collect_paths(node: &Node, x: Variable, here: &mut Path, paths: &mut Vec<Path>) {
-    if node.sign_of(x).is_some() {
+fn collect_paths(
+    node: &Node,
+    chosen: &dyn Fn(Variable) -> bool,
+    here: &mut Path,
+    paths: &mut Vec<Path>,
+) {
+    if node.as_literal().is_some_and(|literal| chosen(literal.0)) {
         paths.push(here.clone());
     }
     for (index, child) in node.children().iter().enumerate() {
         here.push(index);
-        collect_paths(child, x, here, paths);
+        collect_paths(child, chosen, here, paths);
         here.pop();
     }
 }
@@ -77,8 +83,19 @@ fn marked<'a>(children: &'a [Node], marks: &'a [bool]) -> impl Iterator<Item = &
     children.iter().zip(marks).filter(|(_, mark)| **mark).map(|(child, _)| child)
 }
 
+/// The variables with a literal in what is copied.
+pub(super) fn copied_variables(matrix: &Node, relevant: &Relevant) -> BTreeSet<Variable> {
+    match relevant {
+        Relevant::Nothing => BTreeSet::new(),
+        Relevant::Literal { path } => node_at(matrix, path).variables(),
+        Relevant::Operator { path, marks } => {
+            marked(node_at(matrix, path).children(), marks).flat_map(Node::variables).collect()
+        }
+    }
+}
+
 /// E and the raw rows by document 01's formulas; E is 0 with no literal.
-fn price(matrix: &Node, relevant: &Relevant) -> (usize, usize) {
+pub(super) fn price(matrix: &Node, relevant: &Relevant) -> (usize, usize) {
     let n = matrix.rows();
     match relevant {
         Relevant::Nothing => (0, n),
@@ -94,7 +111,7 @@ fn price(matrix: &Node, relevant: &Relevant) -> (usize, usize) {
 
 /// Raw rows of expanding `x`.
 pub fn raw_rows(formula: &Formula, x: Variable) -> usize {
-    price(&formula.matrix, &relevant(&formula.matrix, x)).1
+    price(&formula.matrix, &relevant(&formula.matrix, &|var| var == x)).1
 }
 
 /// The expansion of a variable before tidying; E is 0 with no literal.
@@ -108,21 +125,25 @@ pub struct Expansion {
 /// Local expansion of a bound `x`, its row gone, not tidied.
 pub fn raw_expansion(formula: &Formula, x: Variable) -> Expansion {
     let quantifier = formula.quantifier(x).expect("a bound variable");
-    let relevant = relevant(&formula.matrix, x);
+    let relevant = relevant(&formula.matrix, &|var| var == x);
     let (e, raw_rows) = price(&formula.matrix, &relevant);
-    let matrix = raw_matrix(&formula.matrix, &relevant, quantifier.joins_with(), x);
+    let matrix = raw_matrix(&formula.matrix, &relevant, &|subtree| Node::Op {
+        kind: quantifier.joins_with(),
+        children: vec![subtree.assign(x, false), subtree.assign(x, true)],
+    });
     assert_eq!(matrix.rows(), raw_rows, "raw rows as counted and by the formula");
     Expansion { raw: Formula { prefix: formula.prefix_without(x), matrix }, e, raw_rows }
 }
 
-fn raw_matrix(matrix: &Node, relevant: &Relevant, join: Kind, x: Variable) -> Node {
-    let two_copies = |subtree: &Node| Node::Op {
-        kind: join,
-        children: vec![subtree.assign(x, false), subtree.assign(x, true)],
-    };
+/// The matrix with two copies of what is relevant in its place.
+pub(super) fn raw_matrix(
+    matrix: &Node,
+    relevant: &Relevant,
+    two_copies: &dyn Fn(&Node) -> Node,
+) -> Node {
     match relevant {
         Relevant::Nothing => matrix.clone(),
-        Relevant::Literal { path } => replace_at(matrix, path, &two_copies),
+        Relevant::Literal { path } => replace_at(matrix, path, two_copies),
         Relevant::Operator { path, marks } => replace_at(matrix, path, &|operator| {
             let Node::Op { kind, children } = operator else {
                 unreachable!("several literals meet in an operator");
