@@ -44,6 +44,7 @@ pub struct Entries {
     pub compare: Compares,
     pub settle: Steps,
     pub expand: Steps,
+    pub outer: Steps,
     pub quote: Quotes,
     pub execute: Executes,
     pub solve: Solves,
@@ -64,6 +65,7 @@ pub const NARROW: Entries = Entries {
     compare: plumanchor_compare,
     settle: plumanchor_settle,
     expand: plumanchor_expand,
+    outer: plumanchor_outer,
     quote: plumanchor_quote,
     execute: plumanchor_execute,
     solve: plumanchor_solve,
@@ -83,6 +85,7 @@ pub const WIDE: Entries = Entries {
     compare: plumanchor_compare_wide,
     settle: plumanchor_settle_wide,
     expand: plumanchor_expand_wide,
+    outer: plumanchor_outer_wide,
     quote: plumanchor_quote_wide,
     execute: plumanchor_execute_wide,
     solve: plumanchor_solve_wide,
@@ -280,5 +283,16 @@ extern "C" {
         first_room: usize,
         second: Output,
         second_room: usize,
+    ) -> u64;
+}
+
+extern "C" {
+    fn plumanchor_outer(sheet: Bytes, length: usize, x: usize, output: Output, room: usize) -> u64;
+    fn plumanchor_outer_wide(
+        sheet: Bytes,
+        length: usize,
+        x: usize,
+        output: Output,
+        room: usize,
     ) -> u64;
 }

@@ -4,7 +4,7 @@
 use crate::{Library, LIBRARIES};
 use outside::generate::{self, Call, Rng};
 use outside::reference::{
-    self, bring_back, widen, Answer, Counts, Format, Refusal, SolveAnswer, Variable,
+    self, bring_back, widen, Answer, Copied, Counts, Format, Refusal, SolveAnswer, Variable,
 };
 use std::fmt::Debug;
 
@@ -114,6 +114,21 @@ impl Library {
             [before],
             |[output]| self.reduce(sheet, output),
             |[output]| self.reading.reduce(sheet, output),
+        )
+    }
+
+    pub fn agree_on_outer(
+        &self,
+        sheet: &[u8],
+        x: Variable,
+        before: &[u8],
+    ) -> Outcome<Answer<Copied>, 1> {
+        agree(
+            &format!("outer {x}"),
+            sheet,
+            [before],
+            |[output]| self.outer(sheet, x, output),
+            |[output]| self.reading.outer(sheet, x, output),
         )
     }
 

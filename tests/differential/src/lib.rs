@@ -1,6 +1,8 @@
 //! Safe calls of the proved operations, with the answers of `outside::reference`.
 
-use outside::reference::{Answer, Counts, Operation, Reading, Refusal, SolveAnswer, Variable};
+use outside::reference::{
+    Answer, Copied, Counts, Operation, Reading, Refusal, SolveAnswer, Variable,
+};
 use std::ops::Range;
 
 pub mod compare;
@@ -108,6 +110,16 @@ impl Library {
                 (entries.execute)(bytes, length, x, ceiling, out, room)
             },
         })
+    }
+
+    /// Outer, with the length in the answer's first value and what was copied in the second.
+    pub fn outer(&self, sheet: &[u8], x: Variable, output: &mut [u8]) -> Answer<Copied> {
+        let (out, room) = (output.as_mut_ptr(), output.len());
+        let answer = unsafe { (self.entries.outer)(sheet.as_ptr(), sheet.len(), x, out, room) };
+        let answer = Packed::from(answer);
+        let (count, lowest) = (answer.high as u16, (answer.high >> 16) as u16);
+        let copied = Copied { length: answer.low, count: count.into(), lowest: lowest.into() };
+        answer.accepted(copied).into()
     }
 
     /// The rows of a sheet of the other format, as a sheet of this one.
