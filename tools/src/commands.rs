@@ -9,6 +9,7 @@ mod expand;
 mod explain;
 mod force;
 mod guards;
+mod outer;
 mod part;
 mod quote;
 mod reduce;
@@ -36,6 +37,7 @@ pub static COMMANDS: &[Command] = &[
     tidy::COMMAND,
     settle::COMMAND,
     expand::COMMAND,
+    outer::COMMAND,
     steps::COMMAND,
     quote::COMMAND,
     execute::COMMAND,

@@ -4,7 +4,7 @@
 pub mod foreign;
 
 use crate::format::{Format, NARROW, WIDE};
-use crate::formula::Formula;
+use crate::formula::{Formula, Row};
 use crate::refusal::Refusal;
 
 /// Bytes that are taken for a sheet of a format. Every operation checks them.
@@ -178,6 +178,35 @@ impl Sheet {
         self.writes(room, |sheet, length, output, room| unsafe {
             (self.format.entries.expand)(sheet, length, x, output, room)
         })
+    }
+
+    /// The sheet with `x` expanded one block out, in the same way; how many variables were copied,
+    /// and the lowest of them, 0 if none.
+    pub fn outer(&self, x: usize, room: usize) -> Result<(Sheet, usize, usize), Refusal> {
+        let (bytes, length) = (self.bytes.as_ptr(), self.bytes.len());
+        let mut output = vec![0; room];
+        let outer = self.format.entries.outer;
+        let answer = unsafe { outer(bytes, length, x, output.as_mut_ptr(), room) };
+        let Accepted { low, high, .. } = self.accepted(answer).map_err(|refusal| {
+            if refusal.number == 11 {
+                refusal.with_evidence(self.behind(x))
+            } else {
+                refusal
+            }
+        })?;
+        output.truncate(low);
+        Ok((Sheet { format: self.format, bytes: output }, high & 0xffff, high >> 16))
+    }
+
+    /// What a bound variable is, and what has literals behind it in a good sheet.
+    fn behind(&self, x: usize) -> String {
+        let Formula { prefix, matrix } = Formula::decode(self.format, &self.bytes);
+        let at = prefix.iter().position(|row| row.argument == x).expect("a bound variable");
+        let used = |row: &&Row| matrix.iter().any(|node| node.is_literal_of(row.argument));
+        let told = |row: &Row| format!("{} {}", row.quantifier(), row.argument);
+        let rows: Vec<String> = prefix[at + 1..].iter().filter(used).map(told).collect();
+        let listed = if rows.is_empty() { "nothing".to_string() } else { rows.join(", ") };
+        format!("{}, and behind it has literals: {listed}", told(&prefix[at]))
     }
 
     /// The same if the raw rows are no more than the ceiling.

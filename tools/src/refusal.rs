@@ -27,6 +27,11 @@ impl Refusal {
         Refusal { number, place, evidence }
     }
 
+    /// The same with more to show for it.
+    pub fn with_evidence(self, evidence: String) -> Refusal {
+        Refusal { evidence: Some(evidence), ..self }
+    }
+
     /// What the number means.
     fn meaning(&self) -> &'static str {
         match self.number {
@@ -41,10 +46,12 @@ impl Refusal {
             8 => "the tree has ended before the row",
             9 => "the operator in the row is not tidy",
             10 => "the variable is not in the prefix",
+            11 if self.evidence.is_some() => "the variable is not universal and one block out",
             11 => "the variable is not in the innermost block",
             12 => "the variable may not be settled",
             13 => "a buffer has too little room",
             14 => "the sheet has more than 20 variables",
+            18 => "fewer unused numbers are left than variables to copy",
             19 => "the raw rows are above the ceiling",
             20 => "the tree is not AND of literals and of ORs of literals",
             21 => "a value is neither 0 nor 1",
