@@ -32,6 +32,7 @@ pub enum Letter {
     Expand = b'e',
     Quote = b'q',
     Execute = b'x',
+    Outer = b'u',
     Solve = b'o',
     Force = b'f',
     Guards = b'g',

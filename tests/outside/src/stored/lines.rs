@@ -57,6 +57,7 @@ fn line(reading: Reading, sheet: &[u8], call: &Call) -> String {
                 reading.execute(sheet, number, ceiling, output)
             })
         }
+        Letter::Outer => outer_line(reading, sheet, room, number),
         Letter::Solve => solve_line(reading, sheet, room, number),
         Letter::Force => force_line(reading, sheet, &call.list, room, number),
         Letter::Guards => guards_line(reading, sheet, room, call.first_of_list(), number),
@@ -83,6 +84,20 @@ fn written_line(name: &str, room: usize, write: impl Fn(&mut [u8]) -> Answer<usi
         Answer::Accepted(length) => short_sheet(&output[..length]),
     };
     let answer = told(name, answer, |length| format!("accepted {length}"));
+    format!("{answer} sum {}{written}", sum(&output))
+}
+
+/// The length, how many variables are copied and the lowest of them, a sum over the whole output, and the new sheet if it is short.
+fn outer_line(reading: Reading, sheet: &[u8], room: usize, x: usize) -> String {
+    let mut output = vec![FILLING; room];
+    let answer = reading.outer(sheet, x, &mut output);
+    let written = match &answer {
+        Answer::Refused(..) => String::new(),
+        Answer::Accepted(copied) => short_sheet(&output[..copied.length]),
+    };
+    let answer = told(&format!("outer {x}"), answer, |copied| {
+        format!("accepted {} {} {}", copied.length, copied.count, copied.lowest)
+    });
     format!("{answer} sum {}{written}", sum(&output))
 }
 

@@ -4,7 +4,8 @@ use super::{Call, Case, Letter, SHORT};
 use crate::formulas::*;
 use crate::generate::{deep_formula, ladder_formula, limit_sheets, wide_formula, with_variables};
 use crate::reference::{
-    raw_rows, Format, Formula, Move, Node, Operation, Quantifier, Reading, Row, Variable,
+    block_behind, raw_rows, Format, Formula, Move, Node, Operation, Quantifier, Reading, Row,
+    Variable,
 };
 use Quantifier::{Exists, ForAll};
 
@@ -165,6 +166,68 @@ fn cases_of(reading: Reading) -> Vec<Case> {
     cases.extend(largest(format));
     cases.extend(guards_cases(format));
     cases.extend(ordered(format));
+    cases.extend(outer_cases(format));
+    cases
+}
+
+/// The step one block out (N6) of every variable and of two other numbers, in an output that suffices and in one a byte too short.
+fn outer_calls(format: Format, formula: &Formula) -> Vec<Call> {
+    let mut variables = formula.variables();
+    variables.extend([0, 300]);
+    let mut calls = Vec::new();
+    for x in variables {
+        let block = block_behind(formula, x);
+        let raw = block.and_then(|block| format.outer_expansion(formula, x, &block));
+        let room = raw.map_or(SHORT, |expansion| format.encode(&expansion.raw).len());
+        calls.extend(at_limit(Letter::Outer, x, room.min(format.longest_sheet())));
+    }
+    calls
+}
+
+/// What the step one block out could get wrong, with all numbers in use too, and the largest sheets.
+fn outer_cases(format: Format) -> Vec<Case> {
+    let Format { most_variables, most_nodes: n, .. } = format;
+    let linked = [[-2, 3], [2, -3], [-1, -2], [1, 2]].map(|literals| clause(&literals));
+    let prefix = [(ForAll, 1), (Exists, 2), (Exists, 3)];
+    let every: Vec<_> = (3..=most_variables).map(|x| (Exists, x)).collect();
+    let mut formulas = vec![
+        // 3 depends on 1 by way of 2 alone; copying only 2 makes a true formula false.
+        formula(&prefix, and(linked.to_vec())),
+        // The same in another order of the prefix, with a universal row between and a spare one behind.
+        formula(
+            &[(ForAll, 1), (ForAll, 5), (Exists, 3), (Exists, 2), (ForAll, 4)],
+            and([&linked[..], &[clause(&[3, 5])]].concat()),
+        ),
+        // No literal of 1; one literal; a child that holds none of those chosen.
+        formula(&prefix, clause(&[2, 3])),
+        formula(&prefix, and(vec![lit(3), clause(&[1, 2])])),
+        formula(&prefix, and(vec![lit(3), clause(&[1, 2]), clause(&[-1, -2])])),
+        // An existential row behind which a universal one has literals.
+        formula(&[(ForAll, 1), (Exists, 2), (ForAll, 3)], and(linked.to_vec())),
+        // No number is left, and one is.
+        formula(&[&prefix[..2], &every[..]].concat(), and(linked[2..].to_vec())),
+        formula(&[&prefix[..2], &every[1..]].concat(), and(linked[2..].to_vec())),
+    ];
+    formulas.extend(traps());
+    let mut cases: Vec<_> = formulas
+        .into_iter()
+        .map(|formula| Case {
+            sheet: format.encode(&formula),
+            calls: outer_calls(format, &formula),
+        })
+        .collect();
+    for mut formula in [ladder_formula(format, n / 2 - 1, 2), clauses(format, n / 6)] {
+        formula.prefix = formula.variables().into_iter().map(|x| (Exists, x)).collect();
+        formula.prefix.retain(|row| row.1 != 1 && row.1 != most_variables);
+        formula.prefix.insert(0, (ForAll, 1));
+        formula.prefix.insert(0, (ForAll, most_variables));
+        let longest = format.longest_sheet();
+        let calls = [1, most_variables].map(|x| Call::new(Letter::Outer, x, longest));
+        cases.push(Case { sheet: format.encode(&formula), calls: calls.into() });
+    }
+    let refused = refused_sheets(format).into_iter();
+    let call = Call::new(Letter::Outer, 1, SHORT);
+    cases.extend(refused.map(|sheet| Case { sheet, calls: vec![call.clone()] }));
     cases
 }
 
