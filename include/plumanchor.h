@@ -40,6 +40,15 @@ uint64_t plumanchor_settle(const uint8_t *sheet, size_t length, size_t x, uint8_
 /* Expand x, any number, in the same way; the output must have room for the raw sheet. */
 uint64_t plumanchor_expand(const uint8_t *sheet, size_t length, size_t x, uint8_t *output, size_t room);
 
+/* Outer (N6): expands a universal x, any number, one block out: what has literals behind its row is any number of universal rows and
+ * then at least one existential. The existential variables that depend on x are copied with it and get the smallest unused numbers. The
+ * tidied sheet goes to the front of the output, zeros behind it. Accepted: the sheet's length in LOW, which it fits at both formats; how
+ * many variables are copied in the lower 16 bits of HIGH, and the lowest of their old numbers, 0 if none, in its upper ones. Refused
+ * (1 to 10; 11 x is no such variable; 18 fewer unused numbers are left than variables to copy; 13 the raw sheet doesn't fit): no byte of
+ * the output changes. The two may not overlap. The second function is for wide sheets. */
+uint64_t plumanchor_outer(const uint8_t *sheet, size_t length, size_t x, uint8_t *output, size_t room);
+uint64_t plumanchor_outer_wide(const uint8_t *sheet, size_t length, size_t x, uint8_t *output, size_t room);
+
 /* Quote: what expanding x, any number, costs. Accepted: the raw sheet's node rows in HIGH. Refused as Expand would be, whatever the
  * output. Nothing is written. */
 uint64_t plumanchor_quote(const uint8_t *sheet, size_t length, size_t x);
@@ -136,14 +145,5 @@ uint64_t plumanchor_compare(const uint8_t *a, size_t a_length, const uint8_t *b,
                             size_t first_room, uint8_t *second, size_t second_room);
 uint64_t plumanchor_compare_wide(const uint8_t *a, size_t a_length, const uint8_t *b, size_t b_length, uint8_t *first,
                                  size_t first_room, uint8_t *second, size_t second_room);
-
-/* Outer (N6): expands a universal x, any number, one block out: what has literals behind its row is any number of universal rows and
- * then at least one existential. The existential variables that depend on x are copied with it and get the smallest unused numbers. The
- * tidied sheet goes to the front of the output, zeros behind it. Accepted: the sheet's length in LOW, which it fits at both formats; how
- * many variables are copied in the lower 16 bits of HIGH, and the lowest of their old numbers, 0 if none, in its upper ones. Refused
- * (1 to 10; 11 x is no such variable; 18 fewer unused numbers are left than variables to copy; 13 the raw sheet doesn't fit): no byte of
- * the output changes. The two may not overlap. The second function is for wide sheets. */
-uint64_t plumanchor_outer(const uint8_t *sheet, size_t length, size_t x, uint8_t *output, size_t room);
-uint64_t plumanchor_outer_wide(const uint8_t *sheet, size_t length, size_t x, uint8_t *output, size_t room);
 
 #endif

@@ -166,6 +166,17 @@ extern "C" {
 }
 
 extern "C" {
+    fn plumanchor_outer(sheet: Bytes, length: usize, x: usize, output: Output, room: usize) -> u64;
+    fn plumanchor_outer_wide(
+        sheet: Bytes,
+        length: usize,
+        x: usize,
+        output: Output,
+        room: usize,
+    ) -> u64;
+}
+
+extern "C" {
     fn plumanchor_force(
         sheet: Bytes,
         length: usize,
@@ -283,16 +294,5 @@ extern "C" {
         first_room: usize,
         second: Output,
         second_room: usize,
-    ) -> u64;
-}
-
-extern "C" {
-    fn plumanchor_outer(sheet: Bytes, length: usize, x: usize, output: Output, room: usize) -> u64;
-    fn plumanchor_outer_wide(
-        sheet: Bytes,
-        length: usize,
-        x: usize,
-        output: Output,
-        room: usize,
     ) -> u64;
 }

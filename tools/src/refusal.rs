@@ -27,11 +27,6 @@ impl Refusal {
         Refusal { number, place, evidence }
     }
 
-    /// The same with more to show for it.
-    pub fn with_evidence(self, evidence: String) -> Refusal {
-        Refusal { evidence: Some(evidence), ..self }
-    }
-
     /// What the number means.
     fn meaning(&self) -> &'static str {
         match self.number {
@@ -51,6 +46,9 @@ impl Refusal {
             12 => "the variable may not be settled",
             13 => "a buffer has too little room",
             14 => "the sheet has more than 20 variables",
+            15 => "the text has no header of 'p cnf' and two numbers, the first within the sheet's limits",
+            16 => "the text is not lists of whole numbers ended by 0, quantified ones in front",
+            17 => "a variable is above the header's count, or the clauses are not as many as it says",
             18 => "fewer unused numbers are left than variables to copy",
             19 => "the raw rows are above the ceiling",
             20 => "the tree is not AND of literals and of ORs of literals",
@@ -61,6 +59,11 @@ impl Refusal {
             25 => "settled, expanded and variables left don't add up to the starting count",
             _ => "see documents 01 and 02",
         }
+    }
+
+    /// The same with more to show for it.
+    pub fn with_evidence(self, evidence: String) -> Refusal {
+        Refusal { evidence: Some(evidence), ..self }
     }
 }
 

@@ -107,16 +107,6 @@ impl Library {
         )
     }
 
-    pub fn agree_on_reduce(&self, sheet: &[u8], before: &[u8]) -> Written {
-        agree(
-            "reduce",
-            sheet,
-            [before],
-            |[output]| self.reduce(sheet, output),
-            |[output]| self.reading.reduce(sheet, output),
-        )
-    }
-
     pub fn agree_on_outer(
         &self,
         sheet: &[u8],
@@ -129,6 +119,16 @@ impl Library {
             [before],
             |[output]| self.outer(sheet, x, output),
             |[output]| self.reading.outer(sheet, x, output),
+        )
+    }
+
+    pub fn agree_on_reduce(&self, sheet: &[u8], before: &[u8]) -> Written {
+        agree(
+            "reduce",
+            sheet,
+            [before],
+            |[output]| self.reduce(sheet, output),
+            |[output]| self.reading.reduce(sheet, output),
         )
     }
 
