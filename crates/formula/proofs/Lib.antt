@@ -20,4 +20,5 @@ pub mod Outer
 pub mod Guards
 pub mod Ordering
 pub mod Sorting
+pub mod SortedTidy
 pub mod Order

@@ -12,7 +12,7 @@ use lib.Dec.{eqb}
 use borrow.Author.Tests.{eqb-true, eq-eqb, not-true, not-false}
 use Rattle.formula.specs.Tree.{and, or, Quantifier, same-op, exists, for-all, Tree, lit, node, Forest, ∅, _▸_, Binding, Prefix, Formula, Literals, binds, quantifier-of, distinct, closed, of, of-sign, rows, rows-all, has, has-any, some-child, some-two, keep, _⧺_}
 use Rattle.formula.specs.Truth.{Assignment, put, join, eval, eval-all, bind, truth}
-use Rattle.formula.specs.Tidy.{is-op, same-variable, spliced, splice, decides, firsts, unwrap, combine, alone, tidy, tidy-all, is-tidy, breaks, childless, faults, faults-all, root-faults, any}
+use Rattle.formula.specs.Tidy.{is-op, equal, twin, same-variable, spliced, splice, decides, firsts, unwrap, combine, alone, tidy, tidy-all, is-tidy, breaks, childless, faults, faults-all, root-faults, any}
 use Rattle.formula.specs.Expand.{after, occurs}
 use Rattle.formula.specs.Reduce.{is-literal, is-clause, in-profile, has-existential, goes, stays, reduce-clause, reduce-all, reduce-tree, reduced}
 use Rattle.formula.proofs.Booleans.{share-join, Leads, and-parts, or-parts, or-none, or-cases}
@@ -20,7 +20,7 @@ use Rattle.formula.proofs.Binding.{bind-ext, same-op-eq, Ignores}
 use Rattle.formula.proofs.Evaluation.{eval-all-same, put-other}
 use Rattle.formula.proofs.Tidy.Children.{keep-same, keep-every, keep-keep, some-child-keep, some-two-keep}
 use Rattle.formula.proofs.Tidy.Truth.{eval-tidy}
-use Rattle.formula.proofs.Tidy.Limits.{tidy-is-tidy, any-++}
+use Rattle.formula.proofs.Tidy.Limits.{tidy-is-tidy, any-++, faulty-root, limits}
 use Rattle.formula.proofs.Tidy.Growth.{rows-tidy, rows-keep, has-tidy}
 use Rattle.formula.proofs.Closed.{unbound}
 use Rattle.formula.proofs.Steps.{Proper}
@@ -441,8 +441,7 @@ unfolding is-clause faults any members some-two some-child breaks
 clean-below (lit s v) h f = lone-literal s v
 clean-below (node and ts) h f = absurd (false≢true h)
 clean-below (node or ts) h f =
-    let broken = or-parts (childless ts) (breaks or ts) (or-parts (childless ts || breaks or ts) (any (faults-all ts)) f .0) .1 in
-    record { clause = h; no-two = or-parts (alone ts || some-child (is-op or) ts) (some-two same-variable ts) broken .1 }
+    record { clause = h; no-two = limits or ts (faulty-root (node or ts) f) .variables }
 
 pub cleans-below : (ts : Forest) → some-child (λ t. not (is-clause t)) ts ≡ false → any (faults-all ts) ≡ false → Cleans ts
 unfolding some-child faults any
@@ -457,8 +456,7 @@ unfolding is-clause is-tidy root-faults any members some-two some-child breaks
 clean-root (lit s v) h n = lone-literal s v
 clean-root (node and ts) h n = absurd (false≢true h)
 clean-root (node or ts) h n =
-    let broken = or-parts (breaks or ts) (any (faults-all ts)) (not-true (any (root-faults (node or ts))) n) .0 in
-    record { clause = h; no-two = or-parts (alone ts || some-child (is-op or) ts) (some-two same-variable ts) broken .1 }
+    record { clause = h; no-two = limits or ts (not-true (any (root-faults (node or ts))) n) .variables }
 
 -- before it is tidied, the reduced formula has the truth of the formula
 truth-reduce-tree : (p : Prefix) (t : Tree) → distinct p ≡ true → in-profile t ≡ true → is-tidy t ≡ true → (ρ : Assignment)
@@ -575,7 +573,7 @@ splice-blank p c (t ▸ ts) = by (stays p c t) (splice-blank p c ts)
 pub tidy-blank : (p : Prefix) (c : Tree) (ts : Forest) → tidy (node or (blank-forest p c ts)) ≡ tidy (node or (keep (stays p c) ts))
 unfolding tidy combine
 tidy-blank p c ts =
-    ap (λ us. cond (decides or us) (node and ∅) (unwrap or (firsts us))) (splice-blank p c ts)
+    ap (λ us. cond (decides or us) (node and ∅) (unwrap or (firsts twin (firsts equal us)))) (splice-blank p c ts)
 
 unfoldable pub blank-clause : Prefix → Tree → Tree
 blank-clause p (lit s v) = blank p (lit s v) (lit s v)
@@ -642,9 +640,7 @@ unfolding is-clause has-and faults any breaks
 clause-or-and (lit s v) f = refl
 clause-or-and (node and ts) f = refl
 clause-or-and (node or ts) f =
-    let broken = or-parts (childless ts) (breaks or ts) (or-parts (childless ts || breaks or ts) (any (faults-all ts)) f .0) .1 in
-    let apart = or-parts (alone ts) (some-child (is-op or) ts) (or-parts (alone ts || some-child (is-op or) ts) (some-two same-variable ts) broken .0) .1 in
-    twice (some-child (λ t. not (is-literal t)) ts) ∙ and-or-literal ts apart
+    twice (some-child (λ t. not (is-literal t)) ts) ∙ and-or-literal ts (limits or ts (faulty-root (node or ts) f) .kinds)
   where
     twice : (m : Bool) → not (not m) ≡ m
     twice true = refl
@@ -663,6 +659,4 @@ profile-and-below (lit s v) n = refl
 profile-and-below (node and ts) n =
     ap not (clauses-or-and ts (or-parts (breaks and ts) (any (faults-all ts)) (not-true (any (root-faults (node and ts))) n) .1))
 profile-and-below (node or ts) n =
-    let broken = or-parts (breaks or ts) (any (faults-all ts)) (not-true (any (root-faults (node or ts))) n) .0 in
-    ap not
-    (and-or-literal ts (or-parts (alone ts) (some-child (is-op or) ts) (or-parts (alone ts || some-child (is-op or) ts) (some-two same-variable ts) broken .0) .1))
+    ap not (and-or-literal ts (limits or ts (not-true (any (root-faults (node or ts))) n) .kinds))

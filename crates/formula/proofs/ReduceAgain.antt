@@ -8,7 +8,7 @@ use Prim.Native.Nat.{ℕ}
 use lib.Dec.{eqb}
 use borrow.Author.Tests.{eqb-true, eq-eqb, not-true}
 use Rattle.formula.specs.Tree.{and, or, Quantifier, same-op, exists, for-all, Tree, lit, node, Forest, ∅, _▸_, Binding, Prefix, Formula, binds, quantifier-of, distinct, of, has, has-any, some-child, some-two, keep}
-use Rattle.formula.specs.Tidy.{is-op, is-empty, equal, same-variable, spliced, splice, decides, firsts, unwrap, combine, alone, tidy, tidy-all, is-tidy, breaks, faults, faults-all, root-faults, any}
+use Rattle.formula.specs.Tidy.{is-op, is-empty, equal, twin, same-variable, spliced, splice, decides, firsts, unwrap, combine, alone, tidy, tidy-all, is-tidy, breaks, faults, faults-all, root-faults, any}
 use Rattle.formula.specs.Expand.{after, occurs}
 use Rattle.formula.specs.Reduce.{is-literal, is-clause, in-profile, has-existential, goes, stays, reduce-clause, reduce-all, reduce-tree, reduced}
 use Rattle.formula.proofs.Booleans.{and-parts, or-parts, or-none}
@@ -98,19 +98,27 @@ record Again (p : Prefix) (w : Tree) : Type 0 where
   clause : is-clause w ≡ true
   fixed : tidy (reduce-clause p w) ≡ w
 
-literals-sound : (ts : Forest) → some-child (λ t. not (is-literal t)) ts ≡ false → (some-child (is-op or) ts ≡ false) × (any (faults-all ts) ≡ false)
-unfolding some-child is-literal is-op faults any
-literals-sound ∅ l = (refl, refl)
+-- literals break no limit on operators
+literals-sound : (ts : Forest) → some-child (λ t. not (is-literal t)) ts ≡ false
+    → (some-child (is-op or) ts ≡ false) × (any (faults-all ts) ≡ false) × (some-two twin ts ≡ false)
+unfolding some-child some-two is-literal is-op twin faults any
+literals-sound ∅ l = (refl, refl, refl)
 literals-sound (node o us ▸ ts) l = absurd (true≢false l)
-literals-sound (lit s v ▸ ts) l = literals-sound ts l
+literals-sound (lit s v ▸ ts) l =
+    let (kinds, below, twins) = literals-sound ts l in
+    (kinds, below, or-none (never ts) twins)
+  where
+    never : (us : Forest) → some-child (λ u. false) us ≡ false
+    never ∅ = refl
+    never (u ▸ us) = never us
 
 -- more literals than one, of different variables, are tidy under OR
 many-tidy : (ts : Forest) → some-child (λ t. not (is-literal t)) ts ≡ false → some-two same-variable ts ≡ false → alone ts ≡ false
     → tidy (node or ts) ≡ node or ts
 unfolding is-tidy root-faults any breaks
 many-tidy ts l d a =
-    let sound = literals-sound ts l in
-    tidy-id (node or ts) (ap not (or-none (or-none (or-none a (sound .0)) d) (sound .1)))
+    let (kinds, below, twins) = literals-sound ts l in
+    tidy-id (node or ts) (ap not (or-none (or-none (or-none (or-none a kinds) d) twins) below))
 
 empty-again : (p : Prefix) → Again p (node or ∅)
 unfolding is-clause reduce-clause keep tidy combine splice decides firsts unwrap some-child some-two
@@ -206,10 +214,10 @@ module _ (p : Prefix) (d : distinct p ≡ true) where
       by true rest = more-left k rest
       by false rest = rest
 
-  agains-firsts : (ts : Forest) → Agains ts → Agains (firsts ts)
+  agains-firsts : (R : Tree → Tree → Bool) (ts : Forest) → Agains ts → Agains (firsts R ts)
   unfolding firsts
-  agains-firsts ∅ none-left = none-left
-  agains-firsts (t ▸ ts) (more-left k ks) = more-left k (agains-keep (λ u. not (equal t u)) (firsts ts) (agains-firsts ts ks))
+  agains-firsts R ∅ none-left = none-left
+  agains-firsts R (t ▸ ts) (more-left k ks) = more-left k (agains-keep (λ u. not (R t u)) (firsts R ts) (agains-firsts R ts ks))
 
   agains-fixed : (ts : Forest) → Agains ts → tidy-all (reduce-all p ts) ≡ ts
   unfolding reduce-all tidy
@@ -271,10 +279,11 @@ module _ (p : Prefix) (d : distinct p ≡ true) where
       let same = splice-none and us (agains-kinds us ks) in
       by (decides and (splice and us)) (splice and us) same n
     where
-      by : (m : Bool) (vs : Forest) → vs ≡ us → is-tidy (cond m (node or ∅) (unwrap and (firsts vs))) ≡ true
-          → Stays (cond m (node or ∅) (unwrap and (firsts vs)))
+      by : (m : Bool) (vs : Forest) → vs ≡ us → is-tidy (cond m (node or ∅) (unwrap and (firsts twin (firsts equal vs)))) ≡ true
+          → Stays (cond m (node or ∅) (unwrap and (firsts twin (firsts equal vs))))
       by true vs e n = clause-stays (node or ∅) (empty-again p)
-      by false vs e n = unwrapped (firsts vs) (agains-firsts vs (subst Agains (sym e) ks)) n
+      by false vs e n =
+          unwrapped (firsts twin (firsts equal vs)) (agains-firsts twin (firsts equal vs) (agains-firsts equal vs (subst Agains (sym e) ks))) n
 
   tree-stays : (t : Tree) → in-profile t ≡ true → is-tidy t ≡ true → Stays (tidy (reduce-tree p t))
   unfolding in-profile reduce-tree tidy is-tidy root-faults any

@@ -5,15 +5,12 @@ use mathlib.Core.Bool.{Bool, true, false, not, _||_, cond}
 use mathlib.Core.Logic.{_↔_}
 use Prim.Native.Nat.{suc, _+_}
 use native.Mathlib.Omega.{arith}
-use Rattle.formula.specs.Tree.{Op, or, Tree, lit, node, Forest, ∅, _▸_, Formula, Literals, rows, rows-all, has, has-any, count, some-child, some-two}
+use Rattle.formula.specs.Tree.{Op, or, Tree, lit, node, Forest, ∅, _▸_, Formula, Literals, rows, rows-all, has, has-any, count}
 use Rattle.formula.specs.Truth.{Assignment, join, eval, eval-all, truth}
-use Rattle.formula.specs.Tidy.{is-op, same-variable, alone, childless, breaks, faults, root-faults, any, is-tidy}
 use Rattle.formula.specs.Order.{same, _then_, compare-trees, compare-prefixes, compare-formulas, leads, insert, sort, sort-all, sorted}
 use Rattle.formula.specs.Order.{Rearranged, literal, operator, Reordered, nothing, inside, exchanged, again}
-use Rattle.formula.proofs.Booleans.{join-swap, eqb-comm}
+use Rattle.formula.proofs.Booleans.{join-swap}
 use Rattle.formula.proofs.Binding.{bind-ext}
-use Rattle.formula.proofs.Tidy.Children.{some-child-same}
-use Rattle.formula.proofs.Tidy.Limits.{faulty, any-faults}
 use Rattle.formula.proofs.Ordering.{then-same, trees-same, trees-equal, leads-total, leads-antisym, leads-trans, prefixes-same, prefixes-equal}
 
 -- the relation
@@ -218,95 +215,3 @@ rows-sort t = sym (rows-rearranged (rearranged-sort t))
 
 pub has-sort : (L : Literals) (t : Tree) → has L (sort t) ≡ has L t
 has-sort L t = sym (has-rearranged L (rearranged-sort t))
-
--- tidiness
-
-childless-reordered : {ts us : Forest} → Reordered ts us → childless ts ≡ childless us
-unfolding childless
-childless-reordered nothing = refl
-childless-reordered (inside r rs) = refl
-childless-reordered (exchanged t u ts) = refl
-childless-reordered (again r rs) = childless-reordered r ∙ childless-reordered rs
-
-alone-▸ : (t : Tree) (ts : Forest) → alone (t ▸ ts) ≡ childless ts
-unfolding alone childless
-alone-▸ t ∅ = refl
-alone-▸ t (u ▸ us) = refl
-
-alone-reordered : {ts us : Forest} → Reordered ts us → alone ts ≡ alone us
-unfolding alone
-alone-reordered nothing = refl
-alone-reordered (inside {t = t} {u = u} {ts = ts} {us = us} r rs) = alone-▸ t ts ∙ childless-reordered rs ∙ sym (alone-▸ u us)
-alone-reordered (exchanged t u ts) = refl
-alone-reordered (again r rs) = alone-reordered r ∙ alone-reordered rs
-
--- a test that trees which differ only in the order of children answer alike
-some-child-reordered : {ts us : Forest} (P : Tree → Bool) → ((t u : Tree) → Rearranged t u → P t ≡ P u) → Reordered ts us
-    → some-child P ts ≡ some-child P us
-unfolding some-child
-some-child-reordered P h nothing = refl
-some-child-reordered P h (inside {t = t} {u = u} r rs) = ap₂ _||_ (h t u r) (some-child-reordered P h rs)
-some-child-reordered P h (exchanged t u ts) = join-swap or (P t) (P u) (some-child P ts)
-some-child-reordered P h (again r rs) = some-child-reordered P h r ∙ some-child-reordered P h rs
-
-same-variable-left : (w : Tree) {t u : Tree} → Rearranged t u → same-variable t w ≡ same-variable u w
-unfolding same-variable
-same-variable-left w (literal s v) = refl
-same-variable-left w (operator o r) = refl
-
-same-variable-sym : (t u : Tree) → same-variable t u ≡ same-variable u t
-unfolding same-variable
-same-variable-sym (lit s v) (lit s′ v′) = eqb-comm v v′
-same-variable-sym (lit s v) (node o us) = refl
-same-variable-sym (node o ts) (lit s v) = refl
-same-variable-sym (node o ts) (node k us) = refl
-
-same-variable-right : (w t u : Tree) → Rearranged t u → same-variable w t ≡ same-variable w u
-same-variable-right w t u r = same-variable-sym w t ∙ same-variable-left w r ∙ same-variable-sym u w
-
-some-two-reordered : {ts us : Forest} → Reordered ts us → some-two same-variable ts ≡ some-two same-variable us
-unfolding some-two some-child
-some-two-reordered nothing = refl
-some-two-reordered (inside {t = t} {u = u} {ts = ts} r rs) =
-    ap₂ _||_ (some-child-same (λ w. same-variable-left w r) ts ∙ some-child-reordered (same-variable u) (same-variable-right u) rs) (some-two-reordered rs)
-some-two-reordered (exchanged t u ts) =
-    ap (λ b. (b || some-child (same-variable t) ts) || (some-child (same-variable u) ts || some-two same-variable ts)) (same-variable-sym t u) ∙
-    mixed (same-variable u t) (some-child (same-variable t) ts) (some-child (same-variable u) ts) (some-two same-variable ts)
-  where
-    mixed : (a b c d : Bool) → ((a || b) || (c || d)) ≡ ((a || c) || (b || d))
-    mixed true b c d = refl
-    mixed false b c d = join-swap or b c d
-some-two-reordered (again r rs) = some-two-reordered r ∙ some-two-reordered rs
-
-is-op-rearranged : (o : Op) (t u : Tree) → Rearranged t u → is-op o t ≡ is-op o u
-unfolding is-op
-is-op-rearranged o t u (literal s v) = refl
-is-op-rearranged o t u (operator k r) = refl
-
-breaks-reordered : (o : Op) {ts us : Forest} → Reordered ts us → breaks o ts ≡ breaks o us
-unfolding breaks
-breaks-reordered o r =
-    ap₂ _||_ (ap₂ _||_ (alone-reordered r) (some-child-reordered (is-op o) (is-op-rearranged o) r)) (some-two-reordered r)
-
-mutual
-  unfolding faults any some-child
-
-  faulty-rearranged : {t u : Tree} → Rearranged t u → faulty t ≡ faulty u
-  faulty-rearranged (literal s v) = refl
-  faulty-rearranged (operator o {ts = ts} {us = us} r) =
-      ap₂ _||_ (ap₂ _||_ (childless-reordered r) (breaks-reordered o r)) (any-faults ts ∙ faulty-reordered r ∙ sym (any-faults us))
-
-  faulty-reordered : {ts us : Forest} → Reordered ts us → some-child faulty ts ≡ some-child faulty us
-  faulty-reordered nothing = refl
-  faulty-reordered (inside r rs) = ap₂ _||_ (faulty-rearranged r) (faulty-reordered rs)
-  faulty-reordered (exchanged t u ts) = join-swap or (faulty t) (faulty u) (some-child faulty ts)
-  faulty-reordered (again r rs) = faulty-reordered r ∙ faulty-reordered rs
-
-pub is-tidy-rearranged : {t u : Tree} → Rearranged t u → is-tidy t ≡ is-tidy u
-unfolding is-tidy root-faults any
-is-tidy-rearranged (literal s v) = refl
-is-tidy-rearranged (operator o {ts = ts} {us = us} r) =
-    ap not (ap₂ _||_ (breaks-reordered o r) (any-faults ts ∙ faulty-reordered r ∙ sym (any-faults us)))
-
-pub is-tidy-sort : (t : Tree) → is-tidy (sort t) ≡ is-tidy t
-is-tidy-sort t = sym (is-tidy-rearranged (rearranged-sort t))

@@ -1,4 +1,4 @@
--- Tidying by its five rules in their order; tidiness by its limits; decided and verdict ("Tidy sheets").
+-- Tidying by its six rules in their order, the fifth of them N4's; tidiness by its limits; decided and verdict ("Tidy sheets").
 -- Assumes nothing.
 use mathlib.Core.Bool.{Bool, true, false, not, _&&_, _||_, cond, Bool·beq}
 use mathlib.Core.List.{List, [], _∷_, _++_}
@@ -33,6 +33,25 @@ same-variable (node o ts) u = false
 same-variable (lit s v) (node o ts) = false
 same-variable (lit s v) (lit s′ v′) = eqb v v′
 
+-- two trees with the same rows: the same literal, or operators of one kind whose children are the same one by one
+unfoldable mutual
+  pub same-tree : Tree → Tree → Bool
+  same-tree (lit s v) (lit s′ v′) = eqb v v′ && Bool·beq s s′
+  same-tree (lit s v) (node k us) = false
+  same-tree (node o ts) (lit s v) = false
+  same-tree (node o ts) (node k us) = same-op o k && same-trees ts us
+
+  pub same-trees : Forest → Forest → Bool
+  same-trees ∅ ∅ = true
+  same-trees ∅ (u ▸ us) = false
+  same-trees (t ▸ ts) ∅ = false
+  same-trees (t ▸ ts) (u ▸ us) = same-tree t u && same-trees ts us
+
+-- two operators with the same rows (N4)
+unfoldable pub twin : Tree → Tree → Bool
+twin (lit s v) u = false
+twin (node o ts) u = same-tree (node o ts) u
+
 -- rule 1: children of the parent's own kind are replaced by their children, at the same spot
 unfoldable pub spliced : Op → Tree → Forest → Forest
 spliced o (lit s v) us = lit s v ▸ us
@@ -46,20 +65,20 @@ splice o (t ▸ ts) = spliced o t (splice o ts)
 unfoldable pub decides : Op → Forest → Bool
 decides o ts = some-child (is-empty (dual o)) ts || some-two opposite ts
 
--- rule 4: of equal literal children the first stays
-unfoldable pub firsts : Forest → Forest
-firsts ∅ = ∅
-firsts (t ▸ ts) = t ▸ keep (λ u. not (equal t u)) (firsts ts)
+-- of children in the relation the first stays: rule 4 for equal literals, and rule 5 for equal operators
+unfoldable pub firsts : (Tree → Tree → Bool) → Forest → Forest
+firsts R ∅ = ∅
+firsts R (t ▸ ts) = t ▸ keep (λ u. not (R t u)) (firsts R ts)
 
--- rule 5: a lone child replaces the node
+-- rule 6: a lone child replaces the node
 unfoldable pub unwrap : Op → Forest → Tree
 unwrap o ∅ = node o ∅
 unwrap o (t ▸ ∅) = t
 unwrap o (t ▸ u ▸ ts) = node o (t ▸ u ▸ ts)
 
--- the five rules at an operator, once its children are tidied
+-- the six rules at an operator, once its children are tidied
 unfoldable pub combine : Op → Forest → Tree
-combine o ts = cond (decides o (splice o ts)) (node (dual o) ∅) (unwrap o (firsts (splice o ts)))
+combine o ts = cond (decides o (splice o ts)) (node (dual o) ∅) (unwrap o (firsts twin (firsts equal (splice o ts))))
 
 -- children before their parent
 unfoldable mutual
@@ -75,7 +94,7 @@ unfoldable mutual
 unfoldable pub tidied : Formula → Formula
 tidied f = record { prefix = f .prefix; matrix = tidy (f .matrix) }
 
--- the limits on an operator's children: not one alone, none of the parent's kind, no two literals of one variable
+-- the limits on an operator's children: not one alone, none of the parent's kind, no two literals of one variable, no two equal operators
 unfoldable pub alone : Forest → Bool
 alone ∅ = false
 alone (t ▸ ∅) = true
@@ -86,7 +105,7 @@ childless ∅ = true
 childless (t ▸ ts) = false
 
 unfoldable pub breaks : Op → Forest → Bool
-breaks o ts = alone ts || some-child (is-op o) ts || some-two same-variable ts
+breaks o ts = alone ts || some-child (is-op o) ts || some-two same-variable ts || some-two twin ts
 
 -- row by row in preorder: is the row an operator at fault, childless (below the root only) or with children that break a limit?
 unfoldable mutual

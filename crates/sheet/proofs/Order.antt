@@ -1,7 +1,7 @@
 -- Sort and Compare on sheets: what an accepted Sort writes, when two sheets compare equal, and that a refusal alters no byte (N14).
 -- Assumes nothing.
 use mathlib.Core.Path.{_≡_, refl, sym, _∙_, ap, ap₂, subst}
-use mathlib.Core.Bool.{true, not}
+use mathlib.Core.Bool.{true, not, _&&_}
 use mathlib.Core.List.{_++_}
 use mathlib.Core.Logic.{_↔_}
 use Prim.Native.Nat.{ℕ, _≤_, _<_}
@@ -13,7 +13,8 @@ use Rattle.formula.specs.Truth.{truth}
 use Rattle.formula.specs.Tidy.{is-tidy}
 use Rattle.formula.specs.Order.{Ordering, same, sorted, compare-formulas, Rearranged}
 use Rattle.formula.proofs.Ordering.{turned, formulas-turned}
-use Rattle.formula.proofs.Sorting.{sort-idempotent, same-exactly, truth-sorted, rows-sort, has-sort, is-tidy-sort}
+use Rattle.formula.proofs.Sorting.{sort-idempotent, same-exactly, truth-sorted, rows-sort, has-sort}
+use Rattle.formula.proofs.SortedTidy.{nearly-tidy, siblings, alike, nearly-tidy-sort, is-tidy-sort, tidy-unsorted}
 use Rattle.sheet.specs.Format.{Bytes, Format, sheet-length}
 use Rattle.sheet.specs.Sheet.{formula, sheet}
 use Rattle.sheet.specs.Check.{Answer, refused, accepted, passes, answer, check-tests, check}
@@ -52,7 +53,10 @@ pub record Sorted (F : Format) (b b′ : Bytes) : Type 0 where
   pub is-sorted : formula F b′ ≡ sorted (formula F b)
   pub same-truth : truth (formula F b′) ≡ truth (formula F b)
   pub same-length : length b′ ≡ length b
-  pub same-tidiness : is-tidy ((formula F b′) .matrix) ≡ is-tidy ((formula F b) .matrix)
+  -- Sorting can make siblings equal: every other limit is kept, and the sheet is tidy if none were alike but for the order of children.
+  pub nearly-as-tidy : nearly-tidy ((formula F b′) .matrix) ≡ nearly-tidy ((formula F b) .matrix)
+  pub when-tidy : is-tidy ((formula F b′) .matrix) ≡ (nearly-tidy ((formula F b) .matrix) && not (siblings alike ((formula F b) .matrix)))
+  pub tidy-before : is-tidy ((formula F b′) .matrix) ≡ true → is-tidy ((formula F b) .matrix) ≡ true
   pub sorted-again : sheet F (sorted (formula F b′)) ≡ b′
 
 pub sort-right : (F : Format) → Sound F → (b out : Bytes) (n : ℕ) → (sort-call F b out) .answer ≡ accepted n
@@ -70,7 +74,9 @@ sort-right F sound b out n h =
       is-sorted = back;
       same-truth = ap truth back ∙ truth-sorted f;
       same-length = length-sorted F b ok;
-      same-tidiness = ap (λ (k : Formula). is-tidy (k .matrix)) back ∙ is-tidy-sort (f .matrix);
+      nearly-as-tidy = ap (λ (k : Formula). nearly-tidy (k .matrix)) back ∙ nearly-tidy-sort (f .matrix);
+      when-tidy = ap (λ (k : Formula). is-tidy (k .matrix)) back ∙ is-tidy-sort (f .matrix);
+      tidy-before = λ e. tidy-unsorted (f .matrix) (sym (ap (λ (k : Formula). is-tidy (k .matrix)) back) ∙ e);
       sorted-again =
           ap (λ (k : Formula). sheet F (sorted k)) back ∙
           ap (λ t. sheet F (record { prefix = f .prefix; matrix = t })) (sort-idempotent (f .matrix));

@@ -1,12 +1,12 @@
 -- Tests on lists of children, and what joining, keeping, taking firsts and splicing do to them.
 -- Assumes nothing.
 use mathlib.Core.Path.{_≡_, refl, sym, _∙_, ap, ap₂}
-use mathlib.Core.Bool.{Bool, true, false, not, _&&_, _||_, cond, or-assoc}
+use mathlib.Core.Bool.{Bool, true, false, not, _&&_, _||_, cond, or-assoc, and-comm}
 use Prim.Native.Nat.{suc, _+_}
 use native.Mathlib.Nat.{zero-add, suc-add}
 use borrow.Author.Tests.{not-true}
 use Rattle.formula.specs.Tree.{Op, and, or, same-op, Tree, lit, node, Forest, ∅, _▸_, _⧺_, some-child, some-two, keep, count}
-use Rattle.formula.specs.Tidy.{is-op, equal, spliced, splice, firsts}
+use Rattle.formula.specs.Tidy.{is-op, spliced, splice, firsts}
 use Rattle.formula.proofs.Booleans.{cond-cases, or-parts, or-none}
 
 -- children that fail two tests, or one, fail another
@@ -159,38 +159,42 @@ keep-keep P Q S e (t ▸ ts) = go (Q t) refl (keep-keep P Q S e ts)
     go true q ih = ap (λ us. cond (P t) (t ▸ us) us) ih ∙ both true q
     go false q ih = ih ∙ both false q
 
--- the first of equal literals: no two are left
+-- keeping by two tests, in either order
+pub keep-swap : (P Q : Tree → Bool) (ts : Forest) → keep P (keep Q ts) ≡ keep Q (keep P ts)
+keep-swap P Q ts = keep-keep P Q (λ t. Q t && P t) (λ _. refl) ts ∙ sym (keep-keep Q P (λ t. Q t && P t) (λ t. and-comm (Q t) (P t)) ts)
 
-pub some-child-firsts : (P : Tree → Bool) (ts : Forest) → some-child P ts ≡ false → some-child P (firsts ts) ≡ false
+-- the first of those in a relation: no two are left
+
+pub some-child-firsts : (R : Tree → Tree → Bool) (P : Tree → Bool) (ts : Forest) → some-child P ts ≡ false → some-child P (firsts R ts) ≡ false
 unfolding some-child firsts
-some-child-firsts P ∅ p = refl
-some-child-firsts P (t ▸ ts) p =
+some-child-firsts R P ∅ p = refl
+some-child-firsts R P (t ▸ ts) p =
     let (at-t, at-ts) = or-parts (P t) _ p in
-    or-none at-t (some-child-keep P _ (firsts ts) (some-child-firsts P ts at-ts))
+    or-none at-t (some-child-keep P _ (firsts R ts) (some-child-firsts R P ts at-ts))
 
-pub some-two-firsts : (R : Tree → Tree → Bool) (ts : Forest) → some-two R ts ≡ false → some-two R (firsts ts) ≡ false
+pub some-two-firsts : (R S : Tree → Tree → Bool) (ts : Forest) → some-two S ts ≡ false → some-two S (firsts R ts) ≡ false
 unfolding some-two firsts
-some-two-firsts R ∅ p = refl
-some-two-firsts R (t ▸ ts) p =
+some-two-firsts R S ∅ p = refl
+some-two-firsts R S (t ▸ ts) p =
+    let (at-t, at-ts) = or-parts (some-child (S t) ts) _ p in
+    let first = some-child-keep (S t) _ (firsts R ts) (some-child-firsts R (S t) ts at-t) in
+    or-none first (some-two-keep S _ (firsts R ts) (some-two-firsts R S ts at-ts))
+
+pub firsts-differ : (R : Tree → Tree → Bool) (ts : Forest) → some-two R (firsts R ts) ≡ false
+unfolding some-two firsts
+firsts-differ R ∅ = refl
+firsts-differ R (t ▸ ts) = or-none (kept (R t) (firsts R ts)) (some-two-keep R _ (firsts R ts) (firsts-differ R ts))
+
+pub firsts-all : (R : Tree → Tree → Bool) (ts : Forest) → some-two R ts ≡ false → firsts R ts ≡ ts
+unfolding some-two firsts
+firsts-all R ∅ p = refl
+firsts-all R (t ▸ ts) p =
     let (at-t, at-ts) = or-parts (some-child (R t) ts) _ p in
-    let first = some-child-keep (R t) _ (firsts ts) (some-child-firsts (R t) ts at-t) in
-    or-none first (some-two-keep R _ (firsts ts) (some-two-firsts R ts at-ts))
-
-pub firsts-differ : (ts : Forest) → some-two equal (firsts ts) ≡ false
-unfolding some-two firsts
-firsts-differ ∅ = refl
-firsts-differ (t ▸ ts) = or-none (kept (equal t) (firsts ts)) (some-two-keep equal _ (firsts ts) (firsts-differ ts))
-
-pub firsts-all : (ts : Forest) → some-two equal ts ≡ false → firsts ts ≡ ts
-unfolding some-two firsts
-firsts-all ∅ p = refl
-firsts-all (t ▸ ts) p =
-    let (at-t, at-ts) = or-parts (some-child (equal t) ts) _ p in
-    ap (λ us. t ▸ keep (λ u. not (equal t u)) us) (firsts-all ts at-ts) ∙ ap (λ us. t ▸ us) (keep-all (equal t) ts at-t)
+    ap (λ us. t ▸ keep (λ u. not (R t u)) us) (firsts-all R ts at-ts) ∙ ap (λ us. t ▸ us) (keep-all (R t) ts at-t)
 
 -- splicing: a child of the operator's own kind is tested by its children
 
-same-kind : (o k : Op) → same-op o k ≡ true → k ≡ o
+pub same-kind : (o k : Op) → same-op o k ≡ true → k ≡ o
 same-kind and and e = refl
 same-kind and or e = cc
 same-kind or and e = cc

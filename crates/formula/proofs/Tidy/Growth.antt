@@ -7,7 +7,7 @@ use native.Mathlib.Nat.{le-refl, zero-add, add-assoc, add-le-add}
 use native.Mathlib.Omega.{arith}
 use Rattle.formula.specs.Tree.{Op, and, or, Tree, lit, node, Forest, ∅, _▸_, _⧺_, some-child, keep}
 use Rattle.formula.specs.Tree.{Literals, rows, rows-all, has, has-any}
-use Rattle.formula.specs.Tidy.{equal, spliced, splice, decides, firsts, unwrap, combine, tidy, tidy-all}
+use Rattle.formula.specs.Tidy.{equal, twin, spliced, splice, decides, firsts, unwrap, combine, tidy, tidy-all}
 use Rattle.formula.proofs.Booleans.{cond-cases, or-parts, or-none}
 use Rattle.formula.proofs.Tidy.Children.{some-child-firsts, some-child-splice}
 
@@ -38,10 +38,10 @@ rows-keep P (t ▸ ts) =
     let rest = rows-keep P ts in
     cond-cases (λ us. rows-all us ≤ rows-all (t ▸ ts)) (P t) (λ _. omega arith) (λ _. omega arith)
 
-pub rows-firsts : (ts : Forest) → rows-all (firsts ts) ≤ rows-all ts
+pub rows-firsts : (R : Tree → Tree → Bool) (ts : Forest) → rows-all (firsts R ts) ≤ rows-all ts
 unfolding rows-all firsts
-rows-firsts ∅ = le-refl _
-rows-firsts (t ▸ ts) = omega (arith, rows-keep (λ u. not (equal t u)) (firsts ts), rows-firsts ts)
+rows-firsts R ∅ = le-refl _
+rows-firsts R (t ▸ ts) = omega (arith, rows-keep (λ u. not (R t u)) (firsts R ts), rows-firsts R ts)
 
 pub rows-unwrap : (o : Op) (ts : Forest) → rows (unwrap o ts) ≤ suc (rows-all ts)
 unfolding rows-all unwrap
@@ -54,7 +54,7 @@ unfolding rows-all combine
 rows-combine o ts =
     let us = splice o ts in
     cond-cases (λ t. rows t ≤ suc (rows-all ts)) (decides o us) (λ _. omega arith)
-    (λ _. omega (arith, rows-unwrap o (firsts us), rows-firsts us, rows-splice o ts))
+    (λ _. omega (arith, rows-unwrap o (firsts twin (firsts equal us)), rows-firsts twin (firsts equal us), rows-firsts equal us, rows-splice o ts))
 
 mutual
   unfolding rows-all tidy-all
@@ -86,7 +86,8 @@ module _ (L : Literals) where
   has-combine o ts p =
       let us = splice o ts in
       let at-us = some-child-splice o (has L) (has L) (λ ws q. sym (has-children ws) ∙ q) (λ t _ q. q) ts p in
-      cond-cases (λ t. has L t ≡ false) (decides o us) (λ _. refl) (λ _. has-unwrap o (firsts us) (some-child-firsts (has L) us at-us))
+      cond-cases (λ t. has L t ≡ false) (decides o us) (λ _. refl)
+      (λ _. has-unwrap o (firsts twin (firsts equal us)) (some-child-firsts twin (has L) (firsts equal us) (some-child-firsts equal (has L) us at-us)))
 
 mutual
   unfolding has-any tidy-all some-child

@@ -7,15 +7,10 @@ use lib.Dec.{eqb}
 use borrow.Author.Tests.{eqb-true, not-false}
 use Rattle.formula.specs.Tree.{Op, and, or, dual, Tree, lit, node, Forest, ∅, _▸_, _⧺_, some-child, some-two, keep}
 use Rattle.formula.specs.Truth.{Assignment, join, unit, eval, eval-all}
-use Rattle.formula.specs.Tidy.{is-empty, opposite, equal, spliced, splice, decides, firsts, unwrap, combine, tidy, tidy-all}
+use Rattle.formula.specs.Tidy.{is-empty, opposite, equal, twin, spliced, splice, decides, firsts, unwrap, combine, tidy, tidy-all}
 use Rattle.formula.proofs.Evaluation.{eval-decided}
+use Rattle.formula.proofs.Tidy.Same.{equal-same, twin-same}
 use Rattle.formula.proofs.Booleans.{cond-cases, or-cases, join-assoc, join-comm, join-unit, join-twice, join-swap, join-zero}
-
-beq-same : (a b : Bool) → Bool·beq a b ≡ true → a ≡ b
-beq-same true true e = refl
-beq-same true false e = cc
-beq-same false true e = cc
-beq-same false false e = refl
 
 -- rule 1: splicing
 
@@ -82,33 +77,26 @@ unfolding decides
 eval-decides o ρ ts d =
     ⊎-elim (eval-decided o ρ (is-empty (dual o)) (eval-empty o ρ) ts) (eval-opposites o ρ ts) (or-cases (some-child (is-empty (dual o)) ts) _ d)
 
--- rule 4: the first of equal literals
+-- rules 4 and 5: the first of equal children
 
-pub equal-same : (t u : Tree) → equal t u ≡ true → t ≡ u
-unfolding equal
-equal-same (node o ts) u e = cc
-equal-same (lit s v) (node o ts) e = cc
-equal-same (lit s v) (lit s′ v′) e =
-    let (same, sign) = and-eq-true-iff (eqb v v′) _ .0 e in
-    ap₂ lit (beq-same s s′ sign) (eqb-true v v′ same)
+module _ (R : Tree → Tree → Bool) (same : (t u : Tree) → R t u ≡ true → t ≡ u) (o : Op) (ρ : Assignment) where
+  eval-keep : (t : Tree) (us : Forest)
+      → join o (eval t ρ) (eval-all (keep (λ u. not (R t u)) us) o ρ) ≡ join o (eval t ρ) (eval-all us o ρ)
+  unfolding eval-all keep
+  eval-keep t ∅ = refl
+  eval-keep t (u ▸ us) =
+      let rest = eval-keep t us in
+      let with-second : Tree → Bool = λ w. join o (eval t ρ) (join o (eval w ρ) (eval-all us o ρ)) in
+      cond-cases (λ ws. join o (eval t ρ) (eval-all ws o ρ) ≡ join o (eval t ρ) (eval-all (u ▸ us) o ρ)) (not (R t u))
+      (λ _. join-swap o _ _ _ ∙ ap (join o (eval u ρ)) rest ∙ join-swap o _ _ _)
+      (λ e. rest ∙ sym (join-twice o _ _) ∙ ap with-second (same t u (not-false _ e)))
 
-eval-keep : (o : Op) (ρ : Assignment) (t : Tree) (us : Forest)
-    → join o (eval t ρ) (eval-all (keep (λ u. not (equal t u)) us) o ρ) ≡ join o (eval t ρ) (eval-all us o ρ)
-unfolding eval-all keep
-eval-keep o ρ t ∅ = refl
-eval-keep o ρ t (u ▸ us) =
-    let rest = eval-keep o ρ t us in
-    let with-second : Tree → Bool = λ w. join o (eval t ρ) (join o (eval w ρ) (eval-all us o ρ)) in
-    cond-cases (λ ws. join o (eval t ρ) (eval-all ws o ρ) ≡ join o (eval t ρ) (eval-all (u ▸ us) o ρ)) (not (equal t u))
-    (λ _. join-swap o _ _ _ ∙ ap (join o (eval u ρ)) rest ∙ join-swap o _ _ _)
-    (λ e. rest ∙ sym (join-twice o _ _) ∙ ap with-second (equal-same t u (not-false _ e)))
+  pub eval-firsts : (ts : Forest) → eval-all (firsts R ts) o ρ ≡ eval-all ts o ρ
+  unfolding eval-all firsts
+  eval-firsts ∅ = refl
+  eval-firsts (t ▸ ts) = eval-keep t (firsts R ts) ∙ ap (join o (eval t ρ)) (eval-firsts ts)
 
-pub eval-firsts : (o : Op) (ρ : Assignment) (ts : Forest) → eval-all (firsts ts) o ρ ≡ eval-all ts o ρ
-unfolding eval-all firsts
-eval-firsts o ρ ∅ = refl
-eval-firsts o ρ (t ▸ ts) = eval-keep o ρ t (firsts ts) ∙ ap (join o (eval t ρ)) (eval-firsts o ρ ts)
-
--- rule 5: a lone child
+-- rule 6: a lone child
 
 pub eval-unwrap : (o : Op) (ρ : Assignment) (ts : Forest) → eval (unwrap o ts) ρ ≡ eval-all ts o ρ
 unfolding eval-all unwrap
@@ -116,13 +104,14 @@ eval-unwrap o ρ ∅ = refl
 eval-unwrap o ρ (t ▸ ∅) = sym (join-unit o _)
 eval-unwrap o ρ (t ▸ u ▸ ts) = refl
 
--- the five rules, and the whole tree
+-- the six rules, and the whole tree
 
 pub eval-combine : (o : Op) (ρ : Assignment) (ts : Forest) → eval (combine o ts) ρ ≡ eval-all ts o ρ
 unfolding eval-all combine
 eval-combine o ρ ts =
     let us = splice o ts in
-    let undecided = eval-unwrap o ρ (firsts us) ∙ eval-firsts o ρ us in
+    let apart = firsts equal us in
+    let undecided = eval-unwrap o ρ (firsts twin apart) ∙ eval-firsts twin twin-same o ρ apart ∙ eval-firsts equal equal-same o ρ us in
     cond-cases (λ t. eval t ρ ≡ eval-all us o ρ) (decides o us) (λ d. sym (eval-decides o ρ us d)) (λ _. undecided) ∙ eval-splice o ρ ts
 
 mutual
