@@ -5,3 +5,4 @@ pub mod Same
 pub mod Truth
 pub mod Limits
 pub mod Growth
+pub mod Examples

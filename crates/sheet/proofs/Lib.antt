@@ -4,6 +4,7 @@ pub mod Tests
 pub mod Writing
 pub mod Limits
 pub mod Preorder
+pub mod Same
 pub mod Parts
 pub mod CheckTests
 pub mod RoundTrip
