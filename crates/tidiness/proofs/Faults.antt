@@ -1,7 +1,7 @@
 -- Faults, child by child and row by row.
 -- Assumes nothing.
 use mathlib.Core.Path.{_≡_, refl, sym, ap, ap₂, _∙_}
-use mathlib.Core.Bool.{Bool, true, false, not, _&&_, _||_, cond, or-false, or-true, and-false, and-true}
+use mathlib.Core.Bool.{Bool, true, false, not, _&&_, _||_, cond, or-false, or-true, or-assoc, and-false, and-true}
 use mathlib.Core.List.{List, [], _∷_, append-nil}
 use Prim.Native.Nat.{ℕ, zero, suc, _+_, _≤_, _<_}
 use native.Mathlib.Omega.{arith}
@@ -9,10 +9,10 @@ use lib.Dec.{eqb}
 use lib.ListN.{drop}
 use lib.Seq.{drop-length}
 use borrow.Author.Tests.{eq-eqb, ne-eqb}
-use Rattle.formula.proofs.Booleans.{eqb-comm}
+use Rattle.formula.proofs.Booleans.{eqb-comm, or-none, or-later}
 use Rattle.formula.proofs.Tidy.Children.{some-child-same}
 use Rattle.formula.specs.Tree.{Op, and, or, Tree, lit, node, Forest, ∅, _▸_, Literals, of, count, some-child, some-two, _⧺_}
-use Rattle.formula.specs.Tidy.{is-op, same-variable, alone, childless, breaks, faults, faults-all, root-faults, any, first-true, is-tidy, first-fault}
+use Rattle.formula.specs.Tidy.{is-op, twin, same-variable, alone, childless, breaks, faults, faults-all, root-faults, any, first-true, is-tidy, first-fault}
 use Rattle.formula.specs.Settle.{is-lit}
 use Rattle.sheet.specs.Format.{Bytes}
 use Rattle.sheet.specs.Sheet.{operator-kind, trees}
@@ -23,7 +23,7 @@ use Rattle.subtrees.specs.Subtrees.{top, kids, forest-in, subtree-in}
 use Rattle.subtrees.proofs.Forest.{rest, stepped-at, faults-⧺}
 use Rattle.subtrees.proofs.Matrix.{sound-nodes, trees-nodes}
 use Rattle.subtrees.proofs.Siblings.{below-row}
-use Rattle.tidiness.specs.Faults.{clash, first-breaks, some-breaks, at-fault}
+use Rattle.tidiness.specs.Faults.{clash, first-breaks, some-breaks, at-fault, plain-fault}
 
 -- is-lit
 
@@ -49,7 +49,7 @@ pub some-child-more : (P : Tree → Bool) (t : Tree) (ts : Forest) → some-chil
 unfolding some-child
 some-child-more P t ts = refl
 
-some-child-never : (P : Tree → Bool) → ((u : Tree) → P u ≡ false) → (ts : Forest) → some-child P ts ≡ false
+pub some-child-never : (P : Tree → Bool) → ((u : Tree) → P u ≡ false) → (ts : Forest) → some-child P ts ≡ false
 unfolding some-child
 some-child-never P never ∅ = refl
 some-child-never P never (t ▸ ts) = rw (never t) (some-child-never P never ts)
@@ -119,23 +119,23 @@ some-breaks-limits o (t ▸ ts) =
     swap-inner (is-op o t) (some-child (is-op o) ts) (some-child (same-variable t) ts) (some-two same-variable ts) ∙
     ap₂ (λ c d. (c || some-child (same-variable t) ts) || d) (is-op-kind o t) (some-breaks-limits o ts)
 
--- at-fault
+-- plain-fault
 
-pub fault-literal : (i : ℕ) (t : Tree) → (top t) .kind ≤ 4 → at-fault i t ≡ false
-unfolding at-fault
+pub fault-literal : (i : ℕ) (t : Tree) → (top t) .kind ≤ 4 → plain-fault i t ≡ false
+unfolding plain-fault
 fault-literal i (lit s v) h = refl
 fault-literal i (node and ts) h = absurd (omega arith)
 fault-literal i (node or ts) h = absurd (omega arith)
 
-pub fault-childless : (i : ℕ) (t : Tree) → 4 < (top t) .kind → (top t) .argument ≡ 0 → at-fault i t ≡ not (eqb i 0)
-unfolding at-fault breaks childless alone some-child some-two count
+pub fault-childless : (i : ℕ) (t : Tree) → 4 < (top t) .kind → (top t) .argument ≡ 0 → plain-fault i t ≡ not (eqb i 0)
+unfolding plain-fault childless alone some-child some-two count
 fault-childless i (lit true v) h e = absurd (omega arith)
 fault-childless i (lit false v) h e = absurd (omega arith)
 fault-childless i (node o ∅) h e = or-false (not (eqb i 0) && true) ∙ and-true (not (eqb i 0))
 fault-childless i (node o (t ▸ ts)) h e = absurd (omega arith)
 
-pub fault-alone : (i : ℕ) (t : Tree) → 4 < (top t) .kind → (top t) .argument ≡ 1 → at-fault i t ≡ true
-unfolding at-fault breaks childless alone count
+pub fault-alone : (i : ℕ) (t : Tree) → 4 < (top t) .kind → (top t) .argument ≡ 1 → plain-fault i t ≡ true
+unfolding plain-fault childless alone count
 fault-alone i (lit true v) h e = absurd (omega arith)
 fault-alone i (lit false v) h e = absurd (omega arith)
 fault-alone i (node o ∅) h e = absurd (omega arith)
@@ -143,14 +143,32 @@ fault-alone i (node o (t ▸ ∅)) h e = or-true (not (eqb i 0) && false)
 fault-alone i (node o (t ▸ u ▸ ts)) h e = absurd (omega arith)
 
 pub fault-more : (i : ℕ) (t : Tree) → 4 < (top t) .kind → 1 < (top t) .argument
-    → at-fault i t ≡ some-breaks ((top t) .kind) (kids t)
-unfolding at-fault breaks childless alone count
+    → plain-fault i t ≡ some-breaks ((top t) .kind) (kids t)
+unfolding plain-fault childless alone count
 fault-more i (lit true v) h e = absurd (omega arith)
 fault-more i (lit false v) h e = absurd (omega arith)
 fault-more i (node o ∅) h e = absurd (omega arith)
 fault-more i (node o (t ▸ ∅)) h e = absurd (omega arith)
 fault-more i (node o (t ▸ u ▸ ts)) h e =
     rw (and-false (not (eqb i 0))) (some-breaks-limits o (t ▸ u ▸ ts))
+
+-- at-fault
+
+fault-parts : (i : ℕ) (t : Tree) → at-fault i t ≡ (plain-fault i t || some-two twin (kids t))
+unfolding at-fault plain-fault breaks some-two
+fault-parts i (lit s v) = refl
+fault-parts i (node o ts) =
+    sym (or-assoc (not (eqb i 0) && childless ts) (alone ts || some-child (is-op o) ts || some-two same-variable ts) (some-two twin ts))
+
+module _ (i : ℕ) (t : Tree) where
+  pub fault-plain : plain-fault i t ≡ true → at-fault i t ≡ true
+  fault-plain e = fault-parts i t ∙ ap (λ (c : Bool). c || some-two twin (kids t)) e
+
+  pub fault-twins : some-two twin (kids t) ≡ true → at-fault i t ≡ true
+  fault-twins e = fault-parts i t ∙ or-later (plain-fault i t) e
+
+  pub fault-none : plain-fault i t ≡ false → some-two twin (kids t) ≡ false → at-fault i t ≡ false
+  fault-none e f = fault-parts i t ∙ or-none e f
 
 -- row by row
 

@@ -1,5 +1,10 @@
 // Tidiness: the first operator at fault ("Tidy sheets", refusal 9).
+use crate::prints::fill_prints;
+use crate::twins::gather;
+use crate::twins::some_repeat;
+use buckets::HEADS;
 use rows::Layout;
+use rows::ROWS;
 use subtrees::nodes::argument_at;
 use subtrees::nodes::kind_at;
 ghost use mathlib.Core.Path.{_≡_};
@@ -11,12 +16,15 @@ ghost use Rattle.formula.specs.Settle.{is-lit};
 ghost use Rattle.rows.specs.Formulas.{matrix-in, Readable};
 ghost use Rattle.subtrees.specs.Subtrees.{subtree-in, siblings-in, Beside};
 ghost use Rattle.subtrees.specs.Ends.{Indexed};
-ghost use Rattle.tidiness.specs.Faults.{clash, first-breaks, some-breaks, at-fault};
+ghost use Rattle.tidiness.specs.Faults.{clash, first-breaks, some-breaks, plain-fault};
+
+pub mod prints;
+pub mod twins;
 
 // Subtrees that stand side by side: the node row of the first, and how many are left.
-struct Siblings {
-    at: usize,
-    left: usize,
+pub struct Siblings {
+    pub at: usize,
+    pub left: usize,
 }
 
 // Whether node row `i` is a literal of the variable `x`.
@@ -91,10 +99,10 @@ fn some_breaks(b: &[u8], s: Layout, ends: &[u16], c: Siblings, parent: u8) -> bo
     false
 }
 
-// Whether node row `i` is an operator at fault: only the root may be childless, and a child is never alone.
+// Whether node row `i` is an operator at fault, equal siblings apart: only the root may be childless, and a child is never alone.
 fn at_fault(b: &[u8], s: Layout, ends: &[u16], i: usize) -> bool
     requires { ⌜ Indexed s (now b) (now ends) × (i < s .nodes) ⌝ }
-    ensures { λ r. ⌜ r ≡ at-fault i (subtree-in s (now (b .entry)) i) ⌝ }
+    ensures { λ r. ⌜ r ≡ plain-fault i (subtree-in s (now (b .entry)) i) ⌝ }
 {
     let kind = kind_at(b, s, i);
     if kind <= rows::NEGATIVE {
@@ -124,9 +132,18 @@ pub fn first_fault(b: &[u8], s: Layout, ends: &[u16]) -> usize
     requires { ⌜ Indexed s (now b) (now ends) ⌝ }
     ensures { λ r. ⌜ r ≡ cond (is-tidy (matrix-in s (now (b .entry)))) (s .nodes) (first-fault (matrix-in s (now (b .entry)))) ⌝ }
 {
+    let mut prints = [0u16; ROWS];
+    fill_prints(b, s, ends, &mut prints);
+    let mut heads = [0u16; HEADS];
+    let mut links = [0u16; ROWS];
+    let mut members = [0u32; ROWS];
     let mut i = 0;
     while i < s.nodes {
         if at_fault(b, s, ends, i) {
+            return i;
+        }
+        let n = gather(b, s, ends, &prints, &mut members, i);
+        if some_repeat(b, s, &mut heads, &mut links, &mut members, n) {
             return i;
         }
         i += 1;
