@@ -12,7 +12,7 @@ use Rattle.formula.specs.Tidy.{is-op, is-empty, equal, twin, same-variab
 use Rattle.formula.specs.Expand.{after, occurs}
 use Rattle.formula.specs.Reduce.{is-literal, is-clause, in-profile, has-existential, goes, stays, reduce-clause, reduce-all, reduce-tree, reduced}
 use Rattle.formula.proofs.Booleans.{and-parts, or-parts, or-none}
-use Rattle.formula.proofs.Tidy.Children.{keep-same, keep-keep, some-child-keep, some-two-keep, splice-none}
+use Rattle.formula.proofs.Tidy.Children.{some-child-never, keep-same, keep-keep, some-child-keep, some-two-keep, splice-none}
 use Rattle.formula.proofs.Tidy.Limits.{tidy-is-tidy, tidy-id}
 use Rattle.formula.proofs.Reduce.{Clean, Cleans, no-clause, one-more, members, members-literals, lone-literal, cleans-below, clean-root}
 
@@ -106,11 +106,7 @@ literals-sound ∅ l = (refl, refl, refl)
 literals-sound (node o us ▸ ts) l = absurd (true≢false l)
 literals-sound (lit s v ▸ ts) l =
     let (kinds, below, twins) = literals-sound ts l in
-    (kinds, below, or-none (never ts) twins)
-  where
-    never : (us : Forest) → some-child (λ u. false) us ≡ false
-    never ∅ = refl
-    never (u ▸ us) = never us
+    (kinds, below, or-none (some-child-never (twin (lit s v)) (λ u. refl) ts) twins)
 
 -- more literals than one, of different variables, are tidy under OR
 many-tidy : (ts : Forest) → some-child (λ t. not (is-literal t)) ts ≡ false → some-two same-variable ts ≡ false → alone ts ≡ false

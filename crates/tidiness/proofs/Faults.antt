@@ -10,7 +10,7 @@ use lib.ListN.{drop}
 use lib.Seq.{drop-length}
 use borrow.Author.Tests.{eq-eqb, ne-eqb}
 use Rattle.formula.proofs.Booleans.{eqb-comm, or-none, or-later}
-use Rattle.formula.proofs.Tidy.Children.{some-child-same}
+use Rattle.formula.proofs.Tidy.Children.{some-child-never, some-child-same}
 use Rattle.formula.specs.Tree.{Op, and, or, Tree, lit, node, Forest, ∅, _▸_, Literals, of, count, some-child, some-two, _⧺_}
 use Rattle.formula.specs.Tidy.{is-op, twin, same-variable, alone, childless, breaks, faults, faults-all, root-faults, any, first-true, is-tidy, first-fault}
 use Rattle.formula.specs.Settle.{is-lit}
@@ -48,11 +48,6 @@ some-child-none P = refl
 pub some-child-more : (P : Tree → Bool) (t : Tree) (ts : Forest) → some-child P (t ▸ ts) ≡ (P t || some-child P ts)
 unfolding some-child
 some-child-more P t ts = refl
-
-pub some-child-never : (P : Tree → Bool) → ((u : Tree) → P u ≡ false) → (ts : Forest) → some-child P ts ≡ false
-unfolding some-child
-some-child-never P never ∅ = refl
-some-child-never P never (t ▸ ts) = rw (never t) (some-child-never P never ts)
 
 -- clash
 

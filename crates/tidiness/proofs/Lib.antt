@@ -1,7 +1,3 @@
 -- Laws for callers, and the turns of the loops.
 pub mod Tidiness
 mod Faults
-mod Mixing
-mod Comparing
-mod Repeats
-mod Gathering

@@ -1,12 +1,12 @@
 // Tidiness: the first operator at fault ("Tidy sheets", refusal 9).
-use crate::prints::fill_prints;
-use crate::twins::gather;
-use crate::twins::some_repeat;
 use buckets::HEADS;
 use rows::Layout;
 use rows::ROWS;
 use subtrees::nodes::argument_at;
 use subtrees::nodes::kind_at;
+use twins::gather;
+use twins::prints::fill_prints;
+use twins::some_repeat;
 ghost use mathlib.Core.Path.{_≡_};
 ghost use mathlib.Core.Bool.{cond};
 ghost use Prim.Native.Nat.{_<_};
@@ -18,13 +18,10 @@ ghost use Rattle.subtrees.specs.Subtrees.{subtree-in, siblings-in, Beside};
 ghost use Rattle.subtrees.specs.Ends.{Indexed};
 ghost use Rattle.tidiness.specs.Faults.{clash, first-breaks, some-breaks, plain-fault};
 
-pub mod prints;
-pub mod twins;
-
 // Subtrees that stand side by side: the node row of the first, and how many are left.
-pub struct Siblings {
-    pub at: usize,
-    pub left: usize,
+struct Siblings {
+    at: usize,
+    left: usize,
 }
 
 // Whether node row `i` is a literal of the variable `x`.

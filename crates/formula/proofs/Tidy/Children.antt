@@ -37,6 +37,12 @@ pub some-two-less : (P Q : Tree → Tree → Bool) → ((t u : Tree) → P t u �
     → (ts : Forest) → some-two P ts ≡ false → some-two Q ts ≡ false
 some-two-less P Q f ts p = some-two-both P P Q (λ t u e _. f t u e) ts p p
 
+-- no child passes a test that no tree passes
+pub some-child-never : (P : Tree → Bool) → ((u : Tree) → P u ≡ false) → (ts : Forest) → some-child P ts ≡ false
+unfolding some-child
+some-child-never P never ∅ = refl
+some-child-never P never (t ▸ ts) = or-none (never t) (some-child-never P never ts)
+
 -- equal tests
 
 pub some-child-same : {P Q : Tree → Bool} → ((t : Tree) → P t ≡ Q t) → (ts : Forest) → some-child P ts ≡ some-child Q ts
@@ -95,11 +101,7 @@ keep-⧺ P (t ▸ ts) us = ap (λ ws. cond (P t) (t ▸ ws) ws) (keep-⧺ P ts u
 pub some-two-⧺ : (R : Tree → Tree → Bool) (ts us : Forest)
     → some-two R (ts ⧺ us) ≡ (some-two R ts || (some-child (λ u. some-child (λ t. R t u) ts) us || some-two R us))
 unfolding some-two some-child _⧺_
-some-two-⧺ R ∅ us = sym (ap (λ b. b || some-two R us) (none us))
-  where
-    none : (us : Forest) → some-child (λ u. false) us ≡ false
-    none ∅ = refl
-    none (u ▸ us) = none us
+some-two-⧺ R ∅ us = sym (ap (λ b. b || some-two R us) (some-child-never (λ u. false) (λ u. refl) us))
 some-two-⧺ R (t ▸ ts) us =
     ap₂ _||_ (some-child-⧺ (R t) ts us) (some-two-⧺ R ts us) ∙
     mixed (some-child (R t) ts) (some-child (R t) us) (some-two R ts) (some-child (λ u. some-child (λ t′. R t′ u) ts) us) (some-two R us) ∙

@@ -1,0 +1,192 @@
+-- The operators among siblings, gathered one by one: what a sibling more does to the members.
+-- Assumes nothing.
+use mathlib.Core.Path.{_≡_, refl, sym, ap, ap₂, _∙_, subst}
+use mathlib.Core.Bool.{Bool, true, false, _||_, or-false, or-comm}
+use mathlib.Core.List.{List}
+use Prim.Native.Nat.{ℕ, zero, suc, _+_, _*_, _/_, _%_, _-_, _≤_, _<_}
+use native.Mathlib.Numerals.{add-one}
+use native.Mathlib.Omega.{arith}
+use lib.ListN.{length, getD, set}
+use lib.Seq.{getD-set-same, getD-set-other}
+use Rattle.formula.specs.Tree.{and, or, Tree, lit, node, Forest, ∅, _▸_, _⧺_, rows, rows-all, count, some-child, some-two}
+use Rattle.formula.specs.Tidy.{same-tree, twin}
+use Rattle.formula.proofs.Tidy.Same.{twin-sym}
+use Rattle.formula.proofs.Tidy.Children.{some-child-never, some-child-⧺, some-two-⧺, count-⧺, ⧺-assoc, ⧺-none}
+use Rattle.buckets.specs.Prints.{print}
+use Rattle.buckets.proofs.Prints.{print-few}
+use Rattle.sheet.specs.Format.{Bytes}
+use Rattle.rows.specs.Formulas.{Readable}
+use Rattle.rows.specs.declared.Layout.{Layout}
+use Rattle.subtrees.specs.Subtrees.{top, kids, subtree-in, siblings-in, Beside}
+use Rattle.subtrees.proofs.Forest.{rows-kids}
+use Rattle.subtrees.proofs.Siblings.{Walked, Children, siblings-none, subtree-within}
+use Rattle.twins.specs.Members.{tree-of, Member, Members, some-member, same-as, two-same, Gathered, Adds}
+use Rattle.twins.proofs.Comparing.{count-rows}
+use Rattle.twins.proofs.Members.{less-or-same}
+
+-- some-two at the end of a list
+two-last : (R : Tree → Tree → Bool) (ts : Forest) (u : Tree) → some-two R (ts ⧺ (u ▸ ∅)) ≡ (some-child (λ t. R t u) ts || some-two R ts)
+unfolding some-two some-child
+two-last R ts u =
+    some-two-⧺ R ts (u ▸ ∅) ∙ ap (λ b. some-two R ts || b) (or-false _ ∙ or-false _) ∙
+    or-comm (some-two R ts) (some-child (λ t. R t u) ts)
+
+child-last : (P : Tree → Bool) (ts : Forest) (u : Tree) → some-child P (ts ⧺ (u ▸ ∅)) ≡ (P u || some-child P ts)
+unfolding some-child
+child-last P ts u = some-child-⧺ P ts (u ▸ ∅) ∙ ap (λ b. some-child P ts || b) (or-false (P u)) ∙ or-comm (some-child P ts) (P u)
+
+count-last : (ts : Forest) (u : Tree) → count (ts ⧺ (u ▸ ∅)) ≡ suc (count ts)
+unfolding count
+count-last ts u = count-⧺ ts (u ▸ ∅) ∙ add-one (count ts)
+
+-- a literal is no twin
+literal-twin : (t : Tree) → (top t) .kind ≤ 4 → (u : Tree) → twin t u ≡ false
+unfolding twin
+literal-twin (lit s v) h u = refl
+literal-twin (node and ts) h u = absurd (omega arith)
+literal-twin (node or ts) h u = absurd (omega arith)
+
+operator-twin : (t : Tree) → 4 < (top t) .kind → (u : Tree) → twin t u ≡ same-tree t u
+unfolding twin
+operator-twin (lit true v) h u = absurd (omega arith)
+operator-twin (lit false v) h u = absurd (omega arith)
+operator-twin (node o ts) h u = refl
+
+module _ {s : Layout} {b : Bytes} {M : List ℕ} {n : ℕ} {ts : Forest} (g : Gathered s b M n ts) (u : Tree) where
+  pub gather-literal : (top u) .kind ≤ 4 → Gathered s b M n (ts ⧺ (u ▸ ∅))
+  gather-literal h =
+      record {
+        few = omega (arith, g .few, count-last ts u);
+        are-members = g .are-members;
+        twin-of =
+            λ w.
+            g .twin-of w ∙
+            sym (child-last (λ t. twin t w) ts u ∙ ap (λ (c : Bool). c || some-child (λ t. twin t w) ts) (literal-twin u h w));
+        some-twins =
+            g .some-twins ∙
+            sym
+            (two-last twin ts u ∙
+            ap (λ (c : Bool). c || some-two twin ts)
+            (some-child-never (λ t. twin t u) (λ t. twin-sym t u ∙ literal-twin u h t) ts));
+      }
+
+-- members from there on don't matter
+member-set : (P : ℕ → Bool) (M : List ℕ) (n m i : ℕ) → i ≤ n → some-member P (set M n m) i ≡ some-member P M i
+unfolding some-member
+member-set P M n m zero l = refl
+member-set P M n m (suc i) l =
+    ap₂ _||_ (ap P (getD-set-other M n i m 0 (λ e. omega arith))) (member-set P M n m i (omega arith))
+
+two-set : (s : Layout) (b : Bytes) (M : List ℕ) (n m i : ℕ) → i ≤ n → two-same s b (set M n m) i ≡ two-same s b M i
+unfolding two-same
+two-set s b M n m zero l = refl
+two-set s b M n m (suc i) l =
+    ap₂ _||_
+    (member-set (same-as s b (getD (set M n m) i 0)) M n m i (omega arith) ∙
+    ap (λ (w : ℕ). some-member (same-as s b w) M i) (getD-set-other M n i m 0 (λ e. omega arith)))
+    (two-set s b M n m i (omega arith))
+
+module _ {s : Layout} {b : Bytes} {M : List ℕ} {n m : ℕ} {ts : Forest} (g : Gathered s b M n ts) (u : Tree) (fits : n < length M) (is-member : Member s b m)
+    (is-tree : tree-of s b m ≡ u) (h : 4 < (top u) .kind) where
+  M′ : List ℕ
+  M′ = set M n m
+
+  new : getD M′ n 0 ≡ m
+  unfolding M′
+  new = getD-set-same M n m 0 fits
+
+  old-or-new : (i : ℕ) → i < suc n → Member s b (getD M′ i 0)
+  unfolding M′
+  old-or-new i l =
+      less-or-same i n l (λ e. subst (Member s b) (sym (ap (λ (j : ℕ). getD M′ j 0) e ∙ new)) is-member)
+      (λ below. subst (Member s b) (sym (getD-set-other M n i m 0 (λ e. omega arith))) (g .are-members i below))
+
+  found : (w : Tree) → some-member (λ x. same-tree (tree-of s b x) w) M′ (suc n) ≡ (twin u w || some-child (λ t. twin t w) ts)
+  unfolding M′ some-member
+  found w =
+      ap₂ _||_ (ap (λ (x : ℕ). same-tree (tree-of s b x) w) new ∙ ap (λ t. same-tree t w) is-tree ∙ sym (operator-twin u h w))
+      (member-set (λ x. same-tree (tree-of s b x) w) M n m n (omega arith) ∙ g .twin-of w)
+
+  pairs : two-same s b M′ (suc n) ≡ (some-child (λ t. twin t u) ts || some-two twin ts)
+  unfolding M′ two-same
+  pairs =
+      ap₂ _||_
+      (member-set (same-as s b (getD M′ n 0)) M n m n (omega arith) ∙
+      ap (λ w. some-member (λ x. same-tree (tree-of s b x) w) M n) (ap (tree-of s b) new ∙ is-tree) ∙ g .twin-of u)
+      (two-set s b M n m n (omega arith) ∙ g .some-twins)
+
+  pub gather-operator : {n′ : ℕ} → n′ ≡ suc n → Gathered s b (set M n m) n′ (ts ⧺ (u ▸ ∅))
+  unfolding M′
+  gather-operator next =
+      rw next
+      (record {
+        few = omega (arith, g .few, count-last ts u);
+        are-members = old-or-new;
+        twin-of = λ w. found w ∙ sym (child-last (λ t. twin t w) ts u);
+        some-twins = pairs ∙ sym (two-last twin ts u);
+      })
+
+-- a row and the print of its subtree are a member
+module _ (s : Layout) (b : Bytes) (at : ℕ) {p m : ℕ} (inside : at < s .nodes) (is : p ≡ print (subtree-in s b at)) (m-is : m ≡ at * 65536 + p) where
+  row-of : m / 65536 ≡ at
+  row-of = omega (arith, print-few (subtree-in s b at))
+
+  pub member-tree : tree-of s b m ≡ subtree-in s b at
+  member-tree = ap (subtree-in s b) row-of
+
+  pub member-of : Member s b m
+  member-of =
+      record { inside = omega (arith, row-of); printed = low ∙ is ∙ ap print (sym member-tree) }
+    where
+      low : m % 65536 ≡ p
+      low = omega (arith, print-few (subtree-in s b at))
+
+-- The walk over an operator's children: those passed are gathered.
+pub record Gathering (s : Layout) (b : Bytes) (size : ℕ) (all : Forest) (M : List ℕ) (at left n : ℕ) : Type 0 where
+  pub same-length : length M ≡ size
+  pub beside : Beside s b at left
+  pub passed : Forest
+  pub whole : passed ⧺ siblings-in s b at left ≡ all
+  pub gathered : Gathered s b M n passed
+
+pub gather-none : (s : Layout) (b : Bytes) (M : List ℕ) → Gathered s b M 0 ∅
+unfolding some-member two-same some-child some-two
+gather-none s b M = record { few = omega arith; are-members = λ i l. absurd (omega arith); twin-of = λ u. refl; some-twins = refl }
+
+module _ {s : Layout} (b : Bytes) where
+  pub gather-start : (M : List ℕ) {i from k : ℕ} → Children s b i from k → Gathering s b (length M) (kids (subtree-in s b i)) M from k 0
+  unfolding _⧺_
+  gather-start M c =
+      record { same-length = refl; beside = c .few; passed = ∅; whole = c .are; gathered = gather-none s b M }
+
+  module _ {size : ℕ} {all : Forest} {M : List ℕ} {at left n : ℕ} (g : Gathering s b size all M at left n) where
+    -- a child that is left leaves room for it among the members
+    pub gather-room : {ends : List ℕ} → Walked s b ends at left → count all ≤ size → n < length M
+    unfolding count
+    gather-room {ends} w room =
+        let rest = siblings-in s b (getD ends at 0) (left - 1) in
+        omega
+        (arith, g .same-length, g .gathered .few, ap count (sym (g .whole)), count-⧺ (g .passed) (siblings-in s b at left), ap count (w .split))
+
+    pub gather-on : {ends M′ : List ℕ} {n′ : ℕ} → Walked s b ends at left → length M′ ≡ length M
+        → Adds s b (subtree-in s b at) M n M′ n′
+        → Gathering s b size all M′ (getD ends at 0) (left - 1) n′
+    unfolding _⧺_
+    gather-on {ends} w same f =
+        let t = subtree-in s b at in
+        let rest = siblings-in s b (getD ends at 0) (left - 1) in
+        record {
+          same-length = same ∙ g .same-length;
+          beside = w .few;
+          passed = g .passed ⧺ (t ▸ ∅);
+          whole = ⧺-assoc (g .passed) (t ▸ ∅) rest ∙ ap (λ ts. g .passed ⧺ ts) (sym (w .split)) ∙ g .whole;
+          gathered = f (g .passed) (g .gathered);
+        }
+
+    pub gather-done : left ≤ 0 → Gathered s b M n all
+    gather-done h =
+        subst (Gathered s b M n) (sym (⧺-none (g .passed)) ∙ ap (λ ts. g .passed ⧺ ts) (sym (siblings-none s b at h)) ∙ g .whole) (g .gathered)
+
+  pub kids-few : Readable s b → (i : ℕ) → i < s .nodes → count (kids (subtree-in s b i)) ≤ s .nodes
+  kids-few ok i h =
+      omega (arith, count-rows (kids (subtree-in s b i)), rows-kids (subtree-in s b i), subtree-within b ok i h)

@@ -1,0 +1,5 @@
+-- The turns of the loops.
+mod Mixing
+mod Comparing
+mod Members
+mod Gathering

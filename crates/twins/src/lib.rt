@@ -1,0 +1,139 @@
+// Equal operators among siblings (N4). Those whose prints agree are compared in full, row by row.
+use buckets::add;
+use buckets::behind;
+use buckets::bucket_of;
+use buckets::first;
+use buckets::member;
+use rows::Layout;
+use subtrees::nodes::argument_at;
+use subtrees::nodes::children_at;
+use subtrees::nodes::kind_at;
+ghost use mathlib.Core.Path.{_≡_};
+ghost use mathlib.Core.Bool.{not};
+ghost use Prim.Native.Nat.{_+_, _^_, _<_, _≤_};
+ghost use lib.ListN.{length, getD};
+ghost use Rattle.formula.specs.Tidy.{same-tree};
+ghost use Rattle.rows.specs.Formulas.{Readable};
+ghost use Rattle.subtrees.specs.Subtrees.{kids, subtree-in};
+ghost use Rattle.subtrees.specs.Ends.{Indexed};
+ghost use Rattle.buckets.specs.Chains.{Room, Linked};
+ghost use Rattle.twins.specs.Prints.{Printed};
+ghost use Rattle.twins.specs.Members.{same-top, tree-of, Member, Members, some-member, same-as, two-same, Gathered, Adds};
+
+pub mod prints;
+
+// Whether node rows `i` and `j` differ.
+fn differ(b: &[u8], s: Layout, i: usize, j: usize) -> bool
+    requires { ⌜ Readable s (now b) × (i < s .nodes) × (j < s .nodes) ⌝ }
+    ensures { λ r. ⌜ r ≡ not (same-top (subtree-in s (now (b .entry)) i) (subtree-in s (now (b .entry)) j)) ⌝ }
+{
+    if kind_at(b, s, i) != kind_at(b, s, j) {
+        return true;
+    }
+    argument_at(b, s, i) != argument_at(b, s, j)
+}
+
+// Whether the subtrees at node rows `i` and `j` are the same: row by row, until as many trees are read as were begun.
+fn same_at(b: &[u8], s: Layout, i: usize, j: usize) -> bool
+    requires { ⌜ Readable s (now b) × (i < s .nodes) × (j < s .nodes) ⌝ }
+    ensures { λ r. ⌜ r ≡ same-tree (subtree-in s (now (b .entry)) i) (subtree-in s (now (b .entry)) j) ⌝ }
+{
+    let mut at = i;
+    let mut other = j;
+    let mut left: usize = 1;
+    while 0 < left {
+        if differ(b, s, at, other) {
+            return false;
+        }
+        left = left - 1 + children_at(b, s, at);
+        at += 1;
+        other += 1;
+    }
+    true
+}
+
+// Whether two members stand for the same tree.
+fn same_member(b: &[u8], s: Layout, m: usize, w: usize) -> bool
+    requires { ⌜ Readable s (now b) × Member s (now b) m × Member s (now b) w ⌝ }
+    ensures { λ r. ⌜ r ≡ same-tree (tree-of s (now (b .entry)) m) (tree-of s (now (b .entry)) w) ⌝ }
+{
+    if m % 65536 != w % 65536 {
+        return false;
+    }
+    same_at(b, s, m / 65536, w / 65536)
+}
+
+// Whether a member before number `n` stands for the same tree as that one.
+fn repeats(b: &[u8], s: Layout, heads: &[u16], links: &[u16], members: &[u32], n: usize) -> bool
+    requires { ⌜ Readable s (now b) × Members s (now b) (now members) (n + 1) × Room (now heads) (now links) (now members) (n + 1) × Linked (now heads) (now links) (now members) n ⌝ }
+    ensures { λ r. ⌜ r ≡ some-member (same-as s (now (b .entry)) (getD (now (members .entry)) n 0)) (now (members .entry)) n ⌝ }
+{
+    let m = member(members, n);
+    let mut i = first(heads, members, n, bucket_of(m));
+    while 0 < i {
+        if same_member(b, s, member(members, i - 1), m) {
+            return true;
+        }
+        i = behind(links, i - 1);
+    }
+    false
+}
+
+// Whether two of the first `count` members stand for the same tree. The tables may hold anything at first.
+pub fn some_repeat(
+    b: &[u8],
+    s: Layout,
+    heads: &mut [u16],
+    links: &mut [u16],
+    members: &mut [u32],
+    count: usize,
+) -> bool
+    requires { ⌜ Readable s (now b) × Members s (now b) (now members) count × Room (now heads) (now links) (now members) count ⌝ }
+    ensures { λ r. ⌜ r ≡ two-same s (now (b .entry)) (now (members .entry)) count ⌝ }
+{
+    let mut n = 0;
+    while n < count {
+        if repeats(b, s, heads, links, members, n) {
+            return true;
+        }
+        let m = member(members, n);
+        add(heads, links, members, n, m);
+        n += 1;
+    }
+    false
+}
+
+// Puts the subtree at node row `at` behind `n` members if it is an operator, and returns how many there are then.
+fn put(b: &[u8], s: Layout, prints: &[u16], members: &mut [u32], at: usize, n: usize) -> usize
+    requires { ⌜ Readable s (now b) × (at < s .nodes) × Printed s (now b) (now prints) at × (n < length (now members)) ⌝ }
+    ensures { λ r. ⌜ Adds s (now (b .entry)) (subtree-in s (now (b .entry)) at) (now (members .entry)) n (now (members .exit)) r ⌝ }
+{
+    if kind_at(b, s, at) <= rows::NEGATIVE {
+        return n;
+    }
+    members[n] = (at * 65536 + prints[at] as usize) as u32;
+    n + 1
+}
+
+// Gathers the operators among the children of the subtree at node row `i`, and returns how many there are.
+pub fn gather(
+    b: &[u8],
+    s: Layout,
+    ends: &[u16],
+    prints: &[u16],
+    members: &mut [u32],
+    i: usize,
+) -> usize
+    requires { ⌜ Indexed s (now b) (now ends) × (i < s .nodes) × Printed s (now b) (now prints) 0 × (s .nodes ≤ length (now members)) ⌝ }
+    ensures { λ r. ⌜ Gathered s (now (b .entry)) (now (members .exit)) r (kids (subtree-in s (now (b .entry)) i)) × (r ≤ s .nodes) ⌝ }
+{
+    let mut at = i + 1;
+    let mut left = children_at(b, s, i);
+    let mut n = 0;
+    while 0 < left {
+        n = put(b, s, prints, members, at, n);
+        at = ends[at] as usize;
+        left -= 1;
+    }
+    n
+}
