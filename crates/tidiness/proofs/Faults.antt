@@ -1,19 +1,18 @@
 -- Faults, child by child and row by row.
 -- Assumes nothing.
 use mathlib.Core.Path.{_≡_, refl, sym, ap, ap₂, _∙_}
-use mathlib.Core.Bool.{Bool, true, false, not, _&&_, _||_, cond, or-false, or-true, or-assoc, and-false, and-true}
+use mathlib.Core.Bool.{Bool, true, false, not, _&&_, _||_, cond, or-false, or-true, and-false, and-true}
 use mathlib.Core.List.{List, [], _∷_, append-nil}
 use Prim.Native.Nat.{ℕ, zero, suc, _+_, _≤_, _<_}
 use native.Mathlib.Omega.{arith}
 use lib.Dec.{eqb}
 use lib.ListN.{drop}
 use lib.Seq.{drop-length}
-use borrow.Author.Tests.{eq-eqb, ne-eqb}
-use Rattle.formula.proofs.Booleans.{eqb-comm, or-none, or-later}
-use Rattle.formula.proofs.Tidy.Children.{some-child-never, some-child-same}
-use Rattle.formula.specs.Tree.{Op, and, or, Tree, lit, node, Forest, ∅, _▸_, Literals, of, count, some-child, some-two, _⧺_}
+use borrow.Author.Tests.{ne-eqb}
+use Rattle.formula.proofs.Booleans.{or-none, or-later}
+use Rattle.formula.proofs.Tidy.Children.{some-child-same, some-two-or}
+use Rattle.formula.specs.Tree.{Op, and, or, Tree, lit, node, Forest, ∅, _▸_, count, some-child, some-two, _⧺_}
 use Rattle.formula.specs.Tidy.{is-op, twin, same-variable, alone, childless, breaks, faults, faults-all, root-faults, any, first-true, is-tidy, first-fault}
-use Rattle.formula.specs.Settle.{is-lit}
 use Rattle.sheet.specs.Format.{Bytes}
 use Rattle.sheet.specs.Sheet.{operator-kind, trees}
 use Rattle.rows.specs.Formulas.{node-rows-in, matrix-in, Readable}
@@ -23,72 +22,18 @@ use Rattle.subtrees.specs.Subtrees.{top, kids, forest-in, subtree-in}
 use Rattle.subtrees.proofs.Forest.{rest, stepped-at, faults-⧺}
 use Rattle.subtrees.proofs.Matrix.{sound-nodes, trees-nodes}
 use Rattle.subtrees.proofs.Siblings.{below-row}
-use Rattle.tidiness.specs.Faults.{clash, first-breaks, some-breaks, at-fault, plain-fault}
+use Rattle.twins.specs.Members.{clash}
+use Rattle.tidiness.specs.Faults.{some-kind, at-fault, plain-fault}
 
--- is-lit
+-- some-kind
 
-pub operator-is-none : (L : Literals) (t : Tree) → 4 < (top t) .kind → is-lit L t ≡ false
-unfolding is-lit
-operator-is-none L (lit true v) h = absurd (omega arith)
-operator-is-none L (lit false v) h = absurd (omega arith)
-operator-is-none L (node o ts) h = refl
+pub some-kind-none : (k : ℕ) → some-kind k ∅ ≡ false
+unfolding some-kind some-child
+some-kind-none k = refl
 
-pub literal-is-of : (x : ℕ) (t : Tree) → (top t) .kind ≤ 4 → is-lit (of x) t ≡ eqb ((top t) .argument) x
-unfolding is-lit
-literal-is-of x (lit s v) h = refl
-literal-is-of x (node and ts) h = absurd (omega arith)
-literal-is-of x (node or ts) h = absurd (omega arith)
-
--- some-child
-
-pub some-child-none : (P : Tree → Bool) → some-child P ∅ ≡ false
-unfolding some-child
-some-child-none P = refl
-
-pub some-child-more : (P : Tree → Bool) (t : Tree) (ts : Forest) → some-child P (t ▸ ts) ≡ (P t || some-child P ts)
-unfolding some-child
-some-child-more P t ts = refl
-
--- clash
-
-same-variable-of : (s : Bool) (x : ℕ) (u : Tree) → same-variable (lit s x) u ≡ is-lit (of x) u
-unfolding same-variable is-lit
-same-variable-of s x (lit s′ v) = eqb-comm x v
-same-variable-of s x (node o ts) = refl
-
-pub clash-operator : (t : Tree) (ts : Forest) → 4 < (top t) .kind → clash (t ▸ ts) ≡ false
-unfolding clash same-variable
-clash-operator (lit true v) ts h = absurd (omega arith)
-clash-operator (lit false v) ts h = absurd (omega arith)
-clash-operator (node o cs) ts h = some-child-never (same-variable (node o cs)) (λ u. refl) ts
-
-pub clash-literal : (t : Tree) (ts : Forest) {x : ℕ} → (top t) .kind ≤ 4 → x ≡ (top t) .argument
-    → clash (t ▸ ts) ≡ some-child (is-lit (of x)) ts
-unfolding clash
-clash-literal (lit s v) ts h e = some-child-same (same-variable-of s v) ts ∙ ap (λ y. some-child (is-lit (of y)) ts) (sym e)
-clash-literal (node and cs) ts h e = absurd (omega arith)
-clash-literal (node or cs) ts h e = absurd (omega arith)
-
--- first-breaks
-
-module _ (t : Tree) (ts : Forest) (k : ℕ) where
-  pub breaks-kind : (top t) .kind ≡ k → first-breaks k (t ▸ ts) ≡ true
-  unfolding first-breaks
-  breaks-kind e = ap (λ c. c || clash (t ▸ ts)) (eq-eqb _ k e)
-
-  pub breaks-other : ((top t) .kind ≡ k → ⊥) → first-breaks k (t ▸ ts) ≡ clash (t ▸ ts)
-  unfolding first-breaks
-  breaks-other e = ap (λ c. c || clash (t ▸ ts)) (ne-eqb _ k e)
-
--- some-breaks
-
-pub some-breaks-none : (k : ℕ) → some-breaks k ∅ ≡ false
-unfolding some-breaks
-some-breaks-none k = refl
-
-pub some-breaks-more : (k : ℕ) (t : Tree) (ts : Forest) → some-breaks k (t ▸ ts) ≡ (first-breaks k (t ▸ ts) || some-breaks k ts)
-unfolding some-breaks
-some-breaks-more k t ts = refl
+pub some-kind-more : (k : ℕ) (t : Tree) (ts : Forest) → some-kind k (t ▸ ts) ≡ (eqb ((top t) .kind) k || some-kind k ts)
+unfolding some-kind some-child
+some-kind-more k t ts = refl
 
 is-op-kind : (o : Op) (t : Tree) → is-op o t ≡ eqb ((top t) .kind) (operator-kind o)
 unfolding is-op
@@ -100,19 +45,6 @@ is-op-kind or (lit true v) = refl
 is-op-kind or (lit false v) = refl
 is-op-kind or (node and ts) = refl
 is-op-kind or (node or ts) = refl
-
-swap-inner : (a b c d : Bool) → ((a || b) || (c || d)) ≡ ((a || c) || (b || d))
-swap-inner true b c d = refl
-swap-inner false true true d = refl
-swap-inner false true false d = refl
-swap-inner false false c d = refl
-
-some-breaks-limits : (o : Op) (ts : Forest) → (some-child (is-op o) ts || some-two same-variable ts) ≡ some-breaks (operator-kind o) ts
-unfolding some-breaks first-breaks clash some-child some-two
-some-breaks-limits o ∅ = refl
-some-breaks-limits o (t ▸ ts) =
-    swap-inner (is-op o t) (some-child (is-op o) ts) (some-child (same-variable t) ts) (some-two same-variable ts) ∙
-    ap₂ (λ c d. (c || some-child (same-variable t) ts) || d) (is-op-kind o t) (some-breaks-limits o ts)
 
 -- plain-fault
 
@@ -138,31 +70,41 @@ fault-alone i (node o (t ▸ ∅)) h e = or-true (not (eqb i 0) && false)
 fault-alone i (node o (t ▸ u ▸ ts)) h e = absurd (omega arith)
 
 pub fault-more : (i : ℕ) (t : Tree) → 4 < (top t) .kind → 1 < (top t) .argument
-    → plain-fault i t ≡ some-breaks ((top t) .kind) (kids t)
-unfolding plain-fault childless alone count
+    → plain-fault i t ≡ some-kind ((top t) .kind) (kids t)
+unfolding plain-fault childless alone count some-kind
 fault-more i (lit true v) h e = absurd (omega arith)
 fault-more i (lit false v) h e = absurd (omega arith)
 fault-more i (node o ∅) h e = absurd (omega arith)
 fault-more i (node o (t ▸ ∅)) h e = absurd (omega arith)
 fault-more i (node o (t ▸ u ▸ ts)) h e =
-    rw (and-false (not (eqb i 0))) (some-breaks-limits o (t ▸ u ▸ ts))
+    rw (and-false (not (eqb i 0))) (some-child-same (is-op-kind o) (t ▸ u ▸ ts))
 
 -- at-fault
 
-fault-parts : (i : ℕ) (t : Tree) → at-fault i t ≡ (plain-fault i t || some-two twin (kids t))
+some-two-clash : (ts : Forest) → some-two clash ts ≡ (some-two same-variable ts || some-two twin ts)
+unfolding clash
+some-two-clash ts = some-two-or same-variable twin ts
+
+fault-parts : (i : ℕ) (t : Tree) → at-fault i t ≡ (plain-fault i t || some-two clash (kids t))
 unfolding at-fault plain-fault breaks some-two
 fault-parts i (lit s v) = refl
 fault-parts i (node o ts) =
-    sym (or-assoc (not (eqb i 0) && childless ts) (alone ts || some-child (is-op o) ts || some-two same-variable ts) (some-two twin ts))
+    parts (not (eqb i 0) && childless ts) (alone ts || some-child (is-op o) ts) (some-two same-variable ts) (some-two twin ts) ∙
+    ap (λ (c : Bool). ((not (eqb i 0) && childless ts) || (alone ts || some-child (is-op o) ts)) || c) (sym (some-two-clash ts))
+  where
+    parts : (a b c d : Bool) → (a || ((b || c) || d)) ≡ ((a || b) || (c || d))
+    parts true b c d = refl
+    parts false true c d = refl
+    parts false false c d = refl
 
 module _ (i : ℕ) (t : Tree) where
   pub fault-plain : plain-fault i t ≡ true → at-fault i t ≡ true
-  fault-plain e = fault-parts i t ∙ ap (λ (c : Bool). c || some-two twin (kids t)) e
+  fault-plain e = fault-parts i t ∙ ap (λ (c : Bool). c || some-two clash (kids t)) e
 
-  pub fault-twins : some-two twin (kids t) ≡ true → at-fault i t ≡ true
-  fault-twins e = fault-parts i t ∙ or-later (plain-fault i t) e
+  pub fault-two : some-two clash (kids t) ≡ true → at-fault i t ≡ true
+  fault-two e = fault-parts i t ∙ or-later (plain-fault i t) e
 
-  pub fault-none : plain-fault i t ≡ false → some-two twin (kids t) ≡ false → at-fault i t ≡ false
+  pub fault-none : plain-fault i t ≡ false → some-two clash (kids t) ≡ false → at-fault i t ≡ false
   fault-none e f = fault-parts i t ∙ or-none e f
 
 -- row by row

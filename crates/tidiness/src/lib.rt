@@ -6,17 +6,15 @@ use subtrees::nodes::argument_at;
 use subtrees::nodes::kind_at;
 use twins::gather;
 use twins::prints::fill_prints;
-use twins::some_repeat;
+use twins::some_clash;
 ghost use mathlib.Core.Path.{_≡_};
 ghost use mathlib.Core.Bool.{cond};
 ghost use Prim.Native.Nat.{_<_};
-ghost use Rattle.formula.specs.Tree.{of, some-child};
 ghost use Rattle.formula.specs.Tidy.{is-tidy, first-fault};
-ghost use Rattle.formula.specs.Settle.{is-lit};
 ghost use Rattle.rows.specs.Formulas.{matrix-in, Readable};
 ghost use Rattle.subtrees.specs.Subtrees.{subtree-in, siblings-in, Beside};
 ghost use Rattle.subtrees.specs.Ends.{Indexed};
-ghost use Rattle.tidiness.specs.Faults.{clash, first-breaks, some-breaks, plain-fault};
+ghost use Rattle.tidiness.specs.Faults.{some-kind, plain-fault};
 
 // Subtrees that stand side by side: the node row of the first, and how many are left.
 struct Siblings {
@@ -24,26 +22,15 @@ struct Siblings {
     left: usize,
 }
 
-// Whether node row `i` is a literal of the variable `x`.
-fn is_literal(b: &[u8], s: Layout, i: usize, x: usize) -> bool
-    requires { ⌜ Readable s (now b) × (i < s .nodes) ⌝ }
-    ensures { λ r. ⌜ r ≡ is-lit (of x) (subtree-in s (now (b .entry)) i) ⌝ }
-{
-    if rows::NEGATIVE < kind_at(b, s, i) {
-        return false;
-    }
-    argument_at(b, s, i) == x
-}
-
-// Whether a literal of the variable `x` is among siblings.
-fn literal_among(b: &[u8], s: Layout, ends: &[u16], c: Siblings, x: usize) -> bool
+// Whether one of siblings is of this kind.
+fn some_kind(b: &[u8], s: Layout, ends: &[u16], c: Siblings, kind: u8) -> bool
     requires { ⌜ Indexed s (now b) (now ends) × Beside s (now b) (c .at) (c .left) ⌝ }
-    ensures { λ r. ⌜ r ≡ some-child (is-lit (of x)) (siblings-in s (now (b .entry)) (c .at) (c .left)) ⌝ }
+    ensures { λ r. ⌜ r ≡ some-kind kind (siblings-in s (now (b .entry)) (c .at) (c .left)) ⌝ }
 {
     let mut at = c.at;
     let mut left = c.left;
     while 0 < left {
-        if is_literal(b, s, at, x) {
+        if kind_at(b, s, at) == kind {
             return true;
         }
         at = ends[at] as usize;
@@ -52,51 +39,8 @@ fn literal_among(b: &[u8], s: Layout, ends: &[u16], c: Siblings, x: usize) -> bo
     false
 }
 
-// Whether the first of an operator's children that are left clashes with one behind it.
-fn clashes(b: &[u8], s: Layout, ends: &[u16], c: Siblings) -> bool
-    requires { ⌜ Indexed s (now b) (now ends) × Beside s (now b) (c .at) (c .left) × (0 < c .left) ⌝ }
-    ensures { λ r. ⌜ r ≡ clash (siblings-in s (now (b .entry)) (c .at) (c .left)) ⌝ }
-{
-    let at = c.at;
-    if rows::NEGATIVE < kind_at(b, s, at) {
-        return false;
-    }
-    let behind = Siblings {
-        at: ends[at] as usize,
-        left: c.left - 1,
-    };
-    literal_among(b, s, ends, behind, argument_at(b, s, at))
-}
-
-// Whether the first child that is left of an operator of the kind `parent` breaks a limit.
-fn first_breaks(b: &[u8], s: Layout, ends: &[u16], c: Siblings, parent: u8) -> bool
-    requires { ⌜ Indexed s (now b) (now ends) × Beside s (now b) (c .at) (c .left) × (0 < c .left) ⌝ }
-    ensures { λ r. ⌜ r ≡ first-breaks parent (siblings-in s (now (b .entry)) (c .at) (c .left)) ⌝ }
-{
-    if kind_at(b, s, c.at) == parent {
-        return true;
-    }
-    clashes(b, s, ends, c)
-}
-
-// Whether one of the children of an operator of the kind `parent` breaks a limit.
-fn some_breaks(b: &[u8], s: Layout, ends: &[u16], c: Siblings, parent: u8) -> bool
-    requires { ⌜ Indexed s (now b) (now ends) × Beside s (now b) (c .at) (c .left) ⌝ }
-    ensures { λ r. ⌜ r ≡ some-breaks parent (siblings-in s (now (b .entry)) (c .at) (c .left)) ⌝ }
-{
-    let mut at = c.at;
-    let mut left = c.left;
-    while 0 < left {
-        if first_breaks(b, s, ends, Siblings { at: at, left: left }, parent) {
-            return true;
-        }
-        at = ends[at] as usize;
-        left -= 1;
-    }
-    false
-}
-
-// Whether node row `i` is an operator at fault, equal siblings apart: only the root may be childless, and a child is never alone.
+// Whether node row `i` is an operator at fault, by no two of its children: only the root may be childless, a child is never alone, and none
+// is of its parent's kind.
 fn at_fault(b: &[u8], s: Layout, ends: &[u16], i: usize) -> bool
     requires { ⌜ Indexed s (now b) (now ends) × (i < s .nodes) ⌝ }
     ensures { λ r. ⌜ r ≡ plain-fault i (subtree-in s (now (b .entry)) i) ⌝ }
@@ -112,7 +56,7 @@ fn at_fault(b: &[u8], s: Layout, ends: &[u16], i: usize) -> bool
     if count == 1 {
         return true;
     }
-    some_breaks(
+    some_kind(
         b,
         s,
         ends,
@@ -140,7 +84,7 @@ pub fn first_fault(b: &[u8], s: Layout, ends: &[u16]) -> usize
             return i;
         }
         let n = gather(b, s, ends, &prints, &mut members, i);
-        if some_repeat(b, s, &mut heads, &mut links, &mut members, n) {
+        if some_clash(b, s, &mut heads, &mut links, &mut members, n) {
             return i;
         }
         i += 1;

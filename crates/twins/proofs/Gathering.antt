@@ -1,4 +1,4 @@
--- The operators among siblings, gathered one by one: what a sibling more does to the members.
+-- Siblings gathered one by one: what a sibling more does to the members.
 -- Assumes nothing.
 use mathlib.Core.Path.{_≡_, refl, sym, ap, ap₂, _∙_, subst}
 use mathlib.Core.Bool.{Bool, true, false, _||_, or-false, or-comm}
@@ -9,9 +9,7 @@ use native.Mathlib.Omega.{arith}
 use lib.ListN.{length, getD, set}
 use lib.Seq.{getD-set-same, getD-set-other}
 use Rattle.formula.specs.Tree.{and, or, Tree, lit, node, Forest, ∅, _▸_, _⧺_, rows, rows-all, count, some-child, some-two}
-use Rattle.formula.specs.Tidy.{same-tree, twin}
-use Rattle.formula.proofs.Tidy.Same.{twin-sym}
-use Rattle.formula.proofs.Tidy.Children.{some-child-never, some-child-⧺, some-two-⧺, count-⧺, ⧺-assoc, ⧺-none}
+use Rattle.formula.proofs.Tidy.Children.{some-child-⧺, some-two-⧺, count-⧺, ⧺-assoc, ⧺-none}
 use Rattle.buckets.specs.Prints.{print}
 use Rattle.buckets.proofs.Prints.{print-few}
 use Rattle.sheet.specs.Format.{Bytes}
@@ -20,7 +18,7 @@ use Rattle.rows.specs.declared.Layout.{Layout}
 use Rattle.subtrees.specs.Subtrees.{top, kids, subtree-in, siblings-in, Beside}
 use Rattle.subtrees.proofs.Forest.{rows-kids}
 use Rattle.subtrees.proofs.Siblings.{Walked, Children, siblings-none, subtree-within}
-use Rattle.twins.specs.Members.{tree-of, Member, Members, some-member, same-as, two-same, Gathered, Adds}
+use Rattle.twins.specs.Members.{clash, tree-of, Member, some-member, clashes-with, two-clash, Gathered, Adds}
 use Rattle.twins.proofs.Comparing.{count-rows}
 use Rattle.twins.proofs.Members.{less-or-same}
 
@@ -39,37 +37,6 @@ count-last : (ts : Forest) (u : Tree) → count (ts ⧺ (u ▸ ∅)) ≡ suc (co
 unfolding count
 count-last ts u = count-⧺ ts (u ▸ ∅) ∙ add-one (count ts)
 
--- a literal is no twin
-literal-twin : (t : Tree) → (top t) .kind ≤ 4 → (u : Tree) → twin t u ≡ false
-unfolding twin
-literal-twin (lit s v) h u = refl
-literal-twin (node and ts) h u = absurd (omega arith)
-literal-twin (node or ts) h u = absurd (omega arith)
-
-operator-twin : (t : Tree) → 4 < (top t) .kind → (u : Tree) → twin t u ≡ same-tree t u
-unfolding twin
-operator-twin (lit true v) h u = absurd (omega arith)
-operator-twin (lit false v) h u = absurd (omega arith)
-operator-twin (node o ts) h u = refl
-
-module _ {s : Layout} {b : Bytes} {M : List ℕ} {n : ℕ} {ts : Forest} (g : Gathered s b M n ts) (u : Tree) where
-  pub gather-literal : (top u) .kind ≤ 4 → Gathered s b M n (ts ⧺ (u ▸ ∅))
-  gather-literal h =
-      record {
-        few = omega (arith, g .few, count-last ts u);
-        are-members = g .are-members;
-        twin-of =
-            λ w.
-            g .twin-of w ∙
-            sym (child-last (λ t. twin t w) ts u ∙ ap (λ (c : Bool). c || some-child (λ t. twin t w) ts) (literal-twin u h w));
-        some-twins =
-            g .some-twins ∙
-            sym
-            (two-last twin ts u ∙
-            ap (λ (c : Bool). c || some-two twin ts)
-            (some-child-never (λ t. twin t u) (λ t. twin-sym t u ∙ literal-twin u h t) ts));
-      }
-
 -- members from there on don't matter
 member-set : (P : ℕ → Bool) (M : List ℕ) (n m i : ℕ) → i ≤ n → some-member P (set M n m) i ≡ some-member P M i
 unfolding some-member
@@ -77,17 +44,17 @@ member-set P M n m zero l = refl
 member-set P M n m (suc i) l =
     ap₂ _||_ (ap P (getD-set-other M n i m 0 (λ e. omega arith))) (member-set P M n m i (omega arith))
 
-two-set : (s : Layout) (b : Bytes) (M : List ℕ) (n m i : ℕ) → i ≤ n → two-same s b (set M n m) i ≡ two-same s b M i
-unfolding two-same
+two-set : (s : Layout) (b : Bytes) (M : List ℕ) (n m i : ℕ) → i ≤ n → two-clash s b (set M n m) i ≡ two-clash s b M i
+unfolding two-clash
 two-set s b M n m zero l = refl
 two-set s b M n m (suc i) l =
     ap₂ _||_
-    (member-set (same-as s b (getD (set M n m) i 0)) M n m i (omega arith) ∙
-    ap (λ (w : ℕ). some-member (same-as s b w) M i) (getD-set-other M n i m 0 (λ e. omega arith)))
+    (member-set (clashes-with s b (getD (set M n m) i 0)) M n m i (omega arith) ∙
+    ap (λ (w : ℕ). some-member (clashes-with s b w) M i) (getD-set-other M n i m 0 (λ e. omega arith)))
     (two-set s b M n m i (omega arith))
 
 module _ {s : Layout} {b : Bytes} {M : List ℕ} {n m : ℕ} {ts : Forest} (g : Gathered s b M n ts) (u : Tree) (fits : n < length M) (is-member : Member s b m)
-    (is-tree : tree-of s b m ≡ u) (h : 4 < (top u) .kind) where
+    (is-tree : tree-of s b m ≡ u) where
   M′ : List ℕ
   M′ = set M n m
 
@@ -101,29 +68,29 @@ module _ {s : Layout} {b : Bytes} {M : List ℕ} {n m : ℕ} {ts : Forest} (g : 
       less-or-same i n l (λ e. subst (Member s b) (sym (ap (λ (j : ℕ). getD M′ j 0) e ∙ new)) is-member)
       (λ below. subst (Member s b) (sym (getD-set-other M n i m 0 (λ e. omega arith))) (g .are-members i below))
 
-  found : (w : Tree) → some-member (λ x. same-tree (tree-of s b x) w) M′ (suc n) ≡ (twin u w || some-child (λ t. twin t w) ts)
+  found : (w : Tree) → some-member (λ x. clash (tree-of s b x) w) M′ (suc n) ≡ (clash u w || some-child (λ t. clash t w) ts)
   unfolding M′ some-member
   found w =
-      ap₂ _||_ (ap (λ (x : ℕ). same-tree (tree-of s b x) w) new ∙ ap (λ t. same-tree t w) is-tree ∙ sym (operator-twin u h w))
-      (member-set (λ x. same-tree (tree-of s b x) w) M n m n (omega arith) ∙ g .twin-of w)
+      ap₂ _||_ (ap (λ (x : ℕ). clash (tree-of s b x) w) new ∙ ap (λ t. clash t w) is-tree)
+      (member-set (λ x. clash (tree-of s b x) w) M n m n (omega arith) ∙ g .one-clashes w)
 
-  pairs : two-same s b M′ (suc n) ≡ (some-child (λ t. twin t u) ts || some-two twin ts)
-  unfolding M′ two-same
+  pairs : two-clash s b M′ (suc n) ≡ (some-child (λ t. clash t u) ts || some-two clash ts)
+  unfolding M′ two-clash
   pairs =
       ap₂ _||_
-      (member-set (same-as s b (getD M′ n 0)) M n m n (omega arith) ∙
-      ap (λ w. some-member (λ x. same-tree (tree-of s b x) w) M n) (ap (tree-of s b) new ∙ is-tree) ∙ g .twin-of u)
-      (two-set s b M n m n (omega arith) ∙ g .some-twins)
+      (member-set (clashes-with s b (getD M′ n 0)) M n m n (omega arith) ∙
+      ap (λ w. some-member (λ x. clash (tree-of s b x) w) M n) (ap (tree-of s b) new ∙ is-tree) ∙ g .one-clashes u)
+      (two-set s b M n m n (omega arith) ∙ g .two-clash-there)
 
-  pub gather-operator : {n′ : ℕ} → n′ ≡ suc n → Gathered s b (set M n m) n′ (ts ⧺ (u ▸ ∅))
+  pub gather-more : {n′ : ℕ} → n′ ≡ suc n → Gathered s b (set M n m) n′ (ts ⧺ (u ▸ ∅))
   unfolding M′
-  gather-operator next =
+  gather-more next =
       rw next
       (record {
-        few = omega (arith, g .few, count-last ts u);
+        as-many = ap suc (g .as-many) ∙ sym (count-last ts u);
         are-members = old-or-new;
-        twin-of = λ w. found w ∙ sym (child-last (λ t. twin t w) ts u);
-        some-twins = pairs ∙ sym (two-last twin ts u);
+        one-clashes = λ w. found w ∙ sym (child-last (λ t. clash t w) ts u);
+        two-clash-there = pairs ∙ sym (two-last clash ts u);
       })
 
 -- a row and the print of its subtree are a member
@@ -150,8 +117,9 @@ pub record Gathering (s : Layout) (b : Bytes) (size : ℕ) (all : Forest) (M : L
   pub gathered : Gathered s b M n passed
 
 pub gather-none : (s : Layout) (b : Bytes) (M : List ℕ) → Gathered s b M 0 ∅
-unfolding some-member two-same some-child some-two
-gather-none s b M = record { few = omega arith; are-members = λ i l. absurd (omega arith); twin-of = λ u. refl; some-twins = refl }
+unfolding some-member two-clash some-child some-two count
+gather-none s b M =
+    record { as-many = refl; are-members = λ i l. absurd (omega arith); one-clashes = λ u. refl; two-clash-there = refl }
 
 module _ {s : Layout} (b : Bytes) where
   pub gather-start : (M : List ℕ) {i from k : ℕ} → Children s b i from k → Gathering s b (length M) (kids (subtree-in s b i)) M from k 0
@@ -166,7 +134,7 @@ module _ {s : Layout} (b : Bytes) where
     gather-room {ends} w room =
         let rest = siblings-in s b (getD ends at 0) (left - 1) in
         omega
-        (arith, g .same-length, g .gathered .few, ap count (sym (g .whole)), count-⧺ (g .passed) (siblings-in s b at left), ap count (w .split))
+        (arith, g .same-length, g .gathered .as-many, ap count (sym (g .whole)), count-⧺ (g .passed) (siblings-in s b at left), ap count (w .split))
 
     pub gather-on : {ends M′ : List ℕ} {n′ : ℕ} → Walked s b ends at left → length M′ ≡ length M
         → Adds s b (subtree-in s b at) M n M′ n′

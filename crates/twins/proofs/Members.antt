@@ -1,40 +1,92 @@
--- Members: those of one tree have one print and fall into one bucket, and a chain that is passed to its end has none.
+-- Members: those that clash fall into one bucket, and a chain that is passed to its end has none that clashes.
 -- Assumes nothing.
-use mathlib.Core.Path.{_≡_, refl, sym, ap, _∙_}
-use mathlib.Core.Bool.{Bool, true, false, _||_, or-true, false≢true}
+use mathlib.Core.Path.{_≡_, refl, sym, ap, ap₂, _∙_}
+use mathlib.Core.Bool.{Bool, true, false, _||_, or-false, false≢true}
+use mathlib.Core.Logic.{⊎-elim}
 use mathlib.Core.List.{List}
-use Prim.Native.Nat.{ℕ, zero, suc, _+_, _/_, _%_, _≤_, _<_}
+use Prim.Native.Nat.{ℕ, zero, suc, _+_, _*_, _/_, _%_, _≤_, _<_}
 use native.Mathlib.Numerals.{add-one}
 use native.Mathlib.Omega.{arith}
 use lib.Dec.{eqb}
 use lib.ListN.{length, getD, set}
 use lib.Seq.{set-getD}
 use borrow.Author.Tests.{eqb-true, eqb-false}
-use Rattle.formula.specs.Tidy.{same-tree}
-use Rattle.formula.proofs.Booleans.{or-none, or-later}
-use Rattle.formula.proofs.Tidy.Same.{same-tree-same}
+use Rattle.formula.specs.Tree.{and, or, Tree, lit, node}
+use Rattle.formula.specs.Tidy.{same-variable, same-tree, twin}
+use Rattle.formula.proofs.Booleans.{or-none, or-later, or-cases}
+use Rattle.formula.proofs.Tidy.Same.{same-tree-same, twin-same}
 use Rattle.buckets.specs.Chains.{bucket, Room, Linked, Passed}
 use Rattle.buckets.proofs.Chains.{linked-none}
-use Rattle.buckets.specs.Prints.{print}
+use Rattle.buckets.specs.Prints.{literal-mix, sign, print}
 use Rattle.sheet.specs.Format.{Bytes}
 use Rattle.rows.specs.declared.Layout.{Layout}
-use Rattle.twins.specs.Members.{tree-of, Member, Members, some-member, same-as, two-same}
+use Rattle.subtrees.specs.Subtrees.{top}
+use Rattle.twins.specs.Members.{clash, tree-of, Member, Members, some-member, clashes-with, two-clash}
 
-bucket-low : (m : ℕ) → bucket m ≡ (m % 65536) / 2 % 4096
-bucket-low m = omega arith
+-- clash, by the first tree's kind
+
+pub clash-literal : (t : Tree) → (top t) .kind ≤ 4 → (u : Tree) → clash t u ≡ same-variable t u
+unfolding clash twin
+clash-literal (lit s v) h u = or-false _
+clash-literal (node and ts) h u = absurd (omega arith)
+clash-literal (node or ts) h u = absurd (omega arith)
+
+pub clash-operator : (t : Tree) → 4 < (top t) .kind → (u : Tree) → clash t u ≡ same-tree t u
+unfolding clash twin same-variable
+clash-operator (lit true v) h u = absurd (omega arith)
+clash-operator (lit false v) h u = absurd (omega arith)
+clash-operator (node o ts) h u = refl
+
+-- same-variable, of a literal
+
+pub no-variable : (t u : Tree) → 4 < (top u) .kind → same-variable t u ≡ false
+unfolding same-variable
+no-variable (node o ts) u h = refl
+no-variable (lit s v) (lit true v′) h = absurd (omega arith)
+no-variable (lit s v) (lit false v′) h = absurd (omega arith)
+no-variable (lit s v) (node o us) h = refl
+
+pub by-variable : (t u : Tree) {x y : ℕ} → (top t) .kind ≤ 4 → (top u) .kind ≤ 4 → x ≡ (top t) .argument → y ≡ (top u) .argument
+    → eqb x y ≡ same-variable t u
+unfolding same-variable
+by-variable (lit s v) (lit s′ v′) h k e f = ap₂ eqb e f
+by-variable (lit s v) (node and us) h k e f = absurd (omega arith)
+by-variable (lit s v) (node or us) h k e f = absurd (omega arith)
+by-variable (node and ts) u h k e f = absurd (omega arith)
+by-variable (node or ts) u h k e f = absurd (omega arith)
+
+-- trees that clash have one print, but for its lowest bit
+print-half : (t u : Tree) → clash t u ≡ true → print t / 2 ≡ print u / 2
+unfolding clash same-variable print
+print-half t u e = ⊎-elim (literals t u) (λ q. ap (λ w. print w / 2) (twin-same t u q)) (or-cases (same-variable t u) (twin t u) e)
+  where
+    half : (s : Bool) (v : ℕ) → literal-mix (sign s) v / 2 ≡ v * 20251 % 32768
+    half true v = omega arith
+    half false v = omega arith
+
+    literals : (t u : Tree) → same-variable t u ≡ true → print t / 2 ≡ print u / 2
+    literals (node o ts) u q = absurd (false≢true q)
+    literals (lit s v) (node o us) q = absurd (false≢true q)
+    literals (lit s v) (lit s′ v′) q =
+        half s v ∙ ap (λ (x : ℕ). x * 20251 % 32768) (eqb-true v v′ q) ∙ sym (half s′ v′)
+
+bucket-half : (m : ℕ) → bucket m ≡ (m % 65536 / 2) % 4096
+bucket-half m = omega arith
 
 module _ {s : Layout} {b : Bytes} {m w : ℕ} (p : Member s b m) (q : Member s b w) where
-  prints-same : same-tree (tree-of s b m) (tree-of s b w) ≡ true → m % 65536 ≡ w % 65536
-  prints-same e = p .printed ∙ ap print (same-tree-same _ _ e) ∙ sym (q .printed)
+  pub buckets-same : clash (tree-of s b m) (tree-of s b w) ≡ true → bucket m ≡ bucket w
+  buckets-same e =
+      bucket-half m ∙
+      ap (λ (x : ℕ). x % 4096)
+      (ap (λ (x : ℕ). x / 2) (p .printed) ∙ print-half (tree-of s b m) (tree-of s b w) e ∙ sym (ap (λ (x : ℕ). x / 2) (q .printed))) ∙
+      sym (bucket-half w)
 
-  pub buckets-same : same-tree (tree-of s b m) (tree-of s b w) ≡ true → bucket m ≡ bucket w
-  buckets-same e = bucket-low m ∙ ap (λ (x : ℕ). x / 2 % 4096) (prints-same e) ∙ sym (bucket-low w)
-
-  pub prints-other : (m % 65536 ≡ w % 65536 → ⊥) → same-tree (tree-of s b m) (tree-of s b w) ≡ false
-  prints-other d = by (same-tree (tree-of s b m) (tree-of s b w)) refl
+  -- operators by their prints
+  pub prints-other : 4 < (top (tree-of s b m)) .kind → (m % 65536 ≡ w % 65536 → ⊥) → clash (tree-of s b m) (tree-of s b w) ≡ false
+  prints-other h d = clash-operator (tree-of s b m) h (tree-of s b w) ∙ by (same-tree (tree-of s b m) (tree-of s b w)) refl
     where
       by : (c : Bool) → same-tree (tree-of s b m) (tree-of s b w) ≡ c → c ≡ false
-      by true e = absurd (d (prints-same e))
+      by true e = absurd (d (p .printed ∙ ap print (same-tree-same _ _ e) ∙ sym (q .printed)))
       by false e = refl
 
 -- some-member
@@ -67,40 +119,40 @@ member-no P M (suc n) h = or-none (by (P (getD M n 0)) refl) (member-no P M n (�
 
 -- a chain passed to its end
 pub chain-passed : {s : Layout} {b : Bytes} {M : List ℕ} {n m i : ℕ} → Members s b M n → Member s b m
-    → Passed M n (bucket m) (λ j. same-as s b m (getD M j 0) ≡ true) i → i ≤ 0 → some-member (same-as s b m) M n ≡ false
+    → Passed M n (bucket m) (λ j. clashes-with s b m (getD M j 0) ≡ true) i → i ≤ 0 → some-member (clashes-with s b m) M n ≡ false
 chain-passed {s} {b} {M} {n} {m} {i} ms w p e =
-    member-no (same-as s b m) M n (λ j l t. p .failed j (omega arith) l (buckets-same (ms j l) w t) t)
+    member-no (clashes-with s b m) M n (λ j l t. p .failed j (omega arith) l (buckets-same (ms j l) w t) t)
 
--- two-same
+-- two-clash
 
-pub two-none : (s : Layout) (b : Bytes) (M : List ℕ) → two-same s b M 0 ≡ false
-unfolding two-same
+pub two-none : (s : Layout) (b : Bytes) (M : List ℕ) → two-clash s b M 0 ≡ false
+unfolding two-clash
 two-none s b M = refl
 
 module _ (s : Layout) (b : Bytes) (M : List ℕ) where
-  pub two-more : (n : ℕ) {n′ : ℕ} → n′ ≡ suc n → some-member (same-as s b (getD M n 0)) M n ≡ false → two-same s b M n ≡ false → two-same s b M n′ ≡ false
-  unfolding two-same
+  pub two-more : (n : ℕ) {n′ : ℕ} → n′ ≡ suc n → some-member (clashes-with s b (getD M n 0)) M n ≡ false → two-clash s b M n ≡ false → two-clash s b M n′ ≡ false
+  unfolding two-clash
   two-more n next e f = rw next (or-none e f)
 
-  two-found-next : (n : ℕ) → some-member (same-as s b (getD M n 0)) M n ≡ true → two-same s b M (suc n) ≡ true
-  unfolding two-same
-  two-found-next n e = ap (λ (c : Bool). c || two-same s b M n) e
+  two-found-next : (n : ℕ) → some-member (clashes-with s b (getD M n 0)) M n ≡ true → two-clash s b M (suc n) ≡ true
+  unfolding two-clash
+  two-found-next n e = ap (λ (c : Bool). c || two-clash s b M n) e
 
-  pub two-found : (n count : ℕ) → n < count → some-member (same-as s b (getD M n 0)) M n ≡ true → two-same s b M count ≡ true
-  unfolding two-same
+  pub two-found : (n count : ℕ) → n < count → some-member (clashes-with s b (getD M n 0)) M n ≡ true → two-clash s b M count ≡ true
+  unfolding two-clash
   two-found n zero l e = absurd (omega arith)
   two-found n (suc k) l e =
-      less-or-same n k l (λ q. ap (λ (j : ℕ). two-same s b M (suc j)) (sym q) ∙ two-found-next n e)
-      (λ q. or-later (some-member (same-as s b (getD M k 0)) M k) (two-found n k q e))
+      less-or-same n k l (λ q. ap (λ (j : ℕ). two-clash s b M (suc j)) (sym q) ∙ two-found-next n e)
+      (λ q. or-later (some-member (clashes-with s b (getD M k 0)) M k) (two-found n k q e))
 
--- the search: no two of the first n members stand for the same tree, and the chains have them
+-- the search: no two of the first n members clash, and the chains have them
 pub record Searched (s : Layout) (b : Bytes) (H₀ L₀ M₀ : List ℕ) (count : ℕ) (H L M : List ℕ) (n : ℕ) : Type 0 where
   pub within : n ≤ count
   pub same-heads : length H ≡ length H₀
   pub same-links : length L ≡ length L₀
   pub same-members : M ≡ M₀
   pub linked : Linked H L M n
-  pub none : two-same s b M₀ n ≡ false
+  pub none : two-clash s b M₀ n ≡ false
 
 module _ {s : Layout} {b : Bytes} {H₀ L₀ M₀ : List ℕ} {count : ℕ} where
   pub search-start : Searched s b H₀ L₀ M₀ count H₀ L₀ M₀ 0
@@ -128,10 +180,10 @@ module _ {s : Layout} {b : Bytes} {H₀ L₀ M₀ : List ℕ} {count : ℕ} wher
           countable = omega (arith, r .countable);
         }
 
-    pub search-found : n < count → some-member (same-as s b (getD M n 0)) M n ≡ true → two-same s b M₀ count ≡ true
-    search-found l e = two-found s b M₀ n count l (ap (λ K. some-member (same-as s b (getD K n 0)) K n) (sym (st .same-members)) ∙ e)
+    pub search-found : n < count → some-member (clashes-with s b (getD M n 0)) M n ≡ true → two-clash s b M₀ count ≡ true
+    search-found l e = two-found s b M₀ n count l (ap (λ K. some-member (clashes-with s b (getD K n 0)) K n) (sym (st .same-members)) ∙ e)
 
-    pub search-on : {H′ L′ M′ : List ℕ} {m : ℕ} → n < count → some-member (same-as s b (getD M n 0)) M n ≡ false → length H′ ≡ length H → length L′ ≡ length L
+    pub search-on : {H′ L′ M′ : List ℕ} {m : ℕ} → n < count → some-member (clashes-with s b (getD M n 0)) M n ≡ false → length H′ ≡ length H → length L′ ≡ length L
         → m ≡ getD M n 0 → M′ ≡ set M n m → Linked H′ L′ M′ (n + 1) → Searched s b H₀ L₀ M₀ count H′ L′ M′ (n + 1)
     search-on {H′} {L′} {M′} l e h k is stored lk =
         record {
@@ -141,5 +193,5 @@ module _ {s : Layout} {b : Bytes} {H₀ L₀ M₀ : List ℕ} {count : ℕ} wher
           same-members = stored ∙ ap (set M n) is ∙ set-getD M n 0 ∙ st .same-members;
           linked = lk;
           none =
-              two-more s b M₀ n (add-one n) (ap (λ K. some-member (same-as s b (getD K n 0)) K n) (sym (st .same-members)) ∙ e) (st .none);
+              two-more s b M₀ n (add-one n) (ap (λ K. some-member (clashes-with s b (getD K n 0)) K n) (sym (st .same-members)) ∙ e) (st .none);
         }

@@ -1,4 +1,4 @@
--- Equal operators among siblings, as they are looked for: a member is an operator child, by its row and its print.
+-- Siblings that may not stand side by side, as they are looked for: a member is a child, by its row and its print.
 -- Assumes nothing.
 use mathlib.Core.Path.{_≡_}
 use mathlib.Core.Bool.{Bool, true, false, _||_, _&&_}
@@ -7,11 +7,15 @@ use Prim.Native.Nat.{ℕ, zero, suc, _/_, _%_, _≤_, _<_}
 use lib.Dec.{eqb}
 use lib.ListN.{length, getD}
 use Rattle.formula.specs.Tree.{Tree, Forest, ∅, _▸_, _⧺_, count, some-child, some-two}
-use Rattle.formula.specs.Tidy.{same-tree, twin}
+use Rattle.formula.specs.Tidy.{same-variable, twin}
 use Rattle.buckets.specs.Prints.{print}
 use Rattle.sheet.specs.Format.{Bytes}
 use Rattle.rows.specs.declared.Layout.{Layout}
 use Rattle.subtrees.specs.Subtrees.{top, subtree-in}
+
+-- literals of one variable, or operators that are the same
+unfoldable pub clash : Tree → Tree → Bool
+clash t u = same-variable t u || twin t u
 
 -- two first rows are the same
 unfoldable pub same-top : Tree → Tree → Bool
@@ -33,21 +37,21 @@ unfoldable pub some-member : (ℕ → Bool) → List ℕ → ℕ → Bool
 some-member P M zero = false
 some-member P M (suc n) = P (getD M n 0) || some-member P M n
 
--- the same tree as a member's
-abbrev pub same-as : Layout → Bytes → ℕ → ℕ → Bool
-same-as s b m w = same-tree (tree-of s b w) (tree-of s b m)
+-- a member before this one that clashes with it
+abbrev pub clashes-with : Layout → Bytes → ℕ → ℕ → Bool
+clashes-with s b m w = clash (tree-of s b w) (tree-of s b m)
 
--- two of the first n members stand for the same tree
-unfoldable pub two-same : Layout → Bytes → List ℕ → ℕ → Bool
-two-same s b M zero = false
-two-same s b M (suc n) = some-member (same-as s b (getD M n 0)) M n || two-same s b M n
+-- two of the first n members clash
+unfoldable pub two-clash : Layout → Bytes → List ℕ → ℕ → Bool
+two-clash s b M zero = false
+two-clash s b M (suc n) = some-member (clashes-with s b (getD M n 0)) M n || two-clash s b M n
 
--- The first n members are the operators among these siblings: they tell whether a sibling is a tree's twin, and whether two are twins.
+-- The first n members are these siblings: they tell whether one clashes with a tree, and whether two clash.
 pub record Gathered (s : Layout) (b : Bytes) (M : List ℕ) (n : ℕ) (ts : Forest) : Type 0 where
-  pub few : n ≤ count ts
+  pub as-many : n ≡ count ts
   pub are-members : Members s b M n
-  pub twin-of : (u : Tree) → some-member (λ m. same-tree (tree-of s b m) u) M n ≡ some-child (λ t. twin t u) ts
-  pub some-twins : two-same s b M n ≡ some-two twin ts
+  pub one-clashes : (u : Tree) → some-member (λ m. clash (tree-of s b m) u) M n ≡ some-child (λ t. clash t u) ts
+  pub two-clash-there : two-clash s b M n ≡ some-two clash ts
 
 -- one sibling more
 abbrev pub Adds : Layout → Bytes → Tree → List ℕ → ℕ → List ℕ → ℕ → Type 0

@@ -1,4 +1,5 @@
-// Equal operators among siblings (N4). Those whose prints agree are compared in full, row by row.
+// Siblings that may not stand side by side: literals of one variable, and equal operators (N4). They are found by their prints; operators
+// whose prints agree are compared in full, row by row.
 use buckets::add;
 use buckets::behind;
 use buckets::bucket_of;
@@ -12,13 +13,13 @@ ghost use mathlib.Core.Path.{_≡_};
 ghost use mathlib.Core.Bool.{not};
 ghost use Prim.Native.Nat.{_+_, _^_, _<_, _≤_};
 ghost use lib.ListN.{length, getD};
-ghost use Rattle.formula.specs.Tidy.{same-tree};
+ghost use Rattle.formula.specs.Tidy.{same-variable, same-tree};
 ghost use Rattle.rows.specs.Formulas.{Readable};
-ghost use Rattle.subtrees.specs.Subtrees.{kids, subtree-in};
+ghost use Rattle.subtrees.specs.Subtrees.{top, kids, subtree-in};
 ghost use Rattle.subtrees.specs.Ends.{Indexed};
 ghost use Rattle.buckets.specs.Chains.{Room, Linked};
 ghost use Rattle.twins.specs.Prints.{Printed};
-ghost use Rattle.twins.specs.Members.{same-top, tree-of, Member, Members, some-member, same-as, two-same, Gathered, Adds};
+ghost use Rattle.twins.specs.Members.{clash, same-top, tree-of, Member, Members, some-member, clashes-with, two-clash, Gathered, Adds};
 
 pub mod prints;
 
@@ -52,26 +53,40 @@ fn same_at(b: &[u8], s: Layout, i: usize, j: usize) -> bool
     true
 }
 
-// Whether two members stand for the same tree.
-fn same_member(b: &[u8], s: Layout, m: usize, w: usize) -> bool
-    requires { ⌜ Readable s (now b) × Member s (now b) m × Member s (now b) w ⌝ }
-    ensures { λ r. ⌜ r ≡ same-tree (tree-of s (now (b .entry)) m) (tree-of s (now (b .entry)) w) ⌝ }
+// Whether the subtree at node row `j` is a literal of the variable of the literal at node row `i`.
+fn same_variable(b: &[u8], s: Layout, i: usize, j: usize) -> bool
+    requires { ⌜ Readable s (now b) × (i < s .nodes) × (j < s .nodes) × ((top (subtree-in s (now b) i)) .kind ≤ 4) ⌝ }
+    ensures { λ r. ⌜ r ≡ same-variable (subtree-in s (now (b .entry)) i) (subtree-in s (now (b .entry)) j) ⌝ }
 {
+    if rows::NEGATIVE < kind_at(b, s, j) {
+        return false;
+    }
+    argument_at(b, s, i) == argument_at(b, s, j)
+}
+
+// Whether two members clash.
+fn members_clash(b: &[u8], s: Layout, m: usize, w: usize) -> bool
+    requires { ⌜ Readable s (now b) × Member s (now b) m × Member s (now b) w ⌝ }
+    ensures { λ r. ⌜ r ≡ clash (tree-of s (now (b .entry)) m) (tree-of s (now (b .entry)) w) ⌝ }
+{
+    if kind_at(b, s, m / 65536) <= rows::NEGATIVE {
+        return same_variable(b, s, m / 65536, w / 65536);
+    }
     if m % 65536 != w % 65536 {
         return false;
     }
     same_at(b, s, m / 65536, w / 65536)
 }
 
-// Whether a member before number `n` stands for the same tree as that one.
-fn repeats(b: &[u8], s: Layout, heads: &[u16], links: &[u16], members: &[u32], n: usize) -> bool
+// Whether a member before number `n` clashes with that one.
+fn clashes(b: &[u8], s: Layout, heads: &[u16], links: &[u16], members: &[u32], n: usize) -> bool
     requires { ⌜ Readable s (now b) × Members s (now b) (now members) (n + 1) × Room (now heads) (now links) (now members) (n + 1) × Linked (now heads) (now links) (now members) n ⌝ }
-    ensures { λ r. ⌜ r ≡ some-member (same-as s (now (b .entry)) (getD (now (members .entry)) n 0)) (now (members .entry)) n ⌝ }
+    ensures { λ r. ⌜ r ≡ some-member (clashes-with s (now (b .entry)) (getD (now (members .entry)) n 0)) (now (members .entry)) n ⌝ }
 {
     let m = member(members, n);
     let mut i = first(heads, members, n, bucket_of(m));
     while 0 < i {
-        if same_member(b, s, member(members, i - 1), m) {
+        if members_clash(b, s, member(members, i - 1), m) {
             return true;
         }
         i = behind(links, i - 1);
@@ -79,8 +94,8 @@ fn repeats(b: &[u8], s: Layout, heads: &[u16], links: &[u16], members: &[u32], n
     false
 }
 
-// Whether two of the first `count` members stand for the same tree. The tables may hold anything at first.
-pub fn some_repeat(
+// Whether two of the first `count` members clash. The tables may hold anything at first.
+pub fn some_clash(
     b: &[u8],
     s: Layout,
     heads: &mut [u16],
@@ -89,11 +104,11 @@ pub fn some_repeat(
     count: usize,
 ) -> bool
     requires { ⌜ Readable s (now b) × Members s (now b) (now members) count × Room (now heads) (now links) (now members) count ⌝ }
-    ensures { λ r. ⌜ r ≡ two-same s (now (b .entry)) (now (members .entry)) count ⌝ }
+    ensures { λ r. ⌜ r ≡ two-clash s (now (b .entry)) (now (members .entry)) count ⌝ }
 {
     let mut n = 0;
     while n < count {
-        if repeats(b, s, heads, links, members, n) {
+        if clashes(b, s, heads, links, members, n) {
             return true;
         }
         let m = member(members, n);
@@ -103,19 +118,16 @@ pub fn some_repeat(
     false
 }
 
-// Puts the subtree at node row `at` behind `n` members if it is an operator, and returns how many there are then.
+// Puts the subtree at node row `at` behind `n` members, and returns how many there are then.
 fn put(b: &[u8], s: Layout, prints: &[u16], members: &mut [u32], at: usize, n: usize) -> usize
     requires { ⌜ Readable s (now b) × (at < s .nodes) × Printed s (now b) (now prints) at × (n < length (now members)) ⌝ }
     ensures { λ r. ⌜ Adds s (now (b .entry)) (subtree-in s (now (b .entry)) at) (now (members .entry)) n (now (members .exit)) r ⌝ }
 {
-    if kind_at(b, s, at) <= rows::NEGATIVE {
-        return n;
-    }
     members[n] = (at * 65536 + prints[at] as usize) as u32;
     n + 1
 }
 
-// Gathers the operators among the children of the subtree at node row `i`, and returns how many there are.
+// Gathers the children of the subtree at node row `i`, and returns how many there are.
 pub fn gather(
     b: &[u8],
     s: Layout,

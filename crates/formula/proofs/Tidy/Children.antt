@@ -66,6 +66,19 @@ some-child-or P Q (t ▸ ts) = ap (λ b. (P t || Q t) || b) (some-child-or P Q t
     mixed false true false d = refl
     mixed false false c d = refl
 
+pub some-two-or : (R S : Tree → Tree → Bool) (ts : Forest) → some-two (λ t u. R t u || S t u) ts ≡ (some-two R ts || some-two S ts)
+unfolding some-two
+some-two-or R S ∅ = refl
+some-two-or R S (t ▸ ts) =
+    ap₂ _||_ (some-child-or (R t) (S t) ts) (some-two-or R S ts) ∙
+    mixed (some-child (R t) ts) (some-child (S t) ts) (some-two R ts) (some-two S ts)
+  where
+    mixed : (a b c d : Bool) → ((a || b) || (c || d)) ≡ ((a || c) || (b || d))
+    mixed true b c d = refl
+    mixed false true true d = refl
+    mixed false true false d = refl
+    mixed false false c d = refl
+
 -- joining
 
 pub ⧺-assoc : (ts us ws : Forest) → (ts ⧺ us) ⧺ ws ≡ ts ⧺ (us ⧺ ws)

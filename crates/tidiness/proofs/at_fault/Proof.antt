@@ -4,7 +4,7 @@ use mathlib.Core.Path.{sym, ap₂, _∙_}
 use native.Mathlib.Omega.{arith}
 use Prim.Native.Nat.{_+_}
 use Rattle.subtrees.proofs.Siblings.{Children, children-of}
-use Rattle.tidiness.specs.Faults.{some-breaks}
+use Rattle.tidiness.specs.Faults.{some-kind}
 use Rattle.tidiness.proofs.Faults.{fault-literal, fault-childless, fault-alone, fault-more}
 use Rattle.tidiness.proofs.at_fault.Statement.{statement}
 use Rattle.tidiness.proofs.at_fault.Tie as tie
@@ -45,8 +45,8 @@ children c =
     let k = c .before .before .before .before .kind-at .ensures in
     children-of (a .args .b .now) (a .pre .0 .readable) (a .args .i) (a .pre .1) (omega arith) (omega arith) (c .before .before .argument-at .ensures .0)
 
-some-breaks-requires : tie.Need-some-breaks-requires
-some-breaks-requires c κs =
+some-kind-requires : tie.Need-some-kind-requires
+some-kind-requires c κs =
     (c .before .before .before .before .before .before .before .pre .0, children c .few)
 
 returns-4 : tie.Need-returns-4
@@ -54,7 +54,7 @@ returns-4 c =
     let a = c .before .before .before .before .before .before .before .before in
     let k = c .before .before .before .before .before .kind-at .ensures in
     let x = c .before .before .before .argument-at .ensures .0 in
-    c .some-breaks .ensures ∙ ap₂ some-breaks k (children (c .before) .are) ∙
+    c .some-kind .ensures ∙ ap₂ some-kind k (children (c .before) .are) ∙
     sym (fault-more (a .args .i) _ (omega arith) (omega arith))
 
 pub at-fault-spec : {M : Type 1} → statement M
@@ -67,5 +67,5 @@ at-fault-spec =
     returns-2
     returns-3
     add-t8
-    some-breaks-requires
+    some-kind-requires
     returns-4)

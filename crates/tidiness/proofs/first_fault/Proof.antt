@@ -4,7 +4,7 @@ use Prim.Native.Nat.{_-_}
 use native.Mathlib.Omega.{arith}
 use lib.ListN.{length}
 use Rattle.subtrees.specs.Subtrees.{subtree-in}
-use Rattle.tidiness.proofs.Faults.{fault-plain, fault-twins, fault-none, Searching, search-start, search-on, search-found, search-all}
+use Rattle.tidiness.proofs.Faults.{fault-plain, fault-two, fault-none, Searching, search-start, search-on, search-found, search-all}
 use Rattle.tidiness.proofs.first_fault.Statement.{statement}
 use Rattle.tidiness.proofs.first_fault.Tie as tie
 
@@ -46,17 +46,17 @@ gather-requires c κs =
     let a = head .before .before .before .before .before .before in
     (a .pre, c .before .before .before .before .if1 .taken, head .before .before .fill-prints .ensures, omega (arith, head .loop .inv .3, a .pre .readable .few-nodes))
 
-slice-aggregate-some-repeat : tie.Need-slice-aggregate-some-repeat Inv-loop μ-loop
-slice-aggregate-some-repeat c = sym (c .before .before .before .before .before .before .before .before .before .loop .inv .1)
+slice-aggregate-some-clash : tie.Need-slice-aggregate-some-clash Inv-loop μ-loop
+slice-aggregate-some-clash c = sym (c .before .before .before .before .before .before .before .before .before .loop .inv .1)
 
-slice-aggregate-some-repeat-2 : tie.Need-slice-aggregate-some-repeat-2 Inv-loop μ-loop
-slice-aggregate-some-repeat-2 c = sym (c .before .before .before .before .before .before .before .before .before .before .loop .inv .2)
+slice-aggregate-some-clash-2 : tie.Need-slice-aggregate-some-clash-2 Inv-loop μ-loop
+slice-aggregate-some-clash-2 c = sym (c .before .before .before .before .before .before .before .before .before .before .loop .inv .2)
 
-slice-aggregate-some-repeat-3 : tie.Need-slice-aggregate-some-repeat-3 Inv-loop μ-loop
-slice-aggregate-some-repeat-3 c = sym (c .before .before .before .before .gather .kept .1 .1 .1 .1 .0 ∙ c .before .before .before .before .before .before .before .before .before .before .before .loop .inv .3)
+slice-aggregate-some-clash-3 : tie.Need-slice-aggregate-some-clash-3 Inv-loop μ-loop
+slice-aggregate-some-clash-3 c = sym (c .before .before .before .before .gather .kept .1 .1 .1 .1 .0 ∙ c .before .before .before .before .before .before .before .before .before .before .before .loop .inv .3)
 
-some-repeat-requires : tie.Need-some-repeat-requires Inv-loop μ-loop
-some-repeat-requires c κs =
+some-clash-requires : tie.Need-some-clash-requires Inv-loop μ-loop
+some-clash-requires c κs =
     let head = c .before .before .before .before .before .before .before .before .before .before .before in
     let a = head .before .before .before .before .before .before in
     let g = c .before .before .before .before .gather in (
@@ -76,8 +76,8 @@ returns-2 c =
     let a = head .before .before .before .before .before .before in
     let i = head .loop .i in
     search-found (a .args .b .now) (a .pre .readable) i (c .before .before .before .before .before .before .before .before .before .before .before .before .before .before .if1 .taken) (head .loop .inv .0)
-    (fault-twins i (subtree-in (a .args .s) (a .args .b .now) i)
-    (sym (c .before .before .before .before .before .before .before .before .before .gather .ensures .0 .some-twins) ∙ sym (c .before .before .before .before .some-repeat .ensures) ∙ c .if3 .taken))
+    (fault-two i (subtree-in (a .args .s) (a .args .b .now) i)
+    (sym (c .before .before .before .before .before .before .before .before .before .gather .ensures .0 .two-clash-there) ∙ sym (c .before .before .before .before .some-clash .ensures) ∙ c .if3 .taken))
 
 add-i : tie.Need-add-i Inv-loop μ-loop
 add-i c = omega arith
@@ -91,10 +91,10 @@ loop-again c =
     let a = head .before .before .before .before .before .before in
     let i = head .loop .i in
     let gave = c .before .before .before .before .before .before .before .before .before .gather in
-    let searched = c .before .before .before .before .some-repeat in (
+    let searched = c .before .before .before .before .some-clash in (
       search-on (a .args .b .now) (a .pre .readable) i (c .before .before .before .before .before .before .before .before .before .before .before .before .before .before .if1 .taken) (omega arith) (head .loop .inv .0)
           (fault-none i (subtree-in (a .args .s) (a .args .b .now) i) (sym (c .before .before .before .before .before .before .before .before .before .before .before .before .before .at-fault .ensures) ∙ c .before .before .before .before .before .before .before .before .before .before .before .before .if2 .left)
-          (sym (gave .ensures .0 .some-twins) ∙ sym (searched .ensures) ∙ c .if3 .left)),
+          (sym (gave .ensures .0 .two-clash-there) ∙ sym (searched .ensures) ∙ c .if3 .left)),
       searched .kept .1 .1 .0 ∙ head .loop .inv .1,
       searched .kept .1 .1 .1 .0 ∙ head .loop .inv .2,
       searched .kept .1 .1 .1 .1 .0 ∙ gave .kept .1 .1 .1 .1 .0 ∙ head .loop .inv .3,
@@ -120,10 +120,10 @@ first-fault-spec =
     slice-aggregate-gather
     slice-aggregate-gather-2
     gather-requires
-    slice-aggregate-some-repeat
-    slice-aggregate-some-repeat-2
-    slice-aggregate-some-repeat-3
-    some-repeat-requires
+    slice-aggregate-some-clash
+    slice-aggregate-some-clash-2
+    slice-aggregate-some-clash-3
+    some-clash-requires
     returns-2
     add-i
     loop-less

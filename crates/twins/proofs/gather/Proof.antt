@@ -75,7 +75,7 @@ returns c =
     let head = c .before in
     let a = head .before .before .before .before .before .before in
     let g = gather-done (a .args .b .now) (head .loop .inv) (c .loop-test .left) in
-    (g, omega (arith, g .few, kids-few (a .args .b .now) (a .pre .0 .readable) (a .args .i) (a .pre .1)))
+    (g, omega (arith, g .as-many, kids-few (a .args .b .now) (a .pre .0 .readable) (a .args .i) (a .pre .1)))
 
 pub gather-spec : {M : Type 1} → statement M
 gather-spec =

@@ -1,21 +1,12 @@
--- `twins::put` meets its contract: by the row's kind. Assumes nothing.
+-- `twins::put` meets its contract: the row and its print are a member. Assumes nothing.
 use borrow.Author.Needs.{needs}
 use mathlib.Core.Path.{refl}
 use native.Mathlib.Nat.{le-refl}
 use native.Mathlib.Omega.{arith}
 use Rattle.subtrees.specs.Subtrees.{subtree-in}
-use Rattle.twins.proofs.Gathering.{gather-literal, gather-operator, member-tree, member-of}
+use Rattle.twins.proofs.Gathering.{gather-more, member-tree, member-of}
 use Rattle.twins.proofs.put.Statement.{statement}
 use Rattle.twins.proofs.put.Tie as tie
-
-kind-at-requires : tie.Need-kind-at-requires
-kind-at-requires c κs = search needs
-
-returns : tie.Need-returns
-returns c ts g =
-    let a = c .before .before .before .before .before .args in
-    let k = c .before .kind-at .ensures in
-    gather-literal g (subtree-in (a .s) (a .b .now) (a .at)) (omega arith)
 
 mul-members : tie.Need-mul-members
 mul-members c = search needs
@@ -27,13 +18,13 @@ shared-slice-read-members : tie.Need-shared-slice-read-members
 shared-slice-read-members c = search needs
 
 cast-members : tie.Need-cast-members
-cast-members c = omega (arith, c .shared-slice-known3 .given (c .before .before .before .before .before .before .args .at))
+cast-members c = omega (arith, c .shared-slice-known .given (c .before .args .at))
 
 add-members : tie.Need-add-members
-add-members c = omega (arith, c .shared-slice-known3 .given (c .before .before .before .before .before .before .args .at), c .before .before .before .before .before .before .pre .0 .few-nodes)
+add-members c = omega (arith, c .shared-slice-known .given (c .before .args .at), c .before .pre .0 .few-nodes)
 
 cast-members-2 : tie.Need-cast-members-2
-cast-members-2 c = omega (arith, c .shared-slice-known3 .given (c .before .before .before .before .before .before .args .at), c .before .before .before .before .before .before .pre .0 .few-nodes)
+cast-members-2 c = omega (arith, c .shared-slice-known .given (c .before .args .at), c .before .pre .0 .few-nodes)
 
 mul-members-3 : tie.Need-mul-members-3
 mul-members-3 c = search needs
@@ -47,21 +38,18 @@ add-result c = search needs
 same-length : tie.Need-same-length
 same-length c = search needs
 
-returns-2 : tie.Need-returns-2
-returns-2 c ts g =
-    let a = c .before .before .before .before .before .before in
-    let k = c .before .before .kind-at .ensures in
-    let t = subtree-in (a .args .s) (a .args .b .now) (a .args .at) in
+returns : tie.Need-returns
+returns c ts g =
+    let a = c .before in
     let is = a .pre .2 .filled (a .args .at) (le-refl _) (a .pre .1) in
-    gather-operator g t (a .pre .3) (member-of (a .args .s) (a .args .b .now) (a .args .at) (a .pre .1) is refl)
-    (member-tree (a .args .s) (a .args .b .now) (a .args .at) (a .pre .1) is refl) (omega arith) (omega arith)
+    gather-more g (subtree-in (a .args .s) (a .args .b .now) (a .args .at)) (a .pre .3)
+    (member-of (a .args .s) (a .args .b .now) (a .args .at) (a .pre .1) is refl)
+    (member-tree (a .args .s) (a .args .b .now) (a .args .at) (a .pre .1) is refl) (omega arith)
 
 pub put-spec : {M : Type 1} → statement M
 put-spec =
     tie.close
     (tie.spec
-    kind-at-requires
-    returns
     mul-members
     mul-members-2
     shared-slice-read-members
@@ -72,4 +60,4 @@ put-spec =
     slice-write-members
     add-result
     same-length
-    returns-2)
+    returns)

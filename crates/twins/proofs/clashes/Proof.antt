@@ -1,19 +1,18 @@
--- `twins::repeats` meets its contract: no member passed in the chain is the same. Assumes nothing.
+-- `twins::clashes` meets its contract: no member passed in the chain clashes. Assumes nothing.
 use mathlib.Core.Path.{_≡_, sym, ap, ap₂, _∙_, subst}
 use mathlib.Core.Bool.{true, false≢true}
 use Prim.Native.Nat.{_+_, _-_}
 use native.Mathlib.Omega.{arith}
 use lib.ListN.{getD}
-use Rattle.formula.specs.Tidy.{same-tree}
 use Rattle.buckets.specs.Chains.{bucket, last, Passed}
 use Rattle.buckets.proofs.Chains.{passed-none, passed-more, link-down}
-use Rattle.twins.specs.Members.{tree-of, Member, some-member, same-as}
+use Rattle.twins.specs.Members.{clash, tree-of, Member, some-member, clashes-with}
 use Rattle.twins.proofs.Members.{member-yes, chain-passed}
-use Rattle.twins.proofs.repeats.Statement.{statement}
-use Rattle.twins.proofs.repeats.Tie as tie
+use Rattle.twins.proofs.clashes.Statement.{statement}
+use Rattle.twins.proofs.clashes.Tie as tie
 
 abbrev Inv-loop : tie.InvT-loop
-Inv-loop b s heads links members n m i₀ i = Passed members n (bucket m) (λ j. same-as s b m (getD members j 0) ≡ true) i
+Inv-loop b s heads links members n m i₀ i = Passed members n (bucket m) (λ j. clashes-with s b m (getD members j 0) ≡ true) i
 
 abbrev μ-loop : tie.MeasureT-loop
 μ-loop b s heads links members n m i₀ i = i
@@ -51,8 +50,8 @@ member-requires-2 c κs =
     let a = c .before .before .before .before .before .before .before .before .before in
     omega (arith, c .before .loop .inv .within, a .pre .2 .members-fit)
 
-same-member-requires : tie.Need-same-member-requires Inv-loop μ-loop
-same-member-requires c κs =
+members-clash-requires : tie.Need-members-clash-requires Inv-loop μ-loop
+members-clash-requires c κs =
     let a = c .before .before .before .before .before .before .before .before .before .before in
     let is-member = Member (a .args .s) (a .args .b .now) in (
       a .pre .0,
@@ -65,11 +64,11 @@ returns c =
     let head = c .before .before .before .before in
     let a = head .before .before .before .before .before .before .before .before .args in
     sym
-    (member-yes (same-as (a .s) (a .b .now) (getD (a .members .now) (a .n) 0)) (a .members .now) (a .n) (head .loop .i - 1)
+    (member-yes (clashes-with (a .s) (a .b .now) (getD (a .members .now) (a .n) 0)) (a .members .now) (a .n) (head .loop .i - 1)
     (omega (arith, head .loop .inv .within))
-    (ap₂ (λ m w. same-tree (tree-of (a .s) (a .b .now) m) (tree-of (a .s) (a .b .now) w)) (sym (c .before .before .member2 .ensures .0))
+    (ap₂ (λ m w. clash (tree-of (a .s) (a .b .now) m) (tree-of (a .s) (a .b .now) w)) (sym (c .before .before .member2 .ensures .0))
     (sym (head .before .before .before .member .ensures .0)) ∙
-    sym (c .before .same-member .ensures) ∙ c .if1 .taken))
+    sym (c .before .members-clash .ensures) ∙ c .if1 .taken))
 
 sub-behind : tie.Need-sub-behind Inv-loop μ-loop
 sub-behind c = omega arith
@@ -89,12 +88,12 @@ loop-again : tie.Need-loop-again Inv-loop μ-loop
 loop-again c =
     let head = c .before .before .before .before .before in
     let a = head .before .before .before .before .before .before .before .before in
-    let found = c .before .before .same-member .ensures in
+    let found = c .before .before .members-clash .ensures in
     passed-more (a .pre .3) (head .loop .inv) (c .before .before .before .before .loop-test .taken)
     (λ e.
     false≢true
     (sym (c .before .if1 .left) ∙ found ∙
-    ap (λ m. same-as (a .args .s) (a .args .b .now) (head .before .before .before .member .result) m) (c .before .before .before .member2 .ensures .0) ∙ e))
+    ap (λ m. clashes-with (a .args .s) (a .args .b .now) (head .before .before .before .member .result) m) (c .before .before .before .member2 .ensures .0) ∙ e))
     (c .behind .ensures)
 
 returns-2 : tie.Need-returns-2 Inv-loop μ-loop
@@ -103,12 +102,12 @@ returns-2 c =
     let a = head .before .before .before .before .before .before .before .before in
     let m = head .before .before .before .member in
     sym
-    (ap (λ w. some-member (same-as (a .args .s) (a .args .b .now) w) (a .args .members .now) (a .args .n)) (sym (m .ensures .0)) ∙
+    (ap (λ w. some-member (clashes-with (a .args .s) (a .args .b .now) w) (a .args .members .now) (a .args .n)) (sym (m .ensures .0)) ∙
     chain-passed (λ i l. a .pre .1 i (omega arith))
     (subst (Member (a .args .s) (a .args .b .now)) (sym (m .ensures .0)) (a .pre .1 (a .args .n) (omega arith))) (head .loop .inv) (c .loop-test .left))
 
-pub repeats-spec : {M : Type 1} → statement M
-repeats-spec =
+pub clashes-spec : {M : Type 1} → statement M
+clashes-spec =
     tie.close
     (tie.spec
     Inv-loop
@@ -119,7 +118,7 @@ repeats-spec =
     loop-holds
     sub-member
     member-requires-2
-    same-member-requires
+    members-clash-requires
     returns
     sub-behind
     behind-requires

@@ -1,20 +1,20 @@
--- `tidiness::literal_among` meets its contract: no subtree passed is such a literal. Assumes nothing.
-use mathlib.Core.Path.{refl, sym, _∙_}
+-- `tidiness::some_kind` meets its contract: no subtree passed is of the kind. Assumes nothing.
+use mathlib.Core.Path.{refl, sym, ap, _∙_}
 use native.Mathlib.Omega.{arith}
-use Rattle.formula.specs.Tree.{of, some-child}
-use Rattle.formula.specs.Settle.{is-lit}
-use Rattle.subtrees.specs.Subtrees.{siblings-in}
+use lib.Dec.{eqb}
+use borrow.Author.Tests.{eq-eqb, ne-eqb}
+use Rattle.subtrees.specs.Subtrees.{top, siblings-in}
 use Rattle.subtrees.proofs.Siblings.{Walked, walk-on, Looking, look-found, look-on, look-none}
-use Rattle.tidiness.proofs.Faults.{some-child-none, some-child-more}
-use Rattle.tidiness.proofs.literal_among.Statement.{statement}
-use Rattle.tidiness.proofs.literal_among.Tie as tie
+use Rattle.tidiness.specs.Faults.{some-kind}
+use Rattle.tidiness.proofs.Faults.{some-kind-none, some-kind-more}
+use Rattle.tidiness.proofs.some_kind.Statement.{statement}
+use Rattle.tidiness.proofs.some_kind.Tie as tie
 
 abbrev Inv-loop : tie.InvT-loop
-Inv-loop b s ends x at₀ left₀ at left =
-    Looking (some-child (is-lit (of x))) s b (some-child (is-lit (of x)) (siblings-in s b at₀ left₀)) at left
+Inv-loop b s ends kind at₀ left₀ at left = Looking (some-kind kind) s b (some-kind kind (siblings-in s b at₀ left₀)) at left
 
 abbrev μ-loop : tie.MeasureT-loop
-μ-loop b s ends x at₀ left₀ at left = left
+μ-loop b s ends kind at₀ left₀ at left = left
 
 loop-holds : tie.Need-loop-holds Inv-loop μ-loop
 loop-holds c = record { few = c .before .before .pre .1; same = refl }
@@ -28,16 +28,16 @@ walked c =
     walk-on (a .args .b .now) (a .pre .0 .readable) (a .args .ends .now) (a .pre .0) (c .before .loop .at) (c .loop-test .taken)
     (c .before .loop .inv .few)
 
-is-literal-requires : tie.Need-is-literal-requires Inv-loop μ-loop
-is-literal-requires c κs = let a = c .before .before .before .before in (a .pre .0 .readable, walked c .inside)
+kind-at-requires : tie.Need-kind-at-requires Inv-loop μ-loop
+kind-at-requires c κs = let a = c .before .before .before .before in (a .pre .0 .readable, walked c .inside)
 
 returns : tie.Need-returns Inv-loop μ-loop
 returns c =
     let head = c .before .before .before in
-    let P = is-lit (of (head .before .before .before .args .x)) in
+    let k = head .before .before .before .args .kind in
     sym
-    (look-found (λ t ts. P t) (some-child P) (some-child-none P) (some-child-more P) (walked (c .before .before)) (head .loop .inv)
-    (sym (c .before .is-literal .ensures) ∙ c .if1 .taken))
+    (look-found (λ t ts. eqb ((top t) .kind) k) (some-kind k) (some-kind-none k) (some-kind-more k) (walked (c .before .before)) (head .loop .inv)
+    (eq-eqb _ k (sym (c .before .kind-at .ensures) ∙ c .if1 .taken)))
 
 mul-at : tie.Need-mul-at Inv-loop μ-loop
 mul-at c = let w = walked (c .before .before) in omega arith
@@ -57,23 +57,23 @@ loop-less c = omega arith
 loop-again : tie.Need-loop-again Inv-loop μ-loop
 loop-again c =
     let head = c .before .before .before .before in
-    let P = is-lit (of (head .before .before .before .args .x)) in
-    look-on (λ t ts. P t) (some-child P) (some-child-none P) (some-child-more P) (walked (c .before .before .before)) (head .loop .inv)
-    (sym (c .before .before .is-literal .ensures) ∙ c .before .if1 .left)
+    let k = head .before .before .before .args .kind in
+    look-on (λ t ts. eqb ((top t) .kind) k) (some-kind k) (some-kind-none k) (some-kind-more k) (walked (c .before .before .before)) (head .loop .inv)
+    (ne-eqb _ k (λ e. c .before .if1 .left (c .before .before .kind-at .ensures ∙ e)))
 
 returns-2 : tie.Need-returns-2 Inv-loop μ-loop
 returns-2 c =
-    let P = is-lit (of (c .before .before .before .before .args .x)) in
-    sym (look-none (λ t ts. P t) (some-child P) (some-child-none P) (some-child-more P) (c .loop-test .left) (c .before .loop .inv))
+    let k = c .before .before .before .before .args .kind in
+    sym (look-none (λ t ts. eqb ((top t) .kind) k) (some-kind k) (some-kind-none k) (some-kind-more k) (c .loop-test .left) (c .before .loop .inv))
 
-pub literal-among-spec : {M : Type 1} → statement M
-literal-among-spec =
+pub some-kind-spec : {M : Type 1} → statement M
+some-kind-spec =
     tie.close
     (tie.spec
     Inv-loop
     μ-loop
     loop-holds
-    is-literal-requires
+    kind-at-requires
     returns
     mul-at
     shared-slice-read-at

@@ -1,11 +1,11 @@
--- `twins::some_repeat` meets its contract: no member passed repeats an earlier one. Assumes nothing.
+-- `twins::some_clash` meets its contract: no member passed clashes with an earlier one. Assumes nothing.
 use mathlib.Core.Path.{_≡_, sym, ap, _∙_}
 use Prim.Native.Nat.{_-_}
 use native.Mathlib.Omega.{arith}
 use lib.ListN.{length}
 use Rattle.twins.proofs.Members.{Searched, search-start, members-left, room-left, search-found, search-on}
-use Rattle.twins.proofs.some_repeat.Statement.{statement}
-use Rattle.twins.proofs.some_repeat.Tie as tie
+use Rattle.twins.proofs.some_clash.Statement.{statement}
+use Rattle.twins.proofs.some_clash.Tie as tie
 
 abbrev Inv-loop : tie.InvT-loop
 Inv-loop b s heads₀ links₀ members₀ count n₀ heads links members n = Searched s b heads₀ links₀ members₀ count heads links members n
@@ -16,8 +16,8 @@ abbrev μ-loop : tie.MeasureT-loop
 loop-holds : tie.Need-loop-holds Inv-loop μ-loop
 loop-holds c = search-start
 
-repeats-requires : tie.Need-repeats-requires Inv-loop μ-loop
-repeats-requires c κs =
+clashes-requires : tie.Need-clashes-requires Inv-loop μ-loop
+clashes-requires c κs =
     let head = c .before .before .before .before in
     let a = head .before .before .before .before .before in
     let here = c .before .before .before .loop-test .taken in
@@ -36,7 +36,7 @@ returns : tie.Need-returns Inv-loop μ-loop
 returns c =
     let head = c .before .before .before .before .before .before in
     let a = head .before .before .before .before .before in
-    sym (search-found (a .pre .2) (head .loop .inv) (c .before .before .before .before .before .loop-test .taken) (sym (c .before .repeats .ensures) ∙ c .if1 .taken))
+    sym (search-found (a .pre .2) (head .loop .inv) (c .before .before .before .before .before .loop-test .taken) (sym (c .before .clashes .ensures) ∙ c .if1 .taken))
 
 member-requires : tie.Need-member-requires Inv-loop μ-loop
 member-requires c κs =
@@ -60,7 +60,7 @@ loop-again : tie.Need-loop-again Inv-loop μ-loop
 loop-again c =
     let head = c .before .before .before .before .before .before .before .before .before .before .before .before .before .before .before .before .before .before in
     let made = c .before .before .before .before .before .before .add in
-    search-on (head .before .before .before .before .before .pre .2) (head .loop .inv) (c .before .before .before .before .before .before .before .before .before .before .before .before .before .before .before .before .before .loop-test .taken) (sym (c .before .before .before .before .before .before .before .before .before .before .before .before .before .repeats .ensures) ∙ c .before .before .before .before .before .before .before .before .before .before .before .before .if1 .left)
+    search-on (head .before .before .before .before .before .pre .2) (head .loop .inv) (c .before .before .before .before .before .before .before .before .before .before .before .before .before .before .before .before .before .loop-test .taken) (sym (c .before .before .before .before .before .before .before .before .before .before .before .before .before .clashes .ensures) ∙ c .before .before .before .before .before .before .before .before .before .before .before .before .if1 .left)
     (made .kept .0) (made .kept .1 .0) (c .before .before .before .before .before .before .before .before .before .before .member .ensures .0) (made .ensures .0) (made .ensures .1)
 
 same-length-4 : tie.Need-same-length-4 Inv-loop μ-loop
@@ -79,14 +79,14 @@ returns-2 c =
     let done : head .loop .n ≡ a .args .count = omega (arith, head .loop .inv .within) in
     sym (rw done at (head .loop .inv .none))
 
-pub some-repeat-spec : {M : Type 1} → statement M
-some-repeat-spec =
+pub some-clash-spec : {M : Type 1} → statement M
+some-clash-spec =
     tie.close
     (tie.spec
     Inv-loop
     μ-loop
     loop-holds
-    repeats-requires
+    clashes-requires
     same-length
     same-length-2
     same-length-3
