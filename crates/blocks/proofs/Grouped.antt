@@ -7,10 +7,10 @@ use Prim.Native.Nat.{ℕ}
 use lib.Dec.{eqb}
 use borrow.Author.Tests.{not-false}
 use Rattle.formula.specs.Tree.{Op, dual, Tree, lit, node, Forest, ∅, _▸_, _⧺_, some-child, some-two, keep}
-use Rattle.formula.specs.Tidy.{is-empty, opposite, equal, same-variable, decides, firsts}
+use Rattle.formula.specs.Tidy.{is-empty, opposite, same-tree, same-variable, decides, firsts}
 use Rattle.formula.proofs.Booleans.{cond-cases, and-parts, or-parts, or-none, or-cases, eqb-comm}
 use Rattle.formula.proofs.Tidy.Children.{some-child-less, some-child-⧺, firsts-all, some-child-same, keep-same, keep-⧺, keep-keep, some-child-or, some-two-⧺, keep-every}
-use Rattle.formula.proofs.Tidy.Truth.{equal-same}
+use Rattle.formula.proofs.Tidy.Same.{same-tree-same}
 use Rattle.blocks.specs.Blocks.{Block, gone, literal, operator, none, _◂_, grown, live}
 use Rattle.blocks.specs.Rules.{decisive, repeated, new, Unopposed}
 
@@ -49,14 +49,14 @@ decides-before o ts us e =
 
 -- rule 4
 
-pub firsts-⧺ : (ts us : Forest) → firsts (ts ⧺ us) ≡ firsts ts ⧺ new ts (firsts us)
+pub firsts-⧺ : (ts us : Forest) → firsts same-tree (ts ⧺ us) ≡ firsts same-tree ts ⧺ new ts (firsts same-tree us)
 unfolding firsts _⧺_ repeated some-child
-firsts-⧺ ∅ us = sym (keep-every _ (λ t. refl) (firsts us))
+firsts-⧺ ∅ us = sym (keep-every _ (λ t. refl) (firsts same-tree us))
 firsts-⧺ (t ▸ ts) us =
     ap (λ ws. t ▸ ws)
-    (ap (keep (λ u. not (equal t u))) (firsts-⧺ ts us) ∙ keep-⧺ (λ u. not (equal t u)) (firsts ts) (new ts (firsts us)) ∙
-    ap (λ ws. keep (λ u. not (equal t u)) (firsts ts) ⧺ ws)
-    (keep-keep (λ u. not (equal t u)) (λ u. not (repeated ts u)) (λ u. not (repeated (t ▸ ts) u)) (λ u. both (equal t u) (repeated ts u)) (firsts us)))
+    (ap (keep (λ u. not (same-tree t u))) (firsts-⧺ ts us) ∙ keep-⧺ (λ u. not (same-tree t u)) (firsts same-tree ts) (new ts (firsts same-tree us)) ∙
+    ap (λ ws. keep (λ u. not (same-tree t u)) (firsts same-tree ts) ⧺ ws)
+    (keep-keep (λ u. not (same-tree t u)) (λ u. not (repeated ts u)) (λ u. not (repeated (t ▸ ts) u)) (λ u. both (same-tree t u) (repeated ts u)) (firsts same-tree us)))
   where
     both : (a b : Bool) → not (a || b) ≡ (not b && not a)
     both true true = refl
@@ -74,26 +74,26 @@ twice true b = refl
 twice false b = refl
 
 -- the first of equal children passes the tests that the others do
-some-child-firsts-is : (P : Tree → Bool) (ts : Forest) → some-child P (firsts ts) ≡ some-child P ts
+some-child-firsts-is : (P : Tree → Bool) (ts : Forest) → some-child P (firsts same-tree ts) ≡ some-child P ts
 unfolding some-child firsts keep
 some-child-firsts-is P ∅ = refl
-some-child-firsts-is P (t ▸ ts) = dropped (firsts ts) ∙ ap (λ b. P t || b) (some-child-firsts-is P ts)
+some-child-firsts-is P (t ▸ ts) = dropped (firsts same-tree ts) ∙ ap (λ b. P t || b) (some-child-firsts-is P ts)
   where
-    dropped : (us : Forest) → (P t || some-child P (keep (λ u. not (equal t u)) us)) ≡ (P t || some-child P us)
+    dropped : (us : Forest) → (P t || some-child P (keep (λ u. not (same-tree t u)) us)) ≡ (P t || some-child P us)
     dropped ∅ = refl
     dropped (u ▸ us) =
         let rest = dropped us in
-        cond-cases (λ ws. (P t || some-child P ws) ≡ (P t || (P u || some-child P us))) (not (equal t u))
+        cond-cases (λ ws. (P t || some-child P ws) ≡ (P t || (P u || some-child P us))) (not (same-tree t u))
         (λ _. swap (P t) (P u) _ ∙ ap (λ b. P u || b) rest ∙ swap (P u) (P t) _)
-        (λ e. rest ∙ twice (P t) _ ∙ ap (λ w. P t || (P w || some-child P us)) (equal-same t u (not-false (equal t u) e)))
+        (λ e. rest ∙ twice (P t) _ ∙ ap (λ w. P t || (P w || some-child P us)) (same-tree-same t u (not-false (same-tree t u) e)))
 
-pub decisive-firsts : (o : Op) (ts us : Forest) → some-child (decisive o (firsts ts)) us ≡ some-child (decisive o ts) us
+pub decisive-firsts : (o : Op) (ts us : Forest) → some-child (decisive o (firsts same-tree ts)) us ≡ some-child (decisive o ts) us
 unfolding decisive
 decisive-firsts o ts us = some-child-same (λ u. ap (λ b. is-empty (dual o) u || b) (some-child-firsts-is (λ t. opposite t u) ts)) us
 
-pub new-firsts : (ts us : Forest) → new (firsts ts) us ≡ new ts us
+pub new-firsts : (ts us : Forest) → new (firsts same-tree ts) us ≡ new ts us
 unfolding repeated
-new-firsts ts us = keep-same (λ u. ap not (some-child-firsts-is (λ t. equal t u) ts)) us
+new-firsts ts us = keep-same (λ u. ap not (some-child-firsts-is (λ t. same-tree t u) ts)) us
 
 -- a child that is equal to one of others passes no test that all of them fail
 repeated-fails : (P : Tree → Bool) (us : Forest) (u : Tree) → repeated us u ≡ true → some-child P us ≡ false → P u ≡ false
@@ -101,8 +101,8 @@ unfolding repeated some-child
 repeated-fails P ∅ u r e = absurd (false≢true r)
 repeated-fails P (t ▸ ts) u r e =
     let fails = or-parts (P t) (some-child P ts) e in
-    ⊎-elim (λ q. ap P (sym (equal-same t u q)) ∙ fails .0) (λ q. repeated-fails P ts u q (fails .1))
-    (or-cases (equal t u) (repeated ts u) r)
+    ⊎-elim (λ q. ap P (sym (same-tree-same t u q)) ∙ fails .0) (λ q. repeated-fails P ts u q (fails .1))
+    (or-cases (same-tree t u) (repeated ts u) r)
 
 opposite-comm : (t u : Tree) → opposite t u ≡ opposite u t
 unfolding opposite
@@ -114,8 +114,8 @@ opposite-comm (lit true v) (lit false w) = ap (λ b. b && true) (eqb-comm v w)
 opposite-comm (lit false v) (lit true w) = ap (λ b. b && true) (eqb-comm v w)
 opposite-comm (lit false v) (lit false w) = ap (λ b. b && false) (eqb-comm v w)
 
-equal-unopposed : (t u : Tree) → equal t u ≡ true → opposite t u ≡ false
-unfolding equal opposite
+equal-unopposed : (t u : Tree) → same-tree t u ≡ true → opposite t u ≡ false
+unfolding same-tree opposite
 equal-unopposed (node o ts) u e = refl
 equal-unopposed (lit s v) (node o ts) e = refl
 equal-unopposed (lit true v) (lit true w) e = and-false (eqb v w)
@@ -132,9 +132,9 @@ repeated-unopposed (t ▸ ts) u two r =
     ⊎-elim
     (λ q.
     or-none (equal-unopposed t u q)
-    (some-child-same (λ w. opposite-comm w u ∙ ap (λ z. opposite z w) (sym (equal-same t u q))) ts ∙ apart .0))
+    (some-child-same (λ w. opposite-comm w u ∙ ap (λ z. opposite z w) (sym (same-tree-same t u q))) ts ∙ apart .0))
     (λ q. or-none (repeated-fails (opposite t) ts u q (apart .0)) (repeated-unopposed ts u (apart .1) q))
-    (or-cases (equal t u) (repeated ts u) r)
+    (or-cases (same-tree t u) (repeated ts u) r)
 
 pub repeated-indecisive : (o : Op) (us : Forest) (s : Bool) (v : ℕ) → Unopposed us → repeated us (lit s v) ≡ true
     → decisive o us (lit s v) ≡ false
@@ -147,11 +147,10 @@ apart-opposite (node o ts) u e = refl
 apart-opposite (lit s v) (node o ts) e = refl
 apart-opposite (lit s v) (lit s′ v′) e = rw e
 
-apart-equal : (t u : Tree) → same-variable t u ≡ false → equal t u ≡ false
-unfolding same-variable equal
-apart-equal (node o ts) u e = refl
-apart-equal (lit s v) (node o ts) e = refl
-apart-equal (lit s v) (lit s′ v′) e = rw e
+apart-same : (t : Tree) (s : Bool) (v : ℕ) → same-variable t (lit s v) ≡ false → same-tree t (lit s v) ≡ false
+unfolding same-variable same-tree
+apart-same (node o ts) s v e = refl
+apart-same (lit s′ v′) s v e = rw e
 
 -- a literal of a variable that none of them has
 pub record Unknown (o : Op) (us : Forest) (u : Tree) : Type 0 where
@@ -163,13 +162,13 @@ unfolding decisive repeated is-empty
 unknown o us s v e =
     record {
       indecisive = some-child-less (λ t. same-variable t (lit s v)) (λ t. opposite t (lit s v)) (λ t. apart-opposite t (lit s v)) us e;
-      unrepeated = some-child-less (λ t. same-variable t (lit s v)) (λ t. equal t (lit s v)) (λ t. apart-equal t (lit s v)) us e;
+      unrepeated = some-child-less (λ t. same-variable t (lit s v)) (λ t. same-tree t (lit s v)) (λ t. apart-same t s v) us e;
     }
 
 -- a block holds one tree at most, and no two
 pub record Single (ts : Forest) : Type 0 where
   pub unopposed : some-two opposite ts ≡ false
-  pub unequal : some-two equal ts ≡ false
+  pub unequal : some-two same-tree ts ≡ false
 
 pub single : (x : Block) → Single (live (x ◂ none))
 unfolding live grown some-two some-child
@@ -177,5 +176,5 @@ single (gone rs) = record { unopposed = refl; unequal = refl }
 single (literal s v) = record { unopposed = refl; unequal = refl }
 single (operator o ks) = record { unopposed = refl; unequal = refl }
 
-pub firsts-single : {ts : Forest} → Single ts → firsts ts ≡ ts
-firsts-single {ts} c = firsts-all ts (c .unequal)
+pub firsts-single : {ts : Forest} → Single ts → firsts same-tree ts ≡ ts
+firsts-single {ts} c = firsts-all same-tree ts (c .unequal)

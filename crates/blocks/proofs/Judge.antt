@@ -1,4 +1,4 @@
--- Rules 2 to 4 at one block behind others.
+-- Rules 2 to 5 at one block behind others.
 -- Assumes nothing.
 use mathlib.Core.Path.{_≡_, refl, sym, ap, ap₂, _∙_, subst}
 use mathlib.Core.Bool.{Bool, true, false, not, _||_, or-false}
@@ -10,35 +10,36 @@ use lib.ListN.{length, getD, set, take, length-append}
 use lib.Seq.{append-snoc, set-getD, take-suc-set}
 use borrow.Author.Tests.{eq-eqb, ne-eqb, eqb-true, leb-true}
 use Rattle.formula.specs.Tree.{Op, and, or, dual, same-op, Tree, lit, node, Forest, ∅, _▸_, _⧺_, some-child, keep}
-use Rattle.formula.specs.Tidy.{is-empty, opposite, equal, childless}
+use Rattle.formula.specs.Tidy.{is-empty, opposite, same-tree, childless}
 use Rattle.formula.proofs.Booleans.{and-parts}
 use Rattle.formula.proofs.Tidy.Children.{keep-all, some-child-same}
 use Rattle.sheet.specs.Format.{Row, row}
 use Rattle.sheet.specs.Sheet.{literal-kind, operator-kind}
 use Rattle.buckets.specs.Chains.{bucket, Passed}
-use Rattle.buckets.specs.Prints.{literal-mix, sign}
+use Rattle.buckets.specs.Prints.{literal-mix, sign, outline}
 use Rattle.blocks.specs.Blocks.{Block, gone, literal, operator, Blocks, none, _◂_, head, inner, block-rows, size, grown, live, Laid, Here, Stands, Standing, Region}
-use Rattle.blocks.specs.Rules.{decisive, repeated, new, Unopposed, place, note, notes, literal-test, Test, Noted, LiteralRow, Kept, Judged}
+use Rattle.blocks.specs.Rules.{decisive, repeated, new, Unopposed, place, note, notes, literal-test, Test, Twin, Noted, LiteralRow, Kept, Judged}
 use Rattle.blocks.specs.Walks.{at-row, FirstLive, Finds}
+use Rattle.blocks.specs.Entered.{LiveAt, Same}
 use Rattle.blocks.proofs.Blocks.{stands, live-◂, stands-row, start}
 use Rattle.blocks.proofs.Walks.{like, dead-holds}
 use Rattle.blocks.proofs.Hop.{live-one}
-use Rattle.blocks.proofs.Notes.{noted-count, noted-at, notes-places, unseen, seen, member-live}
+use Rattle.blocks.proofs.Notes.{noted-count, noted-at, notes-places, unseen, seen, unseen-twin, seen-twin, member-lives}
 use Rattle.blocks.proofs.Grouped.{Unknown, unknown, repeated-indecisive}
 
 -- rules 2 and 3 at one block
 
 opposite-like : (s : Bool) (v : ℕ) (t : Tree) → opposite t (lit s v) ≡ like (not s) v t
-unfolding opposite equal
+unfolding opposite same-tree
 opposite-like s v (node o ts) = refl
 opposite-like true v (lit true w) = refl
 opposite-like true v (lit false w) = refl
 opposite-like false v (lit true w) = refl
 opposite-like false v (lit false w) = refl
 
-no-operator : (o : Op) (ks us : Forest) → (some-child (λ t. opposite t (node o ks)) us ≡ false) × (some-child (λ t. equal t (node o ks)) us ≡ false)
-unfolding some-child opposite equal
-no-operator o ks ∅ = (refl, refl)
+no-operator : (o : Op) (ks us : Forest) → some-child (λ t. opposite t (node o ks)) us ≡ false
+unfolding some-child opposite
+no-operator o ks ∅ = refl
 no-operator o ks (lit s v ▸ us) = no-operator o ks us
 no-operator o ks (node k ts ▸ us) = no-operator o ks us
 
@@ -55,7 +56,7 @@ decisive-operator : (o : Op) (us : Forest) (k : Op) (ks : Blocks)
     → some-child (decisive o us) (live (operator k ks ◂ none)) ≡ is-empty (dual o) (node k (live ks))
 unfolding some-child decisive live grown
 decisive-operator o us k ks =
-    or-false _ ∙ ap (λ b. is-empty (dual o) (node k (live ks)) || b) (no-operator k (live ks) us .0) ∙ or-false _
+    or-false _ ∙ ap (λ b. is-empty (dual o) (node k (live ks)) || b) (no-operator k (live ks) us) ∙ or-false _
 
 is-empty-other : (k o : Op) (ts : Forest) → same-op k o ≡ false → is-empty k (node o ts) ≡ false
 unfolding is-empty
@@ -145,20 +146,6 @@ pub decisive-other : {R : List Row} {at a : ℕ} {before after : List Row} (o : 
 decisive-other {R} {at} o us x p l d e h =
     subst (λ m. Finds R (at + 1) (at + m) p → eqb p (at + m) ≡ some-child (decisive o us) (live (x ◂ none))) (sym e) (decisive-hollow o us x p l d h)
 
--- rule 4 at one block
-
-repeats-literal : (us : Forest) (s : Bool) (v : ℕ) → some-child (repeated us) (live (literal s v ◂ none)) ≡ some-child (like s v) us
-unfolding some-child live grown repeated
-repeats-literal us s v = or-false _
-
--- an operator's block repeats none
-pub repeats-operator : (us : Forest) (x : Block) → 4 < (head x) .kind → some-child (repeated us) (live (x ◂ none)) ≡ false
-unfolding head some-child live grown repeated
-repeats-operator us (gone rs) l = refl
-repeats-operator us (literal true v) l = absurd (omega arith)
-repeats-operator us (literal false v) l = absurd (omega arith)
-repeats-operator us (operator o ks) l = or-false _ ∙ no-operator o (live ks) us .1
-
 -- the block stays as it is
 pub kept-same : {R : List Row} {at : ℕ} {before after : List Row} (x : Block) → Stands R at before x after → Kept R R at x
 kept-same {R} {at} x h =
@@ -199,6 +186,14 @@ judged-passed {M = M} {from = from} {n = n} {left = left} {done = done} {x = x} 
 
 -- a block that is not dead
 
+pub live-kind : (x : Block) {t : Tree} → live (x ◂ none) ≡ t ▸ ∅ → (head x) .kind ≡ 0 → ⊥
+unfolding head live grown
+live-kind (gone rs) e z = let z : _≡_ {A = ℕ} 0 1 = cc in omega arith
+live-kind (literal true v) e z = omega arith
+live-kind (literal false v) e z = omega arith
+live-kind (operator and ks) e z = omega arith
+live-kind (operator or ks) e z = omega arith
+
 pub live-above : (x : Block) → ((head x) .kind ≡ 0 → ⊥) → 2 < (head x) .kind
 unfolding head
 live-above (gone rs) e = absurd (e refl)
@@ -206,13 +201,6 @@ live-above (literal true v) e = omega arith
 live-above (literal false v) e = omega arith
 live-above (operator and ks) e = omega arith
 live-above (operator or ks) e = omega arith
-
-pub note-operator : (r : ℕ) (x : Block) → 4 < (head x) .kind → note r x ≡ []
-unfolding note head
-note-operator r (gone rs) l = refl
-note-operator r (literal true v) l = absurd (omega arith)
-note-operator r (literal false v) l = absurd (omega arith)
-note-operator r (operator o ks) l = refl
 
 -- a literal's block
 pub record LiteralBlock (x : Block) : Type 0 where
@@ -240,6 +228,12 @@ pub members-within : {R : List Row} {M : List ℕ} {n from at : ℕ} {before aft
     → Noted M n from done → (j : ℕ) → j < n → place (getD M j 0) < at
 members-within {from = from} {done = done} laid noted j l =
     omega (arith, ap place (noted-at noted j l), notes-places from done j (omega (arith, noted-count noted)), laid .ends)
+
+-- and each is a live block
+pub member-at : {R : List Row} {M : List ℕ} {n from at : ℕ} {before after : List Row} {done : Blocks} → Laid R from at before done after
+    → Noted M n from done → (j : ℕ) → j < n → LiveAt R (place (getD M j 0))
+member-at {R} {done = done} laid noted j l =
+    subst (λ m. LiveAt R (place m)) (sym (noted-at noted j l)) (member-lives done (start laid) j (omega (arith, noted-count noted)))
 
 -- A literal at a row, by the row's kind and argument.
 module _ {R : List Row} {at kind v : ℕ} (row-is : LiteralRow R at kind) (v-is : v ≡ (at-row R at) .argument)
@@ -351,11 +345,87 @@ module _ {R : List Row} {at kind v : ℕ} (row-is : LiteralRow R at kind) (v-is 
       where
         above : 2 < (at-row R (place (getD M j 0))) .kind
         above =
-            omega
-            (arith, member-live done (start laid) j (omega (arith, counted)), ap (λ m. (at-row R (place m)) .kind) (noted-at noted j l))
+            let m = member-at laid noted j l in
+            omega (arith, live-above (m .block) (live-kind (m .block) (m .holds)), ap (λ (r : Row). r .kind) (stands-row (m .stands)))
 
         below : (at-row R (place (getD M j 0))) .kind ≤ 4
         below = leb-true _ 4 (and-parts (leb ((at-row R (place (getD M j 0))) .kind) 4) _ t .0)
 
         other : (at-row R (place (getD M j 0))) .kind ≡ literal-kind (not (b .sign-of))
         other = opposite-kind (b .sign-of) _ above below (λ e. k (e ∙ sym kind-sign))
+
+first-of : {t u : Tree} {ts us : Forest} → t ▸ ts ≡ u ▸ us → t ≡ u
+first-of e = cc
+
+dropped-one : (us : Forest) (t : Tree) → some-child (λ w. same-tree w t) us ≡ true → new us (t ▸ ∅) ≡ ∅
+unfolding keep repeated
+dropped-one us t r = rw r
+
+-- a live block is noted by its tree
+note-is : (r : ℕ) (x : Block) (t : Tree) → live (x ◂ none) ≡ t ▸ ∅ → note r x ≡ (r * 65536 + outline t) ∷ []
+unfolding note live grown outline
+note-is r (gone rs) t e = let z : _≡_ {A = ℕ} 0 1 = cc in absurd (omega arith)
+note-is r (literal s v) t e = ap (λ u. (r * 65536 + outline u) ∷ []) (first-of e)
+note-is r (operator o ks) t e = ap (λ u. (r * 65536 + outline u) ∷ []) (first-of e)
+
+-- an operator covers as many rows as it says
+pub operator-size : (x : Block) → 4 < (head x) .kind → (head x) .argument ≡ size x
+unfolding head inner
+operator-size (gone rs) l = absurd (omega arith)
+operator-size (literal true v) l = absurd (omega arith)
+operator-size (literal false v) l = absurd (omega arith)
+operator-size (operator o ks) l = refl
+
+-- An operator at a row, by its outline.
+module _ {R : List Row} {at from n : ℕ} {M : List ℕ} {before after : List Row} {done : Blocks} (laid : Laid R from at before done after)
+    (noted : Noted M n from done) {front back : List Row} {x : Block} {t : Tree} (h : Stands R at front x back) (tree-there : live (x ◂ none) ≡ t ▸ ∅)
+    (o : Op) (undecided : some-child (decisive o (live done)) (live (x ◂ none)) ≡ false) where
+  operator-tested : (P : Tree → Bool) → some-child P (live (x ◂ none)) ≡ P t
+  unfolding some-child
+  operator-tested P = ap (some-child P) tree-there ∙ or-false (P t)
+
+  -- none is the same
+  pub operator-new : {p left : ℕ} {M′ : List ℕ} → p ≡ outline t → Passed M n (bucket p) (λ j. Twin R (place (getD M j 0)) t) 0
+      → M′ ≡ set M n (at * 65536 + p) → n < length M → left ≡ n + 2 → Judged R R M′ from at done x o left
+  unfolding kept-same repeated
+  operator-new {p} {left} {M′} p-is passed M-is few l =
+      record {
+        decided-is = ne-eqb left 0 (λ z. omega arith) ∙ sym undecided;
+        kept = kept-same x h;
+        holds = λ _. sym (keep-all (repeated (live done)) (live (x ◂ none)) (operator-tested (repeated (live done)) ∙ fresh));
+        noted =
+            λ _.
+            ap₂ take less M-is ∙ take-suc-set M n (at * 65536 + p) few ∙ ap₂ (λ ns m. ns ++ (m ∷ [])) (noted .are) (ap (λ q. at * 65536 + q) p-is) ∙
+            ap (λ ns. notes from done ++ ns) (sym (note-is at x t tree-there));
+      }
+    where
+      less : left - 1 ≡ suc n
+      less = omega arith
+
+      fresh : some-child (λ w. same-tree w t) (live done) ≡ false
+      fresh =
+          unseen-twin t done (start laid)
+          (λ j u e w.
+          let i = noted-at noted j (omega (arith, noted-count noted)) in
+          passed .failed j (omega arith) (omega (arith, noted-count noted)) (ap bucket i ∙ e ∙ sym (ap bucket p-is))
+          (subst (λ m. Twin R (place m) t) (sym i) w))
+
+  -- one is
+  pub operator-again : {left j : ℕ} {R′ : List Row} → j < n → Same R (place (getD M j 0)) at true → R′ ≡ set R at (row 0 (size x)) → left ≡ n + 1
+      → Judged R R′ M from at done x o left
+  unfolding head inner live grown note
+  operator-again {left} {j} {R′} l d R-is e =
+      record {
+        decided-is = not-zero left n e ∙ sym undecided;
+        kept = record { block = gone (inner x); stored = R-is; same-rows = refl };
+        holds = λ _. sym (ap (new (live done)) tree-there ∙ dropped again);
+        noted = λ _. taken M (notes from done) n left (noted .are) e;
+      }
+    where
+      again : some-child (λ w. same-tree w t) (live done) ≡ true
+      again =
+          seen-twin done x t h tree-there (start laid) j (omega (arith, noted-count noted))
+          (subst (λ m. Same R (place m) at true) (noted-at noted j l) d)
+
+      dropped : some-child (λ w. same-tree w t) (live done) ≡ true → new (live done) (t ▸ ∅) ≡ ∅
+      dropped r = dropped-one (live done) t r

@@ -6,6 +6,7 @@ pub mod Notes
 pub mod Grouped
 pub mod Find
 pub mod Judge
+pub mod Entered
 pub mod Join
 pub mod Sift
 pub mod Splice

@@ -1,6 +1,6 @@
 -- Members and the literals that they name.
 -- Assumes nothing.
-use mathlib.Core.Path.{_≡_, refl, sym, ap, _∙_}
+use mathlib.Core.Path.{_≡_, refl, sym, ap, _∙_, subst}
 use mathlib.Core.Bool.{Bool, true, false, _&&_, _||_}
 use mathlib.Core.List.{List, [], _∷_, _++_, append-assoc, append-nil}
 use Prim.Native.Nat.{ℕ, zero, suc, _+_, _*_, _/_, _%_, _≤_, _<_}
@@ -10,16 +10,19 @@ use lib.Dec.{eqb}
 use lib.ListN.{length, getD, take, length-append}
 use lib.Seq.{getD-take, length-take-le}
 use borrow.Author.Tests.{eq-eqb, eqb-true, le-leb, lt-leb}
-use Rattle.formula.specs.Tree.{and, or, lit, node, ∅, some-child}
-use Rattle.formula.specs.Tidy.{equal, same-variable}
+use Rattle.formula.specs.Tree.{Op, and, or, Tree, lit, node, ∅, _▸_, some-child}
+use Rattle.formula.specs.Tidy.{same-tree, same-variable}
+use Rattle.formula.proofs.Tidy.Same.{same-tree-same}
 use Rattle.formula.proofs.Booleans.{and-parts, or-none, or-later}
 use Rattle.sheet.specs.Format.{Row, row}
 use Rattle.sheet.specs.Sheet.{literal-kind}
 use Rattle.buckets.specs.Chains.{bucket}
-use Rattle.buckets.specs.Prints.{literal-mix, sign}
-use Rattle.blocks.specs.Blocks.{Block, gone, literal, operator, Blocks, none, _◂_, _⊕_, head, inner, block-rows, size, grown, live, Here}
+use Rattle.buckets.specs.Prints.{literal-mix, sign, outline}
+use Rattle.buckets.proofs.Prints.{outline-few}
+use Rattle.blocks.specs.Blocks.{Block, gone, literal, operator, Blocks, none, _◂_, _⊕_, head, inner, block-rows, size, grown, live, Here, Stands}
 use Rattle.blocks.specs.Walks.{at-row}
-use Rattle.blocks.specs.Rules.{place, note, notes, Noted, literal-test}
+use Rattle.blocks.specs.Rules.{place, note, notes, Noted, literal-test, Twin}
+use Rattle.blocks.specs.Entered.{LiveAt, Same}
 use Rattle.blocks.proofs.Blocks.{length-◂, stands, stands-row, onward}
 use Rattle.blocks.proofs.Walks.{like}
 
@@ -47,19 +50,35 @@ unfolding note head
 note-dead r (gone rs) e = refl
 note-dead r (literal true v) e = absurd (omega arith)
 note-dead r (literal false v) e = absurd (omega arith)
-note-dead r (operator o ks) e = refl
+note-dead r (operator and ks) e = absurd (omega arith)
+note-dead r (operator or ks) e = absurd (omega arith)
 
 -- a member's row and bucket
-
-place-note : (r : ℕ) (s : Bool) (v : ℕ) → place (r * 65536 + literal-mix (sign s) v) ≡ r
-place-note r true v = omega arith
-place-note r false v = omega arith
 
 halved : (r y g : ℕ) → g < 2 → (r * 65536 + (y * 2 + g)) / 2 ≡ r * 32768 + y
 halved r y g l = omega arith
 
 low-bits : (r y : ℕ) → (r * 32768 + y) % 4096 ≡ y % 4096
 low-bits r y = omega arith
+
+place-of : (r q : ℕ) → q < 65536 → place (r * 65536 + q) ≡ r
+place-of r q l = omega arith
+
+bucket-of : (r q : ℕ) → bucket (r * 65536 + q) ≡ bucket q
+bucket-of r q = ap (λ z. z % 4096) (halved-all r q) ∙ low-bits r (q / 2)
+  where
+    halved-all : (r q : ℕ) → (r * 65536 + q) / 2 ≡ r * 32768 + q / 2
+    halved-all r q = omega arith
+
+abbrev operator-tree : Op → Blocks → Tree
+operator-tree o ks = node o (live ks)
+
+place-operator : (r : ℕ) (o : Op) (ks : Blocks) → place (r * 65536 + outline (operator-tree o ks)) ≡ r
+place-operator r o ks = place-of r (outline (operator-tree o ks)) (outline-few (operator-tree o ks))
+
+place-note : (r : ℕ) (s : Bool) (v : ℕ) → place (r * 65536 + literal-mix (sign s) v) ≡ r
+place-note r true v = omega arith
+place-note r false v = omega arith
 
 sign-few : (s : Bool) → sign s < 2
 sign-few true = omega arith
@@ -85,7 +104,9 @@ pub notes-places : (r : ℕ) (bs : Blocks) (j : ℕ) → j < length (notes r bs)
 unfolding notes note
 notes-places r none j l = absurd (omega arith)
 notes-places r (gone rs ◂ bs) j l = omega (arith, length-◂ (gone rs) bs, notes-places (r + size (gone rs)) bs j l)
-notes-places r (operator o ks ◂ bs) j l = omega (arith, length-◂ (operator o ks) bs, notes-places (r + size (operator o ks)) bs j l)
+notes-places r (operator o ks ◂ bs) zero l = omega (arith, place-operator r o ks, length-◂ (operator o ks) bs)
+notes-places r (operator o ks ◂ bs) (suc j) l =
+    omega (arith, length-◂ (operator o ks) bs, notes-places (r + size (operator o ks)) bs j (omega arith))
 notes-places r (literal s v ◂ bs) zero l = omega (arith, place-note r s v, length-◂ (literal s v) bs)
 notes-places r (literal s v ◂ bs) (suc j) l =
     omega (arith, length-◂ (literal s v) bs, notes-places (r + size (literal s v)) bs j (omega arith))
@@ -111,7 +132,7 @@ literal-passes true v x e = eq-eqb v x e
 literal-passes false v x e = eq-eqb v x e
 
 literal-like : (v x : ℕ) (s′ s : Bool) → head (literal s′ v) ≡ row (literal-kind s) x → like s x (lit s′ v) ≡ true
-unfolding head equal
+unfolding head same-tree
 literal-like v x true true e = rw (eq-eqb v x (ap (λ (r : Row). r .argument) e))
 literal-like v x true false e = absurd (omega (arith, ap (λ (r : Row). r .kind) e))
 literal-like v x false true e = absurd (omega (arith, ap (λ (r : Row). r .kind) e))
@@ -126,7 +147,7 @@ pub unseen : {R : List Row} {from at to : ℕ} {before after : List Row} {done :
 unfolding notes note live grown some-child same-variable
 unseen none s x h q = refl
 unseen (gone rs ◂ rest) s x h q = unseen rest s x (onward h) q
-unseen (operator o ks ◂ rest) s x h q = unseen rest s x (onward h) q
+unseen (operator o ks ◂ rest) s x h q = unseen rest s x (onward h) (λ j l. q (suc j) (omega arith))
 unseen {R} {at = at} (literal s′ v ◂ rest) s x h q =
     or-none (go (eqb v x) refl) (unseen rest s x (onward h) (λ j l. q (suc j) (omega arith)))
   where
@@ -139,6 +160,13 @@ unseen {R} {at = at} (literal s′ v ◂ rest) s x h q =
         (ap (λ p. literal-test (at-row R p) x) (place-note at s′ v) ∙ ap (λ (r : Row). literal-test r x) (stands-row (stands h)) ∙
         literal-passes s′ v x same))
 
+no-literal : (o : Op) (ks : Blocks) (s : Bool) → (head (operator o ks)) .kind ≡ literal-kind s → ⊥
+unfolding head
+no-literal and ks true e = omega arith
+no-literal and ks false e = omega arith
+no-literal or ks true e = omega arith
+no-literal or ks false e = omega arith
+
 -- a member whose row is a literal's is that literal
 pub seen : {R : List Row} {from at to : ℕ} {before after : List Row} {done : Blocks} (rest : Blocks) (s : Bool) (x : ℕ)
     → Here R from at to before done rest after → (j : ℕ) → j < length (notes at rest)
@@ -146,25 +174,68 @@ pub seen : {R : List Row} {from at to : ℕ} {before after : List Row} {done : B
 unfolding notes note live grown some-child
 seen none s x h j l e = absurd (omega arith)
 seen (gone rs ◂ rest) s x h j l e = seen rest s x (onward h) j l e
-seen (operator o ks ◂ rest) s x h j l e = or-later (like s x (node o (live ks))) (seen rest s x (onward h) j l e)
+seen {R} {at = at} (operator o ks ◂ rest) s x h zero l e =
+    absurd (no-literal o ks s (ap (λ (r : Row). r .kind) (sym (stands-row (stands h)) ∙ sym (ap (at-row R) (place-operator at o ks)) ∙ e)))
+seen (operator o ks ◂ rest) s x h (suc j) l e = or-later (like s x (node o (live ks))) (seen rest s x (onward h) j (omega arith) e)
 seen {R} {at = at} (literal s′ v ◂ rest) s x h zero l e =
     ap (λ b. b || some-child (like s x) (live rest))
     (literal-like v x s′ s (sym (stands-row (stands h)) ∙ sym (ap (at-row R) (place-note at s′ v)) ∙ e))
 seen {at = at} (literal s′ v ◂ rest) s x h (suc j) l e = or-later (like s x (lit s′ v)) (seen rest s x (onward h) j (omega arith) e)
 
-literal-above : (s : Bool) (v : ℕ) → 2 < (head (literal s v)) .kind
-unfolding head
-literal-above true v = omega arith
-literal-above false v = omega arith
+-- a member is a live block
+pub member-lives : {R : List Row} {from at to : ℕ} {before after : List Row} {done : Blocks} (rest : Blocks)
+    → Here R from at to before done rest after → (j : ℕ) → j < length (notes at rest) → LiveAt R (place (getD (notes at rest) j 0))
+unfolding notes note live grown
+member-lives none h j l = absurd (omega arith)
+member-lives (gone rs ◂ rest) h j l = member-lives rest (onward h) j l
+member-lives {R} {at = at} (literal s v ◂ rest) h zero l =
+    subst (LiveAt R) (sym (place-note at s v)) (record { before = _; block = literal s v; after = _; stands = stands h; tree = _; holds = refl })
+member-lives (literal s v ◂ rest) h (suc j) l = member-lives rest (onward h) j (omega arith)
+member-lives {R} {at = at} (operator o ks ◂ rest) h zero l =
+    subst (LiveAt R) (sym (place-operator at o ks)) (record { before = _; block = operator o ks; after = _; stands = stands h; tree = _; holds = refl })
+member-lives (operator o ks ◂ rest) h (suc j) l = member-lives rest (onward h) j (omega arith)
 
--- the row of a member is no dead block's
-pub member-live : {R : List Row} {from at to : ℕ} {before after : List Row} {done : Blocks} (rest : Blocks)
-    → Here R from at to before done rest after → (j : ℕ) → j < length (notes at rest) → 2 < (at-row R (place (getD (notes at rest) j 0))) .kind
-unfolding notes note
-member-live none h j l = absurd (omega arith)
-member-live (gone rs ◂ rest) h j l = member-live rest (onward h) j l
-member-live (operator o ks ◂ rest) h j l = member-live rest (onward h) j l
-member-live {R} {at = at} (literal s v ◂ rest) h zero l =
-    let e = ap (λ p. (at-row R p) .kind) (place-note at s v) ∙ ap (λ (r : Row). r .kind) (stands-row (stands h)) in
-    omega (arith, e, literal-above s v)
-member-live (literal s v ◂ rest) h (suc j) l = member-live rest (onward h) j (omega arith)
+-- where no member of a tree's bucket holds the same tree, none does
+module _ (u : Tree) where
+  abbrev Fresh : List Row → List ℕ → Type 0
+  Fresh R N = (j : ℕ) → j < length N → bucket (getD N j 0) ≡ bucket (outline u) → Twin R (place (getD N j 0)) u → ⊥
+
+  differs : {R : List Row} {at : ℕ} {front back : List Row} (x : Block) (t : Tree) → Stands R at front x back → live (x ◂ none) ≡ t ▸ ∅
+      → (bucket (at * 65536 + outline t) ≡ bucket (outline u) → Twin R (place (at * 65536 + outline t)) u → ⊥) → same-tree t u ≡ false
+  differs {R} {at} x t h e q = go (same-tree t u) refl
+    where
+      go : (b : Bool) → same-tree t u ≡ b → b ≡ false
+      go false s = refl
+      go true s =
+          absurd
+          (q (bucket-of at (outline t) ∙ ap (λ w. bucket (outline w)) (same-tree-same t u s))
+          (subst (λ p. Twin R p u) (sym (place-of at (outline t) (outline-few t)))
+          (record { before = _; block = x; after = _; stands = h; tree = t; holds = e; same = s })))
+
+  pub unseen-twin : {R : List Row} {from at to : ℕ} {before after : List Row} {done : Blocks} (rest : Blocks)
+      → Here R from at to before done rest after → Fresh R (notes at rest) → some-child (λ t. same-tree t u) (live rest) ≡ false
+  unfolding notes note live grown some-child outline
+  unseen-twin none h q = refl
+  unseen-twin (gone rs ◂ rest) h q = unseen-twin rest (onward h) q
+  unseen-twin (literal s v ◂ rest) h q =
+      or-none (differs (literal s v) (lit s v) (stands h) refl (q 0 (omega arith))) (unseen-twin rest (onward h) (λ j l. q (suc j) (omega arith)))
+  unseen-twin (operator o ks ◂ rest) h q =
+      or-none (differs (operator o ks) (node o (live ks)) (stands h) refl (q 0 (omega arith))) (unseen-twin rest (onward h) (λ j l. q (suc j) (omega arith)))
+
+-- and a member that holds the same tree is among them
+pub seen-twin : {R : List Row} {from at to q : ℕ} {before after front back : List Row} {done : Blocks} (rest : Blocks) (y : Block) (u : Tree)
+    → Stands R q front y back → live (y ◂ none) ≡ u ▸ ∅
+    → Here R from at to before done rest after → (j : ℕ) → j < length (notes at rest) → Same R (place (getD (notes at rest) j 0)) q true
+    → some-child (λ t. same-tree t u) (live rest) ≡ true
+unfolding notes note live grown some-child
+seen-twin none y u g e h j l d = absurd (omega arith)
+seen-twin (gone rs ◂ rest) y u g e h j l d = seen-twin rest y u g e (onward h) j l d
+seen-twin {R} {at = at} {q = q} (literal s v ◂ rest) y u g e h zero l d =
+    ap (λ b. b || some-child (λ t. same-tree t u) (live rest))
+    (sym (subst (λ p. Same R p q true) (place-note at s v) d _ (literal s v) _ (stands h) _ refl _ y _ g u e))
+seen-twin (literal s v ◂ rest) y u g e h (suc j) l d = or-later (same-tree (lit s v) u) (seen-twin rest y u g e (onward h) j (omega arith) d)
+seen-twin {R} {at = at} {q = q} (operator o ks ◂ rest) y u g e h zero l d =
+    ap (λ b. b || some-child (λ t. same-tree t u) (live rest))
+    (sym (subst (λ p. Same R p q true) (place-operator at o ks) d _ (operator o ks) _ (stands h) _ refl _ y _ g u e))
+seen-twin (operator o ks ◂ rest) y u g e h (suc j) l d =
+    or-later (same-tree (node o (live ks)) u) (seen-twin rest y u g e (onward h) j (omega arith) d)

@@ -1,4 +1,4 @@
--- A walk over all children: rules 2 to 4.
+-- A walk over all children: rules 2 to 5.
 -- Assumes nothing.
 use mathlib.Core.Path.{_≡_, refl, sym, ap, ap₂, _∙_, subst}
 use mathlib.Core.Bool.{Bool, true, false, _||_, true≢false}
@@ -9,7 +9,7 @@ use lib.Dec.{eqb}
 use lib.ListN.{length, set, take}
 use borrow.Author.Tests.{eq-eqb, ne-eqb}
 use Rattle.formula.specs.Tree.{Op, dual, Forest, ∅, _⧺_, some-child, some-two}
-use Rattle.formula.specs.Tidy.{is-empty, opposite, decides, firsts}
+use Rattle.formula.specs.Tidy.{is-empty, opposite, same-tree, decides, firsts}
 use Rattle.formula.proofs.Booleans.{or-parts}
 use Rattle.formula.proofs.Tidy.Children.{some-two-firsts, ⧺-none, ⧺-assoc}
 use Rattle.sheet.specs.Format.{Bytes, Row}
@@ -47,7 +47,7 @@ pub record Sifting (R : List Row) (M : List ℕ) (from run at to n : ℕ) (befor
   pub hidden : live dead ≡ ∅
   pub ahead : live bs ≡ trees ⧺ live rest
   pub undecided : decides o trees ≡ false
-  pub stays : live (early ⊕ dead) ≡ firsts trees
+  pub stays : live (early ⊕ dead) ≡ firsts same-tree trees
   pub noted : take n M ≡ notes from (early ⊕ dead)
 
 -- from the rows at first to those now
@@ -79,7 +79,7 @@ done-unopposed : {R : List Row} {M : List ℕ} {from run at to n : ℕ} {before 
 unfolding decides
 done-unopposed {o = o} st =
     ap (some-two opposite) (st .stays) ∙
-    some-two-firsts opposite (st .trees) (or-parts (some-child (is-empty (dual o)) (st .trees)) _ (st .undecided) .1)
+    some-two-firsts same-tree opposite (st .trees) (or-parts (some-child (is-empty (dual o)) (st .trees)) _ (st .undecided) .1)
 
 block-here : {R : List Row} {from at to : ℕ} {before after : List Row} {done rest : Blocks} (h : Here R from at to before done rest after)
     → (m : Next R at rest) → Here R from at to before done (m .block ◂ m .others) after
@@ -150,10 +150,10 @@ module _ {R₀ R R₁ : List Row} {M M′ : List ℕ} {from run at to n kind lef
       judged .decided-is ∙ ap (λ ts. some-child (decisive o ts) one) (st .stays) ∙ decisive-firsts o (st .trees) one ∙
       sym (decides-⧺ o (st .trees) one (single (m .block) .unopposed) ∙ ap (λ q. q || some-child (decisive o (st .trees)) one) (st .undecided))
 
-  one-stays : (left ≡ 0 → ⊥) → live done ⧺ live (judged .kept .block ◂ none) ≡ firsts (st .trees ⧺ one)
+  one-stays : (left ≡ 0 → ⊥) → live done ⧺ live (judged .kept .block ◂ none) ≡ firsts same-tree (st .trees ⧺ one)
   one-stays z =
       ap₂ _⧺_ (st .stays) (judged .holds z ∙ ap (λ ts. new ts one) (st .stays) ∙ new-firsts (st .trees) one) ∙
-      ap (λ ts. firsts (st .trees) ⧺ new (st .trees) ts) (sym (firsts-single (single (m .block)))) ∙ sym (firsts-⧺ (st .trees) one)
+      ap (λ ts. firsts same-tree (st .trees) ⧺ new (st .trees) ts) (sym (firsts-single (single (m .block)))) ∙ sym (firsts-⧺ (st .trees) one)
 
   sifted-more : {R₂ : List Row} {s run′ : ℕ} → (left ≡ 0 → ⊥) → s ≡ extent (at-row R at) → JoinsAt R₁ R₂ run at (at + s) run′
       → Sifting R₂ M′ from run′ (at + s) to (left - 1) before bs after o
@@ -212,5 +212,5 @@ sift-end w l before bs after laid o k =
       reads =
           λ _.
           live-⊕ (st .early ⊕ st .dead) (st .rest) ∙ ap (λ ts. live (st .early ⊕ st .dead) ⧺ ts) gone ∙
-          ⧺-none (live (st .early ⊕ st .dead)) ∙ st .stays ∙ ap firsts (sym all);
+          ⧺-none (live (st .early ⊕ st .dead)) ∙ st .stays ∙ ap (firsts same-tree) (sym all);
     }

@@ -131,7 +131,7 @@ splice-end w l before bs after laid o k =
       reads = live-⊕ (st .done) (st .rest) ∙ ap (λ ts. live (st .done) ⧺ ts) (gone ∙ ap (splice o) (sym gone)) ∙ sym (st .ahead);
     }
 
--- rules 1 to 4
+-- rules 1 to 5
 pub spliced-sifted : {R R₁ R₂ : List Row} {from to kind : ℕ} {d : Bool} → Splices R R₁ from to kind → Sifts R₁ R₂ from to kind d
     → Reduces R R₂ from to kind d
 spliced-sifted {R} {R₁} {R₂} {from} {to} {kind} {d} p f before bs after laid o k =

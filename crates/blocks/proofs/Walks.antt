@@ -9,7 +9,7 @@ use native.Mathlib.Omega.{arith}
 use lib.ListN.{length}
 use borrow.Author.Tests.{eq-eqb, ne-eqb}
 use Rattle.formula.specs.Tree.{and, or, Tree, lit, Forest, ∅, _⧺_, count}
-use Rattle.formula.specs.Tidy.{equal}
+use Rattle.formula.specs.Tidy.{same-tree}
 use Rattle.formula.proofs.Tidy.Children.{⧺-none, count-⧺}
 use Rattle.sheet.specs.Format.{Bytes, Row}
 use Rattle.rows.specs.Layouts.{rows-in, Room, total}
@@ -17,6 +17,7 @@ use Rattle.rows.specs.declared.Layout.{Layout}
 use Rattle.rows.proofs.Layouts.{length-rows-in}
 use Rattle.blocks.specs.Blocks.{Block, gone, literal, operator, Blocks, none, _◂_, _⊕_, head, block-rows, grown, live, Laid, Here, Region}
 use Rattle.blocks.specs.Walks.{extent, Alive, Finds, at-row}
+use Rattle.blocks.specs.Entered.{HeadAt}
 use Rattle.blocks.proofs.Blocks.{live-snoc, ⧺-◂, length-◂, extent-head, within, start, next, onward, no-rows}
 
 pub record Walked (R : List Row) (from at to : ℕ) (before : List Row) (bs : Blocks) (after : List Row) (Q : Forest → Type 0) : Type 0 where
@@ -56,6 +57,11 @@ turn-at b room h l =
 pub scan-turn : {s : Layout} {from at to : ℕ} {Q : Forest → Type 0} (b : Bytes) → Room s (length b) → Scan (rows-in s b) from at to Q
     → Region (rows-in s b) from to → at < to → Turn s b at to
 scan-turn b room w g l = turn-at b room (w (g .before) (g .blocks) (g .after) (g .laid) .here) l
+
+pub scan-head : {R : List Row} {from at to : ℕ} {Q : Forest → Type 0} → Scan R from at to Q → Region R from to → at < to → HeadAt R at
+scan-head w g l =
+    let m = next (w (g .before) (g .blocks) (g .after) (g .laid) .here) l in
+    record { block = m .block; is = m .row-is }
 
 pub here-next : {R : List Row} {from at to : ℕ} {before after : List Row} {done rest others : Blocks} {x : Block} {s : ℕ}
     → Here R from at to before done rest after → rest ≡ x ◂ others → at-row R at ≡ head x → s ≡ extent (at-row R at)
@@ -182,4 +188,4 @@ counted-few b room w g =
 
 -- a literal's test
 abbrev pub like : Bool → ℕ → Tree → Bool
-like s v t = equal t (lit s v)
+like s v t = same-tree t (lit s v)

@@ -1,4 +1,5 @@
 -- What rows are while they are tidied, and what the walks and rules over them do. Nothing that a caller of an operation must believe.
 pub mod Blocks
 pub mod Walks
+pub mod Entered
 pub mod Rules

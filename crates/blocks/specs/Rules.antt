@@ -1,4 +1,4 @@
--- Rules 1 to 4 at an operator's children ("Tidy sheets"), one child after another.
+-- Rules 1 to 5 at an operator's children ("Tidy sheets"), one child after another.
 -- Assumes nothing.
 use mathlib.Core.Path.{_≡_}
 use mathlib.Core.Bool.{Bool, true, false, not, _&&_, _||_, cond}
@@ -7,17 +7,18 @@ use mathlib.Core.Logic.{_⊎_}
 use Prim.Native.Nat.{ℕ, _+_, _*_, _-_, _/_, _≤_, _<_}
 use lib.Dec.{eqb, leb}
 use lib.ListN.{length, getD, set, take}
-use Rattle.formula.specs.Tree.{Op, dual, Tree, Forest, some-child, some-two, keep}
-use Rattle.formula.specs.Tidy.{is-empty, opposite, equal, splice, decides, firsts}
+use Rattle.formula.specs.Tree.{Op, dual, Tree, node, Forest, ∅, _▸_, some-child, some-two, keep}
+use Rattle.formula.specs.Tidy.{is-empty, opposite, same-tree, splice, decides, firsts}
 use Rattle.sheet.specs.Format.{Row, row}
 use Rattle.sheet.specs.Sheet.{operator-kind}
 use Rattle.rows.specs.Layouts.{total}
 use Rattle.rows.specs.declared.Layout.{Layout}
 use Rattle.buckets.specs.Chains.{bucket, last, Linked, Passed}
 use Rattle.buckets.specs.Chains as chains
-use Rattle.buckets.specs.Prints.{literal-mix, sign}
+use Rattle.buckets.specs.Prints.{literal-mix, sign, outline}
 use Rattle.blocks.specs.Blocks.{Block, gone, literal, operator, Blocks, none, _◂_, head, inner, size, live, Laid, Stands, Standing}
 use Rattle.blocks.specs.Walks.{at-row}
+use Rattle.blocks.specs.Entered.{LiveAt, Same}
 
 -- rule 1: a row of this kind has gone, and its children stand in its place
 abbrev pub beheaded : List Row → ℕ → ℕ → List Row
@@ -43,9 +44,9 @@ Decides R at kind decided =
     (us : Forest) (front : List Row) (x : Block) (back : List Row) → Stands R at front x back → (o : Op) → kind ≡ operator-kind o
     → decided ≡ some-child (decisive o us) (live (x ◂ none))
 
--- rule 4: a child behind these is equal to one of them
+-- rules 4 and 5: a child behind these is equal to one of them
 unfoldable pub repeated : Forest → Tree → Bool
-repeated ts u = some-child (λ t. equal t u) ts
+repeated ts u = some-child (λ t. same-tree t u) ts
 
 abbrev pub new : Forest → Forest → Forest
 new ts us = keep (λ u. not (repeated ts u)) us
@@ -54,14 +55,14 @@ new ts us = keep (λ u. not (repeated ts u)) us
 abbrev pub Unopposed : Forest → Type 0
 Unopposed ts = some-two opposite ts ≡ false
 
--- Members: the literals among the blocks from a row on, each by its row and its print.
+-- Members: the live blocks from a row on, each by its row and its outline.
 abbrev pub place : ℕ → ℕ
 place m = m / 65536
 
 unfoldable pub note : ℕ → Block → List ℕ
 note r (gone rs) = []
 note r (literal s v) = (r * 65536 + literal-mix (sign s) v) ∷ []
-note r (operator o ks) = []
+note r (operator o ks) = (r * 65536 + outline (node o (live ks))) ∷ []
 
 unfoldable pub notes : ℕ → Blocks → List ℕ
 notes r none = []
@@ -91,15 +92,38 @@ pub record Chain (rows : ℕ) (L M : List ℕ) (start : ℕ) : Type 0 where
   pub members-fit : count ≤ length M
   pub places : (j : ℕ) → j < count → place (getD M j 0) < rows
 
--- what is found on it
+-- what a search along it tells: one more than the number of a member that it looks for, or 0 if no member passes the test
+pub record Seeks (L M : List ℕ) (start : ℕ) (Test Sought : ℕ → Type 0) (i : ℕ) : Type 0 where
+  pub tells : (H : List ℕ) (n k : ℕ) → Linked H L M n → start ≡ last M k n → ((i ≡ 0) × Passed M n k Test 0) ⊎ ((0 < i) × (i ≤ n) × Sought (i - 1))
+
+-- a literal of this variable
 abbrev pub Test : List Row → List ℕ → ℕ → ℕ → Type 0
 Test R M x j = literal-test (at-row R (place (getD M j 0))) x ≡ true
 
-pub record Seeks (R : List Row) (L M : List ℕ) (start x i : ℕ) : Type 0 where
-  pub tells : (H : List ℕ) (n k : ℕ) → Linked H L M n → start ≡ last M k n
-      → ((i ≡ 0) × Passed M n k (Test R M x) 0) ⊎ ((0 < i) × (i ≤ n) × Test R M x (i - 1))
+abbrev pub Finds : List Row → List ℕ → List ℕ → ℕ → ℕ → ℕ → Type 0
+Finds R L M start x i = Seeks L M start (Test R M x) (Test R M x) i
 
--- the block at a row stands behind others, whose literals are the members
+-- a block that holds the same tree
+pub record Twin (R : List Row) (at : ℕ) (u : Tree) : Type 0 where
+  pub before : List Row
+  pub block : Block
+  pub after : List Row
+  pub stands : Stands R at before block after
+  pub tree : Tree
+  pub holds : live (block ◂ none) ≡ tree ▸ ∅
+  pub same : same-tree tree u ≡ true
+
+abbrev pub FindsTwin : List Row → List ℕ → List ℕ → ℕ → ℕ → ℕ → Type 0
+FindsTwin R L M start q i =
+    (front : List Row) (y : Block) (back : List Row) → Stands R q front y back → (u : Tree) → live (y ◂ none) ≡ u ▸ ∅
+    → Seeks L M start (λ j. Twin R (place (getD M j 0)) u) (λ j. Same R (place (getD M j 0)) q true) i
+
+-- members that are live blocks
+pub record LiveChain (R : List Row) (rows : ℕ) (L M : List ℕ) (start : ℕ) : Type 0 where
+  pub chain : Chain rows L M start
+  pub lives : (j : ℕ) → j < chain .count → LiveAt R (place (getD M j 0))
+
+-- the block at a row stands behind others, which are the members
 pub record Behind (R : List Row) (at : ℕ) (H L M : List ℕ) (n : ℕ) : Type 0 where
   pub standing : Standing R at
   pub from : ℕ
@@ -123,7 +147,7 @@ pub record Kept (R R′ : List Row) (at : ℕ) (x : Block) : Type 0 where
   pub stored : R′ ≡ set R at (head block)
   pub same-rows : inner block ≡ inner x
 
--- rules 2 to 4 at one block behind others: 0 if it decides the node, else one more than the members now
+-- rules 2 to 5 at one block behind others: 0 if it decides the node, else one more than the members now
 pub record Judged (R R′ : List Row) (M′ : List ℕ) (from at : ℕ) (done : Blocks) (x : Block) (o : Op) (left : ℕ) : Type 0 where
   pub decided-is : eqb left 0 ≡ some-child (decisive o (live done)) (live (x ◂ none))
   pub kept : Kept R R′ at x
@@ -142,19 +166,19 @@ JudgesAs R R′ at n M M′ left = (o : Op) → JudgesFor R R′ at n M M′ lef
 abbrev pub Judges : List Row → List Row → ℕ → ℕ → ℕ → List ℕ → List ℕ → ℕ → Type 0
 Judges R R′ at kind n M M′ left = (o : Op) → kind ≡ operator-kind o → JudgesFor R R′ at n M M′ left o
 
--- rules 2 to 4 at all blocks of a region
+-- rules 2 to 5 at all blocks of a region
 pub record Sifted (R : List Row) (from to : ℕ) (before after : List Row) (o : Op) (ts : Forest) (decided : Bool) : Type 0 where
   pub blocks : Blocks
   pub laid : Laid R from to before blocks after
   pub decided-is : decided ≡ decides o ts
-  pub reads : decided ≡ false → live blocks ≡ firsts ts
+  pub reads : decided ≡ false → live blocks ≡ firsts same-tree ts
 
 abbrev pub Sifts : List Row → List Row → ℕ → ℕ → ℕ → Bool → Type 0
 Sifts R R′ from to kind decided =
     (before : List Row) (bs : Blocks) (after : List Row) → Laid R from to before bs after → (o : Op) → kind ≡ operator-kind o
     → Sifted R′ from to before after o (live bs) decided
 
--- rules 1 to 4 at all children
+-- rules 1 to 5 at all children
 abbrev pub Reduces : List Row → List Row → ℕ → ℕ → ℕ → Bool → Type 0
 Reduces R R′ from to kind decided =
     (before : List Row) (bs : Blocks) (after : List Row) → Laid R from to before bs after → (o : Op) → kind ≡ operator-kind o

@@ -2,6 +2,7 @@
 // have gone are a dead block.
 pub mod dead;
 pub mod rules;
+pub mod same;
 pub mod walk;
 
 // The kind of a dead block's row, which no row of a sheet has.

@@ -1,7 +1,9 @@
-// Rules 1 to 4 at an operator's children ("Tidy sheets"). A child is looked for among those before it by its print; whether it is equal
-// or opposite to one of them is decided by comparing rows.
+// Rules 1 to 5 at an operator's children ("Tidy sheets", N4). A child is looked for among those before it by its outline; whether it is
+// equal or opposite to one of them is decided by comparing rows.
 use crate::GONE;
 use crate::dead::join_at;
+use crate::same::outline_at;
+use crate::same::same_at;
 use crate::walk::extent_at;
 use crate::walk::first_live;
 use buckets::add;
@@ -23,7 +25,8 @@ ghost use Rattle.rows.specs.Layouts.{total, rows-in, Room};
 ghost use Rattle.buckets.specs.Chains.{Linked};
 ghost use Rattle.blocks.specs.Blocks.{Region, Standing, OperatorKind};
 ghost use Rattle.blocks.specs.Walks.{at-row};
-ghost use Rattle.blocks.specs.Rules.{beheaded, Splices, Decides, literal-test, Chain, Seeks, Tables, Behind, LiteralRow, JudgesAs, Judges, Sifts, Reduces};
+ghost use Rattle.blocks.specs.Entered.{LiveAt};
+ghost use Rattle.blocks.specs.Rules.{beheaded, Splices, Decides, literal-test, Chain, Finds, FindsTwin, LiveChain, Tables, Behind, LiteralRow, JudgesAs, Judges, Sifts, Reduces};
 
 // The child at row `at` of an operator of this kind, behind `before` members; or a literal of this kind there.
 pub struct Child {
@@ -76,7 +79,7 @@ pub fn literal_of(b: &[u8], s: Layout, r: usize, x: usize) -> bool
 // One more than the number of a member on this chain that is a literal of the variable `x`, or 0 if there is none.
 pub fn find(b: &[u8], s: Layout, links: &[u16], members: &[u32], start: usize, x: usize) -> usize
     requires { ⌜ Room s (length (now b)) × Chain (total s) (now links) (now members) start ⌝ }
-    ensures { λ i. ⌜ Seeks (rows-in s (now (b .entry))) (now (links .entry)) (now (members .entry)) start x i ⌝ }
+    ensures { λ i. ⌜ Finds (rows-in s (now (b .entry))) (now (links .entry)) (now (members .entry)) start x i ⌝ }
 {
     let mut i = start;
     while 0 < i {
@@ -133,7 +136,61 @@ pub fn decides_at(b: &[u8], s: Layout, at: usize, kind: u8) -> bool
     first_live(b, s, at + 1, end) == end
 }
 
-// Rules 2 to 4 at a child: 0 if it decides the operator, else one more than the members that there are now.
+// One more than the number of a member on this chain that holds the same tree as the block at row `q`, or 0 if there is none.
+pub fn find_twin(
+    b: &[u8],
+    s: Layout,
+    links: &[u16],
+    members: &[u32],
+    start: usize,
+    q: usize,
+) -> usize
+    requires { ⌜ Room s (length (now b)) × LiveChain (rows-in s (now b)) (total s) (now links) (now members) start × LiveAt (rows-in s (now b)) q ⌝ }
+    ensures { λ i. ⌜ FindsTwin (rows-in s (now (b .entry))) (now (links .entry)) (now (members .entry)) start q i ⌝ }
+{
+    let mut i = start;
+    while 0 < i {
+        let r = member(members, i - 1) / 65536;
+        if same_at(b, s, r, q) {
+            return i;
+        }
+        i = behind(links, i - 1);
+    }
+    0
+}
+
+// Rules 2 and 5 at an operator: 0 if it decides the operator above, else one more than the members that there are now. One whose tree is
+// that of a member goes.
+pub fn judge_operator(
+    b: &mut [u8],
+    s: Layout,
+    c: Child,
+    heads: &mut [u16],
+    links: &mut [u16],
+    members: &mut [u32],
+) -> usize
+    requires { ⌜ Room s (length (now b)) × (total s < 256 ^ s .width) × Tables s (now heads) (now links) (now members) × Behind (rows-in s (now b)) (c .at) (now heads) (now links) (now members) (c .before) × (4 < (at-row (rows-in s (now b)) (c .at)) .kind) ⌝ }
+    ensures { λ left. ⌜ Judges (rows-in s (now (b .entry))) (rows-in s (now (b .exit))) (c .at) (c .kind) (c .before) (now (members .entry)) (now (members .exit)) left ⌝ }
+    ensures { λ left. ⌜ Linked (now (heads .exit)) (now (links .exit)) (now (members .exit)) (left - 1) × (left ≤ c .before + 2) ⌝ }
+{
+    let at = c.at;
+    let n = c.before;
+    if decides_at(b, s, at, c.kind) {
+        return 0;
+    }
+    let p = outline_at(b, s, at);
+    let start = first(heads, members, n, bucket_of(p));
+    let i = find_twin(b, s, links, members, start, at);
+    if i == 0 {
+        add(heads, links, members, n, at * 65536 + p);
+        return n + 2;
+    }
+    let rows = argument_at(b, s, at);
+    set_row(b, s, at, GONE, rows);
+    n + 1
+}
+
+// Rules 2 to 5 at a child: 0 if it decides the operator, else one more than the members that there are now.
 pub fn judge(
     b: &mut [u8],
     s: Layout,
@@ -159,13 +216,10 @@ pub fn judge(
         };
         return judge_literal(b, s, l, heads, links, members);
     }
-    if decides_at(b, s, at, c.kind) {
-        return 0;
-    }
-    c.before + 1
+    judge_operator(b, s, c, heads, links, members)
 }
 
-// Rules 2 to 4 at spliced children: whether they decide their operator. If not, those that are equal to one before have gone. Rows that
+// Rules 2 to 5 at spliced children: whether they decide their operator. If not, those that are equal to one before have gone. Rows that
 // have gone are joined, so that a later walk passes them in one step.
 pub fn sift(
     b: &mut [u8],
@@ -199,7 +253,7 @@ pub fn sift(
     false
 }
 
-// Rules 1 to 4 at the children: whether they decide their operator. If not, they are now what the rules leave of them. The tables may
+// Rules 1 to 5 at the children: whether they decide their operator. If not, they are now what the rules leave of them. The tables may
 // hold anything.
 pub fn reduce(
     b: &mut [u8],

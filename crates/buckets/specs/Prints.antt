@@ -28,3 +28,16 @@ unfoldable mutual
   pub print-on : ℕ → Forest → ℕ
   print-on h ∅ = h
   print-on h (t ▸ ts) = print-on (mix h (print t)) ts
+
+-- An outline: of a tree and its children alone, so that it can be mixed from their rows. Of an operator among the children its kind counts.
+abbrev pub edge : Tree → ℕ
+edge (lit s v) = literal-mix (sign s) v
+edge (node o ts) = operator-mix o
+
+unfoldable pub outline-on : ℕ → Forest → ℕ
+outline-on h ∅ = h
+outline-on h (t ▸ ts) = outline-on (mix h (edge t)) ts
+
+unfoldable pub outline : Tree → ℕ
+outline (lit s v) = literal-mix (sign s) v
+outline (node o ts) = outline-on (operator-mix o) ts

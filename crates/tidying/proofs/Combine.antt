@@ -1,4 +1,4 @@
--- All five rules at a row: what the steps at an operator make of its row and its children's blocks.
+-- All six rules at a row: what the steps at an operator make of its row and its children's blocks.
 -- Assumes nothing.
 use mathlib.Core.Path.{_≡_, refl, sym, ap, ap₂, _∙_}
 use mathlib.Core.Bool.{Bool, true, false}
@@ -7,7 +7,8 @@ use Prim.Native.Nat.{ℕ, zero, suc, _+_, _-_, _≤_, _<_}
 use native.Mathlib.Omega.{arith}
 use lib.Seq.{append-snoc, getD-at}
 use Rattle.formula.specs.Tree.{Op, and, or, dual, Tree, lit, node, Forest, ∅, _▸_, _⧺_, count}
-use Rattle.formula.specs.Tidy.{splice, decides, firsts, unwrap, combine, tidy, tidy-all}
+use Rattle.formula.specs.Tidy.{same-tree, splice, decides, firsts, unwrap, combine, tidy, tidy-all}
+use Rattle.formula.proofs.Tidy.Same.{firsts-once}
 use Rattle.sheet.specs.Format.{Row, row, children}
 use Rattle.sheet.specs.Sheet.{literal-kind, operator-kind, front, behind, grow}
 use Rattle.sheet.proofs.Preorder.{NodeKind, literal, operator, node-kind}
@@ -86,14 +87,14 @@ children-is k a o = ap (λ m. children (row m a)) (o .is) ∙ both (o .op)
     both and = refl
     both or = refl
 
--- rules 2 to 5
+-- rules 2 to 6
 combine-decided : (o : Op) (us : Forest) → true ≡ decides o (splice o us) → node (dual o) ∅ ≡ combine o us
 unfolding combine
 combine-decided o us e = rw (← e)
 
-combine-undecided : (o : Op) (us ws : Forest) → false ≡ decides o (splice o us) → ws ≡ firsts (splice o us) → unwrap o ws ≡ combine o us
+combine-undecided : (o : Op) (us ws : Forest) → false ≡ decides o (splice o us) → ws ≡ firsts same-tree (splice o us) → unwrap o ws ≡ combine o us
 unfolding combine
-combine-undecided o us ws e f = rw (← e) (ap (unwrap o) f)
+combine-undecided o us ws e f = rw (← e) (ap (unwrap o) (f ∙ sym (firsts-once (splice o us))))
 
 dual-kind : (k : ℕ) (o : Op) → k ≡ operator-kind o → 11 - k ≡ operator-kind (dual o)
 dual-kind k and e = omega (arith, e)

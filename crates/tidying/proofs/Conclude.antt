@@ -138,7 +138,7 @@ lone-put {R} {r} {first} {end} {before} {after} {x} {bs} l f =
     reach : {m : ℕ} → r + 1 + m ≡ first → first - r ≡ suc m
     reach e = omega arith
 
--- rule 5, by what was found
+-- rule 6, by what was found
 
 childless-none : (ts : Forest) → childless ts ≡ true → ts ≡ ∅
 unfolding childless

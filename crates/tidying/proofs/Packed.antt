@@ -22,16 +22,9 @@ use Rattle.blocks.specs.Blocks.{Block, gone, literal, operator, Blocks, none, _
 use Rattle.blocks.specs.Walks.{Counts, at-row}
 use Rattle.blocks.proofs.Blocks.{rows-⊕, live-⊕, length-◂, stands-row, stands-within, laid-within, no-rows}
 use Rattle.blocks.proofs.Walks.{count-rows}
-use Rattle.blocks.proofs.Judge.{inner-laid}
-use Rattle.tidying.specs.Inner.Packed.{packed, entered, stride, ArgumentOf, Put, Puts, Packs}
-
--- a block is its row, if it is live, and those that come next
-entered-forest : (x : Block) (bs : Blocks) → packed x ++ forest-rows (live (entered x bs)) ≡ forest-rows (live (x ◂ bs))
-unfolding packed entered live grown forest-rows
-entered-forest (gone rs) bs = refl
-entered-forest (literal s v) bs = refl
-entered-forest (operator o ks) bs =
-    ap (λ rs. row (operator-kind o) (count (live ks)) ∷ rs) (ap forest-rows (live-⊕ ks bs) ∙ forest-rows-⧺ (live ks) (live bs))
+use Rattle.blocks.specs.Entered.{packed, entered, ArgumentOf}
+use Rattle.blocks.proofs.Entered.{entered-forest, packed-row}
+use Rattle.tidying.specs.Inner.Packed.{stride, Put, Puts, Packs}
 
 entered-rows : (x : Block) (bs : Blocks) → drop (stride (head x)) (block-rows (x ◂ bs)) ≡ block-rows (entered x bs)
 unfolding stride head inner block-rows entered
@@ -57,25 +50,6 @@ stride-dead r e = rw (eq-eqb (r .kind) 0 e)
 pub stride-live : (r : Row) → (r .kind ≡ 0 → ⊥) → stride r ≡ 1
 unfolding stride
 stride-live r e = rw (ne-eqb (r .kind) 0 e)
-
--- argument_of
-
-pub argument-literal : (x : Block) (a : ℕ) → (head x) .kind ≤ 4 → a ≡ (head x) .argument → ArgumentOf x a
-unfolding head ArgumentOf
-argument-literal (gone rs) a l e = tt
-argument-literal (literal s v) a l e = e
-argument-literal (operator and ks) a l e = absurd (omega arith)
-argument-literal (operator or ks) a l e = absurd (omega arith)
-
-pub argument-operator : {R : List Row} {at : ℕ} {before after : List Row} (x : Block) (a c : ℕ) → 4 < (head x) .kind → a ≡ (head x) .argument
-    → Stands R at before x after
-    → Counts R (at + 1) (at + a) c → ArgumentOf x c
-unfolding head ArgumentOf
-argument-operator (gone rs) a c l e h f = absurd (omega arith)
-argument-operator (literal true v) a c l e h f = absurd (omega arith)
-argument-operator (literal false v) a c l e h f = absurd (omega arith)
-argument-operator {R} {at} {before} {after} (operator o ks) a c l e h f =
-    f _ ks _ (subst (λ m. Laid R (at + 1) (at + m) (before ++ (head (operator o ks) ∷ [])) ks after) (sym e) (inner-laid o ks h))
 
 -- a number of w bytes is below 256 ^ w
 pub argument-fits : {s : Layout} (b : Bytes) → Room s (length b) → AllBytes b → (r : ℕ) → r < total s
@@ -108,12 +82,6 @@ put-dead (literal true v) e = absurd (omega arith)
 put-dead (literal false v) e = absurd (omega arith)
 put-dead (operator and ks) e = absurd (omega arith)
 put-dead (operator or ks) e = absurd (omega arith)
-
-packed-row : (x : Block) (k a : ℕ) → (k ≡ 0 → ⊥) → k ≡ (head x) .kind → ArgumentOf x a → packed x ≡ row k a ∷ []
-unfolding head packed ArgumentOf
-packed-row (gone rs) k a e k-is a-is = absurd (e k-is)
-packed-row (literal s v) k a e k-is a-is = ap₂ (λ i j. row i j ∷ []) (sym k-is) (sym a-is)
-packed-row (operator o ks) k a e k-is a-is = ap₂ (λ i j. row i j ∷ []) (sym k-is) (sym a-is)
 
 pub put-row : {R R′ : List Row} {at to : ℕ} (x : Block) (k a : ℕ) → R′ ≡ set R to (row k a) → to ≤ at → at < length R → (k ≡ 0 → ⊥) → k ≡ (head x) .kind
     → ArgumentOf x a → Put R R′ at to x (to + 1)

@@ -35,7 +35,7 @@ pub fn hollow(b: &mut [u8], s: Layout, r: usize, kind: u8, end: usize)
     }
 }
 
-// Rule 5 at an operator's row, once the other rules have left what stands from there to `end`: a lone child replaces the node.
+// Rule 6 at an operator's row, once the other rules have left what stands from there to `end`: a lone child replaces the node.
 pub fn conclude(b: &mut [u8], s: Layout, r: usize, kind: u8, end: usize)
     requires { ⌜ Room s (length (now b)) × (total s < 256 ^ s .width) × Region (rows-in s (now b)) (r + 1) end ⌝ }
     ensures { λ _. ⌜ Concludes (rows-in s (now (b .entry))) (rows-in s (now (b .exit))) r end kind ⌝ }
@@ -53,7 +53,7 @@ pub fn conclude(b: &mut [u8], s: Layout, r: usize, kind: u8, end: usize)
     set_row(b, s, r, kind, end - r);
 }
 
-// All five rules at a row, the trees behind it being tidied.
+// All six rules at a row, the trees behind it being tidied.
 pub fn combine(
     b: &mut [u8],
     s: Layout,

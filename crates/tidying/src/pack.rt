@@ -1,8 +1,7 @@
 // Rows that have gone are left out, and the others stand one behind the other.
 use blocks::GONE;
-use blocks::walk::count_live;
+use blocks::same::argument_of;
 use rows::Layout;
-use rows::NEGATIVE;
 use rows::read::argument_at;
 use rows::read::kind_at;
 use rows::write::set_row;
@@ -12,7 +11,7 @@ ghost use lib.ListN.{length};
 ghost use Rattle.rows.specs.Layouts.{total, rows-in, Room};
 ghost use Rattle.blocks.specs.Blocks.{Region, Standing};
 ghost use Rattle.blocks.specs.Walks.{at-row};
-ghost use Rattle.tidying.specs.Inner.Packed.{stride, ArgumentAt, Puts, Packs};
+ghost use Rattle.tidying.specs.Inner.Packed.{stride, Puts, Packs};
 
 // How many rows on the next row stands that may be packed: all of a dead block is passed.
 pub fn stride_at(b: &[u8], s: Layout, r: usize) -> usize
@@ -23,18 +22,6 @@ pub fn stride_at(b: &[u8], s: Layout, r: usize) -> usize
         return argument_at(b, s, r);
     }
     1
-}
-
-// The argument that the row of a live block has in a sheet: an operator's is the number of its children.
-pub fn argument_of(b: &[u8], s: Layout, r: usize) -> usize
-    requires { ⌜ Room s (length (now b)) × Standing (rows-in s (now b)) r ⌝ }
-    ensures { λ a. ⌜ ArgumentAt (rows-in s (now (b .entry))) r a ⌝ }
-{
-    let argument = argument_at(b, s, r);
-    if kind_at(b, s, r) <= NEGATIVE {
-        return argument;
-    }
-    count_live(b, s, r + 1, r + argument)
 }
 
 // Puts the row of the block at `at` to row `to`, if it is live, and returns the row behind those packed.

@@ -32,7 +32,7 @@ Becomes makes R R′ r end kind =
 abbrev pub Hollows : List Row → List Row → ℕ → ℕ → ℕ → Type 0
 Hollows = Becomes (λ o ts. node o ∅ ▸ ∅)
 
--- rule 5: a lone child replaces the node
+-- rule 6: a lone child replaces the node
 abbrev pub Concludes : List Row → List Row → ℕ → ℕ → ℕ → Type 0
 Concludes = Becomes (λ o ts. unwrap o ts ▸ ∅)
 
@@ -50,7 +50,7 @@ pub record ReadyAt (R : List Row) (r n : ℕ) : Type 0 where
   pub trees : Forest
   pub ready : Ready R r n before first blocks trees
 
--- all five rules at a row: the node is tidied
+-- all six rules at a row: the node is tidied
 abbrev pub Combines : List Row → List Row → ℕ → ℕ → Type 0
 Combines R R′ r n =
     (before : List Row) (x : Row) (bs : Blocks) (ts : Forest) → Ready R r n before x bs ts → Replaced R′ r n before [] (tidy-all (grow x ts))

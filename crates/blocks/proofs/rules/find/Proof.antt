@@ -1,17 +1,23 @@
 -- `blocks::rules::find` meets its contract: no member passed is a literal of the variable. Assumes nothing.
 use mathlib.Core.Path.{sym, ap, _∙_}
+use mathlib.Core.List.{List}
 use Prim.Native.Nat.{_/_}
 use native.Mathlib.Omega.{arith}
+use Rattle.sheet.specs.Format.{Row}
 use Rattle.rows.specs.Layouts.{rows-in}
+use Rattle.blocks.specs.Rules.{Test}
 use Rattle.blocks.proofs.Find.{Seek, seek-none, sought, seek-less, seek-more, seek-found, seek-end}
 use Rattle.blocks.proofs.rules.find.Statement.{statement}
 use Rattle.blocks.proofs.rules.find.Tie as tie
 
 abbrev Inv-loop : tie.InvT-loop
-Inv-loop b s links members start x i₀ i = Seek (rows-in s b) links members start x i
+Inv-loop b s links members start x i₀ i = Seek links members start (Test (rows-in s b) members x) i
 
 abbrev μ-loop : tie.MeasureT-loop
 μ-loop b s links members start x i₀ i = i
+
+abbrev rows-of : tie.Start Inv-loop μ-loop → List Row
+rows-of a = rows-in (a .args .s) (a .args .b .now)
 
 loop-holds : tie.Need-loop-holds Inv-loop μ-loop
 loop-holds c = seek-none
@@ -36,7 +42,7 @@ returns : tie.Need-returns Inv-loop μ-loop
 returns c =
     let m = c .before .before in
     let l = m .before in
-    seek-found (l .before .loop .inv) (l .loop-test .taken) (ap (λ p. p / 65536) (m .member .ensures .0))
+    seek-found (rows-of (l .before .before .before .before .before)) _ (l .before .loop .inv) (l .loop-test .taken) (ap (λ p. p / 65536) (m .member .ensures .0))
     (sym (c .before .literal-of .ensures) ∙ c .if1 .taken)
 
 sub-behind : tie.Need-sub-behind Inv-loop μ-loop
@@ -59,11 +65,11 @@ loop-again c =
     let f = c .before .before in
     let m = f .before in
     let l = m .before in
-    seek-more (l .before .loop .inv) (l .loop-test .taken) (ap (λ p. p / 65536) (m .member .ensures .0))
+    seek-more (rows-of (l .before .before .before .before .before)) _ (l .before .loop .inv) (l .loop-test .taken) (ap (λ p. p / 65536) (m .member .ensures .0))
     (sym (c .before .if1 .left) ∙ f .literal-of .ensures) (c .behind .ensures)
 
 returns-2 : tie.Need-returns-2 Inv-loop μ-loop
-returns-2 c = seek-end (c .before .loop .inv) (c .loop-test .left)
+returns-2 c = seek-end (rows-of (c .before .before .before .before .before)) _ (c .before .loop .inv) (c .loop-test .left)
 
 pub find-spec : {M : Type 1} → statement M
 find-spec =

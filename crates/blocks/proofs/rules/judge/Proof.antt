@@ -11,7 +11,7 @@ use Rattle.blocks.specs.Blocks.{head, live}
 use Rattle.blocks.specs.Rules.{decisive, repeated}
 use Rattle.blocks.proofs.Blocks.{stands-row, stands-within}
 use Rattle.blocks.proofs.Notes.{note-dead}
-use Rattle.blocks.proofs.Judge.{none-dead, live-above, note-operator, repeats-operator, judged-decided, judged-passed}
+use Rattle.blocks.proofs.Judge.{none-dead, live-above, judged-passed}
 use borrow.Author.Needs.{needs}
 use Rattle.blocks.proofs.rules.judge.Statement.{statement}
 use Rattle.blocks.proofs.rules.judge.Tie as tie
@@ -77,40 +77,23 @@ returns-2 c =
     let l = c .before .before .before .before .before .before .before .before in
     ((λ o _. l .judge-literal .ensures .0 o), l .judge-literal .ensures .1)
 
-decides-at-requires : tie.Need-decides-at-requires
-decides-at-requires c κs = search needs
+judge-operator-requires : tie.Need-judge-operator-requires
+judge-operator-requires c κs = search needs
 
 same-length-6 : tie.Need-same-length-6
 same-length-6 c = search needs
 
-returns-3 : tie.Need-returns-3
-returns-3 c =
-    let d = c .before in (
-      (λ o e from before done after laid noted two front x back h.
-          judged-decided h (sym (d .decides-at .ensures (live done) front x back h o e) ∙ c .if3 .taken)),
-      (linked-none _ _ _, omega arith),
-    )
-
-add-result-2 : tie.Need-add-result-2
-add-result-2 c = search needs
-
 same-length-7 : tie.Need-same-length-7
 same-length-7 c = search needs
 
-returns-4 : tie.Need-returns-4
-returns-4 c =
-    let d = c .before .before in
-    let t = d .before .before in
-    let k = t .before .before in
-    let a = start-of k in
-    let n = a .args .c .before in
-    let same : n ≡ n + 1 - 1 = omega arith in (
-      (λ o e from before done after laid noted two front x back h.
-          let above : 4 < (head x) .kind = omega (arith, k .kind-at .ensures, ap (λ (r : Row). r .kind) (stands-row h), t .if2 .left) in
-          judged-passed h (sym (d .decides-at .ensures (live done) front x back h o e) ∙ c .before .if3 .left) (repeats-operator (live done) x above)
-          (note-operator _ x above) noted refl),
-      (subst (Linked _ _ _) same (a .pre .3 .linked), omega arith),
-    )
+same-length-8 : tie.Need-same-length-8
+same-length-8 c = search needs
+
+same-length-9 : tie.Need-same-length-9
+same-length-9 c = search needs
+
+returns-3 : tie.Need-returns-3
+returns-3 c = search needs
 
 pub judge-spec : {M : Type 1} → statement M
 judge-spec =
@@ -126,9 +109,9 @@ judge-spec =
     same-length-4
     same-length-5
     returns-2
-    decides-at-requires
+    judge-operator-requires
     same-length-6
-    returns-3
-    add-result-2
     same-length-7
-    returns-4)
+    same-length-8
+    same-length-9
+    returns-3)

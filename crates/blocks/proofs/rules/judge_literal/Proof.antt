@@ -11,7 +11,7 @@ use Rattle.buckets.specs.Chains.{bucket, last, Linked}
 use Rattle.buckets.specs.Prints.{literal-mix}
 use Rattle.buckets.proofs.Chains.{linked-none}
 use Rattle.blocks.specs.Walks.{at-row}
-use Rattle.blocks.specs.Rules.{Chain}
+use Rattle.blocks.specs.Rules.{Chain, Test}
 use Rattle.blocks.proofs.Blocks.{stands-within}
 use Rattle.blocks.proofs.Find.{Found, found, unfound}
 use Rattle.blocks.proofs.Judge.{members-within, judged-new, judged-again, judged-opposite}
@@ -44,8 +44,9 @@ start-is f =
     ap (λ j. last (start-of (printed f) .args .members .now) j (start-of (printed f) .args .c .before)) (k .before .bucket-of .ensures .0)
 
 found-there : (e : tie.Else1)
-    → Found (rows-of (start-of (printed (e .before)))) (start-of (printed (e .before)) .args .members .now) (start-of (printed (e .before)) .args .c .before)
-    (printed (e .before) .before .before .before .argument-at .result) (e .before .find .result)
+    → Found (start-of (printed (e .before)) .args .c .before)
+    (Test (rows-of (start-of (printed (e .before)))) (start-of (printed (e .before)) .args .members .now) (printed (e .before) .before .before .before .argument-at .result))
+    (e .before .find .result)
 found-there e =
     let f = e .before in
     found (bucket (printed f .literal-print .result)) (f .find .ensures) (start-of (printed f) .pre .3 .linked) (start-is f) (e .if1 .left)

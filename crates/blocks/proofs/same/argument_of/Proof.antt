@@ -1,16 +1,16 @@
--- `tidying::pack::argument_of` meets its contract. Assumes nothing.
+-- `blocks::same::argument_of` meets its contract. Assumes nothing.
 use mathlib.Core.Path.{ap, _∙_}
 use Prim.Native.Nat.{_+_, _≤_}
 use native.Mathlib.Omega.{arith}
 use Rattle.sheet.specs.Format.{Row}
 use Rattle.rows.specs.Layouts.{rows-in, total}
 use Rattle.rows.proofs.Layouts.{length-rows-in}
 use Rattle.blocks.specs.Blocks.{Region}
 use Rattle.blocks.proofs.Blocks.{stands-row, stands-within, laid-within}
 use Rattle.blocks.proofs.Judge.{inner-region}
-use Rattle.tidying.proofs.Packed.{argument-literal, argument-operator}
-use Rattle.tidying.proofs.pack.argument_of.Statement.{statement}
-use Rattle.tidying.proofs.pack.argument_of.Tie as tie
+use Rattle.blocks.proofs.Entered.{argument-literal, argument-operator}
+use Rattle.blocks.proofs.same.argument_of.Statement.{statement}
+use Rattle.blocks.proofs.same.argument_of.Tie as tie
 
 argument-at-requires : tie.Need-argument-at-requires
 argument-at-requires c κs =
