@@ -68,8 +68,7 @@ fn least_room(reading: Reading, sheet: &[u8]) -> Option<usize> {
     Some(low)
 }
 
-/// Of three equal guards with valve 4 the first is kept, since without it 4 is cheaper to expand
-/// than 5, which then doesn't fit. With all three 5 is expanded first, and that decides.
+/// Of three equal guards with valve 4 two make no difference: tidying drops them.
 fn first_of_three() -> Formula {
     let prefix = [(ForAll, 1), (ForAll, 2), (ForAll, 3), (Exists, 4), (Exists, 5)];
     let crossed = [[2, 3], [-2, 3], [2, -3], [-2, -3]].map(|pair| clause(&pair));
@@ -111,8 +110,8 @@ fn of_equal_guards_the_one_kept_is_named() {
         });
         let formula = first_of_three();
         let least = least_room(reading, &reading.format.encode(&formula)).expect("a false sheet");
-        let (stops, earlier) = named_as_kept(format, reading, &formula, least);
-        assert!(stops > 0 && earlier);
+        let (_, earlier) = named_as_kept(format, reading, &formula, least);
+        assert!(!earlier);
     }
     assert!(named > 500 && stopped_within > 20, "{named} {stopped_within}");
 }

@@ -37,11 +37,19 @@ fn equal_after(format: Format) -> Vec<u8> {
     sheet(format, &[(ForAll, 2), (Exists, 1)], equal_pair())
 }
 
-/// Signals 2 to 12, with a valve 1 that every guard needs. Two copies of the guards have more rows than a sheet may have.
+/// Signals 2 to 12, with a valve 1 that every guard needs, no two of them equal. Two copies of the guards have more rows than a sheet
+/// may have.
 fn crowded() -> Vec<u8> {
+    let mut triples = Vec::new();
+    for a in 2..=12 {
+        for b in a + 1..=12 {
+            triples.extend((b + 1..=12).map(|c| [a, b, c]));
+        }
+    }
     let guards = (0..1200i32).map(|i| {
         let sign = |bit: i32| if i >> bit & 1 == 1 { 1 } else { -1 };
-        clause(&[sign(0), sign(1) * (2 + i % 5), sign(2) * (7 + i % 6)])
+        let [a, b, c] = triples[i as usize / 8];
+        clause(&[sign(0) * sign(3), sign(0) * a, sign(1) * b, sign(2) * c])
     });
     let mut prefix: Vec<_> = (2..=12).map(|x| (ForAll, x)).collect();
     prefix.push((Exists, 1));

@@ -37,6 +37,21 @@ pub fn sheet(format: Format, prefix: &[Binding], matrix: Node) -> Vec<u8> {
     format.encode(&formula(prefix, matrix))
 }
 
+/// For all others, exists 1: AND of so many clauses, four or more, of 1 and one other variable. All
+/// variables have both signs, and no two clauses are equal.
+pub fn valve_clauses(count: usize) -> Formula {
+    let others = count / 4;
+    let of = |at: usize| {
+        let (pair, round) = (at / 2 % others, at / 2 / others);
+        let sign = |negative: usize| if negative % 2 == 0 { 1 } else { -1 };
+        let (one, other) = (sign(round), sign(at) * (2 + pair as i32));
+        clause(&if round < 2 { [one, other] } else { [other, one] })
+    };
+    let mut prefix: Vec<Binding> = (2..others + 2).map(|var| (ForAll, var)).collect();
+    prefix.push((Exists, 1));
+    formula(&prefix, and((0..count).map(of).collect()))
+}
+
 /// The tautology over 1 and 2 with thirteen rows.
 pub fn four_cubes() -> Node {
     or(vec![cube(&[1, 2]), cube(&[1, -2]), cube(&[-1, 2]), cube(&[-1, -2])])

@@ -6,6 +6,7 @@ mod damage;
 mod families;
 mod limit_sheets;
 mod pairs;
+mod pasted;
 mod prefix;
 mod profile;
 mod random;

@@ -304,31 +304,23 @@ fn expansion_of_one_literal_of_none_and_of_a_whole_operator() {
     assert_eq!(whole.raw.matrix.rows(), 11);
 }
 
-/// Clauses of three rows, each with 1 or its negation.
-fn many_clauses(clauses: i32) -> Node {
-    let of = |at: i32| clause(&[if at % 2 == 0 { 1 } else { -1 }, 2 + (at % 7)]);
-    and((0..clauses).map(of).collect())
-}
-
 #[test]
 fn raw_rows_are_limited_whatever_the_buffer() {
-    let bytes = sheet(NARROW, &all(Exists, 8), many_clauses(800));
+    let bytes = NARROW.encode(&valve_clauses(800));
     let mut output = vec![0; 40_000];
-    assert_eq!(NARROW.check(&bytes), Ok((8, 2401)));
+    assert_eq!(NARROW.check(&bytes), Ok((201, 2401)));
     assert_eq!(READING.expand(&bytes, 1, &mut output), Answer::Refused(13, 0));
-    let fewer = sheet(NARROW, &all(Exists, 8), many_clauses(682));
+    let fewer = NARROW.encode(&valve_clauses(682));
     // 2 * 2047 + 1 rows are within the limit, 2 * 2050 + 1 are not.
     assert!(matches!(READING.expand(&fewer, 1, &mut output), Answer::Accepted(_)));
-    let more = sheet(NARROW, &all(Exists, 8), many_clauses(683));
+    let more = NARROW.encode(&valve_clauses(683));
     assert_eq!(READING.expand(&more, 1, &mut output), Answer::Refused(13, 0));
 }
 
 #[test]
 fn solve_stops_at_the_row_limit_in_any_buffer() {
-    // Both signs of both variables in every clause pair, so nothing can be settled.
-    let pairs = [[1, 2], [1, -2], [-1, 2]];
-    let clauses = (0..700).map(|at| clause(&pairs[at % 3])).collect();
-    let bytes = sheet(NARROW, &all(Exists, 2), and(clauses));
+    // All variables have both signs, so nothing can be settled.
+    let bytes = NARROW.encode(&valve_clauses(700));
     assert_eq!(solve_line(&bytes, 40_000), "stopped 0 0 1");
     assert_eq!(READING.program_line(&bytes), "stopped 0 0 1");
 }

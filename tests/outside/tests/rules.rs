@@ -19,7 +19,7 @@ fn tidying_needs_each_of_its_rules() {
     for left_out in 0..RULES.tidying.len() {
         let rules = Rules { tidying: fewer(RULES.tidying, left_out), ..RULES };
         let mut untidy = 0;
-        cases(500, |rng| {
+        cases(1_000, |rng| {
             let formula = generate::formula(rng, SMALL);
             let tidied = rules.tidy_formula(&formula);
             assert_eq!(truth::table(&tidied), truth::table(&formula), "the others keep truth");
@@ -35,6 +35,7 @@ fn being_tidy_needs_each_of_its_limits() {
         and(vec![lit(1)]),
         and(vec![lit(1), cube(&[2, 3])]),
         and(vec![lit(1), clause(&[2, 3]), lit(-1)]),
+        and(vec![clause(&[1, 2]), lit(3), clause(&[1, 2])]),
     ];
     assert_eq!(broken_alone.len(), RULES.limits.len());
     for left_out in 0..RULES.limits.len() {

@@ -1,8 +1,8 @@
 //! Whole formulas and sheets, by the family of their matrix and within limits.
 
 use super::prefix::{prefix, prefix_of, Style};
-use super::{clauses, trees, Rng};
-use crate::reference::{Format, Formula, Node, Variable};
+use super::{clauses, pasted, trees, Rng};
+use crate::reference::{Format, Formula, Node, Rules, Variable};
 
 /// The most variables and nodes of a generated formula; variable numbers are
 /// any that the format has.
@@ -44,13 +44,15 @@ pub enum Family {
     Ladder,
     /// One operator with many children, repeated and opposite ones among them.
     Wide,
+    /// Guards with copies of them, and with what is nearly a copy.
+    Pasted,
     /// Operators only.
     Constants,
     /// Both signs of every variable: nothing can be settled at first, tidy.
     Parity,
 }
 
-const FAMILIES: [Family; 9] = [
+const FAMILIES: [Family; 10] = [
     Family::Untidy,
     Family::Tidy,
     Family::Clauses,
@@ -58,6 +60,7 @@ const FAMILIES: [Family; 9] = [
     Family::Chain,
     Family::Ladder,
     Family::Wide,
+    Family::Pasted,
     Family::Constants,
     Family::Parity,
 ];
@@ -154,6 +157,16 @@ fn pool(rng: &mut Rng, mut variables: Vec<Variable>) -> Vec<Variable> {
 }
 
 fn matrix(rng: &mut Rng, family: Family, pool: &[Variable], budget: usize) -> Node {
+    let matrix = any_matrix(rng, family, pool, budget);
+    // All but equal siblings is tidy by construction.
+    if TIDY_FAMILIES.contains(&family) {
+        Rules::CURRENT.tidy_node(matrix)
+    } else {
+        matrix
+    }
+}
+
+fn any_matrix(rng: &mut Rng, family: Family, pool: &[Variable], budget: usize) -> Node {
     let kind = trees::any_kind(rng);
     match family {
         Family::Untidy => trees::untidy_matrix(rng, pool, budget),
@@ -163,6 +176,7 @@ fn matrix(rng: &mut Rng, family: Family, pool: &[Variable], budget: usize) -> No
         Family::Chain => trees::chain(rng, pool, budget),
         Family::Ladder => trees::ladders(rng, pool, kind, budget),
         Family::Wide => trees::wide(rng, pool, kind, budget),
+        Family::Pasted => pasted::pasted(rng, pool, kind, budget),
         Family::Constants => trees::untidy_matrix(rng, &[], budget),
         Family::Parity => clauses::parities(rng, pool, kind, budget),
     }
@@ -172,7 +186,6 @@ fn matrix(rng: &mut Rng, family: Family, pool: &[Variable], budget: usize) -> No
 mod tests {
     use super::*;
     use crate::generate::cases;
-    use crate::reference::Rules;
     use crate::with_deep_stack;
 
     #[test]

@@ -34,9 +34,9 @@ fn matrix(rng: &mut Rng, pool: &[Variable], budget: usize) -> Node {
         if rows > budget || pool.len() == 1 && children.len() == 1 {
             break;
         }
-        // A clause of one literal is a unit, and no two of them share a variable.
-        if child.children().is_empty() && children.iter().any(|other| same_variable(other, &child))
-        {
+        // A clause of one literal is a unit, and no two of them share a variable; no clause
+        // stands there twice.
+        if children.iter().any(|other| same_variable(other, &child) || *other == child) {
             continue;
         }
         children.push(child);

@@ -26,8 +26,24 @@ impl Rules {
         innermost_block: last_run,
     };
 
-    /// Document 01 with the requests that have landed since: N5.
-    pub const CURRENT: Rules = Rules { innermost_block: past_spare_rows, ..Rules::DOCUMENT_01 };
+    /// Document 01 with the requests that have landed since: N4, N5.
+    pub const CURRENT: Rules = Rules {
+        tidying: &[
+            tidy::splice_own_kind,
+            tidy::yield_to_empty_operator,
+            tidy::decide_by_opposite_literals,
+            tidy::drop_repeated_literals,
+            tidy::drop_repeated_operators,
+            tidy::replace_by_lone_child,
+        ],
+        limits: &[
+            tidy::has_one_child,
+            tidy::has_child_of_own_kind,
+            tidy::has_variable_twice,
+            tidy::has_operator_twice,
+        ],
+        innermost_block: past_spare_rows,
+    };
 
     pub fn innermost_block(&self, formula: &Formula) -> Vec<Variable> {
         (self.innermost_block)(formula)

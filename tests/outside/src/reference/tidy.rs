@@ -49,6 +49,24 @@ pub(super) fn drop_repeated_literals(_: Kind, mut children: Vec<Node>) -> Tidied
     Continue(children)
 }
 
+/// N4: an operator child goes that equals an earlier one.
+pub(super) fn drop_repeated_operators(_: Kind, children: Vec<Node>) -> Tidied {
+    let stay = first_of_equals(&children);
+    let kept = children.into_iter().zip(stay).filter(|(_, stays)| *stays);
+    Continue(kept.map(|(child, _)| child).collect())
+}
+
+/// For each child whether it is a literal or no earlier operator equals it.
+fn first_of_equals(children: &[Node]) -> Vec<bool> {
+    let is_literal = |child: &Node| child.as_literal().is_some();
+    // One operator alone has no equal: a deep tree isn't walked at each of its levels.
+    if children.iter().filter(|child| !is_literal(child)).count() < 2 {
+        return vec![true; children.len()];
+    }
+    let mut seen = HashSet::new();
+    children.iter().map(|child| is_literal(child) || seen.insert(child)).collect()
+}
+
 pub(super) fn replace_by_lone_child(_: Kind, mut children: Vec<Node>) -> Tidied {
     if children.len() == 1 {
         Break(children.remove(0))
@@ -63,6 +81,10 @@ pub(super) fn has_one_child(_: Kind, children: &[Node]) -> bool {
 
 pub(super) fn has_child_of_own_kind(own: Kind, children: &[Node]) -> bool {
     children.iter().any(|child| child.is_operator(own))
+}
+
+pub(super) fn has_operator_twice(_: Kind, children: &[Node]) -> bool {
+    first_of_equals(children).contains(&false)
 }
 
 pub(super) fn has_variable_twice(_: Kind, children: &[Node]) -> bool {

@@ -31,7 +31,7 @@ impl Quantifier {
     }
 }
 
-#[derive(Clone, Copy, Debug, PartialEq, Eq)]
+#[derive(Clone, Copy, Debug, PartialEq, Eq, Hash)]
 pub enum Kind {
     And,
     Or,
@@ -46,7 +46,7 @@ impl Kind {
     }
 }
 
-#[derive(Clone, Debug, PartialEq, Eq)]
+#[derive(Clone, Debug, PartialEq, Eq, Hash)]
 pub enum Node {
     Lit { positive: bool, var: Variable },
     Op { kind: Kind, children: Vec<Node> },

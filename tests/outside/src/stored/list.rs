@@ -448,17 +448,10 @@ fn largest_expansions(format: Format) -> Vec<Case> {
     let mut cases = vec![Case { sheet: format.encode(&two_ladders(n / 4 - 5)), calls }];
     let longest = format.longest_sheet();
     for count in [(n - 3) / 6, (n - 3) / 6 + 1] {
-        let sheet = format.encode(&two_variable_clauses(count));
+        let sheet = format.encode(&valve_clauses(count));
         cases.push(Case { sheet, calls: vec![Call::solve(longest, longest)] });
     }
     cases
-}
-
-/// AND of clauses over 1 and 2, in both signs, so that nothing can be settled.
-fn two_variable_clauses(count: usize) -> Formula {
-    let signed = [[1, 2], [1, -2], [-1, 2]];
-    let clauses = (0..count).map(|at| clause(&signed[at % 3])).collect();
-    formula(&all(Exists, 2), and(clauses))
 }
 
 /// 1 and a ladder of so many rows, or else not 1 and that ladder with all signs
@@ -480,11 +473,19 @@ fn with_signs_turned(node: &Node) -> Node {
     }
 }
 
-/// AND of clauses of three rows, each with a literal of 1, in both signs.
+/// AND of clauses of three rows, each with a literal of 1, in both signs. Once 1 has met all others
+/// from either side, it meets their negations, but for those of 2 and of the last one.
 fn clauses(format: Format, count: usize) -> Formula {
     let others = format.most_variables - 1;
-    let of =
-        |at: usize| clause(&[if at.is_multiple_of(2) { 1 } else { -1 }, 2 + (at % others) as i32]);
+    let of = |at: usize| {
+        let one = if at.is_multiple_of(2) { 1 } else { -1 };
+        let other = 2 + (at % others) as i32;
+        match at / (2 * others) {
+            0 => clause(&[one, other]),
+            1 => clause(&[other, one]),
+            _ => clause(&[one, -3 - (at % (others - 2)) as i32]),
+        }
+    };
     formula(&all(Exists, format.most_variables), and((0..count).map(of).collect()))
 }
 

@@ -14,6 +14,15 @@ pub(super) struct Tidying {
     stamp: u32,
     /// The children that stay, each by its first row.
     kept: Vec<u16>,
+    /// By row a print of the subtree there: equal subtrees have equal prints.
+    prints: Vec<u32>,
+    /// The operator children listed so far, by their prints: the operator that one was listed
+    /// under, and its row. There are twice as many places as rows, so that some stay empty.
+    listed: Vec<(u32, u16)>,
+}
+
+fn mixed(print: u32, next: u32) -> u32 {
+    (print.rotate_left(5) ^ next).wrapping_mul(0x9e37_79b1)
 }
 
 fn dual(kind: u8) -> u8 {
@@ -37,6 +46,8 @@ impl Tidying {
             marks: vec![0; numbers],
             stamp: 0,
             kept: Vec::with_capacity(rows),
+            prints: vec![0; rows],
+            listed: vec![(0, 0); (2 * rows).next_power_of_two()],
         }
     }
 
@@ -44,7 +55,7 @@ impl Tidying {
         self.top = self.kinds.len();
         for (&kind, &argument) in raw.kinds.iter().zip(&raw.arguments).rev() {
             if is_literal(kind) {
-                self.put(kind, argument, 1);
+                self.put(kind, argument, 1, mixed(u32::from(kind), u32::from(argument)));
             } else {
                 self.combine(kind, argument);
             }
@@ -56,8 +67,9 @@ impl Tidying {
         sizes.extend_from_slice(&self.sizes[self.top..]);
     }
 
-    fn put(&mut self, kind: u8, argument: u16, size: u16) {
+    fn put(&mut self, kind: u8, argument: u16, size: u16, print: u32) {
         self.top -= 1;
+        self.prints[self.top] = print;
         self.kinds[self.top] = kind;
         self.arguments[self.top] = argument;
         self.sizes[self.top] = size;
@@ -68,21 +80,24 @@ impl Tidying {
         self.stamp += 1;
         if self.stamp == u32::MAX / 2 {
             self.marks.fill(0);
+            self.listed.fill((0, 0));
             self.stamp = 1;
         }
         let sifted = self.sift(kind, children);
         if sifted.decided {
             self.top = sifted.end;
-            self.put(dual(kind), 0, 1);
+            self.put(dual(kind), 0, 1, u32::from(dual(kind)));
             return;
         }
         let count = self.kept.len() as u16;
+        let prints = self.kept.iter().map(|&at| self.prints[usize::from(at)]);
+        let print = prints.fold(u32::from(kind), mixed);
         if sifted.changed {
             self.pack(sifted.end);
         }
         if count != 1 {
             let rows = (sifted.end - self.top) as u16;
-            self.put(kind, count, rows + 1);
+            self.put(kind, count, rows + 1, print);
         }
     }
 
@@ -111,7 +126,11 @@ impl Tidying {
     fn sift_child(&mut self, kind: u8, at: usize, changed: &mut bool) -> bool {
         let own = self.kinds[at];
         if !is_literal(own) {
-            self.kept.push(at as u16);
+            if self.list(at) {
+                self.kept.push(at as u16);
+            } else {
+                *changed = true;
+            }
             return own == dual(kind) && self.sizes[at] == 1;
         }
         let mark = &mut self.marks[usize::from(self.arguments[at])];
@@ -128,6 +147,29 @@ impl Tidying {
         false
     }
 
+    /// Lists an operator child, if no child listed under the same operator equals it.
+    fn list(&mut self, at: usize) -> bool {
+        let mask = self.listed.len() - 1;
+        // The lower bits of a product are the poorer ones.
+        let mut place = (self.prints[at] >> 7) as usize & mask;
+        while self.listed[place].0 == self.stamp {
+            if self.equals(usize::from(self.listed[place].1), at) {
+                return false;
+            }
+            place = (place + 1) & mask;
+        }
+        self.listed[place] = (self.stamp, at as u16);
+        true
+    }
+
+    fn equals(&self, one: usize, other: usize) -> bool {
+        let size = usize::from(self.sizes[one]);
+        self.prints[one] == self.prints[other]
+            && self.sizes[one] == self.sizes[other]
+            && self.kinds[one..one + size] == self.kinds[other..other + size]
+            && self.arguments[one..one + size] == self.arguments[other..other + size]
+    }
+
     /// Moves the children that stay together before `end`.
     fn pack(&mut self, end: usize) {
         let mut to = end;
@@ -139,6 +181,7 @@ impl Tidying {
                 self.kinds.copy_within(at..at + size, to);
                 self.arguments.copy_within(at..at + size, to);
                 self.sizes.copy_within(at..at + size, to);
+                self.prints.copy_within(at..at + size, to);
             }
         }
         self.top = to;
