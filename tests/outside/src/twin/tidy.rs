@@ -17,7 +17,7 @@ pub(super) struct Tidying {
     /// By row a print of the subtree there: equal subtrees have equal prints.
     prints: Vec<u32>,
     /// The operator children listed so far, by their prints: the operator that one was listed
-    /// under, and its row. There are twice as many places as rows, so that some stay empty.
+    /// under, and its row. A tidied operator has three rows, so that half of the places stay empty.
     listed: Vec<(u32, u16)>,
 }
 
@@ -47,7 +47,7 @@ impl Tidying {
             stamp: 0,
             kept: Vec::with_capacity(rows),
             prints: vec![0; rows],
-            listed: vec![(0, 0); (2 * rows).next_power_of_two()],
+            listed: vec![(0, 0); (2 * rows / 3).next_power_of_two()],
         }
     }
 
