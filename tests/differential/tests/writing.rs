@@ -177,7 +177,7 @@ fn quotes_above_the_row_limit() {
         let format = library.reading.format;
         for raw in format.most_nodes - 1..format.most_nodes + 3 {
             for matrix in with_raw_rows(format, Kind::And, raw) {
-                let sheet = format.encode(&formula(&all(Exists, 4), matrix));
+                let sheet = format.encode(&formula(&all(Exists, MANY), matrix));
                 let room = 3 * format.longest_sheet();
                 let quote = agree_on_quote(&mut rng, library, &sheet, 1, room);
                 assert_eq!(quote, Answer::Accepted(raw));
@@ -213,20 +213,32 @@ fn steps_at_every_limit_of_the_output() {
     });
 }
 
+/// The variables of the sheets around the limit of rows: enough for children of
+/// which no two are equal.
+const MANY: usize = 200;
+
 /// Children for an operator, `rows` in all (at least 6), in operators of `kind`
-/// over variables 2 to 4.
+/// over the variables behind 1, no two of them equal.
 fn filling(kind: Kind, rows: usize) -> Vec<Node> {
     let longer = rows % 3;
-    let group =
-        |width: usize| Node::Op { kind, children: (2..2 + width as i32).map(lit).collect() };
+    let group = |literals: &[i32]| Node::Op {
+        kind,
+        children: literals.iter().map(|&signed| lit(signed)).collect(),
+    };
     let short = (rows - 4 * longer) / 3;
-    (0..longer).map(|_| group(3)).chain((0..short).map(|_| group(2))).collect()
+    let pairs = (2..MANY as i32).flat_map(|a| (a + 1..=MANY as i32).map(move |b| [a, b]));
+    let long = (0..longer as i32).map(|at| group(&[2, 3, 4 + at]));
+    long.chain(pairs.take(short).map(|pair| group(&pair))).collect()
 }
 
-/// Groups of three rows with both signs of variable 1.
+/// Groups of three rows with both signs of variable 1, no two of them equal.
 fn relevant_groups(kind: Kind, count: usize) -> Vec<Node> {
     let sign = |at: usize| if at.is_multiple_of(2) { 1 } else { -1 };
-    let group = |at| Node::Op { kind, children: vec![lit(sign(at)), lit(2)] };
+    let group = |at: usize| {
+        let (other, round) = (at / 2 % (MANY - 1), at / 2 / (MANY - 1));
+        let (one, other) = (lit(sign(at)), lit(sign(round) * (2 + other as i32)));
+        Node::Op { kind, children: if round < 2 { vec![one, other] } else { vec![other, one] } }
+    };
     (0..count).map(group).collect()
 }
 
@@ -259,7 +271,7 @@ fn agree_on_raw_rows(rng: &mut Rng, library: &Library, kind: Kind, raw: usize) -
     let mut accepted = 0;
     for matrix in with_raw_rows(format, kind, raw) {
         for quantifier in [Exists, ForAll] {
-            let formula = formula(&all(quantifier, 4), matrix.clone());
+            let formula = formula(&all(quantifier, MANY), matrix.clone());
             assert_eq!(raw_rows(&formula, 1), raw);
             agree_at_limits(rng, library, Expand, &formula, 1);
             let room = 3 * format.longest_sheet();
