@@ -88,14 +88,14 @@ module _ {F : Format} {s : Layout} {first second : Bytes} (r : RawReady F s firs
     start = record { sheet = t; settled = 0; expanded = 0 }
 
     started : (formula-in t new ≡ tidied f) × Held F most t new
-    unfolding tidied
+    unfolding tidied padded
     started =
         hold (r .countable) (tidied f) (within-tidied F f (r .within)) (length first)
         (proper-tidied f (r .within .is-distinct) (r .within .is-closed) .is-neat) (omega (arith, shorter, tidied-short)) (omega (arith, shorter))
         (at ∙
         ap (λ (w : ℕ). record { width = w; variables = s .variables; nodes = nodes F new }) (r .raw .width-is) ∙
         ap₂ (λ (v n : ℕ). record { width = F .width; variables = v; nodes = n }) (sym variables-are)
-        (nodes-read F (tidied f) (r .countable) (within-tidied F f (r .within)) (length first) new-is))
+        (nodes-read F (tidied f) (r .countable) (within-tidied F f (r .within)) (replicate (length first - length (sheet F (tidied f))) 0) new-is))
         new-is
 
     pub start-held : Held F most t new

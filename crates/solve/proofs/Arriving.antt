@@ -2,13 +2,14 @@
 -- Assumes nothing.
 use mathlib.Core.Path.{_≡_, sym, ap, ap₂, _∙_, subst}
 use mathlib.Core.Bool.{Bool, true, false, _&&_, cond}
-use mathlib.Core.List.{List}
+use mathlib.Core.List.{List, _++_}
 use mathlib.Core.Option.{none, some}
 use Prim.Native.Nat.{ℕ, suc, _+_, _*_, _-_, _≤_, _<_, _^_}
 use native.Mathlib.Nat.{mul-le-mul-left}
 use native.Mathlib.Numerals.{add-one}
 use native.Mathlib.Omega.{arith}
-use lib.ListN.{length, take, drop}
+use lib.ListN.{length, take, drop, replicate, length-append}
+use lib.Seq.{drop-append-seam}
 use lib.Dec.{leb}
 use borrow.Author.Tests.{leb-true, le-leb}
 use Rattle.formula.specs.Tree.{Formula, of, rows, without}
@@ -41,7 +42,7 @@ use Rattle.stepping.specs.Expanding.{Prepared, Expands}
 use Rattle.stepping.specs.declared.expanding.Expanding.{Expanding}
 use Rattle.stepping.specs.declared.settling.Put.{Put}
 use Rattle.solve.specs.declared.State.{State}
-use Rattle.solve.specs.Inner.Running.{layout-for, Held, Ready, begun, Open, Settles, Fetchable, reached}
+use Rattle.solve.specs.Inner.Running.{layout-for, Held, Ready, begun, Open, Settles, Fetchable, ZerosBehind, reached}
 use Rattle.solve.proofs.Holding.{hold, readable, proper, steppable, variables-are, nodes-are}
 use Rattle.solve.proofs.Carrying.{front-part, header-within, nodes-read}
 use Rattle.solve.proofs.Stepping.{step-ends, step-settles, step-expands, step-stops, variables-left, within-settled, within-expanded, fits-tested}
@@ -58,15 +59,15 @@ pub record Arrives (F : Format) (most : ℕ) (v : ℕ) (g : Formula) : Type 0 wh
   pub is-neat : is-tidy (g .matrix) ≡ true
   pub short : length (sheet F g) ≤ most
 
-module _ {F : Format} (k : Countable F) {most v : ℕ} {g : Formula} (a : Arrives F most v g) (len : ℕ) {bytes : ℕ} {c : Bytes}
-    (in-second : c ≡ padded len (sheet F g)) (as-long : bytes ≡ length (sheet F g)) where
-  pub fetchable : {d : Bytes} → most ≤ len → length c ≡ len → most ≤ length d → Fetchable F bytes d c
-  fetchable room same l =
+module _ {F : Format} (k : Countable F) {most v : ℕ} {g : Formula} (a : Arrives F most v g) (rest : Bytes) {bytes : ℕ} {c : Bytes}
+    (in-second : c ≡ sheet F g ++ rest) (as-long : bytes ≡ length (sheet F g)) where
+  pub fetchable : {d : Bytes} → most ≤ length d → Fetchable F bytes d c
+  fetchable l =
       record {
         few-bytes = k .manageable .few-bytes;
         header = omega (arith, header-within F g, as-long);
         in-first = omega (arith, as-long, a .short);
-        in-second = omega (arith, as-long, a .short, same);
+        in-second = omega (arith, as-long, ap length in-second, length-append (sheet F g) rest);
       }
 
   module _ (old : ℕ) {t : Layout} {b : Bytes} (room : most ≤ old) (in-first : b ≡ padded old (take bytes c))
@@ -75,17 +76,14 @@ module _ {F : Format} (k : Countable F) {most v : ℕ} {g : Formula} (a : Arrive
     arrived =
         hold k g (a .within) old (a .is-neat) (a .short) room
         (at ∙
-        ap₂ (λ (x n : ℕ). record { width = F .width; variables = x; nodes = n }) (a .variables-left) (nodes-read F g k (a .within) len in-second))
-        (in-first ∙ ap (padded old) (front-part F g len in-second as-long))
+        ap₂ (λ (x n : ℕ). record { width = F .width; variables = x; nodes = n }) (a .variables-left) (nodes-read F g k (a .within) rest in-second))
+        (in-first ∙ ap (padded old) (front-part F g rest in-second as-long))
 
     pub arrived-formula : formula-in t b ≡ g
     arrived-formula = arrived .0
 
     pub arrived-held : Held F most t b
     arrived-held = arrived .1
-
-    pub arrived-second : c ≡ padded len (sheet F (formula-in t b))
-    arrived-second = in-second ∙ ap (λ (f : Formula). padded len (sheet F f)) (sym arrived-formula)
 
 -- a raw sheet has at most twice the rows and two
 grown-small : (n : ℕ) (p : Presence) → copied p ≤ n → grown-by n p ≤ n + n + 2
@@ -108,6 +106,22 @@ module _ {F : Format} {most : ℕ} {s : State} {first second : Bytes} (r : Ready
 
   sheet-room : sheet-length F (t .variables) (t .nodes) ≤ most
   sheet-room = omega (arith, r .held .has-room, length-sheet F f ∙ ap₂ (sheet-length F) (sym (variables-are k (r .held))) (sym (nodes-are k (r .held))))
+
+  -- its sizes are small enough to compute with
+  pub few-rows : (F .width ≤ 4) × (t .variables < 2 ^ 32) × (t .nodes < 2 ^ 32)
+  few-rows = (k .manageable .few-bytes, omega (arith, r .few), omega (arith, readable k (r .held) .few-nodes))
+
+  -- the sheet held, and behind it only zeros
+  pub zeros-behind : {old : ℕ} → old ≡ sheet-length F (t .variables) (t .nodes) → ZerosBehind old first
+  unfolding padded
+  zeros-behind {old} e =
+      let long : old ≡ length (sheet F f) = e ∙ sym (length-sheet F f ∙ ap₂ (sheet-length F) (sym (variables-are k (r .held))) (sym (nodes-are k (r .held)))) in
+      record {
+        inside = omega (arith, long, r .held .has-room, r .first-room);
+        zeros =
+            ap₂ drop long (r .held .bytes-are) ∙ drop-append-seam (sheet F f) (replicate (length first - length (sheet F f)) 0) ∙
+            ap (λ n. replicate (length first - n) 0) (sym long);
+      }
 
   pub decided-end : {c : Bool} → verdict (matrix-in t first) ≡ some c → step (fits F most) (reached s first) ≡ halt (ended c)
   unfolding formula-in
@@ -134,7 +148,10 @@ module _ {F : Format} {most : ℕ} {s : State} {first second : Bytes} (r : Ready
       unfolding settled
       less = length-without x (f .prefix) (lowest-chosen f x (here .is-lowest) .1)
 
-      pub settle-puts : {len : ℕ} → most ≤ len → Puts F t first p len
+      pub settle-room : sheet-length F (t .variables - 1) (t .nodes) ≤ most
+      settle-room = omega (arith, sheet-room, shorter-sheet F {v = t .variables - 1} {n = t .nodes} {v′ = t .variables} {n′ = t .nodes} (omega arith) (omega arith))
+
+      pub settle-puts : {len : ℕ} → sheet-length F (t .variables - 1) (t .nodes) ≤ len → Puts F t first p len
       unfolding formula-in
       settle-puts l =
           record {
@@ -150,7 +167,7 @@ module _ {F : Format} {most : ℕ} {s : State} {first second : Bytes} (r : Ready
                         binds-numbered F (f .prefix) x (r .held .within .is-numbered) (lowest-chosen f x (here .is-lowest) .1),
                       );
                 };
-            room = omega (arith, sheet-room, shorter-sheet F {v = t .variables - 1} {n = t .nodes} {v′ = t .variables} {n′ = t .nodes} (omega arith) (omega arith));
+            room = l;
           }
 
       pub settle-arrives : Arrives F most (t .variables - 1) (settled x (p .value) f)
@@ -214,7 +231,7 @@ module _ {F : Format} {most : ℕ} {s : State} {first second : Bytes} (r : Ready
           }
 
       module _ (m : fits F most (t .variables - 1) (c .raw) ≡ true) where
-        few-and-short : (c .raw ≤ F .most-nodes) × (sheet-length F (t .variables - 1) (c .raw) ≤ most)
+        pub few-and-short : (c .raw ≤ F .most-nodes) × (sheet-length F (t .variables - 1) (c .raw) ≤ most)
         unfolding fits
         few-and-short =
             let parts = and-parts (leb (c .raw) (F .most-nodes)) (leb (sheet-length F (t .variables - 1) (c .raw)) most) m in
@@ -253,7 +270,7 @@ module _ {F : Format} {most : ℕ} {s : State} {first second : Bytes} (r : Ready
           nodes-are-raw : w .to .layout .nodes ≡ c .raw
           nodes-are-raw = ap (λ (l : Layout). l .nodes) (pr .layout-is) ∙ sym (here .raw-is)
 
-          pub expand-expands : {len : ℕ} → most ≤ len → Expands F t first table w len
+          pub expand-expands : {len : ℕ} → sheet-length F (t .variables - 1) (c .raw) ≤ len → Expands F t first table w len
           unfolding fits
           expand-expands {len} l =
               record {
@@ -265,7 +282,7 @@ module _ {F : Format} {most : ℕ} {s : State} {first second : Bytes} (r : Ready
                 has-room =
                     rw nodes-are-raw
                     (ap₂ _&&_ (le-leb (c .raw) (F .most-nodes) (few-and-short .0))
-                    (le-leb (sheet-length F (t .variables - 1) (c .raw)) len (omega (arith, few-and-short .1))));
+                    (le-leb (sheet-length F (t .variables - 1) (c .raw)) len l));
               }
 
           pub prepared-arrives : Arrives F most (t .variables - 1) (expanded (w .variable) f)

@@ -1,11 +1,11 @@
 -- A sheet brought from the second buffer to the first.
 -- Assumes nothing.
 use mathlib.Core.Path.{_≡_, sym, ap, ap₂, _∙_}
-use mathlib.Core.List.{_++_}
+use mathlib.Core.List.{_++_, append-assoc}
 use Prim.Native.Nat.{ℕ, _+_, _*_, _-_, _≤_}
 use native.Mathlib.Omega.{arith}
-use lib.ListN.{length, take, drop, replicate, length-append, length-drop}
-use lib.Seq.{length-take-le, take-append-seam, take-append-le, drop-append-le}
+use lib.ListN.{length, take, drop, replicate, length-append, length-drop, length-replicate, replicate-append-replicate}
+use lib.Seq.{length-take-le, take-append-seam, take-append-le, drop-append-le, drop-drop, drop-at}
 use Rattle.formula.specs.Tree.{Formula, rows}
 use Rattle.sheet.specs.Format.{Bytes, Format, sheet-length, number, nodes}
 use Rattle.sheet.specs.Sheet.{sheet}
@@ -13,6 +13,7 @@ use Rattle.sheet.specs.Operations.{padded}
 use Rattle.sheet.specs.Limits.{Within}
 use Rattle.sheet.proofs.RoundTrip.{length-sheet, nodes-sheet}
 use Rattle.checking.specs.Limits.{Countable}
+use Rattle.solve.specs.Inner.Running.{ZerosBehind}
 use Rattle.solve.proofs.Holding.{sound}
 
 -- the first bytes of one buffer copied to another, and the rest cleared
@@ -27,11 +28,43 @@ cleared c d n {mid} {new} in-c in-d m e =
     ap₂ (λ (p : Bytes) k. p ++ replicate k 0) (ap₂ take (sym long) m ∙ take-append-seam s (drop (length s) d))
     (ap₂ (λ a b. a - b) size (sym long))
 
+-- the same to the first part of a buffer that has zeros behind it
+pub cleared-part : (c d : Bytes) (n part old : ℕ) {front new : Bytes} → n ≤ length c → n ≤ part → old ≤ part → part ≤ length d → ZerosBehind old d
+    → front ≡ padded (length (take part d)) (take n c) → new ≡ front ++ drop part d → new ≡ padded (length d) (take n c)
+unfolding padded
+cleared-part c d n part old {front} {new} in-c before after in-d z f e =
+    e ∙ ap₂ (λ (p q : Bytes). p ++ q) (f ∙ ap₂ (λ a b. take n c ++ replicate (a - b) 0) (length-take-le part d in-d) long) behind ∙
+    append-assoc (take n c) (replicate (part - n) 0) (replicate (length d - part) 0) ∙
+    ap (λ l. take n c ++ l) (replicate-append-replicate (part - n) (length d - part) 0) ∙ ap (λ m. take n c ++ replicate m 0) whole
+  where
+    long : length (take n c) ≡ n
+    long = length-take-le n c in-c
+
+    whole : part - n + (length d - part) ≡ length d - length (take n c)
+    whole = omega (arith, long)
+
+    parts : length d - old ≡ part - old + (length d - part)
+    parts = omega arith
+
+    back : old + (part - old) ≡ part
+    back = omega arith
+
+    behind : drop part d ≡ replicate (length d - part) 0
+    behind =
+        ap (λ m. drop m d) (sym back) ∙ sym (drop-drop (part - old) old d) ∙
+        ap (drop (part - old)) (z .zeros ∙ ap (λ m. replicate m 0) parts ∙ sym (replicate-append-replicate (part - old) (length d - part) 0)) ∙
+        drop-at (replicate (part - old) 0) (replicate (length d - part) 0) (part - old) (length-replicate (part - old) 0)
+
 module _ (F : Format) (f : Formula) where
-  -- a sheet at the front of a padded buffer
-  pub front-part : (len : ℕ) {b : Bytes} {end : ℕ} → b ≡ padded len (sheet F f) → end ≡ length (sheet F f) → take end b ≡ sheet F f
+  -- a sheet at the front of a buffer
+  pub front-part : (rest : Bytes) {b : Bytes} {end : ℕ} → b ≡ sheet F f ++ rest → end ≡ length (sheet F f) → take end b ≡ sheet F f
+  front-part rest e l = ap₂ take l e ∙ take-append-seam (sheet F f) rest
+
+  -- one at the front of a part of it
+  pub in-front : (len : ℕ) (behind : Bytes) {part b : Bytes} → part ≡ padded len (sheet F f) → b ≡ part ++ behind
+      → b ≡ sheet F f ++ (replicate (len - length (sheet F f)) 0 ++ behind)
   unfolding padded
-  front-part len e l = ap₂ take l e ∙ take-append-seam (sheet F f) (replicate (len - length (sheet F f)) 0)
+  in-front len behind p e = e ∙ ap (λ l. l ++ behind) p ∙ append-assoc (sheet F f) (replicate (len - length (sheet F f)) 0) behind
 
   -- the sizes stand in it
   pub header-within : 2 * F .width ≤ length (sheet F f)
@@ -39,12 +72,10 @@ module _ (F : Format) (f : Formula) where
   header-within = omega (arith, length-sheet F f)
 
   -- and its nodes are read from it
-  pub nodes-read : Countable F → Within F f → (len : ℕ) {b : Bytes} → b ≡ padded len (sheet F f)
-      → nodes F b ≡ rows (f .matrix)
-  unfolding padded nodes
-  nodes-read k h len e =
+  pub nodes-read : Countable F → Within F f → (z : Bytes) {b : Bytes} → b ≡ sheet F f ++ z → nodes F b ≡ rows (f .matrix)
+  unfolding nodes
+  nodes-read k h z e =
       let s = sheet F f in
-      let z : Bytes = replicate (len - length s) 0 in
       ap (λ (d : Bytes). number (take (F .width) (drop (F .width) d))) e ∙
       ap (λ (d : Bytes). number (take (F .width) d)) (drop-append-le (F .width) s z (omega (arith, header-within))) ∙
       ap number (take-append-le (F .width) (drop (F .width) s) z (omega (arith, header-within, length-drop (F .width) s))) ∙

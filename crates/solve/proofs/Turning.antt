@@ -34,8 +34,8 @@ pub turn-first : {F : Format} {room : ℕ} {s : State} {b : Bytes} → Held F ro
 turn-first h l = record { held = h; same-run = refl; few = l; same-length = refl }
 
 module _ {F : Format} {room : ℕ} {s₀ s : State} {b₀ b : Bytes} (u : Turn F room s₀ s b₀ b) where
-  pub turn-next : {t : State} (c : Bytes) {new other : Bytes} → Stepped F room s b c new other (taken.Next t) → length new ≡ length b → Turn F room s₀ t b₀ new
-  turn-next {t} c {new} {other} k l =
+  pub turn-next : {t : State} (c : Bytes) {new : Bytes} → Stepped F room s b c new c (taken.Next t) → length new ≡ length b → Turn F room s₀ t b₀ new
+  turn-next {t} c {new} k l =
       record {
         held = k .1;
         same-run =

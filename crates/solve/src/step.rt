@@ -14,6 +14,7 @@ use rows::NUMBERS;
 use rows::ROWS;
 use rows::bytes::clear;
 use rows::fit::fits;
+use rows::fit::sheet_length;
 use rows::read::nodes_at;
 use stepping::expanding::expand_into;
 use stepping::expanding::prepare;
@@ -22,13 +23,14 @@ use stepping::settling::settle_into;
 use subtrees::ends::fill_ends;
 use tidying::copy_front;
 ghost use mathlib.Core.Path.{_≡_};
+ghost use Prim.Native.Nat.{max};
 ghost use lib.ListN.{length, take};
 ghost use Rattle.sheet.specs.Operations.{padded};
 ghost use Rattle.sheet.specs.Format.{nodes};
 ghost use Rattle.rows.specs.Formats.{format-of};
 ghost use Rattle.subtrees.specs.Ends.{Indexed};
 ghost use Rattle.choice.specs.Settling.{Unsettled};
-ghost use Rattle.solve.specs.Inner.Running.{Ready, Open, Settles, Fetchable, Stepped};
+ghost use Rattle.solve.specs.Inner.Running.{Ready, Open, Settles, Fetchable, ZerosBehind, Stepped};
 
 // Decided, stopped at a variable, or on to the next state.
 pub enum Step {
@@ -52,7 +54,27 @@ fn fetch(first: &mut [u8], second: &[u8], f: Format, v: usize, bytes: usize) -> 
     }
 }
 
-// Settles a variable with its value.
+// The larger of two lengths.
+fn longer(a: usize, b: usize) -> usize
+    ensures { λ r. ⌜ r ≡ max a b ⌝ }
+{
+    if a < b {
+        return b;
+    }
+    a
+}
+
+// Brings such a sheet to the first buffer where that one has zeros from byte `old` on: no more is cleared than what stood there.
+fn bring(first: &mut [u8], second: &[u8], f: Format, v: usize, bytes: usize, old: usize) -> Layout
+    requires { ⌜ Fetchable (format-of f) bytes (now first) (now second) × ZerosBehind old (now first) ⌝ }
+    ensures { λ _. ⌜ now (first .exit) ≡ padded (length (now (first .entry))) (take bytes (now (second .entry))) ⌝ }
+    ensures { λ t. ⌜ t ≡ record { width = f .width; variables = v; nodes = nodes (format-of f) (now (second .entry)) } ⌝ }
+{
+    let part = longer(bytes, old);
+    fetch(&mut first[..part], second, f, v, bytes)
+}
+
+// Settles a variable with its value. The raw sheet gets the part of the second buffer that it needs, so that no more is cleared.
 fn settle_step(
     first: &mut [u8],
     second: &mut [u8],
@@ -65,8 +87,10 @@ fn settle_step(
     ensures { λ r. ⌜ Stepped (format-of f) room s (now (first .entry)) (now (second .entry)) (now (first .exit)) (now (second .exit)) r ⌝ }
 {
     let t = s.sheet;
-    let bytes = settle_into(first, f, t, p, second);
-    let sheet = fetch(first, second, f, t.variables - 1, bytes);
+    let old = sheet_length(f, t.variables, t.nodes);
+    let need = sheet_length(f, t.variables - 1, t.nodes);
+    let bytes = settle_into(first, f, t, p, &mut second[..need]);
+    let sheet = bring(first, second, f, t.variables - 1, bytes, old);
     Step::Next(State {
         sheet: sheet,
         settled: s.settled + 1,
@@ -96,8 +120,10 @@ fn expand_step(
     }
     let mut cuts = [0u16; CUTS];
     let w = prepare(first, t, ends, &ranges, &next, c, &mut cuts);
-    let bytes = expand_into(first, f, t, &cuts, w, second);
-    let sheet = fetch(first, second, f, t.variables - 1, bytes);
+    let old = sheet_length(f, t.variables, t.nodes);
+    let need = sheet_length(f, t.variables - 1, c.raw);
+    let bytes = expand_into(first, f, t, &cuts, w, &mut second[..need]);
+    let sheet = bring(first, second, f, t.variables - 1, bytes, old);
     Step::Next(State {
         sheet: sheet,
         settled: s.settled,

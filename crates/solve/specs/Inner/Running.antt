@@ -4,8 +4,8 @@ use mathlib.Core.Path.{_≡_}
 use mathlib.Core.Bool.{true}
 use mathlib.Core.List.{List}
 use mathlib.Core.Option.{none}
-use Prim.Native.Nat.{ℕ, suc, _+_, _*_, _^_, _≤_, _<_}
-use lib.ListN.{length}
+use Prim.Native.Nat.{ℕ, suc, _+_, _*_, _-_, _^_, _≤_, _<_}
+use lib.ListN.{length, drop, replicate}
 use Rattle.formula.specs.Tree.{Formula, rows}
 use Rattle.formula.specs.Tidy.{is-tidy, verdict}
 use Rattle.formula.specs.Solve.{lowest, State as Reached, halt, next, ended, stopped, step, Run, run, solve}
@@ -65,6 +65,11 @@ pub record Fetchable (F : Format) (bytes : ℕ) (first second : Bytes) : Type 0 
   pub in-first : bytes ≤ length first
   pub in-second : bytes ≤ length second
 
+-- a buffer has zeros from byte n on
+pub record ZerosBehind (n : ℕ) (b : Bytes) : Type 0 where
+  pub inside : n ≤ length b
+  pub zeros : drop n b ≡ replicate (length b - n) 0
+
 -- the state of the definition: the formula held, the number settled and the number expanded
 abbrev pub reached : State → Bytes → Reached
 reached s b = record { formula = formula-in (s .sheet) b; settles = s .settled; expands = s .expanded }
@@ -77,8 +82,7 @@ Stepped F most s first second first′ second′ (Stopped x) =
     (step (fits F most) (reached s first) ≡ halt (stopped x)) × (first′ ≡ first) × (second′ ≡ second)
 Stepped F most s first second first′ second′ (Next t) =
     (step (fits F most) (reached s first) ≡ next (reached t first′)) × Held F most (t .sheet) first′ ×
-    (s .sheet .variables ≡ suc (t .sheet .variables)) × (begun t ≡ begun s) ×
-    (second′ ≡ padded (length second) (sheet F (formula-in (t .sheet) first′)))
+    (s .sheet .variables ≡ suc (t .sheet .variables)) × (begun t ≡ begun s)
 
 -- the run from a state, what it answers, and what it leaves in a buffer of so many bytes
 abbrev pub run-from : Format → ℕ → State → Bytes → Run

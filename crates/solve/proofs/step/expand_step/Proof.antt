@@ -3,10 +3,12 @@ use mathlib.Core.Path.{refl, sym, ap, _∙_}
 use borrow.Author.Needs.{needs}
 use borrow.Author.Tests.{not-true, not-false}
 use native.Mathlib.Omega.{arith}
-use lib.ListN.{length}
+use lib.ListN.{length, take, drop}
+use lib.Seq.{length-take-le}
 use Rattle.rows.specs.declared.Layout.{Layout}
 use Rattle.solve.proofs.Holding.{bound}
-use Rattle.solve.proofs.Arriving.{some-left, fetchable, arrived-formula, arrived-held, arrived-second, raw-small, expand-stops, expand-named, expand-expands, prepared-arrives, prepared-next}
+use Rattle.solve.proofs.Carrying.{in-front}
+use Rattle.solve.proofs.Arriving.{some-left, few-rows, zeros-behind, fetchable, arrived-formula, arrived-held, raw-small, expand-stops, expand-named, few-and-short, expand-expands, prepared-arrives, prepared-next}
 use Rattle.solve.proofs.step.expand_step.Statement.{statement}
 use Rattle.solve.proofs.step.expand_step.Tie as tie
 
@@ -78,34 +80,85 @@ prepare-requires c κs =
       omega (arith, a .pre .3 .readable .few-nodes),
     )
 
+sheet-length-requires : tie.Need-sheet-length-requires
+sheet-length-requires c κs =
+    few-rows (c .before .before .before .before .before .before .before .before .before .before .before .before .before .before .before .before .before .before .before .before .before .before .before .pre .0)
+
+sub-sheet-length : tie.Need-sub-sheet-length
+sub-sheet-length c = search needs
+
+sheet-length-requires-2 : tie.Need-sheet-length-requires-2
+sheet-length-requires-2 c κs =
+    let chosen = c .before .before .before .before .before .before .before .before .before .before .before in
+    let a = chosen .before .before .before .before .before .before .before .before .before .before .before .before .before .before in
+    let r = a .pre .0 in
+    let few = few-rows r in
+    (few .0, omega (arith, few .1), omega (arith, raw-small r (a .pre .1) (a .pre .2) (chosen .choose-expand .ensures)))
+
 slice-aggregate-expand-into : tie.Need-slice-aggregate-expand-into
 slice-aggregate-expand-into c = search needs
 
-expand-into-requires : tie.Need-expand-into-requires
-expand-into-requires c κs =
-    let prepared = c .before .before .before .before in
-    let chosen = prepared .before .before .before .before .before .before .before .before in
-    let a = chosen .before .before .before .before .before .before .before .before .before .before .before .before .before .before in
-    let fit = sym (prepared .before .before .before .before .before .before .fits2 .ensures) ∙ not-false _ (prepared .before .before .before .before .before .if1 .left) in
-    expand-expands (a .pre .0) (a .pre .1) (a .pre .2) (chosen .choose-expand .ensures) fit (prepared .prepare .ensures) (a .pre .0 .second-room)
-
-sub-fetch : tie.Need-sub-fetch
-sub-fetch c = search needs
-
-fetch-requires : tie.Need-fetch-requires
-fetch-requires c κs =
-    let expanded = c .before .before .before .before .before in
-    let prepared = expanded .before .before .before .before .before in
+slice-relend-prefix-expand-into : tie.Need-slice-relend-prefix-expand-into
+slice-relend-prefix-expand-into c =
+    let need = c .before .before in
+    let prepared = need .before .before .before .before in
     let chosen = prepared .before .before .before .before .before .before .before .before in
     let a = chosen .before .before .before .before .before .before .before .before .before .before .before .before .before .before in
     let r = a .pre .0 in
+    let here = chosen .choose-expand .ensures in
     let fit = sym (prepared .before .before .before .before .before .before .fits2 .ensures) ∙ not-false _ (prepared .before .before .before .before .before .if1 .left) in
-    let arrives = prepared-arrives r (a .pre .1) (a .pre .2) (chosen .choose-expand .ensures) fit (prepared .prepare .ensures) in
-    fetchable (r .countable) arrives (length (a .args .second .now)) (expanded .expand-into .ensures .0) (expanded .expand-into .ensures .1)
-    (r .second-room) (expanded .expand-into .kept .1 .1 .1 .1 .1 .0) (r .first-room)
+    let enough = few-and-short r (a .pre .1) (a .pre .2) here fit .1 in
+    omega (arith, need .sheet-length2 .ensures, enough, r .second-room)
 
-add-t29 : tie.Need-add-t29
-add-t29 c = record { fits = omega (arith, c .before .before .before .before .before .before .before .before .before .before .before .before .before .before .before .before .before .before .before .before .before .before .before .before .before .before .before .before .before .before .before .before .before .before .before .before .pre .0 .few) }
+slice-aggregate-expand-into-2 : tie.Need-slice-aggregate-expand-into-2
+slice-aggregate-expand-into-2 c =
+    let need = c .before .before .before in
+    let prepared = need .before .before .before .before in
+    let chosen = prepared .before .before .before .before .before .before .before .before in
+    let a = chosen .before .before .before .before .before .before .before .before .before .before .before .before .before .before in
+    let r = a .pre .0 in
+    let here = chosen .choose-expand .ensures in
+    let fit = sym (prepared .before .before .before .before .before .before .fits2 .ensures) ∙ not-false _ (prepared .before .before .before .before .before .if1 .left) in
+    let enough = few-and-short r (a .pre .1) (a .pre .2) here fit .1 in
+    sym (length-take-le (need .sheet-length2 .result) (a .args .second .now) (omega (arith, need .sheet-length2 .ensures, enough, r .second-room)))
+
+expand-into-requires : tie.Need-expand-into-requires
+expand-into-requires c κs =
+    let need = c .before .before .before in
+    let prepared = need .before .before .before .before in
+    let chosen = prepared .before .before .before .before .before .before .before .before in
+    let a = chosen .before .before .before .before .before .before .before .before .before .before .before .before .before .before in
+    let r = a .pre .0 in
+    let here = chosen .choose-expand .ensures in
+    let fit = sym (prepared .before .before .before .before .before .before .fits2 .ensures) ∙ not-false _ (prepared .before .before .before .before .before .if1 .left) in
+    let enough = few-and-short r (a .pre .1) (a .pre .2) here fit .1 in
+    let part = length-take-le (need .sheet-length2 .result) (a .args .second .now) (omega (arith, need .sheet-length2 .ensures, enough, r .second-room)) in
+    expand-expands r (a .pre .1) (a .pre .2) here fit (prepared .prepare .ensures) (omega (arith, need .sheet-length2 .ensures, part))
+
+sub-bring : tie.Need-sub-bring
+sub-bring c =
+    let a = c .before .before .before .before .before .before .before .before .before .before .before .before .before .before .before .before .before .before .before .before .before .before .before .before .before .before .before .before .before .before .before .before .before .before .before in
+    omega (arith, some-left (a .pre .0) (a .pre .1))
+
+bring-requires : tie.Need-bring-requires
+bring-requires c κs =
+    let expanded = c .before .before .before .before .before in
+    let need = expanded .before .before .before .before in
+    let old = need .before .before in
+    let prepared = old .before .before in
+    let chosen = prepared .before .before .before .before .before .before .before .before in
+    let a = chosen .before .before .before .before .before .before .before .before .before .before .before .before .before .before in
+    let r = a .pre .0 in
+    let here = chosen .choose-expand .ensures in
+    let fit = sym (prepared .before .before .before .before .before .before .fits2 .ensures) ∙ not-false _ (prepared .before .before .before .before .before .if1 .left) in
+    let arrives = prepared-arrives r (a .pre .1) (a .pre .2) here fit (prepared .prepare .ensures) in
+    let in-second = in-front _ _ (length (take (need .sheet-length2 .result) (a .args .second .now))) (drop (need .sheet-length2 .result) (a .args .second .now))
+    (expanded .expand-into .ensures .0) refl in
+    (fetchable (r .countable) arrives _ in-second (expanded .expand-into .ensures .1) (r .first-room), zeros-behind r (old .sheet-length .ensures))
+
+add-t31 : tie.Need-add-t31
+add-t31 c =
+    record { fits = omega (arith, c .before .before .before .before .before .before .before .before .before .before .before .before .before .before .before .before .before .before .before .before .before .before .before .before .before .before .before .before .before .before .before .before .before .before .before .before .before .before .before .pre .0 .few) }
 
 same-length-2 : tie.Need-same-length-2
 same-length-2 c = search needs
@@ -115,28 +168,29 @@ same-length-3 c = search needs
 
 returns-2 : tie.Need-returns-2
 returns-2 c =
-    let fetched = c .before .before .before in
-    let expanded = fetched .before .before .before .before .before .before in
-    let prepared = expanded .before .before .before .before .before in
+    let brought = c .before .before .before in
+    let expanded = brought .before .before .before .before .before .before in
+    let need = expanded .before .before .before .before in
+    let prepared = need .before .before .before .before in
     let chosen = prepared .before .before .before .before .before .before .before .before in
     let a = chosen .before .before .before .before .before .before .before .before .before .before .before .before .before .before in
     let r = a .pre .0 in
+    let here = chosen .choose-expand .ensures in
     let fit = sym (prepared .before .before .before .before .before .before .fits2 .ensures) ∙ not-false _ (prepared .before .before .before .before .before .if1 .left) in
-    let arrives = prepared-arrives r (a .pre .1) (a .pre .2) (chosen .choose-expand .ensures) fit (prepared .prepare .ensures) in
-    let len = length (a .args .second .now) in
-    let old = length (a .args .first .now) in
-    let in-second = expanded .expand-into .ensures .0 in
+    let arrives = prepared-arrives r (a .pre .1) (a .pre .2) here fit (prepared .prepare .ensures) in
+    let in-second = in-front _ _ (length (take (need .sheet-length2 .result) (a .args .second .now))) (drop (need .sheet-length2 .result) (a .args .second .now))
+    (expanded .expand-into .ensures .0) refl in
     let as-long = expanded .expand-into .ensures .1 in
-    let in-first = fetched .fetch .ensures .0 in
-    let at = fetched .fetch .ensures .1 in
+    let old = length (a .args .first .now) in
+    let in-first = brought .bring .ensures .0 in
+    let at = brought .bring .ensures .1 in
     let some = some-left r (a .pre .1) in
     let less = ap (λ (t : Layout). t .variables) at in (
-      prepared-next r (a .pre .1) (a .pre .2) (chosen .choose-expand .ensures) fit (prepared .prepare .ensures) _ _
-          (arrived-formula (r .countable) arrives len in-second as-long old (r .first-room) in-first at),
-      arrived-held (r .countable) arrives len in-second as-long old (r .first-room) in-first at,
+      prepared-next r (a .pre .1) (a .pre .2) here fit (prepared .prepare .ensures) _ _
+          (arrived-formula (r .countable) arrives _ in-second as-long old (r .first-room) in-first at),
+      arrived-held (r .countable) arrives _ in-second as-long old (r .first-room) in-first at,
       omega (arith, some, less),
       omega (arith, some, less),
-      arrived-second (r .countable) arrives len in-second as-long old (r .first-room) in-first at,
     )
 
 pub expand-step-spec : {M : Type 1} → statement M
@@ -157,11 +211,16 @@ expand-step-spec =
     slice-aggregate-prepare-2
     slice-aggregate-prepare-3
     prepare-requires
+    sheet-length-requires
+    sub-sheet-length
+    sheet-length-requires-2
     slice-aggregate-expand-into
+    slice-relend-prefix-expand-into
+    slice-aggregate-expand-into-2
     expand-into-requires
-    sub-fetch
-    fetch-requires
-    add-t29
+    sub-bring
+    bring-requires
+    add-t31
     same-length-2
     same-length-3
     returns-2)
