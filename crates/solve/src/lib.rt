@@ -5,6 +5,7 @@ use crate::step::take_step;
 use checking::Checked;
 use rows::Format;
 use rows::Layout;
+use rows::ROWS;
 use rows::bytes::clear;
 use rows::read::nodes_at;
 use tidying::copy_front;
@@ -62,8 +63,9 @@ fn go(first: &mut [u8], second: &mut [u8], f: Format, room: usize, start: State)
     ensures { λ _. ⌜ now (first .exit) ≡ shown (format-of f) (length (now (first .entry))) (run-from (format-of f) room start (now (first .entry))) ⌝ }
 {
     let mut s = start;
+    let mut ends = [0u16; ROWS];
     loop {
-        let t = take_step(first, second, f, room, s);
+        let t = take_step(first, second, f, room, s, &mut ends);
         match t {
             Step::Ended(verdict) => return Solved::Ended(verdict, s.settled, s.expanded),
             Step::Stopped(x) => return Solved::Stopped(x, s.settled, s.expanded),

@@ -23,7 +23,7 @@ use stepping::settling::settle_into;
 use subtrees::ends::fill_ends;
 use tidying::copy_front;
 ghost use mathlib.Core.Path.{_≡_};
-ghost use Prim.Native.Nat.{max};
+ghost use Prim.Native.Nat.{max, _≤_};
 ghost use lib.ListN.{length, take};
 ghost use Rattle.sheet.specs.Operations.{padded};
 ghost use Rattle.sheet.specs.Format.{nodes};
@@ -131,15 +131,21 @@ fn expand_step(
     })
 }
 
-// Decides what a sheet that isn't decided takes next.
-fn open_step(first: &mut [u8], second: &mut [u8], f: Format, room: usize, s: State) -> Step
-    requires { ⌜ Ready (format-of f) room s (now first) (now second) × Open s (now first) ⌝ }
+// Decides what a sheet that isn't decided takes next. The table of ends is lent: it is filled anew for each sheet.
+fn open_step(
+    first: &mut [u8],
+    second: &mut [u8],
+    f: Format,
+    room: usize,
+    s: State,
+    ends: &mut [u16],
+) -> Step
+    requires { ⌜ Ready (format-of f) room s (now first) (now second) × Open s (now first) × (8192 ≤ length (now ends)) ⌝ }
     ensures { λ r. ⌜ Stepped (format-of f) room s (now (first .entry)) (now (second .entry)) (now (first .exit)) (now (second .exit)) r ⌝ }
 {
     let t = s.sheet;
-    let mut ends = [0u16; ROWS];
-    fill_ends(first, t, &mut ends);
-    let c = choose_settle(first, t, &ends);
+    fill_ends(first, t, ends);
+    let c = choose_settle(first, t, ends);
     match c {
         SettleChoice::Settle(i, x, value) => {
             let p = Put {
@@ -149,18 +155,25 @@ fn open_step(first: &mut [u8], second: &mut [u8], f: Format, room: usize, s: Sta
             };
             settle_step(first, second, f, room, s, p)
         }
-        SettleChoice::Nothing => expand_step(first, second, f, room, s, &ends),
+        SettleChoice::Nothing => expand_step(first, second, f, room, s, ends),
     }
 }
 
 // One step from the state `s`, whose sheet stands in the first buffer.
-pub fn take_step(first: &mut [u8], second: &mut [u8], f: Format, room: usize, s: State) -> Step
-    requires { ⌜ Ready (format-of f) room s (now first) (now second) ⌝ }
+pub fn take_step(
+    first: &mut [u8],
+    second: &mut [u8],
+    f: Format,
+    room: usize,
+    s: State,
+    ends: &mut [u16],
+) -> Step
+    requires { ⌜ Ready (format-of f) room s (now first) (now second) × (8192 ≤ length (now ends)) ⌝ }
     ensures { λ r. ⌜ Stepped (format-of f) room s (now (first .entry)) (now (second .entry)) (now (first .exit)) (now (second .exit)) r ⌝ }
 {
     let d = decide(first, s.sheet);
     match d {
         Decision::Decided(verdict) => Step::Ended(verdict),
-        Decision::Open => open_step(first, second, f, room, s),
+        Decision::Open => open_step(first, second, f, room, s, ends),
     }
 }

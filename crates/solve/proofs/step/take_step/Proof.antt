@@ -9,7 +9,7 @@ use Rattle.solve.proofs.step.take_step.Tie as tie
 
 decide-requires : tie.Need-decide-requires
 decide-requires c κs =
-    let r = c .before .before .before .pre in
+    let r = c .before .before .before .before .pre .0 in
     readable (r .countable) (r .held)
 
 enum-known-d : tie.Need-enum-known-d
@@ -20,9 +20,10 @@ enum-told c = search needs
 
 open-step-requires : tie.Need-open-step-requires
 open-step-requires c κs =
-    let told = c .before .before in
+    let told = c .before .before .before in
     let decided = told .before .before in
-    (decided .before .before .before .before .pre, sym (decided .decide .ensures) ∙ ap decision-of (told .enum-told .given .1))
+    let a = decided .before .before .before .before .before in
+    (a .pre .0, sym (decided .decide .ensures) ∙ ap decision-of (told .enum-told .given .1), a .pre .1)
 
 same-length : tie.Need-same-length
 same-length c = search needs
@@ -31,13 +32,16 @@ returns : tie.Need-returns
 returns c =
     let told = c .before in
     let decided = told .before .before in
-    (decided-end (decided .before .before .before .before .pre) (sym (decided .decide .ensures) ∙ ap decision-of (told .d .given .1)), refl, refl)
+    (decided-end (decided .before .before .before .before .before .pre .0) (sym (decided .decide .ensures) ∙ ap decision-of (told .d .given .1)), refl, refl)
 
 same-length-2 : tie.Need-same-length-2
 same-length-2 c = search needs
 
 same-length-3 : tie.Need-same-length-3
 same-length-3 c = search needs
+
+same-length-4 : tie.Need-same-length-4
+same-length-4 c = search needs
 
 returns-2 : tie.Need-returns-2
 returns-2 c = search needs
@@ -54,4 +58,5 @@ take-step-spec =
     returns
     same-length-2
     same-length-3
+    same-length-4
     returns-2)
