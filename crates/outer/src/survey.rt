@@ -17,6 +17,9 @@ ghost use Rattle.subtrees.specs.Ends.{Indexed};
 ghost use Rattle.changing.specs.Changes.{chosen};
 ghost use Rattle.outer.specs.Inner.Survey.{Outlined, Surveyed};
 
+// The copies of a universal variable are joined by AND.
+const JOINT: u8 = AND;
+
 // The prefix row that goes, and how many variables the raw sheet has.
 pub struct Place {
     pub row: usize,
@@ -65,7 +68,7 @@ fn outline_part(
             part: none,
             end: 0,
             row: place.row,
-            joint: AND,
+            joint: JOINT,
             layout: same,
         };
         return Outline {
@@ -85,7 +88,7 @@ fn outline_part(
         part: part,
         end: ends[operator] as usize,
         row: place.row,
-        joint: AND,
+        joint: JOINT,
         layout: grown,
     };
     Outline {
