@@ -32,13 +32,13 @@ use Rattle.raw.specs.Formulas.{second-table}
 use Rattle.stepping.specs.Steps.{Named}
 use Rattle.stepping.specs.Admission.{admission-tests, Admitted}
 use Rattle.stepping.proofs.Admitting.{sheet-numbered, sheet-steppable}
-use Rattle.outer.specs.Inner.Numbers.{renumbered}
+use Rattle.renaming.specs.Numbers.{renumbered}
 use Rattle.outer.specs.Inner.Survey.{Surveyed}
 use Rattle.outer.specs.Inner.Plan.{block-test, plan-tests, tables-of, Planned}
 use Rattle.outer.specs.declared.survey.Survey.{Survey}
 use Rattle.outer.specs.declared.plan.Copying.{Copying}
-use Rattle.outer.proofs.Renumbering.{second-lent}
-use Rattle.outer.proofs.Depending.{numbers-left, those-same, dependents-whole, renumbered-take, length-renumbered}
+use Rattle.renaming.proofs.Renumbering.{second-lent}
+use Rattle.renaming.proofs.Depending.{numbers-left, those-same, dependents-whole, renumbered-take, length-renumbered}
 
 abbrev last-tests : Format → Bytes → ℕ → List Test
 last-tests F b x = block-test F b x ∷ numbers-test F b x ∷ []

@@ -42,12 +42,12 @@ use Rattle.tidying.specs.Limits as tidying
 use Rattle.tidying.proofs.Raw as tidied-raw
 use Rattle.stepping.specs.Admission.{admission-tests}
 use Rattle.stepping.proofs.RawSheets.{prefix-without}
-use Rattle.outer.specs.Inner.Prefixes.{rows-from}
+use Rattle.renaming.specs.Prefixes.{rows-from}
 use Rattle.outer.specs.Inner.Writing.{copied-rows, Writes, written-rows}
 use Rattle.outer.specs.Inner.Plan.{block-test, plan-tests, Planned, Fitting}
 use Rattle.outer.specs.declared.plan.Copying.{Copying}
-use Rattle.outer.proofs.Depending.{numbers-left}
-use Rattle.outer.proofs.Raws.{Numbers, rows-copied, second-is, two-tables, chosen-is, copying-is}
+use Rattle.renaming.proofs.Depending.{numbers-left}
+use Rattle.renaming.proofs.Tables.{Numbers, rows-copied, second-is, two-tables, chosen-is, copying-is}
 
 -- the tests of the call are those of the plan, and 13
 tests-parts : (F : Format) (b : Bytes) (x len : ℕ) → outer-tests F b x len ≡ plan-tests F b x ++ (copied-room-test F b x len ∷ [])

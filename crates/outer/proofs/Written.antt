@@ -14,7 +14,7 @@ use Rattle.raw.specs.Formulas.{without-row}
 use Rattle.raw.specs.Expansions.{raw-matrix}
 use Rattle.raw.specs.declared.expand.Expansion.{Expansion}
 use Rattle.raw.proofs.Plans.{rest-of}
-use Rattle.outer.specs.Inner.Prefixes.{rows-from}
+use Rattle.renaming.specs.Prefixes.{rows-from}
 use Rattle.outer.specs.Inner.Writing.{Writes, written-rows}
 
 -- a variable's number fits its bytes

@@ -1,7 +1,5 @@
 -- Definitions that no entry point cites.
 pub mod Chain
-pub mod Numbers
-pub mod Prefixes
 pub mod Survey
 pub mod Writing
 pub mod Plan

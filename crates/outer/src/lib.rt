@@ -22,9 +22,7 @@ ghost use Rattle.outer.specs.Answers.{outcome-answer};
 ghost use Rattle.outer.specs.Inner.Plan.{Planned, Fitting};
 
 pub mod chain;
-pub mod numbers;
 pub mod plan;
-pub mod prefix;
 pub mod survey;
 pub mod writing;
 

@@ -1,5 +1,4 @@
 // What the step decides before it looks at the output: 1 to 11 and 18, in the paper's order, or all that the writing needs.
-use crate::numbers::fill_tables;
 use crate::survey::Place;
 use crate::survey::Survey;
 use crate::survey::survey_part;
@@ -9,6 +8,7 @@ use dependence::answer::lowest_dependent;
 use dependence::block::one_block_out;
 use dependence::closure::fill_dependents;
 use occurrences::fill_occurrences;
+use renaming::numbers::fill_tables;
 use rows::Format;
 use rows::Layout;
 use rows::NUMBERS;

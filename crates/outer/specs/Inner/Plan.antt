@@ -16,7 +16,7 @@ use Rattle.changing.specs.Changes.{putting, chosen}
 use Rattle.raw.specs.Formulas.{second-table}
 use Rattle.stepping.specs.Steps.{Steppable, Named}
 use Rattle.stepping.specs.Admission.{admission-tests}
-use Rattle.outer.specs.Inner.Numbers.{renumbered}
+use Rattle.renaming.specs.Numbers.{renumbered}
 use Rattle.outer.specs.Inner.Survey.{Surveyed}
 use Rattle.outer.specs.declared.plan.Copying.{Copying}
 use Rattle.outer.specs.declared.plan.Plan.{Plan}

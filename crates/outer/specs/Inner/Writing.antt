@@ -11,7 +11,7 @@ use Rattle.rows.specs.declared.Layout.{Layout}
 use Rattle.raw.specs.Formulas.{without-row, second-table}
 use Rattle.raw.specs.Expansions.{Copyable, Told, raw-matrix}
 use Rattle.raw.specs.declared.expand.Expansion.{Expansion}
-use Rattle.outer.specs.Inner.Prefixes.{rows-from}
+use Rattle.renaming.specs.Prefixes.{rows-from}
 
 -- the rows of the copies, by the second table
 abbrev pub copied-rows : Layout → Bytes → List ℕ → List Row

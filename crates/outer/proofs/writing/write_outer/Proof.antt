@@ -9,7 +9,7 @@ use Rattle.changing.specs.Output.{Laid}
 use Rattle.changing.proofs.Splice.{ready-on, laid-on}
 use Rattle.raw.proofs.Raws.{room-on, laid-to}
 use Rattle.raw.proofs.Plans.{ready-raw, copyable-on, rest-of}
-use Rattle.outer.specs.Inner.Prefixes.{rows-from}
+use Rattle.renaming.specs.Prefixes.{rows-from}
 use Rattle.outer.proofs.Written.{numbers-fit, written-by}
 use borrow.Author.Needs.{needs}
 use Rattle.outer.proofs.writing.write_outer.Statement.{statement}

@@ -20,9 +20,9 @@ use Rattle.sheet.specs.Sheet.{binding-row}
 use Rattle.changing.specs.Changes.{entry, numbers, putting, chosen, became, changed}
 use Rattle.changing.proofs.Tables.{length-numbers, length-putting, chosen-putting, changed-putting}
 use Rattle.raw.specs.Formulas.{first-table, second-table, copying-by}
-use Rattle.outer.specs.Inner.Numbers.{renumbered}
-use Rattle.outer.specs.Inner.Prefixes.{is-renamed, row-of, rows-from}
-use Rattle.outer.proofs.Depending.{those-same, depends-bound, depends-other, dependents-whole, dependents-distinct, dependents-are, renumbered-take, length-renumbered, entry-renumbered, renamed-all}
+use Rattle.renaming.specs.Numbers.{renumbered}
+use Rattle.renaming.specs.Prefixes.{is-renamed, row-of, rows-from}
+use Rattle.renaming.proofs.Depending.{those-same, depends-bound, depends-other, dependents-whole, dependents-distinct, dependents-are, renumbered-take, length-renumbered, entry-renumbered, renamed-all}
 
 -- rows of the copies, by the variables that a table renames
 rows-those : (t : List ℕ) (p : Prefix) → rows-from t p ≡ map binding-row (map existential (map (entry t) (those (is-renamed t) p)))

@@ -17,7 +17,7 @@ ghost use Rattle.rows.specs.Formulas.{prefix-in, Readable};
 ghost use Rattle.sets.specs.Sets.{holds};
 ghost use Rattle.signs.specs.Value.{Numbered};
 ghost use Rattle.changing.specs.Changes.{putting};
-ghost use Rattle.outer.specs.Inner.Numbers.{free, Uses, NextFree, renumbered, Renamed};
+ghost use Rattle.renaming.specs.Numbers.{free, Uses, NextFree, renumbered, Renamed};
 
 // Puts every number of the prefix into an empty set.
 fn fill_used(b: &[u8], s: Layout, used: &mut [u64])

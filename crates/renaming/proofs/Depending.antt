@@ -22,7 +22,7 @@ use Rattle.sheet.specs.Format.{Format}
 use Rattle.sheet.specs.Limits.{numbered}
 use Rattle.sheet.proofs.Limits.{binds-numbered}
 use Rattle.changing.specs.Changes.{entry}
-use Rattle.outer.specs.Inner.Numbers.{renumbered}
+use Rattle.renaming.specs.Numbers.{renumbered}
 
 -- some rows of a prefix, in its order
 data Part : Prefix → Prefix → Type 0 where

@@ -20,7 +20,7 @@ use Rattle.prefixes.proofs.Places.{prefix-row, no-rows}
 use Rattle.changing.specs.Changes.{entry}
 use Rattle.changing.specs.Output.{Laid}
 use Rattle.changing.proofs.Splice.{none-laid, laid-on}
-use Rattle.outer.specs.Inner.Prefixes.{is-renamed, row-of, rows-from}
+use Rattle.renaming.specs.Prefixes.{is-renamed, row-of, rows-from}
 
 module _ (t : List ℕ) (v : ℕ) {n : ℕ} (is : n ≡ entry t v) where
   -- the number stays, or a value is put in

@@ -1,11 +1,11 @@
--- `outer::numbers::next_unused` meets its contract. Assumes nothing.
+-- `renaming::numbers::next_unused` meets its contract. Assumes nothing.
 use mathlib.Core.Path.{sym, _∙_}
 use Prim.Native.Nat.{suc, _-_}
 use native.Mathlib.Omega.{arith}
 use borrow.Author.Tests.{not-true, not-false}
-use Rattle.outer.proofs.Renumbering.{Passing, passing-none, passing-next, passing-found, passing-end}
-use Rattle.outer.proofs.numbers.next_unused.Statement.{statement}
-use Rattle.outer.proofs.numbers.next_unused.Tie as tie
+use Rattle.renaming.proofs.Renumbering.{Passing, passing-none, passing-next, passing-found, passing-end}
+use Rattle.renaming.proofs.numbers.next_unused.Statement.{statement}
+use Rattle.renaming.proofs.numbers.next_unused.Tie as tie
 
 abbrev Inv-loop : tie.InvT-loop
 Inv-loop used highest from n₀ n = Passing used highest from n

@@ -1,12 +1,12 @@
--- `outer::prefix::write_copied` meets its contract. Assumes nothing.
+-- `renaming::prefix::write_copied` meets its contract. Assumes nothing.
 use mathlib.Core.Path.{sym, ap, subst}
 use native.Mathlib.Omega.{arith}
 use lib.ListN.{length}
 use Rattle.changing.specs.Output.{Laid}
-use Rattle.outer.proofs.Copied.{same-row, put-row, new-row, laid-none}
+use Rattle.renaming.proofs.Copied.{same-row, put-row, new-row, laid-none}
 use borrow.Author.Needs.{needs}
-use Rattle.outer.proofs.prefix.write_copied.Statement.{statement}
-use Rattle.outer.proofs.prefix.write_copied.Tie as tie
+use Rattle.renaming.proofs.prefix.write_copied.Statement.{statement}
+use Rattle.renaming.proofs.prefix.write_copied.Tie as tie
 
 entry-requires : tie.Need-entry-requires
 entry-requires c κs = search needs

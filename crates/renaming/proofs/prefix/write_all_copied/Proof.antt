@@ -1,12 +1,12 @@
--- `outer::prefix::write_all_copied` meets its contract. Assumes nothing.
+-- `renaming::prefix::write_all_copied` meets its contract. Assumes nothing.
 use mathlib.Core.Path.{_≡_, _∙_}
 use Prim.Native.Nat.{_-_, _≤_}
 use native.Mathlib.Omega.{arith}
 use Rattle.rows.specs.Formulas.{prefix-in}
 use Rattle.raw.proofs.Raws.{room-on}
-use Rattle.outer.proofs.Copied.{Copying, copying-none, copying-room, copying-next, copying-all}
-use Rattle.outer.proofs.prefix.write_all_copied.Statement.{statement}
-use Rattle.outer.proofs.prefix.write_all_copied.Tie as tie
+use Rattle.renaming.proofs.Copied.{Copying, copying-none, copying-room, copying-next, copying-all}
+use Rattle.renaming.proofs.prefix.write_all_copied.Statement.{statement}
+use Rattle.renaming.proofs.prefix.write_all_copied.Tie as tie
 
 abbrev Inv-loop : tie.InvT-loop
 Inv-loop b s table out₀ t v at₀ j₀ out at j = Copying table (prefix-in s b) t out₀ at₀ out at j × (j ≤ s .variables)

@@ -1,13 +1,13 @@
--- `outer::numbers::rename` meets its contract. Assumes nothing.
+-- `renaming::numbers::rename` meets its contract. Assumes nothing.
 use mathlib.Core.Path.{_≡_, sym, _∙_}
 use mathlib.Core.Bool.{true}
 use native.Mathlib.Omega.{arith}
 use borrow.Author.Tests.{not-true, not-false}
 use Rattle.sets.specs.Sets.{holds}
-use Rattle.outer.proofs.Renumbering.{found-within, renamed-not, renamed-member}
+use Rattle.renaming.proofs.Renumbering.{found-within, renamed-not, renamed-member}
 use borrow.Author.Needs.{needs}
-use Rattle.outer.proofs.numbers.rename.Statement.{statement}
-use Rattle.outer.proofs.numbers.rename.Tie as tie
+use Rattle.renaming.proofs.numbers.rename.Statement.{statement}
+use Rattle.renaming.proofs.numbers.rename.Tie as tie
 
 holds-requires : tie.Need-holds-requires
 holds-requires c κs = search needs

@@ -1,4 +1,4 @@
--- `outer::numbers::fill_tables` meets its contract. Assumes nothing.
+-- `renaming::numbers::fill_tables` meets its contract. Assumes nothing.
 use mathlib.Core.Path.{ap, ap₂, _∙_}
 use mathlib.Core.Bool.{true, false}
 use mathlib.Core.List.{_++_}
@@ -9,11 +9,11 @@ use Rattle.rows.specs.Formulas.{prefix-in}
 use Rattle.sets.specs.Sets.{holds}
 use Rattle.changing.specs.Changes.{putting}
 use Rattle.changing.proofs.Tables.{length-putting}
-use Rattle.outer.specs.Inner.Numbers.{renumbered}
-use Rattle.outer.proofs.Renumbering.{free-unused, second-lent, second-back}
+use Rattle.renaming.specs.Numbers.{renumbered}
+use Rattle.renaming.proofs.Renumbering.{free-unused, second-lent, second-back}
 use borrow.Author.Needs.{needs}
-use Rattle.outer.proofs.numbers.fill_tables.Statement.{statement}
-use Rattle.outer.proofs.numbers.fill_tables.Tie as tie
+use Rattle.renaming.proofs.numbers.fill_tables.Statement.{statement}
+use Rattle.renaming.proofs.numbers.fill_tables.Tie as tie
 
 slice-aggregate-fill-used : tie.Need-slice-aggregate-fill-used
 slice-aggregate-fill-used c = search needs

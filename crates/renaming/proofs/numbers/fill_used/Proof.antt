@@ -1,12 +1,12 @@
--- `outer::numbers::fill_used` meets its contract. Assumes nothing.
+-- `renaming::numbers::fill_used` meets its contract. Assumes nothing.
 use mathlib.Core.Path.{_≡_, refl, _∙_}
 use Prim.Native.Nat.{_-_, _≤_}
 use native.Mathlib.Omega.{arith}
 use lib.ListN.{length}
 use Rattle.rows.specs.Formulas.{prefix-in}
-use Rattle.outer.proofs.Renumbering.{Using, using-none, using-next, using-all}
-use Rattle.outer.proofs.numbers.fill_used.Statement.{statement}
-use Rattle.outer.proofs.numbers.fill_used.Tie as tie
+use Rattle.renaming.proofs.Renumbering.{Using, using-none, using-next, using-all}
+use Rattle.renaming.proofs.numbers.fill_used.Statement.{statement}
+use Rattle.renaming.proofs.numbers.fill_used.Tie as tie
 
 abbrev Inv-loop : tie.InvT-loop
 Inv-loop b s used₀ v j₀ used j = Using (prefix-in s b) used j × (j ≤ s .variables) × (length used ≡ length used₀)

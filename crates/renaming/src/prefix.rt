@@ -11,7 +11,7 @@ ghost use lib.ListN.{length};
 ghost use Rattle.rows.specs.Layouts.{total, Room};
 ghost use Rattle.rows.specs.Formulas.{prefix-in, Readable};
 ghost use Rattle.changing.specs.Output.{Laid};
-ghost use Rattle.outer.specs.Inner.Prefixes.{row-of, rows-from};
+ghost use Rattle.renaming.specs.Prefixes.{row-of, rows-from};
 
 // Writes the row of the copy of `v`, if the table gives `v` a new number.
 fn write_copied(out: &mut [u8], table: &[u16], v: usize, to: Target) -> usize

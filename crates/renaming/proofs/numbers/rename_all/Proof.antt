@@ -1,12 +1,12 @@
--- `outer::numbers::rename_all` meets its contract. Assumes nothing.
+-- `renaming::numbers::rename_all` meets its contract. Assumes nothing.
 use mathlib.Core.Path.{_≡_, refl, sym, _∙_}
 use Prim.Native.Nat.{_-_, _≤_}
 use native.Mathlib.Omega.{arith}
 use lib.ListN.{length}
 use Rattle.rows.specs.Formulas.{prefix-in}
-use Rattle.outer.proofs.Renumbering.{Renaming, renaming-none, some-left, renaming-next, renaming-all}
-use Rattle.outer.proofs.numbers.rename_all.Statement.{statement}
-use Rattle.outer.proofs.numbers.rename_all.Tie as tie
+use Rattle.renaming.proofs.Renumbering.{Renaming, renaming-none, some-left, renaming-next, renaming-all}
+use Rattle.renaming.proofs.numbers.rename_all.Statement.{statement}
+use Rattle.renaming.proofs.numbers.rename_all.Tie as tie
 
 abbrev Inv-loop : tie.InvT-loop
 Inv-loop b s set used highest table₀ count from₀ j₀ table from j = Renaming (prefix-in s b) set used highest table₀ table from j × (j ≤ s .variables)

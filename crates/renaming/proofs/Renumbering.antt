@@ -21,7 +21,7 @@ use Rattle.prefixes.proofs.Places.{prefix-row, no-rows}
 use Rattle.sets.specs.Sets.{digit, holds}
 use Rattle.sets.proofs.Digits.{digit-none}
 use Rattle.changing.proofs.Tables.{both-parts}
-use Rattle.outer.specs.Inner.Numbers.{Uses, free, NextFree, renumbered, Renamed}
+use Rattle.renaming.specs.Numbers.{Uses, free, NextFree, renumbered, Renamed}
 
 -- numbers in use
 
