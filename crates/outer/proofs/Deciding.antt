@@ -1,14 +1,14 @@
 -- 11 and 18 behind tests 1 to 10, and all that the writing needs.
 -- Assumes nothing.
 use mathlib.Core.Path.{_≡_, refl, sym, ap, ap₂, _∙_, subst}
-use mathlib.Core.Bool.{Bool, true, false, not}
+use mathlib.Core.Bool.{true, false}
 use mathlib.Core.List.{List, [], _∷_, _++_}
 use Prim.Native.Nat.{ℕ, _+_, _-_, _≤_, _<_}
 use native.Mathlib.Omega.{arith}
 use lib.Dec.{ltb}
 use lib.ListN.{length, take, drop}
 use borrow.Author.Tests.{lt-ltb, le-ltb}
-use Rattle.formula.specs.Tree.{Prefix, Formula, distinct}
+use Rattle.formula.specs.Tree.{Formula, distinct}
 use Rattle.formula.specs.Solve.{those}
 use Rattle.formula.specs.Outer.{one-block-out, depends, dependents, unused, copies-of, too-few, lowest-of}
 use Rattle.sheet.specs.Format.{Bytes, Format}
@@ -34,7 +34,7 @@ use Rattle.stepping.specs.Admission.{admission-tests, Admitted}
 use Rattle.stepping.proofs.Admitting.{sheet-numbered, sheet-steppable}
 use Rattle.renaming.specs.Numbers.{renumbered}
 use Rattle.outer.specs.Inner.Survey.{Surveyed}
-use Rattle.outer.specs.Inner.Plan.{block-test, plan-tests, tables-of, Planned}
+use Rattle.outer.specs.Inner.Plan.{block-test, plan-tests, Planned}
 use Rattle.outer.specs.declared.survey.Survey.{Survey}
 use Rattle.outer.specs.declared.plan.Copying.{Copying}
 use Rattle.renaming.proofs.Renumbering.{second-lent}

@@ -9,10 +9,10 @@ use lib.Dec.{eqb}
 use lib.ListN.{length, getD, set, length-set, List·getD-eq-default}
 use lib.Seq.{getD-set-same, getD-set-other}
 use borrow.Author.Tests.{eqb-true, eqb-false, eq-eqb, ltb-true}
-use Rattle.formula.specs.Tree.{Tree, lit, node, Literals, has, has-any}
+use Rattle.formula.specs.Tree.{Tree, lit, node, Literals, has-any}
 use Rattle.formula.specs.Settle.{is-lit}
 use Rattle.sheet.specs.Format.{Bytes}
-use Rattle.rows.specs.Formulas.{matrix-in, Readable}
+use Rattle.rows.specs.Formulas.{Readable}
 use Rattle.rows.specs.declared.Layout.{Layout}
 use Rattle.subtrees.specs.Subtrees.{forest-in, subtree-in}
 use Rattle.occurrences.specs.Chains.{first-from, Last}

@@ -1,24 +1,24 @@
 -- 13, and what is written if all tests pass: the raw sheet, tidied.
 -- Assumes nothing.
-use mathlib.Core.Path.{_≡_, refl, sym, ap, ap₂, _∙_, subst}
-use mathlib.Core.Bool.{Bool, true, false, not, _&&_}
+use mathlib.Core.Path.{_≡_, refl, sym, ap, ap₂, _∙_}
+use mathlib.Core.Bool.{Bool, true, false}
 use mathlib.Core.List.{List, [], _∷_, _++_, append-assoc, map}
 use Prim.Native.Nat.{ℕ, suc, _+_, _-_, _^_, _≤_, _<_}
 use native.Mathlib.Omega.{arith}
-use lib.Dec.{leb, ltb}
+use lib.Dec.{leb}
 use lib.ListN.{length, take, length-append, length-map}
-use borrow.Author.Tests.{leb-true, lt-ltb, not-true, not-false, ltb-false}
-use Rattle.formula.specs.Tree.{and, Tree, Prefix, Formula, Literals, binds, rows, without, has}
+use borrow.Author.Tests.{leb-true, lt-ltb, ltb-false}
+use Rattle.formula.specs.Tree.{and, Tree, Prefix, Formula, Literals, binds, rows, without}
 use Rattle.formula.specs.Tidy.{tidied}
 use Rattle.formula.specs.Expand.{Copying as Copies, raw-tree, raw-rows}
-use Rattle.formula.specs.Outer.{dependents, depends, unused, copies-of, too-few, outer-copying, raw-outer, outer-expanded, outer-rows, lowest-of, existential}
+use Rattle.formula.specs.Outer.{dependents, unused, copies-of, too-few, raw-outer, outer-expanded, outer-rows, existential}
 use Rattle.formula.proofs.Booleans.{and-parts}
 use Rattle.formula.proofs.Outer.Step.{copies-many, length-raw-outer, rows-raw-outer}
 use Rattle.sheet.specs.Format.{Bytes, Format, sheet-length, fits, variables}
-use Rattle.sheet.specs.Sheet.{formula, sheet, operator-kind, binding-row, tree-rows, formula-rows}
-use Rattle.sheet.specs.Check.{Answer, refused, accepted, Test, test, answer, passes, check-tests}
+use Rattle.sheet.specs.Sheet.{formula, sheet, binding-row, tree-rows, formula-rows}
+use Rattle.sheet.specs.Check.{refused, accepted, Test, answer, passes, check-tests}
 use Rattle.sheet.specs.Operations.{padded}
-use Rattle.sheet.specs.Outer.{Copied, copies, copied-room-test, outer-tests, outer-call, outer-answer}
+use Rattle.sheet.specs.Outer.{copies, copied-room-test, outer-tests, outer-call, outer-answer}
 use Rattle.sheet.proofs.Preorder.{length-tree-rows}
 use Rattle.sheet.proofs.Accepted.{accepted-within, accepted-variables}
 use Rattle.sheet.proofs.Limits.{binds-numbered}
@@ -30,21 +30,19 @@ use Rattle.rows.specs.declared.Layout.{Layout}
 use Rattle.rows.proofs.Formulas.{length-prefix}
 use Rattle.prefixes.specs.Places.{place}
 use Rattle.prefixes.proofs.Places.{binds-place}
-use Rattle.changing.specs.Changes.{chosen}
 use Rattle.changing.specs.Output.{Laid}
 use Rattle.changing.proofs.Changed.{map-append}
-use Rattle.raw.specs.Formulas.{without-row, second-table, operator-of, copying-by, Raw}
-use Rattle.raw.specs.Expansions.{Copyable, raw-matrix}
+use Rattle.raw.specs.Formulas.{copying-by, Raw}
+use Rattle.raw.specs.Expansions.{raw-matrix}
 use Rattle.raw.specs.declared.expand.Expansion.{Expansion}
 use Rattle.raw.proofs.Raws.{raw-laid, room-on}
-use Rattle.raw.proofs.Plans.{matrix-rows}
 use Rattle.tidying.specs.Limits as tidying
 use Rattle.tidying.proofs.Raw as tidied-raw
 use Rattle.stepping.specs.Admission.{admission-tests}
 use Rattle.stepping.proofs.RawSheets.{prefix-without}
 use Rattle.renaming.specs.Prefixes.{rows-from}
 use Rattle.outer.specs.Inner.Writing.{copied-rows, Writes, written-rows}
-use Rattle.outer.specs.Inner.Plan.{block-test, plan-tests, Planned, Fitting}
+use Rattle.outer.specs.Inner.Plan.{plan-tests, Planned, Fitting}
 use Rattle.outer.specs.declared.plan.Copying.{Copying}
 use Rattle.renaming.proofs.Depending.{numbers-left}
 use Rattle.renaming.proofs.Tables.{Numbers, rows-copied, second-is, two-tables, chosen-is, copying-is}

@@ -5,14 +5,13 @@ use mathlib.Core.Bool.{Bool, true, false, cond, true≢false, false≢true}
 use mathlib.Core.List.{List}
 use Prim.Native.Nat.{ℕ, suc, _+_, _≤_, _<_}
 use native.Mathlib.Omega.{arith}
-use lib.Dec.{ltb}
 use lib.ListN.{length, getD, take, drop, length-append}
 use lib.Seq.{take-at}
 use borrow.Author.Tests.{lt-ltb, le-ltb}
 use Rattle.formula.specs.Tree.{Literals, has}
 use Rattle.formula.specs.Expand.{raw-rows}
 use Rattle.sheet.specs.Format.{Bytes}
-use Rattle.rows.specs.Formulas.{matrix-in, Readable}
+use Rattle.rows.specs.Formulas.{matrix-in}
 use Rattle.rows.specs.declared.Layout.{Layout}
 use Rattle.rows.proofs.Formulas.{rows-nodes}
 use Rattle.subtrees.specs.Subtrees.{kids, subtree-in}
@@ -28,12 +27,10 @@ use Rattle.relevance.specs.declared.Relevant.{Relevant}
 use Rattle.relevance.specs.declared.Range.{Range}
 use Rattle.relevance.proofs.Growth.{raw-rows-in}
 use Rattle.relevance.proofs.Descent.{placed, operator-before}
-use Rattle.raw.specs.declared.expand.Expansion.{Expansion}
 use Rattle.outer.specs.Inner.Chain.{Linked}
-use Rattle.outer.specs.Inner.Survey.{Placed, Part, Outlined, Surveyed}
+use Rattle.outer.specs.Inner.Survey.{Outlined, Surveyed}
 use Rattle.outer.specs.declared.survey.Place.{Place}
 use Rattle.outer.specs.declared.survey.Outline.{Outline}
-use Rattle.outer.specs.declared.survey.Survey.{Survey}
 
 module _ (L : Literals) {s : Layout} (b : Bytes) {ends next : List ℕ} (k : Indexed s b ends) {r : Range} (l : Linked L s b next r) where
   -- without a literal

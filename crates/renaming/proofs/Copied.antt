@@ -1,11 +1,11 @@
 -- The turns of writing the rows of the copies.
 -- Assumes nothing.
 use mathlib.Core.Path.{_≡_, refl, sym, _∙_, ap, ap₂, subst}
-use mathlib.Core.Bool.{Bool, true, false, not, _&&_, cond}
+use mathlib.Core.Bool.{Bool, not, _&&_, cond}
 use mathlib.Core.List.{List, [], _∷_, _++_, append-assoc, append-nil}
 use Prim.Native.Nat.{ℕ, suc, _+_, _≤_, _<_}
 use native.Mathlib.Omega.{arith}
-use lib.Dec.{eqb, leb}
+use lib.Dec.{leb}
 use lib.ListN.{length, drop, length-append}
 use borrow.Author.Tests.{eq-eqb, ne-eqb, le-leb, lt-leb}
 use Rattle.formula.specs.Tree.{Prefix}
@@ -20,7 +20,7 @@ use Rattle.prefixes.proofs.Places.{prefix-row, no-rows}
 use Rattle.changing.specs.Changes.{entry}
 use Rattle.changing.specs.Output.{Laid}
 use Rattle.changing.proofs.Splice.{none-laid, laid-on}
-use Rattle.renaming.specs.Prefixes.{is-renamed, row-of, rows-from}
+use Rattle.renaming.specs.Prefixes.{row-of, rows-from}
 
 module _ (t : List ℕ) (v : ℕ) {n : ℕ} (is : n ≡ entry t v) where
   -- the number stays, or a value is put in

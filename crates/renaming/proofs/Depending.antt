@@ -4,20 +4,19 @@ use mathlib.Core.Path.{_≡_, refl, sym, _∙_, ap, ap₂}
 use mathlib.Core.Bool.{Bool, true, false, not, _&&_, _||_, cond, true≢false, false≢true}
 use mathlib.Core.List.{List, [], _∷_, map}
 use mathlib.Core.Logic.{⊎-elim}
-use Prim.Native.Nat.{ℕ, zero, suc, _+_, _-_, _≤_, _<_}
+use Prim.Native.Nat.{ℕ, zero, suc, _+_, _≤_, _<_}
 use native.Mathlib.Omega.{arith}
-use lib.Dec.{eqb, ltb, leb}
-use lib.ListN.{length, getD, take, set, length-set}
+use lib.Dec.{eqb, ltb}
+use lib.ListN.{length, take, set, length-set}
 use lib.Seq.{getD-set-same, getD-set-other}
-use borrow.Author.Tests.{eqb-true, eqb-false, eq-eqb, ne-eqb, not-true, ltb-false, le-leb}
+use borrow.Author.Tests.{eqb-true, eqb-false, eq-eqb, ne-eqb, not-true}
 use Rattle.formula.specs.Tree.{same-op, exists, Binding, Prefix, Formula, binds, distinct}
 use Rattle.formula.specs.Expand.{after, among, occurs, occurring, later}
 use Rattle.formula.specs.Solve.{those}
-use Rattle.formula.specs.Outer.{existentials, block, depends, dependents, unused, copies-of, too-few, renamed}
+use Rattle.formula.specs.Outer.{existentials, block, depends, dependents, unused, renamed}
 use Rattle.formula.proofs.Booleans.{and-parts, or-parts, or-cases, or-later, eqb-comm}
 use Rattle.formula.proofs.Outer.Closure.{stage-binds}
-use Rattle.formula.proofs.Outer.Fresh.{rows-of, unused-many, renamed-new, those-binds}
-use Rattle.formula.proofs.Outer.Step.{copies-new, copies-numbered, copies-many}
+use Rattle.formula.proofs.Outer.Fresh.{rows-of, unused-many, those-binds}
 use Rattle.sheet.specs.Format.{Format}
 use Rattle.sheet.specs.Limits.{numbered}
 use Rattle.sheet.proofs.Limits.{binds-numbered}

@@ -1,7 +1,7 @@
 -- The turns of giving out numbers.
 -- Assumes nothing.
 use mathlib.Core.Path.{_≡_, refl, sym, _∙_, ap, ap₂, subst}
-use mathlib.Core.Bool.{Bool, true, false, not, _||_, cond, or-false, or-assoc}
+use mathlib.Core.Bool.{Bool, true, false, _||_, cond, or-false}
 use mathlib.Core.List.{List, [], _∷_, _++_}
 use Prim.Native.Nat.{ℕ, zero, suc, _+_, _-_, _/_, _%_, _≤_, _<_}
 use native.Mathlib.Omega.{arith}
@@ -9,7 +9,7 @@ use lib.Dec.{eqb, leb}
 use borrow.Author.Tests.{leb-true, leb-false}
 use lib.ListN.{length, getD, take, drop, set, replicate, length-append, length-set, length-replicate}
 use lib.Seq.{take-all, drop-at}
-use Rattle.formula.specs.Tree.{Binding, Prefix, binds}
+use Rattle.formula.specs.Tree.{Prefix, binds}
 use Rattle.formula.specs.Solve.{those}
 use Rattle.formula.specs.Outer.{unused}
 use Rattle.formula.proofs.Booleans.{eqb-comm}

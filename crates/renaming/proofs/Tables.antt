@@ -3,26 +3,24 @@
 use mathlib.Core.Path.{_≡_, refl, sym, _∙_, ap, ap₂, fun-ext}
 use mathlib.Core.Bool.{Bool, true, false, not, _&&_, _||_, cond, Bool·beq, true≢false}
 use mathlib.Core.List.{List, [], _∷_, _++_, map}
-use Prim.Native.Nat.{ℕ, suc, _+_, _-_, _≤_, _<_}
+use Prim.Native.Nat.{ℕ, _≤_}
 use native.Mathlib.Omega.{arith}
 use lib.Dec.{eqb, leb}
-use lib.ListN.{length, take, drop, length-append, length-map}
+use lib.ListN.{length, take, drop, length-append}
 use lib.Seq.{take-at, drop-at, getD-set-same}
-use borrow.Author.Tests.{eqb-true, eq-eqb, ne-eqb, le-leb, lt-leb}
-use Rattle.formula.specs.Tree.{Op, and, Tree, lit, Prefix, Formula, Literals, of, binds, distinct, constant, assigned}
-use Rattle.formula.specs.Expand.{Copying}
+use borrow.Author.Tests.{eqb-true, ne-eqb, le-leb}
+use Rattle.formula.specs.Tree.{and, Tree, lit, Prefix, Formula, Literals, of, binds, distinct, constant}
 use Rattle.formula.specs.Solve.{those}
-use Rattle.formula.specs.Outer.{depends, dependents, unused, copies-of, too-few, renamed, chosen-by, renaming, outer-copying, existential}
-use Rattle.formula.proofs.Outer.Fresh.{rows-of, renamed-other, renamed-new}
+use Rattle.formula.specs.Outer.{depends, dependents, copies-of, too-few, renamed, chosen-by, renaming, outer-copying, existential}
+use Rattle.formula.proofs.Outer.Fresh.{renamed-other, renamed-new}
 use Rattle.formula.proofs.Outer.Step.{copies-new, copies-numbered, copies-many}
-use Rattle.sheet.specs.Format.{Row}
 use Rattle.sheet.specs.Sheet.{binding-row}
 use Rattle.changing.specs.Changes.{entry, numbers, putting, chosen, became, changed}
 use Rattle.changing.proofs.Tables.{length-numbers, length-putting, chosen-putting, changed-putting}
 use Rattle.raw.specs.Formulas.{first-table, second-table, copying-by}
 use Rattle.renaming.specs.Numbers.{renumbered}
 use Rattle.renaming.specs.Prefixes.{is-renamed, row-of, rows-from}
-use Rattle.renaming.proofs.Depending.{those-same, depends-bound, depends-other, dependents-whole, dependents-distinct, dependents-are, renumbered-take, length-renumbered, entry-renumbered, renamed-all}
+use Rattle.renaming.proofs.Depending.{those-same, depends-bound, depends-other, dependents-whole, dependents-distinct, dependents-are, length-renumbered, entry-renumbered, renamed-all}
 
 -- rows of the copies, by the variables that a table renames
 rows-those : (t : List ℕ) (p : Prefix) → rows-from t p ≡ map binding-row (map existential (map (entry t) (those (is-renamed t) p)))

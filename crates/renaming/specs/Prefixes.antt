@@ -1,7 +1,7 @@
 -- The rows that close the prefix: one for each variable to which a table gives a new number, in the order of the prefix.
 -- Assumes nothing.
 use mathlib.Core.Bool.{Bool, not, _&&_, cond}
-use mathlib.Core.List.{List, [], _∷_, _++_, map}
+use mathlib.Core.List.{List, [], _∷_, _++_}
 use Prim.Native.Nat.{ℕ}
 use lib.Dec.{eqb, leb}
 use Rattle.formula.specs.Tree.{Prefix}

@@ -1,5 +1,4 @@
 -- `outer::survey::survey_part` meets its contract. Assumes nothing.
-use native.Mathlib.Omega.{arith}
 use Rattle.changing.specs.Changes.{chosen}
 use Rattle.outer.proofs.Surveying.{surveyed-whole, sited, surveyed-cut}
 use borrow.Author.Needs.{needs}

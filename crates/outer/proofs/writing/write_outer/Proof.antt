@@ -1,12 +1,10 @@
 -- `outer::writing::write_outer` meets its contract. Assumes nothing.
-use mathlib.Core.Path.{_≡_, sym, ap, ap₂, _∙_, subst}
-use Prim.Native.Nat.{_<_, _^_}
-use native.Mathlib.Nat.{lt-of-lt-of-le, pow-le-pow-right}
+use mathlib.Core.Path.{_≡_, ap, _∙_, subst}
 use native.Mathlib.Omega.{arith}
 use lib.ListN.{length}
 use Rattle.rows.specs.Formulas.{prefix-in}
 use Rattle.changing.specs.Output.{Laid}
-use Rattle.changing.proofs.Splice.{ready-on, laid-on}
+use Rattle.changing.proofs.Splice.{laid-on}
 use Rattle.raw.proofs.Raws.{room-on, laid-to}
 use Rattle.raw.proofs.Plans.{ready-raw, copyable-on, rest-of}
 use Rattle.renaming.specs.Prefixes.{rows-from}

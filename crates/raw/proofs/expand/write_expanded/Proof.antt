@@ -1,5 +1,5 @@
 -- `raw::expand::write_expanded` meets its contract. Assumes nothing.
-use mathlib.Core.Path.{_≡_, ap, _∙_, subst}
+use mathlib.Core.Path.{_≡_, _∙_, subst}
 use native.Mathlib.Omega.{arith}
 use Rattle.changing.specs.Output.{Laid}
 use Rattle.changing.proofs.Splice.{ready-on, laid-on}

@@ -1,8 +1,7 @@
 -- `renaming::numbers::rename_all` meets its contract. Assumes nothing.
-use mathlib.Core.Path.{_≡_, refl, sym, _∙_}
+use mathlib.Core.Path.{_∙_}
 use Prim.Native.Nat.{_-_, _≤_}
 use native.Mathlib.Omega.{arith}
-use lib.ListN.{length}
 use Rattle.rows.specs.Formulas.{prefix-in}
 use Rattle.renaming.proofs.Renumbering.{Renaming, renaming-none, some-left, renaming-next, renaming-all}
 use Rattle.renaming.proofs.numbers.rename_all.Statement.{statement}

@@ -1,5 +1,4 @@
 -- `renaming::prefix::write_all_copied` meets its contract. Assumes nothing.
-use mathlib.Core.Path.{_≡_, _∙_}
 use Prim.Native.Nat.{_-_, _≤_}
 use native.Mathlib.Omega.{arith}
 use Rattle.rows.specs.Formulas.{prefix-in}
