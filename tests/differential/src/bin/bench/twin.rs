@@ -1,6 +1,6 @@
-//! Solve through the static library beside the tuned twin, side by side on the
-//! same sheets, with the geometric mean of the ratios for each family and for
-//! all.
+//! Solve through the static library beside the tuned twin and the reading on
+//! trees, side by side on the same sheets, with the geometric means of the
+//! ratios for each family and for all.
 
 use crate::{ratio, time_of};
 use differential::NARROW;
@@ -20,12 +20,26 @@ const SIZES: [(usize, usize); 7] =
 /// Sheets for each size.
 const ROUNDS: usize = 3;
 
-fn mean(ratios: &[f64]) -> f64 {
-    (ratios.iter().map(|ratio| ratio.ln()).sum::<f64>() / ratios.len() as f64).exp()
+/// The library's time over the twin's, and over that of the reading on trees.
+#[derive(Clone, Copy)]
+struct Ratios {
+    twin: f64,
+    trees: f64,
 }
 
-/// The ratio of the library's time to the twin's on one sheet.
-fn compare(twin: &mut Twin, family: Family, sheet: &[u8]) -> f64 {
+fn mean(ratios: impl ExactSizeIterator<Item = f64>) -> f64 {
+    let count = ratios.len() as f64;
+    (ratios.map(f64::ln).sum::<f64>() / count).exp()
+}
+
+fn means(ratios: &[Ratios]) -> Ratios {
+    let twin = mean(ratios.iter().map(|ratio| ratio.twin));
+    let trees = mean(ratios.iter().map(|ratio| ratio.trees));
+    Ratios { twin, trees }
+}
+
+/// The library beside the two others on one sheet.
+fn compare(twin: &mut Twin, family: Family, sheet: &[u8]) -> Ratios {
     let room = FORMAT.longest_sheet();
     let (mut first, mut second) = (vec![0; room], vec![0; room]);
     let answer = NARROW.solve(sheet, &mut first, &mut second);
@@ -36,24 +50,33 @@ fn compare(twin: &mut Twin, family: Family, sheet: &[u8]) -> f64 {
     let tuned = time_of(|| {
         twin.solve(sheet, room);
     });
+    let trees = time_of(|| {
+        NARROW.reading.solve(sheet, &mut first, &mut second);
+    });
     let (v, n) = FORMAT.sizes(sheet).expect("a sheet");
     let note = if same { "" } else { "  the twin says another line" };
+    let ratios = Ratios { twin: ratio(library, tuned), trees: ratio(library, trees) };
     println!(
-        "{:<8}{v:>5}{n:>6}  {:<18}{library:>10.1?}{tuned:>10.1?}{:>7.2}{note}",
+        "{:<8}{v:>5}{n:>6}  {:<18}{library:>10.1?}{tuned:>10.1?}{trees:>10.1?}{:>7.2}{:>7.2}{note}",
         format!("{family:?}"),
         line_of(&answer),
-        ratio(library, tuned),
+        ratios.twin,
+        ratios.trees,
     );
-    ratio(library, tuned)
+    ratios
+}
+
+fn print_means(of: &str, ratios: Ratios) {
+    println!("{:<69}{:>7.2}{:>7.2}", format!("geometric mean, {of}"), ratios.twin, ratios.trees);
 }
 
 pub fn report() {
     println!();
     println!(
-        "{:<8}{:>5}{:>6}  {:<18}{:>10}{:>10}{:>7}",
-        "twin", "vars", "rows", "line", "library", "tuned", "ratio"
+        "{:<8}{:>5}{:>6}  {:<18}{:>10}{:>10}{:>10}{:>7}{:>7}",
+        "twin", "vars", "rows", "line", "library", "tuned", "trees", "ratio", "ratio"
     );
-    let (mut twin, mut means, mut all) = (Twin::new(FORMAT), Vec::new(), Vec::new());
+    let (mut twin, mut families, mut all) = (Twin::new(FORMAT), Vec::new(), Vec::new());
     for family in FAMILIES {
         let mut rng = Rng::new(generate::run_seed());
         let mut ratios = Vec::new();
@@ -64,11 +87,11 @@ pub fn report() {
                 ratios.push(compare(&mut twin, family, &FORMAT.encode(&formula)));
             }
         }
-        means.push((family, mean(&ratios)));
+        families.push((family, means(&ratios)));
         all.extend(ratios);
     }
-    for (family, mean) in means {
-        println!("{:<45}{mean:>19.2}", format!("geometric mean, {family:?}"));
+    for (family, ratios) in families {
+        print_means(&format!("{family:?}"), ratios);
     }
-    println!("{:<45}{:>19.2}", "geometric mean, all", mean(&all));
+    print_means("all", means(&all));
 }
