@@ -1,5 +1,5 @@
 // The children tried from first to last. A table has one entry for each child that is kept, the row at which it begins; a try is of
-// these and of all that aren't tried yet.
+// these and of all children behind the one tried.
 use crate::part::Part;
 use crate::part::write_part;
 use rows::Format;
