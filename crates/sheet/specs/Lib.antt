@@ -4,6 +4,7 @@ pub mod Sheet
 pub mod Check
 pub mod Operations
 pub mod Carrying
+pub mod Qdimacs
 pub mod Outer
 pub mod Order
 pub mod Trace
