@@ -1,0 +1,6 @@
+pub mod Words
+mod Turn
+pub mod Digits
+mod Names
+pub mod Classes
+mod Tokens

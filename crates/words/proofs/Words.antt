@@ -1,0 +1,79 @@
+-- Words and lines, by where they end.
+-- Assumes nothing.
+use mathlib.Core.Path.{_≡_, refl, sym, ap, _∙_}
+use mathlib.Core.Bool.{Bool, true, false, not, _||_, cond}
+use mathlib.Core.List.{List, [], _∷_, _++_, tail}
+use Prim.Native.Nat.{ℕ, zero, suc, _+_, _-_, _≤_, _<_}
+use native.Mathlib.Omega.{arith}
+use lib.ListN.{length, take, drop, getD}
+use Rattle.sheet.specs.Format.{Bytes}
+use Rattle.sheet.specs.Qdimacs.{onto-first, split, is-nil, nonempty, all, line-end, blank}
+use Rattle.words.specs.Words.{white, all-words, lead, gap}
+
+-- lead and gap
+
+pub lead-within : (s : ℕ → Bool) (b : Bytes) → lead s b ≤ length b
+unfolding lead
+lead-within s [] = omega arith
+lead-within s (c ∷ b) = go (s c) (lead-within s b)
+  where
+    go : (t : Bool) → lead s b ≤ length b → cond t 0 (suc (lead s b)) ≤ suc (length b)
+    go true h = omega arith
+    go false h = omega arith
+
+pub gap-within : (b : Bytes) → gap b ≤ length b
+unfolding gap
+gap-within [] = omega arith
+gap-within (c ∷ b) = go (white c) (gap-within b)
+  where
+    go : (t : Bool) → gap b ≤ length b → cond t (suc (gap b)) 0 ≤ suc (length b)
+    go true h = omega arith
+    go false h = omega arith
+
+-- what stands behind a separator
+unfoldable pub behind : (ℕ → Bool) → Bytes → List Bytes
+behind s [] = []
+behind s (c ∷ b) = split s b
+
+-- the first piece is what leads
+pub split-lead : (s : ℕ → Bool) (b : Bytes) → split s b ≡ take (lead s b) b ∷ behind s (drop (lead s b) b)
+unfolding lead split behind onto-first
+split-lead s [] = refl
+split-lead s (c ∷ b) = go (s c) (split-lead s b)
+  where
+    go : (t : Bool) → split s b ≡ take (lead s b) b ∷ behind s (drop (lead s b) b)
+        → cond t ([] ∷ split s b) (onto-first c (split s b))
+        ≡ take (cond t 0 (suc (lead s b))) (c ∷ b) ∷ behind s (drop (cond t 0 (suc (lead s b))) (c ∷ b))
+    go true h = refl
+    go false h = ap (onto-first c) h
+
+-- words begin behind the gap
+pub words-gap : (b : Bytes) → all-words b ≡ all-words (drop (gap b) b)
+unfolding gap all-words split nonempty is-nil
+words-gap [] = refl
+words-gap (c ∷ b) = go (white c) refl (words-gap b)
+  where
+    go : (t : Bool) → white c ≡ t → all-words b ≡ all-words (drop (gap b) b)
+        → nonempty (split white (c ∷ b)) ≡ nonempty (split white (drop (cond t (suc (gap b)) 0) (c ∷ b)))
+    go true e h = rw e h
+    go false e h = refl
+
+-- behind a word others begin as they would at its end
+words-behind : (b : Bytes) → nonempty (behind white (drop (lead white b) b)) ≡ all-words (drop (lead white b) b)
+unfolding lead all-words split nonempty is-nil behind
+words-behind [] = refl
+words-behind (c ∷ b) = go (white c) refl (words-behind b)
+  where
+    go : (t : Bool) → white c ≡ t → nonempty (behind white (drop (lead white b) b)) ≡ all-words (drop (lead white b) b)
+        → nonempty (behind white (drop (cond t 0 (suc (lead white b))) (c ∷ b))) ≡ nonempty (split white (drop (cond t 0 (suc (lead white b))) (c ∷ b)))
+    go true e h = rw e
+    go false e h = h
+
+pub words-lead : (b : Bytes) → 0 < lead white b → all-words b ≡ take (lead white b) b ∷ all-words (drop (lead white b) b)
+unfolding all-words nonempty is-nil
+words-lead b l = ap nonempty (split-lead white b) ∙ first b (lead white b) (behind white (drop (lead white b) b)) l (lead-within white b) ∙ ap (λ ws. take (lead white b) b ∷ ws) (words-behind b)
+  where
+    first : (b : Bytes) (n : ℕ) (ps : List Bytes) → 0 < n → n ≤ length b → nonempty (take n b ∷ ps) ≡ take n b ∷ nonempty ps
+    first b zero ps l h = absurd (omega arith)
+    first [] (suc n) ps l h = absurd (omega arith)
+    first (c ∷ b) (suc n) ps l h = refl

@@ -1,0 +1,4 @@
+// The words of a text, one after the other: the core of every reader of texts.
+pub mod cursor;
+pub mod numbers;
+pub mod token;
