@@ -1,57 +1,90 @@
 -- Texts that N1 speaks of, each with what the reader answers.
 -- Assumes nothing.
 use mathlib.Core.Path.{_≡_, refl}
-use mathlib.Core.List.{List, [], _∷_, flatten, flatMap}
-use Prim.Native.Nat.{ℕ}
+use mathlib.Core.List.{List, [], _∷_, map, flatten, flatMap}
+use Prim.Native.Nat.{ℕ, zero, suc}
+use Prim.Native.Char.{code}
+use Prim.Native.String.{String, len, charAt}
 use lib.ListN.{length, replicate}
 use Rattle.formula.specs.Tree.{rows, count, binds, distinct}
 use Rattle.sheet.specs.Format.{Bytes, narrow, sheet-length, digits}
 use Rattle.sheet.specs.Sheet.{binding-row, tree-rows, formula-rows, row-kinds, row-arguments, sheet}
 use Rattle.sheet.specs.Check.{Answer, refused, accepted, answer}
-use Rattle.sheet.specs.Operations.{padded, Written, output-after, write}
-use Rattle.sheet.specs.Qdimacs.{onto-first, split, is-nil, all, nonempty, lines, words, unsigned, number-from, negative, magnitude, is-whole, is-zero, is-word, is-comment, from-header, header-of, text-header, words-below, pieces, ended-lists, open-list, is-quantified, clauses-only, in-order, well-listed, quantified, bindings, bound, clauses, literals, clause-trees, matrix-of, named, is-free, free-up-to, said, qdimacs, numbers-of, above-count, qdimacs-tests, qdimacs-call}
+use Rattle.sheet.specs.Operations.{padded, output-after, write}
+use Rattle.sheet.specs.Qdimacs.{onto-first, split, is-nil, all, nonempty, lines, words, is-word, is-digits, number-from, number-token, token, is-comment, from-header, header-of, text-header, tokens-below, pieces, ended-lists, open-list, is-quantified, are-clauses, in-order, well-listed, quantified, bindings, bound, clauses, literals, clause-trees, matrix-of, named, is-free, free-up-to, said, qdimacs, numbers-of, above-count, said-tests, qdimacs-tests, qdimacs-call}
 
-abbrev answer-of : Bytes → Answer ℕ
-answer-of t = (qdimacs-call narrow t (replicate 60 0)) .answer
+unfoldable pub bytes-from : ℕ → ℕ → String → Bytes
+bytes-from zero i s = []
+bytes-from (suc n) i s = code (charAt s i) ∷ bytes-from n (suc i) s
 
--- a 2 0, then 1 -2 0: 1 is free and stands in front, exists
-pub free-in-front : (qdimacs-call narrow (112 ∷ 32 ∷ 99 ∷ 110 ∷ 102 ∷ 32 ∷ 50 ∷ 32 ∷ 49 ∷ 10 ∷ 97 ∷ 32 ∷ 50 ∷ 32 ∷ 48 ∷ 10 ∷ 49 ∷ 32 ∷ 45 ∷ 50 ∷ 32 ∷ 48 ∷ []) (replicate 23 0)) .output ≡ (2 ∷ 0 ∷ 4 ∷ 0 ∷ 1 ∷ 2 ∷ 5 ∷ 6 ∷ 3 ∷ 4 ∷ 1 ∷ 0 ∷ 2 ∷ 0 ∷ 1 ∷ 0 ∷ 2 ∷ 0 ∷ 1 ∷ 0 ∷ 2 ∷ 0 ∷ 0 ∷ [])
-unfolding rows count binds distinct sheet-length digits binding-row tree-rows formula-rows row-kinds row-arguments sheet answer padded output-after write flatten flatMap onto-first split is-nil all nonempty lines words unsigned number-from negative magnitude is-whole is-zero is-word is-comment from-header header-of text-header words-below pieces ended-lists open-list is-quantified clauses-only in-order well-listed quantified bindings bound clauses literals clause-trees matrix-of named is-free free-up-to said qdimacs numbers-of above-count qdimacs-tests qdimacs-call
+abbrev bytes : String → Bytes
+bytes s = bytes-from (len s) 0 s
+
+abbrev answer-of : String → Answer ℕ
+answer-of s = (qdimacs-call narrow (bytes s) (replicate 60 0)) .answer
+
+abbrev output-of : String → Bytes
+output-of s = (qdimacs-call narrow (bytes s) (replicate 26 7)) .output
+
+-- 1 is in no quantifier line, and stands in front; zeros behind the sheet
+pub free-in-front : output-of "p cnf 2 1\na 2 0\n1 -2 0" ≡ (2 ∷ 0 ∷ 4 ∷ 0 ∷ 1 ∷ 2 ∷ 5 ∷ 6 ∷ 3 ∷ 4 ∷ 1 ∷ 0 ∷ 2 ∷ 0 ∷ 1 ∷ 0 ∷ 2 ∷ 0 ∷ 1 ∷ 0 ∷ 2 ∷ 0 ∷ 0 ∷ 0 ∷ 0 ∷ 0 ∷ [])
+unfolding bytes-from rows count binds distinct sheet-length digits binding-row tree-rows formula-rows row-kinds row-arguments sheet answer padded output-after write flatten flatMap onto-first split is-nil all nonempty lines words is-word is-digits number-from number-token token is-comment from-header header-of text-header tokens-below pieces ended-lists open-list is-quantified are-clauses in-order well-listed quantified bindings bound clauses literals clause-trees matrix-of named is-free free-up-to said qdimacs numbers-of above-count said-tests qdimacs-tests qdimacs-call
 free-in-front = refl
 
--- the free ones stand there by number, wherever they occur
-pub free-by-number : (qdimacs-call narrow (112 ∷ 32 ∷ 99 ∷ 110 ∷ 102 ∷ 32 ∷ 51 ∷ 32 ∷ 49 ∷ 10 ∷ 97 ∷ 32 ∷ 50 ∷ 32 ∷ 48 ∷ 10 ∷ 51 ∷ 32 ∷ 45 ∷ 49 ∷ 32 ∷ 48 ∷ []) (replicate 25 0)) .output ≡ (3 ∷ 0 ∷ 4 ∷ 0 ∷ 1 ∷ 1 ∷ 2 ∷ 5 ∷ 6 ∷ 3 ∷ 4 ∷ 1 ∷ 0 ∷ 3 ∷ 0 ∷ 2 ∷ 0 ∷ 1 ∷ 0 ∷ 2 ∷ 0 ∷ 3 ∷ 0 ∷ 1 ∷ 0 ∷ [])
-unfolding rows count binds distinct sheet-length digits binding-row tree-rows formula-rows row-kinds row-arguments sheet answer padded output-after write flatten flatMap onto-first split is-nil all nonempty lines words unsigned number-from negative magnitude is-whole is-zero is-word is-comment from-header header-of text-header words-below pieces ended-lists open-list is-quantified clauses-only in-order well-listed quantified bindings bound clauses literals clause-trees matrix-of named is-free free-up-to said qdimacs numbers-of above-count qdimacs-tests qdimacs-call
+-- by number, and not as they occur
+pub free-by-number : output-of "p cnf 3 1\na 2 0\n3 -1 0" ≡ (3 ∷ 0 ∷ 4 ∷ 0 ∷ 1 ∷ 1 ∷ 2 ∷ 5 ∷ 6 ∷ 3 ∷ 4 ∷ 1 ∷ 0 ∷ 3 ∷ 0 ∷ 2 ∷ 0 ∷ 1 ∷ 0 ∷ 2 ∷ 0 ∷ 3 ∷ 0 ∷ 1 ∷ 0 ∷ 0 ∷ [])
+unfolding bytes-from rows count binds distinct sheet-length digits binding-row tree-rows formula-rows row-kinds row-arguments sheet answer padded output-after write flatten flatMap onto-first split is-nil all nonempty lines words is-word is-digits number-from number-token token is-comment from-header header-of text-header tokens-below pieces ended-lists open-list is-quantified are-clauses in-order well-listed quantified bindings bound clauses literals clause-trees matrix-of named is-free free-up-to said qdimacs numbers-of above-count said-tests qdimacs-tests qdimacs-call
 free-by-number = refl
 
--- one text a line, in the order of the answers: -0 is no number; -00 is none either; a plus sign; a letter behind the digits; a list that is open at the end, and a variable above the count in it: 16 before 17; a variable above the count, in a clause and in a quantifier line; no comment below the header; no clause where one is said, and two; no header; one with a fifth word, a sign, or too many variables; a count of clauses of any size is a number; bound again; a quantifier line after a clause, within a list, with a negative number; the lowest 32-bit number is out of range, and so are digits without end; the empty clause; no clause at all; a quantifier line without variables; leading zeros, lists over lines, other blanks, comments and blank lines above
-pub answers : (
-    answer-of (112 ∷ 32 ∷ 99 ∷ 110 ∷ 102 ∷ 32 ∷ 50 ∷ 32 ∷ 49 ∷ 10 ∷ 45 ∷ 48 ∷ 32 ∷ 48 ∷ []) ∷
-    answer-of (112 ∷ 32 ∷ 99 ∷ 110 ∷ 102 ∷ 32 ∷ 50 ∷ 32 ∷ 49 ∷ 10 ∷ 45 ∷ 48 ∷ 48 ∷ 32 ∷ 48 ∷ []) ∷
-    answer-of (112 ∷ 32 ∷ 99 ∷ 110 ∷ 102 ∷ 32 ∷ 50 ∷ 32 ∷ 49 ∷ 10 ∷ 43 ∷ 49 ∷ 32 ∷ 48 ∷ []) ∷
-    answer-of (112 ∷ 32 ∷ 99 ∷ 110 ∷ 102 ∷ 32 ∷ 50 ∷ 32 ∷ 49 ∷ 10 ∷ 49 ∷ 120 ∷ 32 ∷ 48 ∷ []) ∷
-    answer-of (112 ∷ 32 ∷ 99 ∷ 110 ∷ 102 ∷ 32 ∷ 50 ∷ 32 ∷ 49 ∷ 10 ∷ 49 ∷ 32 ∷ 48 ∷ 32 ∷ 51 ∷ []) ∷
-    answer-of (112 ∷ 32 ∷ 99 ∷ 110 ∷ 102 ∷ 32 ∷ 50 ∷ 32 ∷ 49 ∷ 10 ∷ 51 ∷ 32 ∷ 48 ∷ []) ∷
-    answer-of (112 ∷ 32 ∷ 99 ∷ 110 ∷ 102 ∷ 32 ∷ 50 ∷ 32 ∷ 49 ∷ 10 ∷ 101 ∷ 32 ∷ 51 ∷ 32 ∷ 48 ∷ 32 ∷ 49 ∷ 32 ∷ 48 ∷ []) ∷
-    answer-of (112 ∷ 32 ∷ 99 ∷ 110 ∷ 102 ∷ 32 ∷ 50 ∷ 32 ∷ 49 ∷ 10 ∷ 99 ∷ 10 ∷ 49 ∷ 32 ∷ 48 ∷ []) ∷
-    answer-of (112 ∷ 32 ∷ 99 ∷ 110 ∷ 102 ∷ 32 ∷ 50 ∷ 32 ∷ 49 ∷ 10 ∷ []) ∷
-    answer-of (112 ∷ 32 ∷ 99 ∷ 110 ∷ 102 ∷ 32 ∷ 50 ∷ 32 ∷ 49 ∷ 10 ∷ 49 ∷ 32 ∷ 48 ∷ 32 ∷ 50 ∷ 32 ∷ 48 ∷ []) ∷
-    answer-of ([]) ∷
-    answer-of (112 ∷ 32 ∷ 99 ∷ 110 ∷ 102 ∷ 32 ∷ 50 ∷ 32 ∷ 49 ∷ 32 ∷ 48 ∷ []) ∷
-    answer-of (112 ∷ 32 ∷ 99 ∷ 110 ∷ 102 ∷ 32 ∷ 45 ∷ 50 ∷ 32 ∷ 49 ∷ 10 ∷ 49 ∷ 32 ∷ 48 ∷ []) ∷
-    answer-of (112 ∷ 32 ∷ 99 ∷ 110 ∷ 102 ∷ 32 ∷ 50 ∷ 53 ∷ 55 ∷ 32 ∷ 49 ∷ 10 ∷ 49 ∷ 32 ∷ 48 ∷ []) ∷
-    answer-of (112 ∷ 32 ∷ 99 ∷ 110 ∷ 102 ∷ 32 ∷ 50 ∷ 32 ∷ 57 ∷ 57 ∷ 57 ∷ 57 ∷ 57 ∷ 57 ∷ 57 ∷ 57 ∷ 57 ∷ 57 ∷ 57 ∷ 57 ∷ 57 ∷ 57 ∷ 57 ∷ 57 ∷ 57 ∷ 57 ∷ 57 ∷ 57 ∷ 10 ∷ 49 ∷ 32 ∷ 48 ∷ []) ∷
-    answer-of (112 ∷ 32 ∷ 99 ∷ 110 ∷ 102 ∷ 32 ∷ 50 ∷ 32 ∷ 49 ∷ 10 ∷ 101 ∷ 32 ∷ 49 ∷ 32 ∷ 48 ∷ 10 ∷ 101 ∷ 32 ∷ 49 ∷ 32 ∷ 48 ∷ 32 ∷ 48 ∷ []) ∷
-    answer-of (112 ∷ 32 ∷ 99 ∷ 110 ∷ 102 ∷ 32 ∷ 50 ∷ 32 ∷ 49 ∷ 10 ∷ 48 ∷ 10 ∷ 101 ∷ 32 ∷ 49 ∷ 32 ∷ 48 ∷ []) ∷
-    answer-of (112 ∷ 32 ∷ 99 ∷ 110 ∷ 102 ∷ 32 ∷ 50 ∷ 32 ∷ 49 ∷ 10 ∷ 101 ∷ 32 ∷ 49 ∷ 32 ∷ 97 ∷ 32 ∷ 50 ∷ 32 ∷ 48 ∷ 32 ∷ 48 ∷ []) ∷
-    answer-of (112 ∷ 32 ∷ 99 ∷ 110 ∷ 102 ∷ 32 ∷ 50 ∷ 32 ∷ 49 ∷ 10 ∷ 101 ∷ 32 ∷ 45 ∷ 49 ∷ 32 ∷ 48 ∷ 32 ∷ 48 ∷ []) ∷
-    answer-of (112 ∷ 32 ∷ 99 ∷ 110 ∷ 102 ∷ 32 ∷ 50 ∷ 32 ∷ 49 ∷ 10 ∷ 45 ∷ 50 ∷ 49 ∷ 52 ∷ 55 ∷ 52 ∷ 56 ∷ 51 ∷ 54 ∷ 52 ∷ 56 ∷ 32 ∷ 48 ∷ []) ∷
-    answer-of (112 ∷ 32 ∷ 99 ∷ 110 ∷ 102 ∷ 32 ∷ 50 ∷ 32 ∷ 49 ∷ 10 ∷ 49 ∷ 50 ∷ 51 ∷ 52 ∷ 53 ∷ 54 ∷ 55 ∷ 56 ∷ 57 ∷ 48 ∷ 49 ∷ 50 ∷ 51 ∷ 52 ∷ 53 ∷ 54 ∷ 55 ∷ 56 ∷ 57 ∷ 48 ∷ 49 ∷ 50 ∷ 51 ∷ 52 ∷ 53 ∷ 54 ∷ 55 ∷ 56 ∷ 57 ∷ 48 ∷ 32 ∷ 48 ∷ []) ∷
-    answer-of (112 ∷ 32 ∷ 99 ∷ 110 ∷ 102 ∷ 32 ∷ 50 ∷ 32 ∷ 49 ∷ 10 ∷ 48 ∷ []) ∷
-    answer-of (112 ∷ 32 ∷ 99 ∷ 110 ∷ 102 ∷ 32 ∷ 48 ∷ 32 ∷ 48 ∷ []) ∷
-    answer-of (112 ∷ 32 ∷ 99 ∷ 110 ∷ 102 ∷ 32 ∷ 50 ∷ 32 ∷ 49 ∷ 10 ∷ 97 ∷ 32 ∷ 48 ∷ 32 ∷ 48 ∷ []) ∷
-    answer-of (99 ∷ 32 ∷ 120 ∷ 10 ∷ 32 ∷ 10 ∷ 112 ∷ 9 ∷ 99 ∷ 110 ∷ 102 ∷ 32 ∷ 48 ∷ 50 ∷ 32 ∷ 49 ∷ 13 ∷ 10 ∷ 48 ∷ 49 ∷ 10 ∷ 45 ∷ 50 ∷ 9 ∷ 48 ∷ 48 ∷ []) ∷
-    []) ≡
-    (refused 16 0 ∷ refused 16 0 ∷ refused 16 0 ∷ refused 16 0 ∷ refused 16 0 ∷ refused 17 0 ∷ refused 17 0 ∷ refused 16 0 ∷ refused 17 0 ∷ refused 17 0 ∷ refused 15 0 ∷ refused 15 0 ∷ refused 15 0 ∷ refused 15 0 ∷ refused 17 0 ∷ refused 6 0 ∷ refused 16 0 ∷ refused 16 0 ∷ refused 16 0 ∷ refused 17 0 ∷ refused 17 0 ∷ accepted 10 ∷ accepted 7 ∷ accepted 10 ∷ accepted 22 ∷ [])
-unfolding rows count binds distinct sheet-length digits binding-row tree-rows formula-rows row-kinds row-arguments sheet answer padded output-after write flatten flatMap onto-first split is-nil all nonempty lines words unsigned number-from negative magnitude is-whole is-zero is-word is-comment from-header header-of text-header words-below pieces ended-lists open-list is-quantified clauses-only in-order well-listed quantified bindings bound clauses literals clause-trees matrix-of named is-free free-up-to said qdimacs numbers-of above-count qdimacs-tests qdimacs-call
-answers = refl
+pub record Tried : Type 0 where
+  pub text : String
+  pub says : Answer ℕ
+
+abbrev tried : String → Answer ℕ → Tried
+tried s a = record { text = s; says = a }
+
+unfoldable pub texts : List Tried
+texts =
+    -- -0 is no number
+    tried "p cnf 2 1\n-0 0" (refused 16 0) ∷
+    tried "p cnf 2 1\n-00 0" (refused 16 0) ∷
+    -- nor is a plus sign with digits, or digits with a letter
+    tried "p cnf 2 1\n+1 0" (refused 16 0) ∷
+    tried "p cnf 2 1\n1x 0" (refused 16 0) ∷
+    -- a list open at the end, with a variable above the count: 16 comes before 17
+    tried "p cnf 2 1\n1 0 3" (refused 16 0) ∷
+    -- a variable above the count, in a clause and in a quantifier line
+    tried "p cnf 2 1\n3 0" (refused 17 0) ∷
+    tried "p cnf 2 1\ne 3 0 1 0" (refused 17 0) ∷
+    -- no comment below the header
+    tried "p cnf 2 1\nc\n1 0" (refused 16 0) ∷
+    -- clauses other than as many as said
+    tried "p cnf 2 1\n" (refused 17 0) ∷
+    tried "p cnf 2 1\n1 0 2 0" (refused 17 0) ∷
+    -- no header; one with a fifth word, a sign, too many variables
+    tried "" (refused 15 0) ∷
+    tried "p cnf 2 1 0" (refused 15 0) ∷
+    tried "p cnf -2 1\n1 0" (refused 15 0) ∷
+    tried "p cnf 257 1\n1 0" (refused 15 0) ∷
+    -- a clause count of any size is a number
+    tried "p cnf 2 99999999999999999999\n1 0" (refused 17 0) ∷
+    -- bound twice
+    tried "p cnf 2 1\ne 1 0\ne 1 0 0" (refused 6 0) ∷
+    -- a quantifier line after a clause, within a list, with a negative number
+    tried "p cnf 2 1\n0\ne 1 0" (refused 16 0) ∷
+    tried "p cnf 2 1\ne 1 a 2 0 0" (refused 16 0) ∷
+    tried "p cnf 2 1\ne -1 0 0" (refused 16 0) ∷
+    -- the lowest 32-bit number is out of range, and so are digits without end
+    tried "p cnf 2 1\n-2147483648 0" (refused 17 0) ∷
+    tried "p cnf 2 1\n123456789012345678901234567890 0" (refused 17 0) ∷
+    -- an empty clause; no clause at all; a quantifier line without variables
+    tried "p cnf 2 1\n0" (accepted 10) ∷
+    tried "p cnf 0 0" (accepted 7) ∷
+    tried "p cnf 2 1\na 0 0" (accepted 10) ∷
+    -- leading zeros, lists over lines, other blanks, comments and blank lines above
+    tried "c x\n \np\tcnf 02 1\r\n01\n-2\t00" (accepted 22) ∷
+    []
+
+pub texts-answered : map (λ (t : Tried). answer-of (t .text)) texts ≡ map (λ (t : Tried). t .says) texts
+unfolding texts bytes-from rows count binds distinct sheet-length digits binding-row tree-rows formula-rows row-kinds row-arguments sheet answer padded output-after write flatten flatMap onto-first split is-nil all nonempty lines words is-word is-digits number-from number-token token is-comment from-header header-of text-header tokens-below pieces ended-lists open-list is-quantified are-clauses in-order well-listed quantified bindings bound clauses literals clause-trees matrix-of named is-free free-up-to said qdimacs numbers-of above-count said-tests qdimacs-tests qdimacs-call
+texts-answered = refl

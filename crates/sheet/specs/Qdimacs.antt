@@ -1,7 +1,7 @@
 -- QDIMACS 1.1 in (N1): a text's words, its header and its lists, the formula that they say, and the reader's refusals.
 -- Assumes nothing.
 use mathlib.Core.Bool.{Bool, true, false, not, _&&_, _||_, cond}
-use mathlib.Core.List.{List, [], _∷_, _++_, tail, flatten, flatMap}
+use mathlib.Core.List.{List, [], _∷_, _++_, map, tail, flatten, flatMap}
 use Prim.Native.Nat.{ℕ, zero, suc, _+_, _-_, _*_}
 use lib.Dec.{eqb, ltb, leb}
 use lib.ListN.{length, getD}
@@ -45,37 +45,57 @@ lines t = split line-end t
 unfoldable pub words : Bytes → List Bytes
 words l = nonempty (split blank l)
 
--- a word of digits, and the number that it is, however many they are
-abbrev pub digit : ℕ → Bool
-digit c = leb 48 c && leb c 57
-
-unfoldable pub unsigned : Bytes → Bool
-unsigned w = not (is-nil w) && all digit w
-
-unfoldable pub number-from : ℕ → Bytes → ℕ
-number-from n [] = n
-number-from n (c ∷ cs) = number-from (10 * n + (c - 48)) cs
-
--- its digits behind a minus sign: -0 is no number, and there is no plus sign
-unfoldable pub negative : Bytes → Bool
-negative [] = false
-negative (c ∷ cs) = eqb c 45 && unsigned cs && not (eqb (number-from 0 cs) 0)
-
-unfoldable pub magnitude : Bytes → ℕ
-magnitude [] = 0
-magnitude (c ∷ cs) = cond (eqb c 45) (number-from 0 cs) (number-from 0 (c ∷ cs))
-
-unfoldable pub is-whole : Bytes → Bool
-is-whole w = unsigned w || negative w
-
-unfoldable pub is-zero : Bytes → Bool
-is-zero w = unsigned w && eqb (magnitude w) 0
-
 unfoldable pub is-word : Bytes → Bytes → Bool
 is-word [] [] = true
 is-word [] (d ∷ ds) = false
 is-word (c ∷ cs) [] = false
 is-word (c ∷ cs) (d ∷ ds) = eqb c d && is-word cs ds
+
+-- a word of digits, and the number that it is, however many they are
+abbrev pub digit : ℕ → Bool
+digit c = leb 48 c && leb c 57
+
+unfoldable pub is-digits : Bytes → Bool
+is-digits w = not (is-nil w) && all digit w
+
+unfoldable pub number-from : ℕ → Bytes → ℕ
+number-from n [] = n
+number-from n (c ∷ cs) = number-from (10 * n + (c - 48)) cs
+
+-- What a word says: e or a, by the quantifier; a whole number, by its sign (false behind a minus sign) and magnitude; or nothing.
+pub data Token : Type 0 where
+  opener : Quantifier → Token
+  whole : Bool → ℕ → Token
+  other : Token
+
+-- -0 is no number
+abbrev pub negated : ℕ → Token
+negated zero = other
+negated (suc n) = whole false (suc n)
+
+-- there is no plus sign
+unfoldable pub number-token : Bytes → Token
+number-token [] = other
+number-token (c ∷ cs) =
+    cond (is-digits (c ∷ cs)) (whole true (number-from 0 (c ∷ cs))) (cond (eqb c 45 && is-digits cs) (negated (number-from 0 cs)) other)
+
+unfoldable pub token : Bytes → Token
+token w = cond (is-word w (101 ∷ [])) (opener exists) (cond (is-word w (97 ∷ [])) (opener for-all) (number-token w))
+
+abbrev pub is-unsigned : Token → Bool
+is-unsigned (opener q) = false
+is-unsigned (whole s n) = s
+is-unsigned other = false
+
+abbrev pub is-whole : Token → Bool
+is-whole (opener q) = false
+is-whole (whole s n) = true
+is-whole other = false
+
+abbrev pub magnitude : Token → ℕ
+magnitude (opener q) = 0
+magnitude (whole s n) = n
+magnitude other = 0
 
 -- above the header: comment lines (first byte c) and blank ones
 unfoldable pub is-comment : Bytes → Bool
@@ -94,122 +114,136 @@ pub record Header : Type 0 where
 
 unfoldable pub header-of : List Bytes → Header
 header-of ws =
-    let word : ℕ → Bytes = λ i. getD ws i [] in
+    let variables = token (getD ws 2 []) in
+    let clauses = token (getD ws 3 []) in
     record {
-      well-formed = eqb (length ws) 4 && is-word (word 0) (112 ∷ []) && is-word (word 1) (99 ∷ 110 ∷ 102 ∷ []) && unsigned (word 2) && unsigned (word 3);
-      variable-count = magnitude (word 2);
-      clause-count = magnitude (word 3);
+      well-formed =
+          eqb (length ws) 4 && is-word (getD ws 0 []) (112 ∷ []) && is-word (getD ws 1 []) (99 ∷ 110 ∷ 102 ∷ []) && is-unsigned variables &&
+          is-unsigned clauses;
+      variable-count = magnitude variables;
+      clause-count = magnitude clauses;
     }
 
--- its line is the first one; where there is none, no words are no header
+-- its line is the first that is left; a missing line has no words
 unfoldable pub text-header : Bytes → Header
 text-header t = header-of (words (getD (from-header (lines t)) 0 []))
 
--- below it: the words of all lines, in lists that a 0 ends; what stands behind the last 0 is a list that is still open
-unfoldable pub words-below : Bytes → List Bytes
-words-below t = flatMap words (tail (from-header (lines t)))
+-- below it: the words of all lines
+unfoldable pub tokens-below : Bytes → List Token
+tokens-below t = map token (flatMap words (tail (from-header (lines t))))
 
-unfoldable pub pieces : Bytes → List (List Bytes)
-pieces t = split is-zero (words-below t)
+-- 0 ends a list; what stands behind the last 0 is a list that is still open
+abbrev pub is-end : Token → Bool
+is-end (opener q) = false
+is-end (whole s n) = s && eqb n 0
+is-end other = false
 
-unfoldable pub ended-lists : List (List Bytes) → List (List Bytes)
+unfoldable pub pieces : List Token → List (List Token)
+pieces ts = split is-end ts
+
+unfoldable pub ended-lists : List (List Token) → List (List Token)
 ended-lists [] = []
 ended-lists (p ∷ []) = []
 ended-lists (p ∷ q ∷ ps) = p ∷ ended-lists (q ∷ ps)
 
-unfoldable pub open-list : List (List Bytes) → List Bytes
+unfoldable pub open-list : List (List Token) → List Token
 open-list [] = []
 open-list (p ∷ []) = p
 open-list (p ∷ q ∷ ps) = open-list (q ∷ ps)
 
--- the word e or a opens a quantifier line
-abbrev pub is-e : Bytes → Bool
-is-e w = is-word w (101 ∷ [])
+-- e or a opens a quantifier line
+abbrev pub is-opener : Token → Bool
+is-opener (opener q) = true
+is-opener (whole s n) = false
+is-opener other = false
 
-abbrev pub is-a : Bytes → Bool
-is-a w = is-word w (97 ∷ [])
-
-unfoldable pub is-quantified : List Bytes → Bool
+unfoldable pub is-quantified : List Token → Bool
 is-quantified [] = false
-is-quantified (w ∷ ws) = is-e w || is-a w
+is-quantified (t ∷ ts) = is-opener t
 
 -- quantifier lines of unsigned numbers, then clauses of whole ones, each ended
-unfoldable pub clauses-only : List (List Bytes) → Bool
-clauses-only ls = all (λ l. all is-whole l) ls
+unfoldable pub are-clauses : List (List Token) → Bool
+are-clauses ls = all (λ l. all is-whole l) ls
 
-unfoldable pub in-order : List (List Bytes) → Bool
+unfoldable pub in-order : List (List Token) → Bool
 in-order [] = true
-in-order (l ∷ ls) = cond (is-quantified l) (all unsigned (tail l) && in-order ls) (clauses-only (l ∷ ls))
+in-order (l ∷ ls) = cond (is-quantified l) (all is-unsigned (tail l) && in-order ls) (are-clauses (l ∷ ls))
 
-unfoldable pub well-listed : List (List Bytes) → Bool
-well-listed ps = in-order (ended-lists ps) && is-nil (open-list ps)
+unfoldable pub well-listed : List Token → Bool
+well-listed ts = in-order (ended-lists (pieces ts)) && is-nil (open-list (pieces ts))
 
 -- the prefix that the quantifier lines say, and the clauses
-unfoldable pub quantified : Quantifier → List Bytes → Prefix
+unfoldable pub quantified : Quantifier → List Token → Prefix
 quantified q [] = []
-quantified q (w ∷ ws) = record { quantifier = q; variable = magnitude w } ∷ quantified q ws
+quantified q (t ∷ ts) = record { quantifier = q; variable = magnitude t } ∷ quantified q ts
 
-unfoldable pub bindings : List Bytes → Prefix
+unfoldable pub bindings : List Token → Prefix
 bindings [] = []
-bindings (w ∷ ws) = cond (is-e w) (quantified exists ws) (cond (is-a w) (quantified for-all ws) [])
+bindings (opener q ∷ ts) = quantified q ts
+bindings (whole s n ∷ ts) = []
+bindings (other ∷ ts) = []
 
-unfoldable pub bound : List (List Bytes) → Prefix
+unfoldable pub bound : List (List Token) → Prefix
 bound ls = flatMap bindings ls
 
-unfoldable pub clauses : List (List Bytes) → List (List Bytes)
+unfoldable pub clauses : List (List Token) → List (List Token)
 clauses [] = []
 clauses (l ∷ ls) = cond (is-quantified l) (clauses ls) (l ∷ clauses ls)
 
--- a clause is OR of its literals, and the tree AND of the clauses
-unfoldable pub literals : List Bytes → Forest
+-- a clause is OR of its literals, a negative number being the negated one, and the tree AND of the clauses
+unfoldable pub literals : List Token → Forest
 literals [] = ∅
-literals (w ∷ ws) = lit (not (negative w)) (magnitude w) ▸ literals ws
+literals (t ∷ ts) = lit (is-unsigned t) (magnitude t) ▸ literals ts
 
-unfoldable pub clause-trees : List (List Bytes) → Forest
+unfoldable pub clause-trees : List (List Token) → Forest
 clause-trees [] = ∅
 clause-trees (c ∷ cs) = node or (literals c) ▸ clause-trees cs
 
-unfoldable pub matrix-of : List (List Bytes) → Tree
+unfoldable pub matrix-of : List (List Token) → Tree
 matrix-of ls = node and (clause-trees (clauses ls))
 
 -- variables of clauses that no quantifier line binds become exists rows in front, by number
-unfoldable pub named : ℕ → List Bytes → Bool
+unfoldable pub named : ℕ → List Token → Bool
 named x [] = false
-named x (w ∷ ws) = eqb (magnitude w) x || named x ws
+named x (t ∷ ts) = eqb (magnitude t) x || named x ts
 
-unfoldable pub is-free : List (List Bytes) → ℕ → Bool
+unfoldable pub is-free : List (List Token) → ℕ → Bool
 is-free ls x = named x (flatten (clauses ls)) && not (binds (bound ls) x)
 
-unfoldable pub free-up-to : ℕ → List (List Bytes) → Prefix
+unfoldable pub free-up-to : ℕ → List (List Token) → Prefix
 free-up-to zero ls = []
 free-up-to (suc n) ls = free-up-to n ls ++ cond (is-free ls (suc n)) (record { quantifier = exists; variable = suc n } ∷ []) []
 
-unfoldable pub said : Header → List (List Bytes) → Formula
-said h ls = record { prefix = free-up-to (h .variable-count) ls ++ bound ls; matrix = matrix-of ls }
+unfoldable pub said : Header → List Token → Formula
+said h ts =
+    let ls = ended-lists (pieces ts) in
+    record { prefix = free-up-to (h .variable-count) ls ++ bound ls; matrix = matrix-of ls }
 
 unfoldable pub qdimacs : Bytes → Formula
-qdimacs t = said (text-header t) (ended-lists (pieces t))
+qdimacs t = said (text-header t) (tokens-below t)
 
 -- the variables of a list: of a quantifier line those behind its e or a
-unfoldable pub numbers-of : List Bytes → List Bytes
+unfoldable pub numbers-of : List Token → List Token
 numbers-of l = cond (is-quantified l) (tail l) l
 
-unfoldable pub above-count : ℕ → List (List Bytes) → Bool
-above-count n ls = not (all (λ w. leb (magnitude w) n) (flatMap numbers-of ls))
+unfoldable pub above-count : ℕ → List (List Token) → Bool
+above-count n ls = not (all (λ t. leb (magnitude t) n) (flatMap numbers-of ls))
 
 -- 15 the header; 16 the lists; 17 a variable or the number of clauses; 6 bound twice; 2 too many nodes; 13 output shorter than the sheet
-unfoldable pub qdimacs-tests : Format → Bytes → ℕ → List Test
-qdimacs-tests F t len =
-    let h = text-header t in
-    let ls = ended-lists (pieces t) in
-    let f = said h ls in
+unfoldable pub said-tests : Format → Header → List Token → ℕ → List Test
+said-tests F h ts len =
+    let ls = ended-lists (pieces ts) in
+    let f = said h ts in
     test (not (h .well-formed) || ltb (F .most-variables) (h .variable-count)) 15 0 ∷
-    test (not (well-listed (pieces t))) 16 0 ∷
+    test (not (well-listed ts)) 16 0 ∷
     test (above-count (h .variable-count) ls || not (eqb (length (clauses ls)) (h .clause-count))) 17 0 ∷
     test (not (distinct (bound ls))) 6 0 ∷
     test (ltb (F .most-nodes) (rows (f .matrix))) 2 0 ∷
     test (ltb len (sheet-length F (length (f .prefix)) (rows (f .matrix)))) 13 0 ∷
     []
+
+unfoldable pub qdimacs-tests : Format → Bytes → ℕ → List Test
+qdimacs-tests F t len = said-tests F (text-header t) (tokens-below t) len
 
 unfoldable pub qdimacs-call : Format → Bytes → Bytes → Written
 qdimacs-call F t out = write (qdimacs-tests F t (length out)) (sheet F (qdimacs t)) out
