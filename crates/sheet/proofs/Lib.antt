@@ -24,4 +24,4 @@ pub mod Carrying
 pub mod Formats
 pub mod Guards
 pub mod Resume
-pub mod QdimacsExamples
+pub mod Qdimacs

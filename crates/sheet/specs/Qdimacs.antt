@@ -62,39 +62,42 @@ unfoldable pub number-from : ℕ → Bytes → ℕ
 number-from n [] = n
 number-from n (c ∷ cs) = number-from (10 * n + (c - 48)) cs
 
--- What a word says: e or a, by the quantifier; a whole number, by its sign (false behind a minus sign) and magnitude; or nothing.
+-- What a word says: e or a, by the quantifier; an unsigned number; a negative one, n for -(n+1), since -0 is no number; or nothing.
 pub data Token : Type 0 where
   opener : Quantifier → Token
-  whole : Bool → ℕ → Token
+  unsigned : ℕ → Token
+  negative : ℕ → Token
   other : Token
 
--- -0 is no number
 abbrev pub negated : ℕ → Token
 negated zero = other
-negated (suc n) = whole false (suc n)
+negated (suc n) = negative n
 
 -- there is no plus sign
 unfoldable pub number-token : Bytes → Token
 number-token [] = other
 number-token (c ∷ cs) =
-    cond (is-digits (c ∷ cs)) (whole true (number-from 0 (c ∷ cs))) (cond (eqb c 45 && is-digits cs) (negated (number-from 0 cs)) other)
+    cond (is-digits (c ∷ cs)) (unsigned (number-from 0 (c ∷ cs))) (cond (eqb c 45 && is-digits cs) (negated (number-from 0 cs)) other)
 
 unfoldable pub token : Bytes → Token
 token w = cond (is-word w (101 ∷ [])) (opener exists) (cond (is-word w (97 ∷ [])) (opener for-all) (number-token w))
 
 abbrev pub is-unsigned : Token → Bool
 is-unsigned (opener q) = false
-is-unsigned (whole s n) = s
+is-unsigned (unsigned n) = true
+is-unsigned (negative n) = false
 is-unsigned other = false
 
 abbrev pub is-whole : Token → Bool
 is-whole (opener q) = false
-is-whole (whole s n) = true
+is-whole (unsigned n) = true
+is-whole (negative n) = true
 is-whole other = false
 
 abbrev pub magnitude : Token → ℕ
 magnitude (opener q) = 0
-magnitude (whole s n) = n
+magnitude (unsigned n) = n
+magnitude (negative n) = suc n
 magnitude other = 0
 
 -- above the header: comment lines (first byte c) and blank ones
@@ -135,7 +138,8 @@ tokens-below t = map token (flatMap words (tail (from-header (lines t))))
 -- 0 ends a list; what stands behind the last 0 is a list that is still open
 abbrev pub is-end : Token → Bool
 is-end (opener q) = false
-is-end (whole s n) = s && eqb n 0
+is-end (unsigned n) = eqb n 0
+is-end (negative n) = false
 is-end other = false
 
 unfoldable pub pieces : List Token → List (List Token)
@@ -154,7 +158,8 @@ open-list (p ∷ q ∷ ps) = open-list (q ∷ ps)
 -- e or a opens a quantifier line
 abbrev pub is-opener : Token → Bool
 is-opener (opener q) = true
-is-opener (whole s n) = false
+is-opener (unsigned n) = false
+is-opener (negative n) = false
 is-opener other = false
 
 unfoldable pub is-quantified : List Token → Bool
@@ -180,7 +185,8 @@ quantified q (t ∷ ts) = record { quantifier = q; variable = magnitude t } ∷ 
 unfoldable pub bindings : List Token → Prefix
 bindings [] = []
 bindings (opener q ∷ ts) = quantified q ts
-bindings (whole s n ∷ ts) = []
+bindings (unsigned n ∷ ts) = []
+bindings (negative n ∷ ts) = []
 bindings (other ∷ ts) = []
 
 unfoldable pub bound : List (List Token) → Prefix

@@ -1,0 +1,3 @@
+-- The laws of reading QDIMACS (N1).
+-- Assumes nothing.
+pub mod Examples
