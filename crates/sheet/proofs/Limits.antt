@@ -86,7 +86,7 @@ numbered-++ F (z ∷ p) q h k =
     let parts = and-parts (not (eqb (z .variable) 0 || ltb (F .most-variables) (z .variable))) (numbered F p) h in
     ap₂ _&&_ (parts .0) (numbered-++ F p q (parts .1) k)
 
-numbered-by : (F : Format) (p : Prefix) → ((v : ℕ) → binds p v ≡ true → (1 ≤ v) × (v ≤ F .most-variables)) → numbered F p ≡ true
+pub numbered-by : (F : Format) (p : Prefix) → ((v : ℕ) → binds p v ≡ true → (1 ≤ v) × (v ≤ F .most-variables)) → numbered F p ≡ true
 unfolding numbered binds
 numbered-by F [] h = refl
 numbered-by F (z ∷ p) h =

@@ -1,3 +1,6 @@
 -- The laws of reading QDIMACS (N1).
 -- Assumes nothing.
+pub mod Lists
+pub mod Accepted
+pub mod Answers
 pub mod Examples

@@ -85,7 +85,7 @@ existentials-exist (z ∷ p) = by (same-op exists (z .quantifier)) refl (existen
     by true e rest = ap₂ _&&_ e rest
     by false e rest = rest
 
-distinct-++ : (p q : Prefix) → distinct p ≡ true → distinct q ≡ true → ((v : ℕ) → binds q v ≡ true → binds p v ≡ false)
+pub distinct-++ : (p q : Prefix) → distinct p ≡ true → distinct q ≡ true → ((v : ℕ) → binds q v ≡ true → binds p v ≡ false)
     → distinct (p ++ q) ≡ true
 unfolding distinct binds
 distinct-++ [] q d e h = e
