@@ -3,4 +3,5 @@
 pub mod Lists
 pub mod Accepted
 pub mod Answers
+pub mod Words
 pub mod Examples

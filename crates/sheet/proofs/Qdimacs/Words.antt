@@ -1,0 +1,234 @@
+-- Reading depends on the words alone: comments and blank lines above the header, blanks, line ends below it, and leading zeros change
+-- nothing.
+-- Assumes nothing.
+use mathlib.Core.Path.{_≡_, refl, sym, _∙_, ap, ap₂, subst}
+use mathlib.Core.Bool.{Bool, true, false, not, _&&_, _||_, cond, false≢true}
+use mathlib.Core.List.{List, [], _∷_, _++_, append-assoc, map, tail, flatMap}
+use Prim.Native.Nat.{ℕ, zero, suc, _≤_, _<_}
+use native.Mathlib.Omega.{arith}
+use lib.Dec.{eqb, leb}
+use lib.ListN.{length, getD, replicate}
+use borrow.Author.Tests.{leb-true, ne-eqb, eqb-true, not-true}
+use Rattle.formula.proofs.Booleans.{and-parts, or-later}
+use Rattle.formula.specs.Tree.{exists, for-all}
+use Rattle.sheet.specs.Format.{Bytes, Format}
+use Rattle.sheet.specs.Sheet.{sheet}
+use Rattle.sheet.specs.Operations.{Written, write}
+use Rattle.sheet.specs.Qdimacs.{split, is-nil, nonempty, all, line-end, blank, lines, words, is-word, digit, is-digits, number-from, Token, opener, unsigned, negated, other, number-token, token, is-unsigned, magnitude, is-comment, from-header, Header, header-of, text-header, tokens-below, said, qdimacs, said-tests, qdimacs-tests, qdimacs-call}
+use Rattle.sheet.proofs.Qdimacs.Lists.{flatMap-++, Uncut, split-++, split-separator, split-uncut, split-piece, split-either, nonempty-++, nonempty-flatMap}
+
+-- separators
+
+abbrev pub separator : ℕ → Bool
+separator c = blank c || line-end c
+
+unfoldable pub separated : Bytes → List Bytes
+separated b = nonempty (split separator b)
+
+-- the words of all lines are what blanks and line ends alike separate
+pub words-of-lines : (b : Bytes) → flatMap words (lines b) ≡ separated b
+unfolding words lines separated
+words-of-lines b = sym (ap nonempty (split-either blank line-end b) ∙ nonempty-flatMap (split blank) (split line-end b))
+
+pub separated-++ : (l : Bytes) (c : ℕ) (r : Bytes) → separator c ≡ true → separated (l ++ c ∷ r) ≡ separated l ++ separated r
+unfolding separated
+separated-++ l c r e = ap nonempty (split-++ separator l c r e) ∙ nonempty-++ (split separator l) (split separator r)
+
+-- one separator is as good as another, and one as good as several
+pub separators-alike : (l : Bytes) (c d : ℕ) (r : Bytes) → separator c ≡ true → separator d ≡ true → separated (l ++ c ∷ r) ≡ separated (l ++ d ∷ r)
+separators-alike l c d r e f = separated-++ l c r e ∙ sym (separated-++ l d r f)
+
+pub separated-separator : (c : ℕ) (r : Bytes) → separator c ≡ true → separated (c ∷ r) ≡ separated r
+unfolding separated nonempty is-nil
+separated-separator c r e = ap nonempty (split-separator separator c r e)
+
+pub separator-again : (l : Bytes) (c d : ℕ) (r : Bytes) → separator c ≡ true → separator d ≡ true
+    → separated (l ++ c ∷ d ∷ r) ≡ separated (l ++ c ∷ r)
+separator-again l c d r e f =
+    separated-++ l c (d ∷ r) e ∙ ap (λ (ws : List Bytes). separated l ++ ws) (separated-separator d r f) ∙ sym (separated-++ l c r e)
+
+-- a word up to the next separator, or to the end
+pub separated-word : (c : ℕ) (w : Bytes) (d : ℕ) (r : Bytes) → Uncut separator (c ∷ w) → separator d ≡ true
+    → separated ((c ∷ w) ++ d ∷ r) ≡ (c ∷ w) ∷ separated r
+unfolding separated nonempty is-nil
+separated-word c w d r u e = ap nonempty (split-piece separator (c ∷ w) d r u e)
+
+pub separated-last : (c : ℕ) (w : Bytes) → Uncut separator (c ∷ w) → separated (c ∷ w) ≡ (c ∷ w) ∷ []
+unfolding separated nonempty is-nil
+separated-last c w u = ap nonempty (split-uncut separator (c ∷ w) u)
+
+-- lines
+
+abbrev pub Line : Bytes → Type 0
+Line l = Uncut line-end l
+
+-- above the header: comment lines and blank ones
+abbrev pub is-skipped : Bytes → Bool
+is-skipped l = is-comment l || is-nil (words l)
+
+-- the words of the header's line, and those below it
+abbrev pub header-words : Bytes → List Bytes
+header-words t = words (getD (from-header (lines t)) 0 [])
+
+abbrev pub words-below : Bytes → List Bytes
+words-below t = flatMap words (tail (from-header (lines t)))
+
+pub record TextWords (t : Bytes) (hs ws : List Bytes) : Type 0 where
+  pub of-header : header-words t ≡ hs
+  pub below : words-below t ≡ ws
+
+module _ (l : Bytes) (line : Line l) where
+  lines-∷ : (r : Bytes) → lines (l ++ 10 ∷ r) ≡ l ∷ lines r
+  unfolding lines
+  lines-∷ r = split-piece line-end l 10 r line refl
+
+  lines-one : lines l ≡ l ∷ []
+  unfolding lines
+  lines-one = split-uncut line-end l line
+
+  pub above-header : (r : Bytes) → is-skipped l ≡ true → TextWords (l ++ 10 ∷ r) (header-words r) (words-below r)
+  unfolding from-header
+  above-header r e = record { of-header = rw (lines-∷ r, e); below = rw (lines-∷ r, e) }
+
+  pub at-header : (r : Bytes) → is-skipped l ≡ false → TextWords (l ++ 10 ∷ r) (words l) (separated r)
+  unfolding from-header
+  at-header r e = record { of-header = rw (lines-∷ r, e); below = rw (lines-∷ r, e) (words-of-lines r) }
+
+  pub last-above : is-skipped l ≡ true → TextWords l [] []
+  unfolding from-header words nonempty split is-nil flatMap
+  last-above e = record { of-header = rw (lines-one, e); below = rw (lines-one, e) }
+
+  pub last-header : is-skipped l ≡ false → TextWords l (words l) []
+  unfolding from-header flatMap
+  last-header e = record { of-header = rw (lines-one, e); below = rw (lines-one, e) }
+
+-- leading zeros
+
+-- A word, and the same with zeros in front of its digits, behind the sign if it has one.
+pub data LeadingZeros : Bytes → Bytes → Type 0 where
+  as-it-is : {w : Bytes} → LeadingZeros w w
+  unsigned-zeros : (k : ℕ) {w : Bytes} → is-digits w ≡ true → LeadingZeros w (replicate k 48 ++ w)
+  negative-zeros : (k : ℕ) {w : Bytes} → is-digits w ≡ true → LeadingZeros (45 ∷ w) (45 ∷ replicate k 48 ++ w)
+
+pub number-zeros : (k : ℕ) (w : Bytes) → number-from 0 (replicate k 48 ++ w) ≡ number-from 0 w
+unfolding number-from
+number-zeros zero w = refl
+number-zeros (suc k) w = number-zeros k w
+
+pub digits-zeros : (k : ℕ) (w : Bytes) → is-digits w ≡ true → is-digits (replicate k 48 ++ w) ≡ true
+unfolding is-digits is-nil all
+digits-zeros zero w h = h
+digits-zeros (suc k) w h = and-parts (not (is-nil (replicate k 48 ++ w))) (all digit (replicate k 48 ++ w)) (digits-zeros k w h) .1
+
+-- a word of digits is no other word
+digits-word : (w : Bytes) (d : ℕ) (ds : Bytes) → is-digits w ≡ true → 57 < d → is-word w (d ∷ ds) ≡ false
+unfolding is-digits is-nil all is-word
+digits-word [] d ds h l = refl
+digits-word (c ∷ w) d ds h l =
+    let b = and-parts (digit c) (all digit w) h in
+    let high = leb-true c 57 (and-parts (leb 48 c) (leb c 57) (b .0) .1) in
+    ap (λ (m : Bool). m && is-word w ds) (ne-eqb c d (λ e. omega arith))
+
+-- what a word of digits says
+pub digits-token : (w : Bytes) → is-digits w ≡ true → token w ≡ unsigned (number-from 0 w)
+unfolding token number-token is-digits is-nil
+digits-token w h =
+    rw (digits-word w 101 [] h (omega arith), digits-word w 97 [] h (omega arith)) (by w h)
+  where
+    by : (v : Bytes) → is-digits v ≡ true → number-token v ≡ unsigned (number-from 0 v)
+    by [] k = absurd (false≢true k)
+    by (c ∷ v) k = rw k
+
+pub negative-token : (w : Bytes) → is-digits w ≡ true → token (45 ∷ w) ≡ negated (number-from 0 w)
+unfolding token number-token is-word is-digits all is-nil
+negative-token w h = rw h
+
+pub token-zeros : {v w : Bytes} → LeadingZeros v w → token v ≡ token w
+token-zeros as-it-is = refl
+token-zeros (unsigned-zeros k {w} h) =
+    digits-token w h ∙ ap unsigned (sym (number-zeros k w)) ∙ sym (digits-token (replicate k 48 ++ w) (digits-zeros k w h))
+token-zeros (negative-zeros k {w} h) =
+    negative-token w h ∙ ap negated (sym (number-zeros k w)) ∙ sym (negative-token (replicate k 48 ++ w) (digits-zeros k w h))
+
+word-zeros : {v w : Bytes} (d : ℕ) (ds : Bytes) → 57 < d → LeadingZeros v w → is-word v (d ∷ ds) ≡ is-word w (d ∷ ds)
+unfolding is-word
+word-zeros d ds l as-it-is = refl
+word-zeros d ds l (unsigned-zeros k {w} h) = digits-word w d ds h l ∙ sym (digits-word (replicate k 48 ++ w) d ds (digits-zeros k w h) l)
+word-zeros d ds l (negative-zeros k {w} h) =
+    ap (λ (m : Bool). m && is-word w ds) (ne-eqb 45 d (λ e. omega arith)) ∙
+    sym (ap (λ (m : Bool). m && is-word (replicate k 48 ++ w) ds) (ne-eqb 45 d (λ e. omega arith)))
+
+-- word for word
+abbrev pub SameWords : List Bytes → List Bytes → Type 0
+SameWords [] [] = Unit {0}
+SameWords [] (w ∷ ws) = ⊥
+SameWords (v ∷ vs) [] = ⊥
+SameWords (v ∷ vs) (w ∷ ws) = LeadingZeros v w × SameWords vs ws
+
+tokens-same : (vs ws : List Bytes) → SameWords vs ws → map token vs ≡ map token ws
+tokens-same [] [] h = refl
+tokens-same [] (w ∷ ws) h = absurd h
+tokens-same (v ∷ vs) [] h = absurd h
+tokens-same (v ∷ vs) (w ∷ ws) h = ap₂ _∷_ (token-zeros (h .0)) (tokens-same vs ws (h .1))
+
+length-same : (vs ws : List Bytes) → SameWords vs ws → length vs ≡ length ws
+length-same [] [] h = refl
+length-same [] (w ∷ ws) h = absurd h
+length-same (v ∷ vs) [] h = absurd h
+length-same (v ∷ vs) (w ∷ ws) h = ap suc (length-same vs ws (h .1))
+
+getD-same : (i : ℕ) (vs ws : List Bytes) → SameWords vs ws → LeadingZeros (getD vs i []) (getD ws i [])
+getD-same i [] [] h = as-it-is
+getD-same i [] (w ∷ ws) h = absurd h
+getD-same i (v ∷ vs) [] h = absurd h
+getD-same zero (v ∷ vs) (w ∷ ws) h = h .0
+getD-same (suc i) (v ∷ vs) (w ∷ ws) h = getD-same i vs ws (h .1)
+
+header-same : (vs ws : List Bytes) → SameWords vs ws → header-of vs ≡ header-of ws
+unfolding header-of
+header-same vs ws h =
+    rw (
+      length-same vs ws h,
+      word-zeros 112 [] (omega arith) (getD-same 0 vs ws h),
+      word-zeros 99 (110 ∷ 102 ∷ []) (omega arith) (getD-same 1 vs ws h),
+      token-zeros (getD-same 2 vs ws h),
+      token-zeros (getD-same 3 vs ws h),
+    )
+
+-- Two texts with the same words in the header's line and below it, but for leading zeros, are read alike.
+pub words-alone : (F : Format) (t u out : Bytes) → SameWords (header-words t) (header-words u) → SameWords (words-below t) (words-below u)
+    → qdimacs-call F t out ≡ qdimacs-call F u out
+unfolding qdimacs-call qdimacs-tests qdimacs text-header tokens-below
+words-alone F t u out h k =
+    ap₂ (λ (x : Header) (ts : List Token). write (said-tests F x ts (length out)) (sheet F (said x ts)) out)
+    (header-same (header-words t) (header-words u) h) (tokens-same (words-below t) (words-below u) k)
+
+words-equal : (vs ws : List Bytes) → vs ≡ ws → SameWords vs ws
+words-equal vs ws e = subst (SameWords vs) e (same vs)
+  where
+    same : (us : List Bytes) → SameWords us us
+    same [] = tt
+    same (u ∷ us) = (as-it-is, same us)
+
+alike : (F : Format) (t u out : Bytes) {hs ws : List Bytes} → TextWords t hs ws → TextWords u hs ws → qdimacs-call F t out ≡ qdimacs-call F u out
+alike F t u out p q =
+    words-alone F t u out (words-equal (header-words t) (header-words u) (p .of-header ∙ sym (q .of-header)))
+    (words-equal (words-below t) (words-below u) (p .below ∙ sym (q .below)))
+
+module _ (F : Format) (out : Bytes) where
+  -- a comment or a blank line above
+  pub line-above : (l r : Bytes) → Line l → is-skipped l ≡ true → qdimacs-call F (l ++ 10 ∷ r) out ≡ qdimacs-call F r out
+  line-above l r line e = alike F (l ++ 10 ∷ r) r out (above-header l line r e) (record { of-header = refl; below = refl })
+
+  module _ (l : Bytes) (line : Line l) (heads : is-skipped l ≡ false) where
+    -- blanks in the header's line
+    pub header-alike : (k r : Bytes) → Line k → is-skipped k ≡ false → words k ≡ words l
+        → qdimacs-call F (k ++ 10 ∷ r) out ≡ qdimacs-call F (l ++ 10 ∷ r) out
+    header-alike k r line′ e same =
+        alike F (k ++ 10 ∷ r) (l ++ 10 ∷ r) out (subst (λ (hs : List Bytes). TextWords (k ++ 10 ∷ r) hs (separated r)) same (at-header k line′ r e))
+        (at-header l line r heads)
+
+    -- blanks and line ends below it
+    pub below-alike : (r s : Bytes) → separated r ≡ separated s → qdimacs-call F (l ++ 10 ∷ r) out ≡ qdimacs-call F (l ++ 10 ∷ s) out
+    below-alike r s same =
+        alike F (l ++ 10 ∷ r) (l ++ 10 ∷ s) out (subst (TextWords (l ++ 10 ∷ r) (words l)) same (at-header l line r heads)) (at-header l line s heads)
