@@ -45,60 +45,68 @@ lines t = split line-end t
 unfoldable pub words : Bytes → List Bytes
 words l = nonempty (split blank l)
 
+-- a word of digits, and the number that it is, however many they are
+abbrev pub digit : ℕ → Bool
+digit c = leb 48 c && leb c 57
+
+unfoldable pub unsigned : Bytes → Bool
+unsigned w = not (is-nil w) && all digit w
+
+unfoldable pub number-from : ℕ → Bytes → ℕ
+number-from n [] = n
+number-from n (c ∷ cs) = number-from (10 * n + (c - 48)) cs
+
+-- its digits behind a minus sign: -0 is no number, and there is no plus sign
+unfoldable pub negative : Bytes → Bool
+negative [] = false
+negative (c ∷ cs) = eqb c 45 && unsigned cs && not (eqb (number-from 0 cs) 0)
+
+unfoldable pub magnitude : Bytes → ℕ
+magnitude [] = 0
+magnitude (c ∷ cs) = cond (eqb c 45) (number-from 0 cs) (number-from 0 (c ∷ cs))
+
 unfoldable pub is-word : Bytes → Bytes → Bool
 is-word [] [] = true
 is-word [] (d ∷ ds) = false
 is-word (c ∷ cs) [] = false
 is-word (c ∷ cs) (d ∷ ds) = eqb c d && is-word cs ds
 
--- a word of digits, and the number that it is, however many they are
-abbrev pub digit : ℕ → Bool
-digit c = leb 48 c && leb c 57
+-- the word e or a opens a quantifier line
+abbrev pub is-e : Bytes → Bool
+is-e w = is-word w (101 ∷ [])
 
-unfoldable pub is-digits : Bytes → Bool
-is-digits w = not (is-nil w) && all digit w
+abbrev pub is-a : Bytes → Bool
+is-a w = is-word w (97 ∷ [])
 
-unfoldable pub number-from : ℕ → Bytes → ℕ
-number-from n [] = n
-number-from n (c ∷ cs) = number-from (10 * n + (c - 48)) cs
-
--- What a word says: e or a, by the quantifier; an unsigned number; a negative one, n for -(n+1), since -0 is no number; or nothing.
+-- What a word says: e or a, by the quantifier; a number without sign; n for the number -(n+1); or nothing.
 pub data Token : Type 0 where
   opener : Quantifier → Token
-  unsigned : ℕ → Token
-  negative : ℕ → Token
+  plain : ℕ → Token
+  minus : ℕ → Token
   other : Token
 
-abbrev pub negated : ℕ → Token
-negated zero = other
-negated (suc n) = negative n
-
--- there is no plus sign
-unfoldable pub number-token : Bytes → Token
-number-token [] = other
-number-token (c ∷ cs) =
-    cond (is-digits (c ∷ cs)) (unsigned (number-from 0 (c ∷ cs))) (cond (eqb c 45 && is-digits cs) (negated (number-from 0 cs)) other)
-
 unfoldable pub token : Bytes → Token
-token w = cond (is-word w (101 ∷ [])) (opener exists) (cond (is-word w (97 ∷ [])) (opener for-all) (number-token w))
+token w =
+    cond (is-e w) (opener exists)
+    (cond (is-a w) (opener for-all) (cond (unsigned w) (plain (magnitude w)) (cond (negative w) (minus (magnitude w - 1)) other)))
 
-abbrev pub is-unsigned : Token → Bool
-is-unsigned (opener q) = false
-is-unsigned (unsigned n) = true
-is-unsigned (negative n) = false
-is-unsigned other = false
+abbrev pub is-plain : Token → Bool
+is-plain (opener q) = false
+is-plain (plain n) = true
+is-plain (minus n) = false
+is-plain other = false
 
 abbrev pub is-whole : Token → Bool
 is-whole (opener q) = false
-is-whole (unsigned n) = true
-is-whole (negative n) = true
+is-whole (plain n) = true
+is-whole (minus n) = true
 is-whole other = false
 
-abbrev pub magnitude : Token → ℕ
-magnitude (opener q) = 0
-magnitude (unsigned n) = n
-magnitude (negative n) = suc n
-magnitude other = 0
+abbrev pub absolute : Token → ℕ
+absolute (opener q) = 0
+absolute (plain n) = n
+absolute (minus n) = suc n
+absolute other = 0
 
 -- above the header: comment lines (first byte c) and blank ones
 unfoldable pub is-comment : Bytes → Bool
@@ -117,29 +125,29 @@ pub record Header : Type 0 where
 
 unfoldable pub header-of : List Bytes → Header
 header-of ws =
-    let variables = token (getD ws 2 []) in
-    let clauses = token (getD ws 3 []) in
+    let word : ℕ → Bytes = λ i. getD ws i [] in
     record {
-      well-formed =
-          eqb (length ws) 4 && is-word (getD ws 0 []) (112 ∷ []) && is-word (getD ws 1 []) (99 ∷ 110 ∷ 102 ∷ []) && is-unsigned variables &&
-          is-unsigned clauses;
-      variable-count = magnitude variables;
-      clause-count = magnitude clauses;
+      well-formed = eqb (length ws) 4 && is-word (word 0) (112 ∷ []) && is-word (word 1) (99 ∷ 110 ∷ 102 ∷ []) && unsigned (word 2) && unsigned (word 3);
+      variable-count = magnitude (word 2);
+      clause-count = magnitude (word 3);
     }
 
--- its line is the first that is left; a missing line has no words
+-- its line is the first one; where there is none, no words are no header
 unfoldable pub text-header : Bytes → Header
 text-header t = header-of (words (getD (from-header (lines t)) 0 []))
 
 -- below it: the words of all lines
+unfoldable pub words-below : Bytes → List Bytes
+words-below t = flatMap words (tail (from-header (lines t)))
+
 unfoldable pub tokens-below : Bytes → List Token
-tokens-below t = map token (flatMap words (tail (from-header (lines t))))
+tokens-below t = map token (words-below t)
 
 -- 0 ends a list; what stands behind the last 0 is a list that is still open
 abbrev pub is-end : Token → Bool
 is-end (opener q) = false
-is-end (unsigned n) = eqb n 0
-is-end (negative n) = false
+is-end (plain n) = eqb n 0
+is-end (minus n) = false
 is-end other = false
 
 unfoldable pub pieces : List Token → List (List Token)
@@ -155,24 +163,23 @@ open-list [] = []
 open-list (p ∷ []) = p
 open-list (p ∷ q ∷ ps) = open-list (q ∷ ps)
 
--- e or a opens a quantifier line
 abbrev pub is-opener : Token → Bool
 is-opener (opener q) = true
-is-opener (unsigned n) = false
-is-opener (negative n) = false
+is-opener (plain n) = false
+is-opener (minus n) = false
 is-opener other = false
 
 unfoldable pub is-quantified : List Token → Bool
 is-quantified [] = false
 is-quantified (t ∷ ts) = is-opener t
 
--- quantifier lines of unsigned numbers, then clauses of whole ones, each ended
+-- quantifier lines of plain numbers, then clauses of whole ones, each ended
 unfoldable pub are-clauses : List (List Token) → Bool
 are-clauses ls = all (λ l. all is-whole l) ls
 
 unfoldable pub in-order : List (List Token) → Bool
 in-order [] = true
-in-order (l ∷ ls) = cond (is-quantified l) (all is-unsigned (tail l) && in-order ls) (are-clauses (l ∷ ls))
+in-order (l ∷ ls) = cond (is-quantified l) (all is-plain (tail l) && in-order ls) (are-clauses (l ∷ ls))
 
 unfoldable pub well-listed : List Token → Bool
 well-listed ts = in-order (ended-lists (pieces ts)) && is-nil (open-list (pieces ts))
@@ -180,13 +187,13 @@ well-listed ts = in-order (ended-lists (pieces ts)) && is-nil (open-list (pieces
 -- the prefix that the quantifier lines say, and the clauses
 unfoldable pub quantified : Quantifier → List Token → Prefix
 quantified q [] = []
-quantified q (t ∷ ts) = record { quantifier = q; variable = magnitude t } ∷ quantified q ts
+quantified q (t ∷ ts) = record { quantifier = q; variable = absolute t } ∷ quantified q ts
 
 unfoldable pub bindings : List Token → Prefix
 bindings [] = []
 bindings (opener q ∷ ts) = quantified q ts
-bindings (unsigned n ∷ ts) = []
-bindings (negative n ∷ ts) = []
+bindings (plain n ∷ ts) = []
+bindings (minus n ∷ ts) = []
 bindings (other ∷ ts) = []
 
 unfoldable pub bound : List (List Token) → Prefix
@@ -196,10 +203,10 @@ unfoldable pub clauses : List (List Token) → List (List Token)
 clauses [] = []
 clauses (l ∷ ls) = cond (is-quantified l) (clauses ls) (l ∷ clauses ls)
 
--- a clause is OR of its literals, a negative number being the negated one, and the tree AND of the clauses
+-- a clause is OR of its literals, a minus number being the negated one, and the tree AND of the clauses
 unfoldable pub literals : List Token → Forest
 literals [] = ∅
-literals (t ∷ ts) = lit (is-unsigned t) (magnitude t) ▸ literals ts
+literals (t ∷ ts) = lit (is-plain t) (absolute t) ▸ literals ts
 
 unfoldable pub clause-trees : List (List Token) → Forest
 clause-trees [] = ∅
@@ -211,7 +218,7 @@ matrix-of ls = node and (clause-trees (clauses ls))
 -- variables of clauses that no quantifier line binds become exists rows in front, by number
 unfoldable pub named : ℕ → List Token → Bool
 named x [] = false
-named x (t ∷ ts) = eqb (magnitude t) x || named x ts
+named x (t ∷ ts) = eqb (absolute t) x || named x ts
 
 unfoldable pub is-free : List (List Token) → ℕ → Bool
 is-free ls x = named x (flatten (clauses ls)) && not (binds (bound ls) x)
@@ -233,7 +240,7 @@ unfoldable pub numbers-of : List Token → List Token
 numbers-of l = cond (is-quantified l) (tail l) l
 
 unfoldable pub above-count : ℕ → List (List Token) → Bool
-above-count n ls = not (all (λ t. leb (magnitude t) n) (flatMap numbers-of ls))
+above-count n ls = not (all (λ t. leb (absolute t) n) (flatMap numbers-of ls))
 
 -- 15 the header; 16 the lists; 17 a variable or the number of clauses; 6 bound twice; 2 too many nodes; 13 output shorter than the sheet
 unfoldable pub said-tests : Format → Header → List Token → ℕ → List Test

@@ -14,39 +14,39 @@ use Rattle.formula.proofs.Booleans.{and-parts, or-parts, or-cases, or-later, or
 use Rattle.formula.proofs.Outer.Fresh.{unused-many}
 use Rattle.formula.proofs.Outer.Truth.{binds-++}
 use Rattle.formula.proofs.Outer.Step.{distinct-++}
-use Rattle.sheet.specs.Qdimacs.{all, split, Token, opener, unsigned, negative, other, is-unsigned, is-whole, magnitude, is-end, ended-lists, is-opener, is-quantified, are-clauses, in-order, quantified, bindings, bound, clauses, literals, clause-trees, matrix-of, named, is-free, free-up-to, numbers-of, above-count}
+use Rattle.sheet.specs.Qdimacs.{all, split, Token, opener, plain, minus, other, is-plain, is-whole, absolute, is-end, ended-lists, is-opener, is-quantified, are-clauses, in-order, quantified, bindings, bound, clauses, literals, clause-trees, matrix-of, named, is-free, free-up-to, numbers-of, above-count}
 use Rattle.sheet.proofs.Every.{Every}
 use Rattle.sheet.proofs.Qdimacs.Lists.{all-++, all-both, all-leads, Uncut, pieces-uncut}
 
 -- numbers
 
 abbrev pub positive : Token → Bool
-positive t = leb 1 (magnitude t)
+positive t = leb 1 (absolute t)
 
 abbrev pub up-to : ℕ → Token → Bool
-up-to n t = leb (magnitude t) n
+up-to n t = leb (absolute t) n
 
 -- a whole number that ends no list
 whole-positive : (t : Token) → is-whole t ≡ true → not (is-end t) ≡ true → positive t ≡ true
 whole-positive (opener q) h k = absurd (false≢true h)
-whole-positive (unsigned n) h k = le-leb 1 n (above n (eqb-false n 0 (not-true (eqb n 0) k)))
+whole-positive (plain n) h k = le-leb 1 n (above n (eqb-false n 0 (not-true (eqb n 0) k)))
   where
     above : (m : ℕ) → (m ≡ 0 → ⊥) → 1 ≤ m
     above zero f = absurd (f refl)
     above (suc m) f = omega arith
-whole-positive (negative n) h k = le-leb 1 (suc n) (omega arith)
+whole-positive (minus n) h k = le-leb 1 (suc n) (omega arith)
 whole-positive other h k = absurd (false≢true h)
 
-unsigned-whole : (t : Token) → is-unsigned t ≡ true → is-whole t ≡ true
-unsigned-whole (opener q) h = h
-unsigned-whole (unsigned n) h = refl
-unsigned-whole (negative n) h = refl
-unsigned-whole other h = h
+plain-whole : (t : Token) → is-plain t ≡ true → is-whole t ≡ true
+plain-whole (opener q) h = h
+plain-whole (plain n) h = refl
+plain-whole (minus n) h = refl
+plain-whole other h = h
 
 whole-no-opener : (t : Token) → is-whole t ≡ true → is-opener t ≡ false
 whole-no-opener (opener q) h = absurd (false≢true h)
-whole-no-opener (unsigned n) h = refl
-whole-no-opener (negative n) h = refl
+whole-no-opener (plain n) h = refl
+whole-no-opener (minus n) h = refl
 whole-no-opener other h = refl
 
 -- a clause opens no quantifier line
@@ -77,11 +77,11 @@ unfolding in-order all flatMap numbers-of is-quantified
 in-order-positive [] h k = refl
 in-order-positive ([] ∷ ls) h k = clauses-positive ([] ∷ ls) h k
 in-order-positive ((opener q ∷ l) ∷ ls) h k =
-    let a = and-parts (all is-unsigned l) (in-order ls) h in
+    let a = and-parts (all is-plain l) (in-order ls) h in
     all-++ positive l (flatMap numbers-of ls) ∙
-    ap₂ _&&_ (all-positive l (all-leads is-unsigned is-whole unsigned-whole l (a .0)) (k .0)) (in-order-positive ls (a .1) (k .1))
-in-order-positive ((unsigned n ∷ l) ∷ ls) h k = clauses-positive ((unsigned n ∷ l) ∷ ls) h k
-in-order-positive ((negative n ∷ l) ∷ ls) h k = clauses-positive ((negative n ∷ l) ∷ ls) h k
+    ap₂ _&&_ (all-positive l (all-leads is-plain is-whole plain-whole l (a .0)) (k .0)) (in-order-positive ls (a .1) (k .1))
+in-order-positive ((plain n ∷ l) ∷ ls) h k = clauses-positive ((plain n ∷ l) ∷ ls) h k
+in-order-positive ((minus n ∷ l) ∷ ls) h k = clauses-positive ((minus n ∷ l) ∷ ls) h k
 in-order-positive ((other ∷ l) ∷ ls) h k = clauses-positive ((other ∷ l) ∷ ls) h k
 
 -- what is named
@@ -89,12 +89,12 @@ in-order-positive ((other ∷ l) ∷ ls) h k = clauses-positive ((other ∷ l) �
 pub named-++ : (x : ℕ) (k l : List Token) → named x (k ++ l) ≡ (named x k || named x l)
 unfolding named
 named-++ x [] l = refl
-named-++ x (t ∷ k) l = ap (λ (b : Bool). eqb (magnitude t) x || b) (named-++ x k l) ∙ sym (or-assoc (eqb (magnitude t) x) (named x k) (named x l))
+named-++ x (t ∷ k) l = ap (λ (b : Bool). eqb (absolute t) x || b) (named-++ x k l) ∙ sym (or-assoc (eqb (absolute t) x) (named x k) (named x l))
 
 pub binds-quantified : (x : ℕ) (q : Quantifier) (l : List Token) → binds (quantified q l) x ≡ named x l
 unfolding binds quantified named
 binds-quantified x q [] = refl
-binds-quantified x q (t ∷ l) = ap (λ (b : Bool). eqb (magnitude t) x || b) (binds-quantified x q l)
+binds-quantified x q (t ∷ l) = ap (λ (b : Bool). eqb (absolute t) x || b) (binds-quantified x q l)
 
 or-swap : (a b c : Bool) → (a || (b || c)) ≡ (b || (a || c))
 or-swap true true c = refl
@@ -112,8 +112,8 @@ named-lists x ([] ∷ ls) = named-lists x ls
 named-lists x ((opener q ∷ l) ∷ ls) =
     named-++ x l (flatMap numbers-of ls) ∙
     rw (binds-++ (quantified q l) (flatMap bindings ls) x, binds-quantified x q l, or-assoc) (ap (λ (b : Bool). named x l || b) (named-lists x ls))
-named-lists x ((unsigned n ∷ l) ∷ ls) = named-clause x (unsigned n ∷ l) _ _ (binds (flatMap bindings ls) x) (named-lists x ls)
-named-lists x ((negative n ∷ l) ∷ ls) = named-clause x (negative n ∷ l) _ _ (binds (flatMap bindings ls) x) (named-lists x ls)
+named-lists x ((plain n ∷ l) ∷ ls) = named-clause x (plain n ∷ l) _ _ (binds (flatMap bindings ls) x) (named-lists x ls)
+named-lists x ((minus n ∷ l) ∷ ls) = named-clause x (minus n ∷ l) _ _ (binds (flatMap bindings ls) x) (named-lists x ls)
 named-lists x ((other ∷ l) ∷ ls) = named-clause x (other ∷ l) _ _ (binds (flatMap bindings ls) x) (named-lists x ls)
 
 named-range : (n x : ℕ) (l : List Token) → all (λ t. positive t && up-to n t) l ≡ true → named x l ≡ true → (1 ≤ x) × (x ≤ n)
@@ -123,11 +123,11 @@ named-range n x (t ∷ l) h k =
     let a = and-parts (positive t && up-to n t) (all (λ u. positive u && up-to n u) l) h in
     let b = and-parts (positive t) (up-to n t) (a .0) in
     ⊎-elim
-    (λ e. let r = eqb-true (magnitude t) x e in
-    let low = leb-true 1 (magnitude t) (b .0) in
-    let high = leb-true (magnitude t) n (b .1) in
+    (λ e. let r = eqb-true (absolute t) x e in
+    let low = leb-true 1 (absolute t) (b .0) in
+    let high = leb-true (absolute t) n (b .1) in
     (omega arith, omega arith))
-    (λ e. named-range n x l (a .1) e) (or-cases (eqb (magnitude t) x) (named x l) k)
+    (λ e. named-range n x l (a .1) e) (or-cases (eqb (absolute t) x) (named x l) k)
 
 -- rows of free variables
 
@@ -196,8 +196,8 @@ has-literals : (L : Literals) (l : List Token) → ((s : Bool) (x : ℕ) → nam
 unfolding has literals named
 has-literals L [] f = refl
 has-literals L (t ∷ l) f =
-    or-none (f (is-unsigned t) (magnitude t) (ap (λ (b : Bool). b || named (magnitude t) l) (eq-eqb (magnitude t) (magnitude t) refl)))
-    (has-literals L l (λ s x h. f s x (or-later (eqb (magnitude t) x) h)))
+    or-none (f (is-plain t) (absolute t) (ap (λ (b : Bool). b || named (absolute t) l) (eq-eqb (absolute t) (absolute t) refl)))
+    (has-literals L l (λ s x h. f s x (or-later (eqb (absolute t) x) h)))
 
 has-clauses : (L : Literals) (cs : List (List Token)) → ((s : Bool) (x : ℕ) → named x (flatten cs) ≡ true → L s x ≡ false)
     → has-any L (clause-trees cs) ≡ false

@@ -4,7 +4,7 @@
 use mathlib.Core.Path.{_≡_, refl, sym, _∙_, ap, ap₂, subst}
 use mathlib.Core.Bool.{Bool, true, false, not, _&&_, _||_, cond, false≢true}
 use mathlib.Core.List.{List, [], _∷_, _++_, append-assoc, map, tail, flatMap}
-use Prim.Native.Nat.{ℕ, zero, suc, _≤_, _<_}
+use Prim.Native.Nat.{ℕ, zero, suc, _-_, _≤_, _<_}
 use native.Mathlib.Omega.{arith}
 use lib.Dec.{eqb, leb}
 use lib.ListN.{length, getD, replicate}
@@ -14,7 +14,7 @@ use Rattle.formula.specs.Tree.{exists, for-all}
 use Rattle.sheet.specs.Format.{Bytes, Format}
 use Rattle.sheet.specs.Sheet.{sheet}
 use Rattle.sheet.specs.Operations.{Written, write}
-use Rattle.sheet.specs.Qdimacs.{split, is-nil, nonempty, all, line-end, blank, lines, words, is-word, digit, is-digits, number-from, Token, opener, unsigned, negated, other, number-token, token, is-unsigned, magnitude, is-comment, from-header, Header, header-of, text-header, tokens-below, said, qdimacs, said-tests, qdimacs-tests, qdimacs-call}
+use Rattle.sheet.specs.Qdimacs.{split, is-nil, nonempty, all, line-end, blank, lines, words, digit, unsigned, number-from, negative, magnitude, is-word, is-e, is-a, Token, opener, plain, minus, other, token, is-comment, from-header, Header, header-of, text-header, words-below, tokens-below, said, qdimacs, said-tests, qdimacs-tests, qdimacs-call}
 use Rattle.sheet.proofs.Qdimacs.Lists.{flatMap-++, Uncut, split-++, split-separator, split-uncut, split-piece, split-either, nonempty-++, nonempty-flatMap}
 
 -- separators
@@ -66,12 +66,9 @@ Line l = Uncut line-end l
 abbrev pub is-skipped : Bytes → Bool
 is-skipped l = is-comment l || is-nil (words l)
 
--- the words of the header's line, and those below it
+-- the words of the header's line
 abbrev pub header-words : Bytes → List Bytes
 header-words t = words (getD (from-header (lines t)) 0 [])
-
-abbrev pub words-below : Bytes → List Bytes
-words-below t = flatMap words (tail (from-header (lines t)))
 
 pub record TextWords (t : Bytes) (hs ws : List Bytes) : Type 0 where
   pub of-header : header-words t ≡ hs
@@ -87,19 +84,19 @@ module _ (l : Bytes) (line : Line l) where
   lines-one = split-uncut line-end l line
 
   pub above-header : (r : Bytes) → is-skipped l ≡ true → TextWords (l ++ 10 ∷ r) (header-words r) (words-below r)
-  unfolding from-header
+  unfolding from-header words-below
   above-header r e = record { of-header = rw (lines-∷ r, e); below = rw (lines-∷ r, e) }
 
   pub at-header : (r : Bytes) → is-skipped l ≡ false → TextWords (l ++ 10 ∷ r) (words l) (separated r)
-  unfolding from-header
+  unfolding from-header words-below
   at-header r e = record { of-header = rw (lines-∷ r, e); below = rw (lines-∷ r, e) (words-of-lines r) }
 
   pub last-above : is-skipped l ≡ true → TextWords l [] []
-  unfolding from-header words nonempty split is-nil flatMap
+  unfolding from-header words-below words nonempty split is-nil flatMap
   last-above e = record { of-header = rw (lines-one, e); below = rw (lines-one, e) }
 
   pub last-header : is-skipped l ≡ false → TextWords l (words l) []
-  unfolding from-header flatMap
+  unfolding from-header words-below flatMap
   last-header e = record { of-header = rw (lines-one, e); below = rw (lines-one, e) }
 
 -- leading zeros
@@ -107,53 +104,70 @@ module _ (l : Bytes) (line : Line l) where
 -- A word, and the same with zeros in front of its digits, behind the sign if it has one.
 pub data LeadingZeros : Bytes → Bytes → Type 0 where
   as-it-is : {w : Bytes} → LeadingZeros w w
-  unsigned-zeros : (k : ℕ) {w : Bytes} → is-digits w ≡ true → LeadingZeros w (replicate k 48 ++ w)
-  negative-zeros : (k : ℕ) {w : Bytes} → is-digits w ≡ true → LeadingZeros (45 ∷ w) (45 ∷ replicate k 48 ++ w)
+  unsigned-zeros : (k : ℕ) {w : Bytes} → unsigned w ≡ true → LeadingZeros w (replicate k 48 ++ w)
+  negative-zeros : (k : ℕ) {w : Bytes} → unsigned w ≡ true → LeadingZeros (45 ∷ w) (45 ∷ replicate k 48 ++ w)
 
 pub number-zeros : (k : ℕ) (w : Bytes) → number-from 0 (replicate k 48 ++ w) ≡ number-from 0 w
 unfolding number-from
 number-zeros zero w = refl
 number-zeros (suc k) w = number-zeros k w
 
-pub digits-zeros : (k : ℕ) (w : Bytes) → is-digits w ≡ true → is-digits (replicate k 48 ++ w) ≡ true
-unfolding is-digits is-nil all
-digits-zeros zero w h = h
-digits-zeros (suc k) w h = and-parts (not (is-nil (replicate k 48 ++ w))) (all digit (replicate k 48 ++ w)) (digits-zeros k w h) .1
+pub unsigned-zeros-too : (k : ℕ) (w : Bytes) → unsigned w ≡ true → unsigned (replicate k 48 ++ w) ≡ true
+unfolding unsigned is-nil all
+unsigned-zeros-too zero w h = h
+unsigned-zeros-too (suc k) w h = and-parts (not (is-nil (replicate k 48 ++ w))) (all digit (replicate k 48 ++ w)) (unsigned-zeros-too k w h) .1
 
--- a word of digits is no other word
-digits-word : (w : Bytes) (d : ℕ) (ds : Bytes) → is-digits w ≡ true → 57 < d → is-word w (d ∷ ds) ≡ false
-unfolding is-digits is-nil all is-word
-digits-word [] d ds h l = refl
-digits-word (c ∷ w) d ds h l =
-    let b = and-parts (digit c) (all digit w) h in
-    let high = leb-true c 57 (and-parts (leb 48 c) (leb c 57) (b .0) .1) in
-    ap (λ (m : Bool). m && is-word w ds) (ne-eqb c d (λ e. omega arith))
+-- its first byte is a digit
+first-digit : (c : ℕ) (w : Bytes) → unsigned (c ∷ w) ≡ true → (48 ≤ c) × (c ≤ 57)
+unfolding unsigned is-nil all
+first-digit c w h =
+    let b = and-parts (leb 48 c) (leb c 57) (and-parts (digit c) (all digit w) h .0) in
+    (leb-true 48 c (b .0), leb-true c 57 (b .1))
 
--- what a word of digits says
-pub digits-token : (w : Bytes) → is-digits w ≡ true → token w ≡ unsigned (number-from 0 w)
-unfolding token number-token is-digits is-nil
-digits-token w h =
-    rw (digits-word w 101 [] h (omega arith), digits-word w 97 [] h (omega arith)) (by w h)
+-- so it is no other word
+unsigned-word : (w : Bytes) (d : ℕ) (ds : Bytes) → unsigned w ≡ true → 57 < d → is-word w (d ∷ ds) ≡ false
+unfolding is-word
+unsigned-word [] d ds h l = refl
+unsigned-word (c ∷ w) d ds h l =
+    let b = first-digit c w h in
+    ap (λ (m : Bool). m && is-word w ds) (ne-eqb c d (λ e. omega (arith, b .1)))
+
+pub unsigned-magnitude : (w : Bytes) → unsigned w ≡ true → magnitude w ≡ number-from 0 w
+unfolding magnitude number-from
+unsigned-magnitude [] h = refl
+unsigned-magnitude (c ∷ w) h =
+    let b = first-digit c w h in
+    ap (λ (m : Bool). cond m (number-from 0 w) (number-from 0 (c ∷ w))) (ne-eqb c 45 (λ e. omega (arith, b .0)))
+
+-- what digits say, and digits behind a minus sign
+pub plain-token : (w : Bytes) → unsigned w ≡ true → token w ≡ plain (number-from 0 w)
+unfolding token
+plain-token w h =
+    rw (unsigned-word w 101 [] h (omega arith), unsigned-word w 97 [] h (omega arith), h) (ap plain (unsigned-magnitude w h))
+
+abbrev pub negated : ℕ → Token
+negated zero = other
+negated (suc n) = minus n
+
+pub minus-token : (w : Bytes) → unsigned w ≡ true → token (45 ∷ w) ≡ negated (number-from 0 w)
+unfolding token is-word unsigned all is-nil negative magnitude
+minus-token w h = rw h (by (number-from 0 w))
   where
-    by : (v : Bytes) → is-digits v ≡ true → number-token v ≡ unsigned (number-from 0 v)
-    by [] k = absurd (false≢true k)
-    by (c ∷ v) k = rw k
-
-pub negative-token : (w : Bytes) → is-digits w ≡ true → token (45 ∷ w) ≡ negated (number-from 0 w)
-unfolding token number-token is-word is-digits all is-nil
-negative-token w h = rw h
+    by : (n : ℕ) → cond (not (eqb n 0)) (minus (n - 1)) other ≡ negated n
+    by zero = refl
+    by (suc n) = rw (ne-eqb (suc n) 0 (λ e. omega arith)) (ap minus (omega arith))
 
 pub token-zeros : {v w : Bytes} → LeadingZeros v w → token v ≡ token w
 token-zeros as-it-is = refl
 token-zeros (unsigned-zeros k {w} h) =
-    digits-token w h ∙ ap unsigned (sym (number-zeros k w)) ∙ sym (digits-token (replicate k 48 ++ w) (digits-zeros k w h))
+    plain-token w h ∙ ap plain (sym (number-zeros k w)) ∙ sym (plain-token (replicate k 48 ++ w) (unsigned-zeros-too k w h))
 token-zeros (negative-zeros k {w} h) =
-    negative-token w h ∙ ap negated (sym (number-zeros k w)) ∙ sym (negative-token (replicate k 48 ++ w) (digits-zeros k w h))
+    minus-token w h ∙ ap negated (sym (number-zeros k w)) ∙ sym (minus-token (replicate k 48 ++ w) (unsigned-zeros-too k w h))
 
 word-zeros : {v w : Bytes} (d : ℕ) (ds : Bytes) → 57 < d → LeadingZeros v w → is-word v (d ∷ ds) ≡ is-word w (d ∷ ds)
 unfolding is-word
 word-zeros d ds l as-it-is = refl
-word-zeros d ds l (unsigned-zeros k {w} h) = digits-word w d ds h l ∙ sym (digits-word (replicate k 48 ++ w) d ds (digits-zeros k w h) l)
+word-zeros d ds l (unsigned-zeros k {w} h) = unsigned-word w d ds h l ∙ sym (unsigned-word (replicate k 48 ++ w) d ds (unsigned-zeros-too k w h) l)
 word-zeros d ds l (negative-zeros k {w} h) =
     ap (λ (m : Bool). m && is-word w ds) (ne-eqb 45 d (λ e. omega arith)) ∙
     sym (ap (λ (m : Bool). m && is-word (replicate k 48 ++ w) ds) (ne-eqb 45 d (λ e. omega arith)))
@@ -184,6 +198,19 @@ getD-same i (v ∷ vs) [] h = absurd h
 getD-same zero (v ∷ vs) (w ∷ ws) h = h .0
 getD-same (suc i) (v ∷ vs) (w ∷ ws) h = getD-same i vs ws (h .1)
 
+unsigned-same : {v w : Bytes} → LeadingZeros v w → unsigned v ≡ unsigned w
+unfolding unsigned all is-nil
+unsigned-same as-it-is = refl
+unsigned-same (unsigned-zeros k {w} h) = h ∙ sym (unsigned-zeros-too k w h)
+unsigned-same (negative-zeros k {w} h) = refl
+
+magnitude-same : {v w : Bytes} → LeadingZeros v w → magnitude v ≡ magnitude w
+unfolding magnitude
+magnitude-same as-it-is = refl
+magnitude-same (unsigned-zeros k {w} h) =
+    unsigned-magnitude w h ∙ sym (number-zeros k w) ∙ sym (unsigned-magnitude (replicate k 48 ++ w) (unsigned-zeros-too k w h))
+magnitude-same (negative-zeros k {w} h) = sym (number-zeros k w)
+
 header-same : (vs ws : List Bytes) → SameWords vs ws → header-of vs ≡ header-of ws
 unfolding header-of
 header-same vs ws h =
@@ -191,8 +218,10 @@ header-same vs ws h =
       length-same vs ws h,
       word-zeros 112 [] (omega arith) (getD-same 0 vs ws h),
       word-zeros 99 (110 ∷ 102 ∷ []) (omega arith) (getD-same 1 vs ws h),
-      token-zeros (getD-same 2 vs ws h),
-      token-zeros (getD-same 3 vs ws h),
+      unsigned-same (getD-same 2 vs ws h),
+      unsigned-same (getD-same 3 vs ws h),
+      magnitude-same (getD-same 2 vs ws h),
+      magnitude-same (getD-same 3 vs ws h),
     )
 
 -- Two texts with the same words in the header's line and below it, but for leading zeros, are read alike.
