@@ -3,27 +3,33 @@
 use mathlib.Core.Path.{_≡_, refl, sym, ap, _∙_, subst}
 use mathlib.Core.Bool.{Bool, true, false, not, _&&_, _||_, cond}
 use mathlib.Core.List.{List, [], _∷_}
-use Prim.Native.Nat.{ℕ, zero, suc, _≤_, _<_}
+use Prim.Native.Nat.{ℕ, zero, suc, _-_}
 use native.Mathlib.Omega.{arith}
-use lib.Dec.{eqb, leb}
-use lib.ListN.{length}
+use lib.Dec.{eqb, leb, eqb·suc-zero}
 use borrow.Author.Tests.{eqb-true}
+use Rattle.formula.specs.Tree.{exists, for-all}
 use Rattle.sheet.specs.Format.{Bytes}
-use Rattle.sheet.specs.Qdimacs.{is-nil, digit, all, unsigned, number-from, negative, magnitude, is-whole, is-zero, is-word, is-e, is-a}
+use Rattle.sheet.specs.Qdimacs.{is-nil, digit, all, unsigned, number-from, negative, magnitude, is-word, is-e, is-a, Token, opener, plain, minus, other, token}
 use Rattle.words.specs.Tokens.{name-of, number-class, class-of}
+use Rattle.words.proofs.Digits.{both}
 
--- every test of a word, by its class
+-- a word's class, what it says, and its magnitude
+pub data View : ℕ → Token → ℕ → Type 0 where
+  view-other : {m : ℕ} → View 1 other m
+  view-exists : {m : ℕ} → View 2 (opener exists) m
+  view-for-all : {m : ℕ} → View 3 (opener for-all) m
+  view-p : {m : ℕ} → View 4 other m
+  view-cnf : {m : ℕ} → View 5 other m
+  view-zero : View 6 (plain 0) 0
+  view-plain : {n : ℕ} → View 7 (plain (suc n)) (suc n)
+  view-minus : {n : ℕ} → View 8 (minus n) (suc n)
+
+-- what the header asks of a word, by its class
 pub record Tells (w : Bytes) (k : ℕ) : Type 0 where
-  pub e-is : is-e w ≡ eqb k 2
-  pub a-is : is-a w ≡ eqb k 3
   pub p-is : is-word w (112 ∷ []) ≡ eqb k 4
   pub cnf-is : is-word w (99 ∷ 110 ∷ 102 ∷ []) ≡ eqb k 5
-  pub zero-is : is-zero w ≡ eqb k 6
   pub unsigned-is : unsigned w ≡ (eqb k 6 || eqb k 7)
-  pub negative-is : negative w ≡ eqb k 8
-  pub whole-is : is-whole w ≡ leb 6 k
-  pub at-most : k ≤ 8
-  pub some : 1 ≤ k
+  pub view-is : View k (token w) (magnitude w)
 
 same-word : (w v : Bytes) → is-word w v ≡ true → w ≡ v
 unfolding is-word
@@ -36,97 +42,75 @@ same-word (c ∷ w) (d ∷ v) e = go (eqb c d) refl (same-word w v) e
     go true f k h = rw (eqb-true c d f, k h)
     go false f k h = let z : _≡_ {A = ℕ} 0 1 = cc in absurd (omega arith)
 
--- a sign is no digit
-signed-other : (w : Bytes) → unsigned w ≡ true → negative w ≡ false
-unfolding unsigned negative is-nil all
-signed-other [] e = refl
-signed-other (c ∷ w) e = go (eqb c 45) refl
+-- a number behind a minus sign is not 0
+negative-some : (w : Bytes) → negative w ≡ true → eqb (magnitude w) 0 ≡ false
+unfolding negative magnitude
+negative-some [] e = let z : _≡_ {A = ℕ} 0 1 = cc in absurd (omega arith)
+negative-some (c ∷ w) e = go (eqb c 45) (eqb (number-from 0 w) 0) refl e
   where
-    go : (t : Bool) → eqb c 45 ≡ t → (t && unsigned w && not (eqb (number-from 0 w) 0)) ≡ false
-    go false f = refl
-    go true f =
-        let z : _≡_ {A = Bool} (leb 48 45 && leb 45 57 && all digit w) true = subst (λ d. (leb 48 d && leb d 57 && all digit w) ≡ true) (eqb-true c 45 f) e in
-        let y : _≡_ {A = ℕ} 0 1 = cc in absurd (omega arith)
+    go : (t s : Bool) → eqb (number-from 0 w) 0 ≡ s → (t && unsigned w && not s) ≡ true → eqb (cond t (number-from 0 w) (number-from 0 (c ∷ w))) 0 ≡ false
+    go true false f h = f
+    go true true f h = let z = (both (unsigned w) false h) .1 in let y : _≡_ {A = ℕ} 0 1 = cc in absurd (omega arith)
+    go false s f h = let z : _≡_ {A = ℕ} 0 1 = cc in absurd (omega arith)
+
+view-unsigned : (m : ℕ) → View (cond (eqb m 0) 6 7) (plain m) m
+view-unsigned zero = view-zero
+view-unsigned (suc n) = rw (eqb·suc-zero n) view-plain
+
+view-negative : (m : ℕ) → eqb m 0 ≡ false → View 8 (minus (m - 1)) m
+view-negative zero e = let z : _≡_ {A = ℕ} 0 1 = cc in absurd (omega arith)
+view-negative (suc n) e = subst (λ k. View 8 (minus k) (suc n)) (less n) view-minus
+  where
+    less : (n : ℕ) → n ≡ suc n - 1
+    less n = omega arith
 
 e-tells : Tells (101 ∷ []) (class-of (101 ∷ []))
-unfolding class-of name-of is-word number-class is-zero is-whole unsigned negative is-nil all
-e-tells =
-    record {
-      e-is = refl;
-      a-is = refl;
-      p-is = refl;
-      cnf-is = refl;
-      zero-is = refl;
-      unsigned-is = refl;
-      negative-is = refl;
-      whole-is = refl;
-      at-most = omega arith;
-      some = omega arith;
-    }
+unfolding class-of name-of is-word number-class unsigned negative is-nil all token
+e-tells = record { p-is = refl; cnf-is = refl; unsigned-is = refl; view-is = view-exists }
 
 a-tells : Tells (97 ∷ []) (class-of (97 ∷ []))
-unfolding class-of name-of is-word number-class is-zero is-whole unsigned negative is-nil all
-a-tells =
-    record {
-      e-is = refl;
-      a-is = refl;
-      p-is = refl;
-      cnf-is = refl;
-      zero-is = refl;
-      unsigned-is = refl;
-      negative-is = refl;
-      whole-is = refl;
-      at-most = omega arith;
-      some = omega arith;
-    }
+unfolding class-of name-of is-word number-class unsigned negative is-nil all token
+a-tells = record { p-is = refl; cnf-is = refl; unsigned-is = refl; view-is = view-for-all }
 
 p-tells : Tells (112 ∷ []) (class-of (112 ∷ []))
-unfolding class-of name-of is-word number-class is-zero is-whole unsigned negative is-nil all
-p-tells =
-    record {
-      e-is = refl;
-      a-is = refl;
-      p-is = refl;
-      cnf-is = refl;
-      zero-is = refl;
-      unsigned-is = refl;
-      negative-is = refl;
-      whole-is = refl;
-      at-most = omega arith;
-      some = omega arith;
-    }
+unfolding class-of name-of is-word number-class unsigned negative is-nil all token
+p-tells = record { p-is = refl; cnf-is = refl; unsigned-is = refl; view-is = view-p }
 
 cnf-tells : Tells (99 ∷ 110 ∷ 102 ∷ []) (class-of (99 ∷ 110 ∷ 102 ∷ []))
-unfolding class-of name-of is-word number-class is-zero is-whole unsigned negative is-nil all
-cnf-tells =
-    record {
-      e-is = refl;
-      a-is = refl;
-      p-is = refl;
-      cnf-is = refl;
-      zero-is = refl;
-      unsigned-is = refl;
-      negative-is = refl;
-      whole-is = refl;
-      at-most = omega arith;
-      some = omega arith;
-    }
+unfolding class-of name-of is-word number-class unsigned negative is-nil all token
+cnf-tells = record { p-is = refl; cnf-is = refl; unsigned-is = refl; view-is = view-cnf }
 
 pub tells : (w : Bytes) → Tells w (class-of w)
-unfolding class-of name-of number-class is-zero is-whole
+unfolding class-of name-of number-class token
 tells w = by-e (is-e w) refl
   where
-    numbers : (u n z : Bool) → unsigned w ≡ u → negative w ≡ n → eqb (magnitude w) 0 ≡ z → is-e w ≡ false → is-a w ≡ false
-        → is-word w (112 ∷ []) ≡ false → is-word w (99 ∷ 110 ∷ 102 ∷ []) ≡ false → Tells w (cond u (cond z 6 7) (cond n 8 1))
-    numbers true true z fu fn fz e a p cnf = let y = signed-other w fu in let x : _≡_ {A = ℕ} 0 1 = cc in absurd (omega arith)
-    numbers true false true fu fn fz e a p cnf = record { e-is = e; a-is = a; p-is = p; cnf-is = cnf; zero-is = rw (fu, fz); unsigned-is = fu; negative-is = fn; whole-is = rw fu; at-most = omega arith; some = omega arith }
-    numbers true false false fu fn fz e a p cnf = record { e-is = e; a-is = a; p-is = p; cnf-is = cnf; zero-is = rw (fu, fz); unsigned-is = fu; negative-is = fn; whole-is = rw fu; at-most = omega arith; some = omega arith }
-    numbers false true z fu fn fz e a p cnf = record { e-is = e; a-is = a; p-is = p; cnf-is = cnf; zero-is = rw fu; unsigned-is = fu; negative-is = fn; whole-is = rw (fu, fn); at-most = omega arith; some = omega arith }
-    numbers false false z fu fn fz e a p cnf = record { e-is = e; a-is = a; p-is = p; cnf-is = cnf; zero-is = rw fu; unsigned-is = fu; negative-is = fn; whole-is = rw (fu, fn); at-most = omega arith; some = omega arith }
+    -- no name: the class is that of a number
+    no-name : is-e w ≡ false → is-a w ≡ false → is-word w (112 ∷ []) ≡ false → is-word w (99 ∷ 110 ∷ 102 ∷ []) ≡ false
+        → class-of w ≡ cond (unsigned w) (cond (eqb (magnitude w) 0) 6 7) (cond (negative w) 8 1)
+    no-name e a p f = rw (e, a, p, f)
+
+    said : is-e w ≡ false → is-a w ≡ false → token w ≡ cond (unsigned w) (plain (magnitude w)) (cond (negative w) (minus (magnitude w - 1)) other)
+    said e a = rw (e, a)
+
+    made : {k : ℕ} {t : Token} → class-of w ≡ k → token w ≡ t → is-word w (112 ∷ []) ≡ eqb k 4 → is-word w (99 ∷ 110 ∷ 102 ∷ []) ≡ eqb k 5
+        → unsigned w ≡ (eqb k 6 || eqb k 7) → View k t (magnitude w) → Tells w (class-of w)
+    made {k} {t} c s p f u v =
+        subst (Tells w) (sym c) (record { p-is = p; cnf-is = f; unsigned-is = u; view-is = subst (λ x. View k x (magnitude w)) (sym s) v })
+
+    digits : (z : Bool) → eqb (magnitude w) 0 ≡ z → unsigned w ≡ true → is-e w ≡ false → is-a w ≡ false → is-word w (112 ∷ []) ≡ false
+        → is-word w (99 ∷ 110 ∷ 102 ∷ []) ≡ false → Tells w (class-of w)
+    digits true z u e a p f = made {k = 6} {t = plain (magnitude w)} (no-name e a p f ∙ rw (u, z)) (said e a ∙ rw u) p f u (subst (λ k. View k (plain (magnitude w)) (magnitude w)) (rw z) (view-unsigned (magnitude w)))
+    digits false z u e a p f = made {k = 7} {t = plain (magnitude w)} (no-name e a p f ∙ rw (u, z)) (said e a ∙ rw u) p f u (subst (λ k. View k (plain (magnitude w)) (magnitude w)) (rw z) (view-unsigned (magnitude w)))
+
+    numbers : (u n : Bool) → unsigned w ≡ u → negative w ≡ n → is-e w ≡ false → is-a w ≡ false → is-word w (112 ∷ []) ≡ false
+        → is-word w (99 ∷ 110 ∷ 102 ∷ []) ≡ false → Tells w (class-of w)
+    numbers true n u g e a p f = digits (eqb (magnitude w) 0) refl u e a p f
+    numbers false true u g e a p f = made {k = 8} {t = minus (magnitude w - 1)} (no-name e a p f ∙ rw (u, g)) (said e a ∙ rw (u, g)) p f u (view-negative (magnitude w) (negative-some w g))
+    numbers false false u g e a p f = made {k = 1} {t = other} (no-name e a p f ∙ rw (u, g)) (said e a ∙ rw (u, g)) p f u view-other
 
     by-cnf : (t : Bool) → is-word w (99 ∷ 110 ∷ 102 ∷ []) ≡ t → is-e w ≡ false → is-a w ≡ false → is-word w (112 ∷ []) ≡ false → Tells w (class-of w)
     by-cnf true f e a p = subst (λ v. Tells v (class-of v)) (sym (same-word w (99 ∷ 110 ∷ 102 ∷ []) f)) cnf-tells
-    by-cnf false f e a p = rw (e, a, p, f) (numbers (unsigned w) (negative w) (eqb (magnitude w) 0) refl refl refl e a p f)
+    by-cnf false f e a p = numbers (unsigned w) (negative w) refl refl e a p f
 
     by-p : (t : Bool) → is-word w (112 ∷ []) ≡ t → is-e w ≡ false → is-a w ≡ false → Tells w (class-of w)
     by-p true f e a = subst (λ v. Tells v (class-of v)) (sym (same-word w (112 ∷ []) f)) p-tells

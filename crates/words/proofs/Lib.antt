@@ -4,3 +4,5 @@ pub mod Digits
 mod Names
 pub mod Classes
 mod Tokens
+mod Signed
+pub mod Values

@@ -13,7 +13,8 @@ use lib.Seq.{slice, slice-cons, length-slice, drop-drop, take-nil}
 use borrow.Author.Tests.{eq-eqb, ne-eqb, leb-true, lt-leb}
 use Rattle.sheet.specs.Format.{Bytes}
 use Rattle.sheet.specs.Qdimacs.{split, nonempty, is-nil, digit, all, unsigned, number-from, negative, magnitude, is-word}
-use Rattle.words.specs.Words.{white, all-words, lead, gap}
+use Rattle.sheet.proofs.Qdimacs.Words.{separator, separated}
+use Rattle.words.specs.Words.{lead, gap}
 use Rattle.words.specs.Numbers.{Capped, largest}
 use Rattle.words.specs.Tokens.{name-of, number-class, class-of, first-class, Plain, Negated, Says, Reads}
 use Rattle.words.specs.declared.token.Token.{Token}
@@ -184,13 +185,13 @@ module _ (b : Bytes) (from to : ℕ) (l : from < to) (h : to ≤ length b) {name
 
 -- next_token
 
-gap-lead : (b : Bytes) → gap b < length b → 0 < lead white (drop (gap b) b)
+gap-lead : (b : Bytes) → gap b < length b → 0 < lead separator (drop (gap b) b)
 unfolding gap lead
 gap-lead [] l = absurd (omega arith)
-gap-lead (c ∷ b) l = go (white c) refl (gap-lead b) l
+gap-lead (c ∷ b) l = go (separator c) refl (gap-lead b) l
   where
-    go : (t : Bool) → white c ≡ t → (gap b < length b → 0 < lead white (drop (gap b) b)) → cond t (suc (gap b)) 0 < suc (length b)
-        → 0 < lead white (drop (cond t (suc (gap b)) 0) (c ∷ b))
+    go : (t : Bool) → separator c ≡ t → (gap b < length b → 0 < lead separator (drop (gap b) b)) → cond t (suc (gap b)) 0 < suc (length b)
+        → 0 < lead separator (drop (cond t (suc (gap b)) 0) (c ∷ b))
     go true e k l = k (omega arith)
     go false e k l = rw e (omega arith)
 
@@ -209,29 +210,29 @@ module _ (b : Bytes) (at : ℕ) {from : ℕ} (h : at ≤ length b) (is : from �
   pub from-within : from ≤ length b
   from-within = omega (arith, gap-within (drop at b), length-drop at b)
 
-  same-words : all-words (drop at b) ≡ all-words (drop from b)
-  same-words = words-gap (drop at b) ∙ ap all-words (drop-drop (gap (drop at b)) at b) ∙ ap (λ k. all-words (drop k b)) (sym is)
+  same-words : separated (drop at b) ≡ separated (drop from b)
+  same-words = words-gap (drop at b) ∙ ap separated (drop-drop (gap (drop at b)) at b) ∙ ap (λ k. separated (drop k b)) (sym is)
 
   pub reads-none : from ≡ length b → Reads b at (token 0 0 (length b))
-  unfolding first-class all-words split nonempty is-nil
+  unfolding first-class separated split nonempty is-nil
   reads-none e =
-      let none : all-words (drop from b) ≡ [] = ap all-words (drop-of-length-le b {i = from} (omega arith)) in
+      let none : separated (drop from b) ≡ [] = ap separated (drop-of-length-le b {i = from} (omega arith)) in
       record {
         class-is = sym (ap first-class (same-words ∙ none));
         magnitude-is = λ l. absurd (omega arith);
-        others = ap all-words (drop-of-length-le b {i = length b} (omega arith)) ∙ sym (ap tail (same-words ∙ none));
+        others = ap separated (drop-of-length-le b {i = length b} (omega arith)) ∙ sym (ap tail (same-words ∙ none));
         inside = omega arith;
         onward = λ l. l;
       }
 
-  module _ (more : from ≡ length b → ⊥) {to : ℕ} (ends : to ≡ from + lead white (drop from b)) where
-    some : 0 < lead white (drop from b)
+  module _ (more : from ≡ length b → ⊥) {to : ℕ} (ends : to ≡ from + lead separator (drop from b)) where
+    some : 0 < lead separator (drop from b)
     some =
-        subst (λ d. 0 < lead white d) (drop-drop (gap (drop at b)) at b ∙ ap (λ k. drop k b) (sym is))
+        subst (λ d. 0 < lead separator d) (drop-drop (gap (drop at b)) at b ∙ ap (λ k. drop k b) (sym is))
         (gap-lead (drop at b) (omega (arith, length-drop at b, from-within)))
 
     pub to-within : (from < to) × (to ≤ length b)
-    to-within = (omega (arith, some), omega (arith, lead-within white (drop from b), length-drop from b, from-within))
+    to-within = (omega (arith, some), omega (arith, lead-within separator (drop from b), length-drop from b, from-within))
 
     pub reads-word : {t : Token} → Says (slice from to b) t → t .to ≡ to → Reads b at t
     unfolding first-class
@@ -239,13 +240,13 @@ module _ (b : Bytes) (at : ℕ) {from : ℕ} (h : at ≤ length b) (is : from �
         record {
           class-is = s .class-is ∙ ap first-class (sym found);
           magnitude-is = λ l. subst (λ w. Capped largest (magnitude w) (t .magnitude)) (ap (λ ws. getD ws 0 []) (sym found)) (s .magnitude-is l);
-          others = ap (λ k. all-words (drop k b)) e ∙ ap tail (sym found);
+          others = ap (λ k. separated (drop k b)) e ∙ ap tail (sym found);
           inside = omega (arith, to-within .1);
           onward = λ l. omega (arith, to-within .0);
         }
       where
-        found : all-words (drop at b) ≡ slice from to b ∷ all-words (drop to b)
+        found : separated (drop at b) ≡ slice from to b ∷ separated (drop to b)
         found =
             same-words ∙ words-lead (drop from b) some ∙
-            ap₂ _∷_ (sym (slice-take from (lead white (drop from b)) b) ∙ ap (λ k. slice from k b) (sym ends))
-            (ap all-words (drop-drop (lead white (drop from b)) from b) ∙ ap (λ k. all-words (drop k b)) (sym ends))
+            ap₂ _∷_ (sym (slice-take from (lead separator (drop from b)) b) ∙ ap (λ k. slice from k b) (sym ends))
+            (ap separated (drop-drop (lead separator (drop from b)) from b) ∙ ap (λ k. separated (drop k b)) (sym ends))

@@ -9,7 +9,8 @@ use native.Mathlib.Omega.{arith}
 use lib.ListN.{length, drop, getD, drop-of-length-le}
 use lib.Seq.{drop-cons}
 use Rattle.sheet.specs.Format.{Bytes}
-use Rattle.words.specs.Words.{white, lead, gap}
+use Rattle.sheet.proofs.Qdimacs.Words.{separator}
+use Rattle.words.specs.Words.{lead, gap}
 
 -- end_of: what leads from `at` on ends where what leads from `to` on does
 
@@ -47,14 +48,14 @@ pub skipped-none : (b : Bytes) (at : ℕ) → at ≤ length b → Skipped b at a
 skipped-none b at h = record { within = h; same-end = refl }
 
 module _ {b : Bytes} {at from : ℕ} (h : Skipped b at from) where
-  first : from < length b → gap (drop from b) ≡ cond (white (getD b from 0)) (suc (gap (drop (suc from) b))) 0
+  first : from < length b → gap (drop from b) ≡ cond (separator (getD b from 0)) (suc (gap (drop (suc from) b))) 0
   unfolding gap
   first l = ap gap (drop-cons b from 0 l)
 
-  pub skipped-ends : from < length b → white (getD b from 0) ≡ false → from ≡ at + gap (drop at b)
+  pub skipped-ends : from < length b → separator (getD b from 0) ≡ false → from ≡ at + gap (drop at b)
   skipped-ends l e = let z = first l ∙ ap (λ t. cond t (suc (gap (drop (suc from) b))) 0) e in omega (arith, h .same-end)
 
-  pub skipped-more : from < length b → white (getD b from 0) ≡ true → Skipped b at (from + 1)
+  pub skipped-more : from < length b → separator (getD b from 0) ≡ true → Skipped b at (from + 1)
   skipped-more l e =
       let z = first l ∙ ap (λ t. cond t (suc (gap (drop (suc from) b))) 0) e in
       record { within = omega arith; same-end = rw add-one (omega (arith, h .same-end)) }

@@ -8,7 +8,8 @@ use native.Mathlib.Omega.{arith}
 use lib.ListN.{length, take, drop, getD}
 use Rattle.sheet.specs.Format.{Bytes}
 use Rattle.sheet.specs.Qdimacs.{onto-first, split, is-nil, nonempty, all, line-end, blank}
-use Rattle.words.specs.Words.{white, all-words, lead, gap}
+use Rattle.sheet.proofs.Qdimacs.Words.{separator, separated}
+use Rattle.words.specs.Words.{lead, gap}
 
 -- lead and gap
 
@@ -24,7 +25,7 @@ lead-within s (c ∷ b) = go (s c) (lead-within s b)
 pub gap-within : (b : Bytes) → gap b ≤ length b
 unfolding gap
 gap-within [] = omega arith
-gap-within (c ∷ b) = go (white c) (gap-within b)
+gap-within (c ∷ b) = go (separator c) (gap-within b)
   where
     go : (t : Bool) → gap b ≤ length b → cond t (suc (gap b)) 0 ≤ suc (length b)
     go true h = omega arith
@@ -48,30 +49,30 @@ split-lead s (c ∷ b) = go (s c) (split-lead s b)
     go false h = ap (onto-first c) h
 
 -- words begin behind the gap
-pub words-gap : (b : Bytes) → all-words b ≡ all-words (drop (gap b) b)
-unfolding gap all-words split nonempty is-nil
+pub words-gap : (b : Bytes) → separated b ≡ separated (drop (gap b) b)
+unfolding gap separated split nonempty is-nil
 words-gap [] = refl
-words-gap (c ∷ b) = go (white c) refl (words-gap b)
+words-gap (c ∷ b) = go (separator c) refl (words-gap b)
   where
-    go : (t : Bool) → white c ≡ t → all-words b ≡ all-words (drop (gap b) b)
-        → nonempty (split white (c ∷ b)) ≡ nonempty (split white (drop (cond t (suc (gap b)) 0) (c ∷ b)))
+    go : (t : Bool) → separator c ≡ t → separated b ≡ separated (drop (gap b) b)
+        → nonempty (split separator (c ∷ b)) ≡ nonempty (split separator (drop (cond t (suc (gap b)) 0) (c ∷ b)))
     go true e h = rw e h
     go false e h = refl
 
 -- behind a word others begin as they would at its end
-words-behind : (b : Bytes) → nonempty (behind white (drop (lead white b) b)) ≡ all-words (drop (lead white b) b)
-unfolding lead all-words split nonempty is-nil behind
+words-behind : (b : Bytes) → nonempty (behind separator (drop (lead separator b) b)) ≡ separated (drop (lead separator b) b)
+unfolding lead separated split nonempty is-nil behind
 words-behind [] = refl
-words-behind (c ∷ b) = go (white c) refl (words-behind b)
+words-behind (c ∷ b) = go (separator c) refl (words-behind b)
   where
-    go : (t : Bool) → white c ≡ t → nonempty (behind white (drop (lead white b) b)) ≡ all-words (drop (lead white b) b)
-        → nonempty (behind white (drop (cond t 0 (suc (lead white b))) (c ∷ b))) ≡ nonempty (split white (drop (cond t 0 (suc (lead white b))) (c ∷ b)))
+    go : (t : Bool) → separator c ≡ t → nonempty (behind separator (drop (lead separator b) b)) ≡ separated (drop (lead separator b) b)
+        → nonempty (behind separator (drop (cond t 0 (suc (lead separator b))) (c ∷ b))) ≡ nonempty (split separator (drop (cond t 0 (suc (lead separator b))) (c ∷ b)))
     go true e h = rw e
     go false e h = h
 
-pub words-lead : (b : Bytes) → 0 < lead white b → all-words b ≡ take (lead white b) b ∷ all-words (drop (lead white b) b)
-unfolding all-words nonempty is-nil
-words-lead b l = ap nonempty (split-lead white b) ∙ first b (lead white b) (behind white (drop (lead white b) b)) l (lead-within white b) ∙ ap (λ ws. take (lead white b) b ∷ ws) (words-behind b)
+pub words-lead : (b : Bytes) → 0 < lead separator b → separated b ≡ take (lead separator b) b ∷ separated (drop (lead separator b) b)
+unfolding separated nonempty is-nil
+words-lead b l = ap nonempty (split-lead separator b) ∙ first b (lead separator b) (behind separator (drop (lead separator b) b)) l (lead-within separator b) ∙ ap (λ ws. take (lead separator b) b ∷ ws) (words-behind b)
   where
     first : (b : Bytes) (n : ℕ) (ps : List Bytes) → 0 < n → n ≤ length b → nonempty (take n b ∷ ps) ≡ take n b ∷ nonempty ps
     first b zero ps l h = absurd (omega arith)

@@ -8,7 +8,7 @@ use lib.Dec.{eqb}
 use lib.ListN.{length, drop, getD}
 use Rattle.sheet.specs.Format.{Bytes}
 use Rattle.sheet.specs.Qdimacs.{unsigned, number-from, negative, magnitude, is-word, is-e, is-a}
-use Rattle.words.specs.Words.{all-words}
+use Rattle.sheet.proofs.Qdimacs.Words.{separated}
 use Rattle.words.specs.Numbers.{Capped, largest}
 use Rattle.words.specs.declared.token.Token.{Token}
 
@@ -44,8 +44,8 @@ pub record Says (w : Bytes) (t : Token) : Type 0 where
 
 -- what code tells of the words of a text from a place on, and where it goes on
 pub record Reads (b : Bytes) (at : ℕ) (t : Token) : Type 0 where
-  pub class-is : t .class ≡ first-class (all-words (drop at b))
-  pub magnitude-is : 6 ≤ t .class → Capped largest (magnitude (getD (all-words (drop at b)) 0 [])) (t .magnitude)
-  pub others : all-words (drop (t .to) b) ≡ tail (all-words (drop at b))
+  pub class-is : t .class ≡ first-class (separated (drop at b))
+  pub magnitude-is : 6 ≤ t .class → Capped largest (magnitude (getD (separated (drop at b)) 0 [])) (t .magnitude)
+  pub others : separated (drop (t .to) b) ≡ tail (separated (drop at b))
   pub inside : t .to ≤ length b
   pub onward : at < length b → at < t .to

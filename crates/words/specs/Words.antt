@@ -1,23 +1,16 @@
 -- Words between white bytes, by how many bytes they take.
 -- Assumes nothing.
-use mathlib.Core.Bool.{Bool, true, false, _||_, cond}
+use mathlib.Core.Bool.{Bool, true, false, cond}
 use mathlib.Core.List.{List, [], _∷_}
 use Prim.Native.Nat.{ℕ, zero, suc}
 use Rattle.sheet.specs.Format.{Bytes}
-use Rattle.sheet.specs.Qdimacs.{split, nonempty, line-end, blank}
-
--- what separates words: a blank or a line end
-abbrev pub white : ℕ → Bool
-white c = blank c || line-end c
+use Rattle.sheet.specs.Qdimacs.{line-end}
+use Rattle.sheet.proofs.Qdimacs.Words.{separator}
 
 -- what ends a line, or else a word
 abbrev pub ends : Bool → ℕ → Bool
 ends true c = line-end c
-ends false c = white c
-
--- the words of a text, over all its lines
-unfoldable pub all-words : Bytes → List Bytes
-all-words b = nonempty (split white b)
+ends false c = separator c
 
 -- how many bytes stand before the first that separates
 unfoldable pub lead : (ℕ → Bool) → Bytes → ℕ
@@ -27,4 +20,4 @@ lead separates (c ∷ b) = cond (separates c) 0 (suc (lead separates b))
 -- how many white bytes stand in front
 unfoldable pub gap : Bytes → ℕ
 gap [] = 0
-gap (c ∷ b) = cond (white c) (suc (gap b)) 0
+gap (c ∷ b) = cond (separator c) (suc (gap b)) 0

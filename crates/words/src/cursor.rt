@@ -2,11 +2,12 @@
 ghost use mathlib.Core.Path.{_≡_};
 ghost use Prim.Native.Nat.{_+_, _≤_};
 ghost use lib.ListN.{length, drop};
-ghost use Rattle.words.specs.Words.{white, ends, lead, gap};
+ghost use Rattle.sheet.proofs.Qdimacs.Words.{separator};
+ghost use Rattle.words.specs.Words.{ends, lead, gap};
 
 // Space, tab, carriage return or line end.
 fn is_white(c: u8) -> bool
-    ensures { λ r. ⌜ r ≡ white c ⌝ }
+    ensures { λ r. ⌜ r ≡ separator c ⌝ }
 {
     if c == 32 {
         return true;
