@@ -18,7 +18,7 @@ use Rattle.words.specs.Words.{lead, gap}
 use Rattle.words.specs.Numbers.{Capped, largest}
 use Rattle.words.specs.Tokens.{name-of, number-class, class-of, first-class, Plain, Negated, Says, Reads}
 use Rattle.words.specs.declared.token.Token.{Token}
-use Rattle.words.proofs.Words.{lead-within, gap-within, words-gap, words-lead}
+use Rattle.words.proofs.Words.{lead-within, gap-within, words-gap, gap-lead, words-lead, slice-take}
 use Rattle.words.proofs.Digits.{both, digit-range}
 
 abbrev token : ℕ → ℕ → ℕ → Token
@@ -184,27 +184,6 @@ module _ (b : Bytes) (from to : ℕ) (l : from < to) (h : to ≤ length b) {name
       (subst (λ k. Negated (slice k to b) t) (add-one from) n))
 
 -- next_token
-
-gap-lead : (b : Bytes) → gap b < length b → 0 < lead separator (drop (gap b) b)
-unfolding gap lead
-gap-lead [] l = absurd (omega arith)
-gap-lead (c ∷ b) l = go (separator c) refl (gap-lead b) l
-  where
-    go : (t : Bool) → separator c ≡ t → (gap b < length b → 0 < lead separator (drop (gap b) b)) → cond t (suc (gap b)) 0 < suc (length b)
-        → 0 < lead separator (drop (cond t (suc (gap b)) 0) (c ∷ b))
-    go true e k l = k (omega arith)
-    go false e k l = rw e (omega arith)
-
-slice-take : (from n : ℕ) (b : Bytes) → slice from (from + n) b ≡ take n (drop from b)
-slice-take zero n b = ap (λ k. take k b) (none n)
-  where
-    none : (n : ℕ) → 0 + n ≡ n
-    none n = omega arith
-slice-take (suc from) n [] = ap (λ l. drop (suc from) l) (take-nil (suc from + n)) ∙ sym (take-nil n)
-slice-take (suc from) n (c ∷ b) = ap (λ k. drop (suc from) (take k (c ∷ b))) (more from n) ∙ slice-take from n b
-  where
-    more : (f n : ℕ) → suc f + n ≡ suc (f + n)
-    more f n = omega arith
 
 module _ (b : Bytes) (at : ℕ) {from : ℕ} (h : at ≤ length b) (is : from ≡ at + gap (drop at b)) where
   pub from-within : from ≤ length b

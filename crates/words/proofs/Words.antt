@@ -6,6 +6,7 @@ use mathlib.Core.List.{List, [], _∷_, _++_, tail}
 use Prim.Native.Nat.{ℕ, zero, suc, _+_, _-_, _≤_, _<_}
 use native.Mathlib.Omega.{arith}
 use lib.ListN.{length, take, drop, getD}
+use lib.Seq.{slice, take-nil}
 use Rattle.sheet.specs.Format.{Bytes}
 use Rattle.sheet.specs.Qdimacs.{onto-first, split, is-nil, nonempty, all, line-end, blank}
 use Rattle.sheet.proofs.Qdimacs.Words.{separator, separated}
@@ -59,6 +60,16 @@ words-gap (c ∷ b) = go (separator c) refl (words-gap b)
     go true e h = rw e h
     go false e h = refl
 
+pub gap-lead : (b : Bytes) → gap b < length b → 0 < lead separator (drop (gap b) b)
+unfolding gap lead
+gap-lead [] l = absurd (omega arith)
+gap-lead (c ∷ b) l = go (separator c) refl (gap-lead b) l
+  where
+    go : (t : Bool) → separator c ≡ t → (gap b < length b → 0 < lead separator (drop (gap b) b)) → cond t (suc (gap b)) 0 < suc (length b)
+        → 0 < lead separator (drop (cond t (suc (gap b)) 0) (c ∷ b))
+    go true e k l = k (omega arith)
+    go false e k l = rw e (omega arith)
+
 -- behind a word others begin as they would at its end
 words-behind : (b : Bytes) → nonempty (behind separator (drop (lead separator b) b)) ≡ separated (drop (lead separator b) b)
 unfolding lead separated split nonempty is-nil behind
@@ -78,3 +89,15 @@ words-lead b l = ap nonempty (split-lead separator b) ∙ first b (lead separato
     first b zero ps l h = absurd (omega arith)
     first [] (suc n) ps l h = absurd (omega arith)
     first (c ∷ b) (suc n) ps l h = refl
+
+-- a part by its length
+pub slice-take : (from n : ℕ) (b : Bytes) → slice from (from + n) b ≡ take n (drop from b)
+slice-take zero n b = ap (λ k. take k b) (none n)
+  where
+    none : (n : ℕ) → 0 + n ≡ n
+    none n = omega arith
+slice-take (suc from) n [] = ap (λ l. drop (suc from) l) (take-nil (suc from + n)) ∙ sym (take-nil n)
+slice-take (suc from) n (c ∷ b) = ap (λ k. drop (suc from) (take k (c ∷ b))) (more from n) ∙ slice-take from n b
+  where
+    more : (f n : ℕ) → suc f + n ≡ suc (f + n)
+    more f n = omega arith

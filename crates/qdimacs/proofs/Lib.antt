@@ -1,0 +1,4 @@
+mod Pieces
+mod Reading
+mod HeaderLines
+mod HeaderWords

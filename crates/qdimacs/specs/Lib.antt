@@ -1,0 +1,2 @@
+-- The contract of the reader needs no definition of its own.
+pub mod Inner
