@@ -2,3 +2,8 @@ mod Pieces
 mod Reading
 mod HeaderLines
 mod HeaderWords
+mod Next
+mod Cutting
+mod Counting
+mod Binding
+mod Naming

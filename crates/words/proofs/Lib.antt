@@ -4,5 +4,5 @@ pub mod Digits
 mod Names
 pub mod Classes
 mod Tokens
-mod Signed
+pub mod Signed
 pub mod Values

@@ -131,3 +131,16 @@ literal-fits (suc n) = record { sfits = go (ltb 2147483647 n) refl }
     go : (t : Bool) → ltb 2147483647 n ≡ t → cond t 2147483647 n < 2147483648
     go true e = omega arith
     go false e = omega (arith, ltb-false 2147483647 n e)
+
+-- a literal that is passed on is read back as it is
+pub literal-passed : (s : Bool) (m : ℕ) {z : ℤ} → z ≡ literal s m → toZ w32 (ofZ w32 z) ≡ literal s m
+unfolding literal
+literal-passed s m {z} e = toZ-ofZ w32 z (subst (SFits w32) (sym e) (both-fit s)) ∙ e
+  where
+    small : (t : Bool) → ltb 2147483647 m ≡ t → cond t 2147483647 m < 2147483648
+    small true e = omega arith
+    small false e = omega (arith, ltb-false 2147483647 m e)
+
+    both-fit : (s : Bool) → SFits w32 (literal s m)
+    both-fit true = literal-fits m
+    both-fit false = record { sfits = small (ltb 2147483647 m) refl }

@@ -1,0 +1,113 @@
+// The clauses: whole numbers, and 0 ends each.
+use rows::NUMBERS;
+use words::literal::literal_of;
+use words::literal::variable_of;
+use words::token::NEGATIVE;
+use words::token::NONE;
+use words::token::Token;
+use words::token::ZERO;
+use words::token::next_token;
+ghost use mathlib.Core.Path.{_≡_};
+ghost use mathlib.Core.Bool.{not};
+ghost use Prim.Native.Nat.{_≤_, _<_};
+ghost use lib.ListN.{length};
+ghost use Rattle.sheet.specs.Qdimacs.{all};
+ghost use Rattle.sheet.proofs.Qdimacs.Accepted.{up-to};
+ghost use Rattle.words.specs.Numbers.{largest};
+ghost use Rattle.qdimacs.specs.Inner.Lists.{first-length};
+ghost use Rattle.qdimacs.specs.Inner.Cursor.{tokens-at};
+ghost use Rattle.qdimacs.specs.Inner.Clauses.{count-step, Counts, number-said, is-above};
+
+// What the clauses are: whether all words are whole numbers, whether one is still open, how many clauses are ended, and
+// how many words there are, those that end clauses too.
+pub struct Clauses {
+    pub whole: bool,
+    pub ongoing: bool,
+    pub count: usize,
+    pub words: usize,
+}
+
+// One word more.
+fn count_word(c: Clauses, class: u8) -> Clauses
+    requires { ⌜ (c .count < largest) × (c .words < largest) ⌝ }
+    ensures { λ r. ⌜ r ≡ count-step c class ⌝ }
+{
+    if class == NONE {
+        return c;
+    }
+    if class == ZERO {
+        return Clauses {
+            whole: c.whole,
+            ongoing: false,
+            count: c.count + 1,
+            words: c.words + 1,
+        };
+    }
+    if class < ZERO {
+        return Clauses {
+            whole: false,
+            ongoing: true,
+            count: c.count,
+            words: c.words + 1,
+        };
+    }
+    Clauses {
+        whole: c.whole,
+        ongoing: true,
+        count: c.count,
+        words: c.words + 1,
+    }
+}
+
+// Counts the clauses from `from` on, and their words.
+pub fn count_clauses(b: &[u8], from: usize) -> Clauses
+    requires { ⌜ from ≤ length (now b) ⌝ }
+    ensures { λ r. ⌜ Counts (now (b .entry)) from r ⌝ }
+{
+    let mut c = Clauses {
+        whole: true,
+        ongoing: false,
+        count: 0,
+        words: 0,
+    };
+    let mut at = from;
+    while at < b.len() {
+        let t = next_token(b, at);
+        c = count_word(c, t.class);
+        at = t.to;
+    }
+    c
+}
+
+// The variable that a number says, as its literal has it.
+pub fn number_said(t: Token) -> usize
+    ensures { λ r. ⌜ r ≡ number-said t ⌝ }
+{
+    variable_of(literal_of(t.class == NEGATIVE, t.magnitude))
+}
+
+// Whether a word is a number above `most`.
+fn is_above(t: Token, most: usize) -> bool
+    ensures { λ r. ⌜ r ≡ is-above most t ⌝ }
+{
+    if t.class < ZERO {
+        return false;
+    }
+    most < number_said(t)
+}
+
+// Whether a number, of quantifier lines or of clauses, is above `most`.
+pub fn has_above(b: &[u8], most: usize) -> bool
+    requires { ⌜ most ≤ 1024 ⌝ }
+    ensures { λ r. ⌜ r ≡ not (all (up-to most) (tokens-at (now (b .entry)) 0)) ⌝ }
+{
+    let mut at: usize = 0;
+    while at < b.len() {
+        let t = next_token(b, at);
+        if is_above(t, most) {
+            return true;
+        }
+        at = t.to;
+    }
+    false
+}
