@@ -178,23 +178,28 @@ module _ {p : Prefix} {f : Bound} {m : List ℕ} {z : Binding} {rest : Prefix} (
 
 -- the loop
 
-pub record BoundSoFar (b : Bytes) (f : Bound) (m : List ℕ) (st at : ℕ) : Type 0 where
+pub record Walked (b : Bytes) (st at : ℕ) : Type 0 where
   pub state : State
   pub code-is : st ≡ state-code state
   pub inside : at ≤ length b
   pub ordered-so : ordered state (tokens-at b at) ≡ true
   pub below-so : all (up-to 1024) (tokens-at b at) ≡ true
-  pub found : Bindings (bindings-in b) f m (bound-from state (tokens-at b at))
+
+pub record BoundSoFar (b : Bytes) (f : Bound) (m : List ℕ) (st at : ℕ) : Type 0 where
+  pub walked : Walked b st at
+  pub found : Bindings (bindings-in b) f m (bound-from (walked .state) (tokens-at b at))
   pub fewer : f .count ≤ at
 
 pub bound-none : {b : Bytes} {m : List ℕ} → Listed b → m ≡ replicate 1025 0 → BoundSoFar b (record { twice = false; count = 0 }) m 0 0
 bound-none {b} h e =
     record {
-      state = between;
-      code-is = refl;
-      inside = omega arith;
-      ordered-so = and-parts (ordered between (tokens-at b 0)) _ (h .well) .0;
-      below-so = h .below;
+      walked = record {
+        state = between;
+        code-is = refl;
+        inside = omega arith;
+        ordered-so = and-parts (ordered between (tokens-at b 0)) _ (h .well) .0;
+        below-so = h .below;
+      };
       found = subst (λ n. Bindings (bindings-in b) (record { twice = false; count = 0 }) n (bindings-in b)) (sym e) (nothing-bound (bindings-in b));
       fewer = omega arith;
     }
@@ -210,7 +215,7 @@ number-small v (view-plain {n = n}) e u (inl c) = omega (arith, leb-true (suc n)
 number-small v (view-plain {n = n}) e u (inr c) = absurd (omega (arith, leb-true (suc n) 1024 u, c .0))
 number-small v view-minus e u c = absurd (omega arith)
 
-same-capped : (n v : ℕ) → v < 1025 → Capped largest n v → v ≡ n
+pub same-capped : (n v : ℕ) → v < 1025 → Capped largest n v → v ≡ n
 same-capped n v l (inl e) = e
 same-capped n v l (inr e) = absurd (omega (arith, e .1))
 
@@ -232,77 +237,70 @@ finished {b} {f} {m} h e =
     or-false true = refl
     or-false false = refl
 
-module _ {b : Bytes} {f : Bound} {m : List ℕ} {st at : ℕ} (h : BoundSoFar b f m st at) {t : code.Token} (reads : Reads b at t) where
-  pub bound-number : t .class ≡ 7 → t .magnitude < 1025
+module _ {b : Bytes} {st at : ℕ} (h : Walked b st at) {t : code.Token} (reads : Reads b at t) where
+  pub walked-number : t .class ≡ 7 → t .magnitude < 1025
   unfolding all
-  bound-number e = go (next reads)
+  walked-number e = go (next reads)
     where
       go : Next b at t → t .magnitude < 1025
       go (none k p q) = absurd (omega (arith, e, k))
       go (word {w = w} v c p) =
           number-small (t .magnitude) v e (and-parts (up-to 1024 w) (all (up-to 1024) (tokens-at b (t .to))) (sym (ap (all (up-to 1024)) p) ∙ h .below-so) .0) (c (omega (arith, e)))
 
-  below-next : all (up-to 1024) (tokens-at b (t .to)) ≡ true
+  pub walked-below : all (up-to 1024) (tokens-at b (t .to)) ≡ true
   unfolding all
-  below-next = go (next reads)
+  walked-below = go (next reads)
     where
       go : Next b at t → all (up-to 1024) (tokens-at b (t .to)) ≡ true
       go (none k p q) = ap (all (up-to 1024)) q
       go (word {w = w} v c p) = and-parts (up-to 1024 w) (all (up-to 1024) (tokens-at b (t .to))) (sym (ap (all (up-to 1024)) p) ∙ h .below-so) .1
 
-  module _ {r : ℕ} (steps : r ≡ step st (t .class)) where
-    here : Led (h .state) (tokens-at b at) (tokens-at b (t .to)) r (t .class) (t .magnitude)
-    here =
-        subst (λ k. Led (h .state) (tokens-at b at) (tokens-at b (t .to)) k (t .class) (t .magnitude))
-        (sym (steps ∙ ap (λ s. step s (t .class)) (h .code-is))) (led (h .state) (next reads))
+module _ {b : Bytes} {f : Bound} {m : List ℕ} {st at : ℕ} (h : BoundSoFar b f m st at) {t : code.Token} (reads : Reads b at t) {r : ℕ}
+    (steps : r ≡ step st (t .class)) where
+  here : Led (h .walked .state) (tokens-at b at) (tokens-at b (t .to)) r (t .class) (t .magnitude)
+  here =
+      subst (λ k. Led (h .walked .state) (tokens-at b at) (tokens-at b (t .to)) k (t .class) (t .magnitude))
+      (sym (steps ∙ ap (λ s. step s (t .class)) (h .walked .code-is))) (led (h .walked .state) (next reads))
 
-    pub bound-ends : 3 ≤ r → Binds b f m
-    bound-ends l = go here
-      where
-        go : Led (h .state) (tokens-at b at) (tokens-at b (t .to)) r (t .class) (t .magnitude) → Binds b f m
-        go (begins e o c g) = finished (h .found) g
-        go (breaks e o) = absurd (false≢true (sym o ∙ h .ordered-so))
-        go (goes s′ e n o c g) = absurd (omega (arith, e, small-code s′))
-        go (leads.binds q i e k v o c g) = absurd (omega (arith, e, small-code (h .state)))
+  pub bound-ends : 3 ≤ r → Binds b f m
+  bound-ends l = go here
+    where
+      go : Led (h .walked .state) (tokens-at b at) (tokens-at b (t .to)) r (t .class) (t .magnitude) → Binds b f m
+      go (begins e o c g) = finished (h .found) g
+      go (breaks e o) = absurd (false≢true (sym o ∙ h .walked .ordered-so))
+      go (goes s′ e n o c g) = absurd (omega (arith, e, small-code s′))
+      go (leads.binds q i e k v o c g) = absurd (omega (arith, e, small-code (h .walked .state)))
 
-    pub bound-more : {f′ : Bound} {m′ : List ℕ} → at < length b → r < 3 → f′ ≡ found-with f t m → m′ ≡ marks-with t m → BoundSoFar b f′ m′ r (t .to)
-    bound-more {f′} {m′} inside l ef em = rw (ef, em) (go here)
-      where
-        count-step : (found-with f t m) .count ≤ f .count + 1
-        count-step = by (eqb (t .class) 7) (bound-mark m (t .magnitude))
-          where
-            by : (a c : Bool)
-                → (cond a (cond c (record { twice = true; count = f .count + 1 }) (record { twice = f .twice; count = f .count + 1 })) f) .count ≤ f .count + 1
-            by true true = omega arith
-            by true false = omega arith
-            by false c = omega arith
+  pub bound-more : {f′ : Bound} {m′ : List ℕ} → at < length b → r < 3 → f′ ≡ found-with f t m → m′ ≡ marks-with t m → BoundSoFar b f′ m′ r (t .to)
+  bound-more {f′} {m′} inside l ef em = rw (ef, em) (go here)
+    where
+      count-step : (found-with f t m) .count ≤ f .count + 1
+      count-step = by (eqb (t .class) 7) (bound-mark m (t .magnitude))
+        where
+          by : (a c : Bool)
+              → (cond a (cond c (record { twice = true; count = f .count + 1 }) (record { twice = f .twice; count = f .count + 1 })) f) .count ≤ f .count + 1
+          by true true = omega arith
+          by true false = omega arith
+          by false c = omega arith
 
-        go : Led (h .state) (tokens-at b at) (tokens-at b (t .to)) r (t .class) (t .magnitude) → BoundSoFar b (found-with f t m) (marks-with t m) r (t .to)
-        go (begins e o c g) = absurd (omega (arith, e))
-        go (breaks e o) = absurd (omega (arith, e))
-        go (goes s′ e n o c g) =
-            record {
-              state = s′;
-              code-is = e;
-              inside = reads .inside;
-              ordered-so = sym o ∙ h .ordered-so;
-              below-so = below-next;
-              found = rw (ne-eqb (t .class) 7 n) (subst (Bindings (bindings-in b) f m) g (h .found));
-              fewer = omega (arith, count-step, h .fewer, reads .onward inside);
-            }
-        go (leads.binds q i e k v o c g) =
-            record {
-              state = h .state;
-              code-is = e;
-              inside = reads .inside;
-              ordered-so = sym o ∙ h .ordered-so;
-              below-so = below-next;
-              found =
-                  let same = same-capped _ (t .magnitude) (bound-number k) v in
-                  bound-one (subst (Bindings (bindings-in b) f m) g (h .found)) (omega (arith, same, bound-number k)) t k same;
-              fewer = omega (arith, count-step, h .fewer, reads .onward inside);
-            }
+      go : Led (h .walked .state) (tokens-at b at) (tokens-at b (t .to)) r (t .class) (t .magnitude) → BoundSoFar b (found-with f t m) (marks-with t m) r (t .to)
+      go (begins e o c g) = absurd (omega (arith, e))
+      go (breaks e o) = absurd (omega (arith, e))
+      go (goes s′ e n o c g) =
+          record {
+            walked = record { state = s′; code-is = e; inside = reads .inside; ordered-so = sym o ∙ h .walked .ordered-so; below-so = walked-below (h .walked) reads };
+            found = rw (ne-eqb (t .class) 7 n) (subst (Bindings (bindings-in b) f m) g (h .found));
+            fewer = omega (arith, count-step, h .fewer, reads .onward inside);
+          }
+      go (leads.binds q i e k v o c g) =
+          record {
+            walked = record { state = h .walked .state; code-is = e; inside = reads .inside; ordered-so = sym o ∙ h .walked .ordered-so; below-so = walked-below (h .walked) reads };
+            found =
+                let same = same-capped _ (t .magnitude) (walked-number (h .walked) reads k) v in
+                bound-one (subst (Bindings (bindings-in b) f m) g (h .found)) (omega (arith, same, walked-number (h .walked) reads k)) t k same;
+            fewer = omega (arith, count-step, h .fewer, reads .onward inside);
+          }
 
 pub bound-all : {b : Bytes} {f : Bound} {m : List ℕ} {st at : ℕ} → BoundSoFar b f m st at → length b ≤ at → Binds b f m
 unfolding bound-from
-bound-all {b} {f} {m} {st} {at} h l = finished (h .found) (ap (bound-from (h .state)) (no-tokens b at l))
+bound-all {b} {f} {m} {st} {at} h l = finished (h .found) (ap (bound-from (h .walked .state)) (no-tokens b at l))

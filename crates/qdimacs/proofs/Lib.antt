@@ -7,3 +7,6 @@ mod Cutting
 mod Counting
 mod Binding
 mod Naming
+mod Putting
+mod WritingPrefix
+mod WritingClauses

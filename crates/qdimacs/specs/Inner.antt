@@ -4,3 +4,4 @@ pub mod Header
 pub mod Cursor
 pub mod Clauses
 pub mod Marks
+pub mod Rows

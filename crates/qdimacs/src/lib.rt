@@ -3,3 +3,4 @@ pub mod clauses;
 pub mod header;
 pub mod marks;
 pub mod prefix;
+pub mod write;

@@ -4,7 +4,7 @@ use mathlib.Core.Path.{_≡_, refl, sym, ap, _∙_}
 use Prim.Native.Nat.{_+_, _-_, _≤_, _<_}
 use native.Mathlib.Omega.{arith}
 use lib.ListN.{length}
-use Rattle.qdimacs.proofs.Binding.{BoundSoFar, bound-none, bound-number, bound-ends, bound-more, bound-all}
+use Rattle.qdimacs.proofs.Binding.{walked-number, BoundSoFar, bound-none, bound-ends, bound-more, bound-all}
 use Rattle.qdimacs.proofs.marks.bind.Statement.{statement}
 use Rattle.qdimacs.proofs.marks.bind.Tie as tie
 
@@ -18,7 +18,7 @@ loop-holds : tie.Need-loop-holds Inv-loop μ-loop
 loop-holds c = bound-none (c .before .pre .0) (c .before .pre .1)
 
 next-token-requires : tie.Need-next-token-requires Inv-loop μ-loop
-next-token-requires c κs = c .before .loop .inv .inside
+next-token-requires c κs = c .before .loop .inv .walked .inside
 
 step-requires : tie.Need-step-requires Inv-loop μ-loop
 step-requires c κs = search needs
@@ -27,7 +27,7 @@ returns : tie.Need-returns Inv-loop μ-loop
 returns c = bound-ends (c .before .before .before .before .loop .inv) (c .before .before .next-token .ensures) (c .before .step .ensures) (c .if1 .taken)
 
 bind-word-requires : tie.Need-bind-word-requires Inv-loop μ-loop
-bind-word-requires c κs = let h = c .before .before .before .before .before .loop .inv in (bound-number h (c .before .before .before .next-token .ensures), omega (arith, h .fewer), h .found .size)
+bind-word-requires c κs = let h = c .before .before .before .before .before .loop .inv in (walked-number (h .walked) (c .before .before .before .next-token .ensures), omega (arith, h .fewer), h .found .size)
 
 loop-less : tie.Need-loop-less Inv-loop μ-loop
 loop-less c = omega (arith, c .before .before .before .before .next-token .ensures .inside, c .before .before .before .before .next-token .ensures .onward (omega arith))

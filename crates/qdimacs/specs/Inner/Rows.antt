@@ -1,0 +1,69 @@
+-- The rows that words say.
+-- Assumes nothing.
+use mathlib.Core.Path.{_≡_}
+use mathlib.Core.Bool.{Bool, true, false, not, _&&_, cond}
+use mathlib.Core.List.{List, [], _∷_, _++_}
+use Prim.Native.Nat.{ℕ, _+_, _^_, _≤_, _<_}
+use lib.Dec.{eqb, ltb}
+use lib.ListN.{length, take, drop, set}
+use Rattle.sheet.specs.Format.{Bytes, Row, row}
+use Rattle.sheet.specs.Sheet.{forest-rows}
+use Rattle.sheet.specs.Qdimacs.{Token, all, clause-trees}
+use Rattle.sheet.proofs.Qdimacs.Accepted.{up-to}
+use Rattle.sheet.proofs.Qdimacs.Answers.{lists}
+use Rattle.rows.specs.Layouts.{total, Room}
+use Rattle.rows.specs.declared.Layout.{Layout}
+use Rattle.words.specs.Numbers.{largest}
+use Rattle.words.specs.Literals.{literal, kind}
+use Rattle.words.specs.declared.token.Token as code
+use Rattle.qdimacs.specs.Inner.Lists.{first-length, whole-lists}
+use Rattle.qdimacs.specs.Inner.Cursor.{tokens-at}
+use Rattle.qdimacs.specs.Inner.Clauses.{number-said}
+use Rattle.qdimacs.specs.declared.write.Place.{Place}
+
+-- rows with others put from row r on
+abbrev pub spliced : List Row → ℕ → List Row → List Row
+spliced rs r new = take r rs ++ (new ++ drop (r + length new) rs)
+
+-- the rows of clauses, by their words
+abbrev pub clause-rows : List Token → List Row
+clause-rows ts = forest-rows (clause-trees (lists ts))
+
+-- a clause begins
+abbrev pub begins : Place → ℕ → Bool
+begins p k = p .fresh && not (eqb k 0)
+
+abbrev pub open-place : Place → ℕ → Place
+open-place p k = cond (begins p k) (record { at = p .at; row = p .row + 1; fresh = p .fresh }) p
+
+abbrev pub open-rows : Bytes → Place → ℕ → List Row → List Row
+open-rows b p k rs = cond (begins p k) (set rs (p .row) (row 6 (first-length (tokens-at b (p .at))))) rs
+
+pub record Openable (b : Bytes) (p : Place) (k : ℕ) (s : Layout) (len : ℕ) : Type 0 where
+  pub room : Room s len
+  pub inside : p .at ≤ length b
+  pub has-row : begins p k ≡ true → p .row < total s
+  pub few : p .row < largest
+  pub fits : first-length (tokens-at b (p .at)) < 256 ^ s .width
+
+-- a word's row
+abbrev pub word-place : code.Token → Place → Place
+word-place t p =
+    cond (eqb (t .class) 6) (record { at = t .to; row = p .row; fresh = true })
+    (cond (ltb (t .class) 6) (record { at = t .to; row = p .row; fresh = p .fresh }) (record { at = t .to; row = p .row + 1; fresh = false }))
+
+abbrev pub word-rows : code.Token → Place → List Row → List Row
+word-rows t p rs =
+    cond (eqb (t .class) 6) rs
+    (cond (ltb (t .class) 6) rs (set rs (p .row) (row (kind (literal (eqb (t .class) 8) (t .magnitude))) (number-said t))))
+
+-- whole clauses, each row with its place and each number with its bytes
+pub record Writable (b : Bytes) (from : ℕ) (s : Layout) (len r : ℕ) : Type 0 where
+  pub inside : from ≤ length b
+  pub whole : whole-lists false (tokens-at b from) ≡ true
+  pub below : all (up-to 1024) (tokens-at b from) ≡ true
+  pub room : Room s len
+  pub has-rows : r + length (tokens-at b from) ≤ total s
+  pub few-rows : total s < 2 ^ 32
+  pub numbers-fit : 1024 < 256 ^ s .width
+  pub lengths-fit : length (tokens-at b from) < 256 ^ s .width

@@ -1,0 +1,201 @@
+// The rows that a text says: free variables by number, the quantifier lines' bindings, then AND over the clauses, each an OR.
+use crate::marks::FREE;
+use crate::prefix::BETWEEN;
+use crate::prefix::CLAUSE;
+use crate::prefix::step;
+use rows::EXISTS;
+use rows::Layout;
+use rows::NUMBERS;
+use rows::OR;
+use rows::write::set_row;
+use words::literal::kind_of;
+use words::literal::literal_of;
+use words::literal::variable_of;
+use words::token::NEGATIVE;
+use words::token::NONE;
+use words::token::POSITIVE;
+use words::token::Token;
+use words::token::ZERO;
+use words::token::next_token;
+ghost use mathlib.Core.Path.{_≡_};
+ghost use mathlib.Core.Bool.{true, cond};
+ghost use mathlib.Core.List.{map};
+ghost use Prim.Native.Nat.{_+_, _^_, _≤_, _<_};
+ghost use lib.Dec.{eqb};
+ghost use lib.ListN.{length, set};
+ghost use Rattle.sheet.specs.Format.{row};
+ghost use Rattle.sheet.specs.Sheet.{binding-row};
+ghost use Rattle.rows.specs.Layouts.{total, rows-in, Room};
+ghost use Rattle.words.specs.Numbers.{largest};
+ghost use Rattle.qdimacs.specs.Inner.Lists.{first-length};
+ghost use Rattle.qdimacs.specs.Inner.Cursor.{tokens-at};
+ghost use Rattle.qdimacs.specs.Inner.Clauses.{number-said};
+ghost use Rattle.qdimacs.specs.Inner.Marks.{Listed, bindings-in, frees};
+ghost use Rattle.qdimacs.specs.Inner.Rows.{spliced, clause-rows, Openable, open-place, open-rows, word-place, word-rows, Writable};
+
+// Where the writing of clauses stands: the next word, the next row, and whether a clause begins there.
+pub struct Place {
+    pub at: usize,
+    pub row: usize,
+    pub fresh: bool,
+}
+
+// A free variable's row.
+fn write_if_free(mark: u8, x: usize, out: &mut [u8], s: Layout, r: usize) -> usize
+    requires { ⌜ Room s (length (now out)) × (mark ≡ 2 → r < total s) × (r < largest) × (x < 256 ^ s .width) ⌝ }
+    ensures { λ _. ⌜ rows-in s (now (out .exit)) ≡ cond (eqb mark 2) (set (rows-in s (now (out .entry))) r (row 1 x)) (rows-in s (now (out .entry))) ⌝ }
+    ensures { λ n. ⌜ n ≡ cond (eqb mark 2) (r + 1) r ⌝ }
+{
+    if mark != FREE {
+        return r;
+    }
+    set_row(out, s, r, EXISTS, x);
+    r + 1
+}
+
+// Writes the rows of the free variables up to `most` from the first row on, and returns how many they are.
+pub fn write_free(marks: &[u8; NUMBERS], most: usize, out: &mut [u8], s: Layout) -> usize
+    requires { ⌜ Room s (length (now out)) × (most ≤ 1024) × (1024 < 256 ^ s .width) × (length (frees (now marks) most) ≤ total s) ⌝ }
+    ensures { λ _. ⌜ rows-in s (now (out .exit)) ≡ spliced (rows-in s (now (out .entry))) 0 (map binding-row (frees (now (marks .entry)) most)) ⌝ }
+    ensures { λ r. ⌜ r ≡ length (frees (now (marks .entry)) most) ⌝ }
+{
+    let mut r: usize = 0;
+    let mut x: usize = 0;
+    while x < most {
+        x += 1;
+        r = write_if_free(marks[x], x, out, s, r);
+    }
+    r
+}
+
+// The row of a number in a quantifier line of this kind.
+fn write_binding(t: Token, kind: u8, out: &mut [u8], s: Layout, r: usize) -> usize
+    requires { ⌜ Room s (length (now out)) × (t .class ≡ 7 → r < total s) × (r < largest) × (t .class ≡ 7 → t .magnitude < 256 ^ s .width) ⌝ }
+    ensures { λ _. ⌜ rows-in s (now (out .exit)) ≡ cond (eqb (t .class) 7) (set (rows-in s (now (out .entry))) r (row kind (t .magnitude))) (rows-in s (now (out .entry))) ⌝ }
+    ensures { λ n. ⌜ n ≡ cond (eqb (t .class) 7) (r + 1) r ⌝ }
+{
+    if t.class != POSITIVE {
+        return r;
+    }
+    set_row(out, s, r, kind, t.magnitude);
+    r + 1
+}
+
+// Writes the rows of the quantifier lines from row `from` on, and returns the row behind them.
+pub fn write_bound(b: &[u8], out: &mut [u8], s: Layout, from: usize) -> usize
+    requires { ⌜ Listed (now b) × Room s (length (now out)) × (1024 < 256 ^ s .width) × (from + length (bindings-in (now b)) ≤ total s) × (total s < 2 ^ 32) ⌝ }
+    ensures { λ _. ⌜ rows-in s (now (out .exit)) ≡ spliced (rows-in s (now (out .entry))) from (map binding-row (bindings-in (now (b .entry)))) ⌝ }
+    ensures { λ r. ⌜ r ≡ from + length (bindings-in (now (b .entry))) ⌝ }
+{
+    let mut r = from;
+    let mut state = BETWEEN;
+    let mut at: usize = 0;
+    while at < b.len() {
+        let t = next_token(b, at);
+        let next = step(state, t.class);
+        if CLAUSE <= next {
+            return r;
+        }
+        r = write_binding(t, state, out, s, r);
+        state = next;
+        at = t.to;
+    }
+    r
+}
+
+// How many words stand from `from` on before the next 0.
+fn clause_length(b: &[u8], from: usize) -> usize
+    requires { ⌜ from ≤ length (now b) ⌝ }
+    ensures { λ r. ⌜ r ≡ first-length (tokens-at (now (b .entry)) from) ⌝ }
+{
+    let mut n: usize = 0;
+    let mut at = from;
+    while at < b.len() {
+        let t = next_token(b, at);
+        if t.class == ZERO {
+            return n;
+        }
+        n = n + one_if_some(t.class);
+        at = t.to;
+    }
+    n
+}
+
+// One for a word, none where there is none.
+fn one_if_some(class: u8) -> usize
+    ensures { λ r. ⌜ r ≡ cond (eqb class 0) 0 1 ⌝ }
+{
+    if class == NONE {
+        return 0;
+    }
+    1
+}
+
+// The OR row of a clause that begins with a word of this class.
+fn open_clause(b: &[u8], p: Place, class: u8, out: &mut [u8], s: Layout) -> Place
+    requires { ⌜ Openable (now b) p class s (length (now out)) ⌝ }
+    ensures { λ r. ⌜ r ≡ open-place p class ⌝ }
+    ensures { λ _. ⌜ rows-in s (now (out .exit)) ≡ open-rows (now (b .entry)) p class (rows-in s (now (out .entry))) ⌝ }
+{
+    if !p.fresh {
+        return p;
+    }
+    if class == NONE {
+        return p;
+    }
+    let n = clause_length(b, p.at);
+    set_row(out, s, p.row, OR, n);
+    Place {
+        at: p.at,
+        row: p.row + 1,
+        fresh: p.fresh,
+    }
+}
+
+// The row of a literal; 0 has none.
+fn write_word(t: Token, p: Place, out: &mut [u8], s: Layout) -> Place
+    requires { ⌜ Room s (length (now out)) × (7 ≤ t .class → p .row < total s) × (p .row < largest) × (7 ≤ t .class → number-said t < 256 ^ s .width) ⌝ }
+    ensures { λ r. ⌜ r ≡ word-place t p ⌝ }
+    ensures { λ _. ⌜ rows-in s (now (out .exit)) ≡ word-rows t p (rows-in s (now (out .entry))) ⌝ }
+{
+    if t.class == ZERO {
+        return Place {
+            at: t.to,
+            row: p.row,
+            fresh: true,
+        };
+    }
+    if t.class < ZERO {
+        return Place {
+            at: t.to,
+            row: p.row,
+            fresh: p.fresh,
+        };
+    }
+    let l = literal_of(t.class == NEGATIVE, t.magnitude);
+    let kind = kind_of(l);
+    let x = variable_of(l);
+    set_row(out, s, p.row, kind, x);
+    Place {
+        at: t.to,
+        row: p.row + 1,
+        fresh: false,
+    }
+}
+
+// Writes the rows of the clauses that stand from `from` on, from row `r` on.
+pub fn write_clauses(b: &[u8], from: usize, out: &mut [u8], s: Layout, r: usize)
+    requires { ⌜ Writable (now b) from s (length (now out)) r ⌝ }
+    ensures { λ _. ⌜ rows-in s (now (out .exit)) ≡ spliced (rows-in s (now (out .entry))) r (clause-rows (tokens-at (now (b .entry)) from)) ⌝ }
+{
+    let mut p = Place {
+        at: from,
+        row: r,
+        fresh: true,
+    };
+    while p.at < b.len() {
+        let t = next_token(b, p.at);
+        let opened = open_clause(b, p, t.class, out, s);
+        p = write_word(t, opened, out, s);
+    }
+}
