@@ -117,26 +117,15 @@ pub record Sought (t : Bytes) (at : ℕ) : Type 0 where
 pub sought-none : (t : Bytes) → Sought t 0
 sought-none t = record { inside = omega arith; same = record { of-header = refl; below = refl } }
 
-module _ (t : Bytes) {at to : ℕ} (s : Sought t at) (e : to ≡ at + lead line-end (drop at t)) where
-  pub line-inside : to ≤ length t
-  line-inside = omega (arith, lead-within line-end (drop at t), length-drop at t, s .inside)
+pub part-line : (t : Bytes) (at to : ℕ) → to ≡ at + lead line-end (drop at t) → take (to - at) (drop at t) ≡ first-line (drop at t)
+part-line t at to e = ap (λ k. take k (drop at t)) (size e)
+  where
+    size : to ≡ at + lead line-end (drop at t) → to - at ≡ lead line-end (drop at t)
+    size e = omega arith
 
-  pub line-is : take (to - at) (drop at t) ≡ first-line (drop at t)
-  line-is = ap (λ k. take k (drop at t)) (size e)
-    where
-      size : to ≡ at + lead line-end (drop at t) → to - at ≡ lead line-end (drop at t)
-      size e = omega arith
-
-  pub line-clean : Line (take (to - at) (drop at t))
-  line-clean = subst Line (sym line-is) (line-uncut (drop at t))
-
-  pub sought-found : is-skipped (take (to - at) (drop at t)) ≡ false → HeaderAt t at
-  sought-found k =
-      let f = found-line (drop at t) (ap is-skipped (sym line-is) ∙ k) in
-      record { inside = s .inside; text-words = record { of-header = s .same .of-header ∙ f .of-header; below = s .same .below ∙ f .below } }
-
-  pub behind-is : at < length t → drop (next-line to (length t)) t ≡ behind-line (drop at t)
-  behind-is l = go (ltb to (length t)) refl
+module _ (t : Bytes) {at to : ℕ} (inside : at ≤ length t) (e : to ≡ at + lead line-end (drop at t)) where
+  pub behind-is : drop (next-line to (length t)) t ≡ behind-line (drop at t)
+  behind-is = go (ltb to (length t)) refl
     where
       go : (b : Bool) → ltb to (length t) ≡ b → drop (cond b (to + 1) (length t)) t ≡ behind-line (drop at t)
       go true f = ap (λ k. drop k t) (place e) ∙ sym (drop-drop (suc (lead line-end (drop at t))) at t)
@@ -161,14 +150,29 @@ module _ (t : Bytes) {at to : ℕ} (s : Sought t at) (e : to ≡ at + lead line-
       go true f = omega (arith, ltb-true to (length t) f)
       go false f = omega arith
 
+module _ (t : Bytes) {at to : ℕ} (s : Sought t at) (e : to ≡ at + lead line-end (drop at t)) where
+  pub line-inside : to ≤ length t
+  line-inside = omega (arith, lead-within line-end (drop at t), length-drop at t, s .inside)
+
+  pub line-is : take (to - at) (drop at t) ≡ first-line (drop at t)
+  line-is = part-line t at to e
+
+  pub line-clean : Line (take (to - at) (drop at t))
+  line-clean = subst Line (sym line-is) (line-uncut (drop at t))
+
+  pub sought-found : is-skipped (take (to - at) (drop at t)) ≡ false → HeaderAt t at
+  sought-found k =
+      let f = found-line (drop at t) (ap is-skipped (sym line-is) ∙ k) in
+      record { inside = s .inside; text-words = record { of-header = s .same .of-header ∙ f .of-header; below = s .same .below ∙ f .below } }
+
   pub sought-more : at < length t → is-skipped (take (to - at) (drop at t)) ≡ true → Sought t (next-line to (length t))
   sought-more l k =
       let f = skip-line (drop at t) (ap is-skipped (sym line-is) ∙ k) in
       record {
-        inside = next-inside;
+        inside = next-inside t (s .inside) e;
         same = record {
-          of-header = s .same .of-header ∙ f .of-header ∙ ap header-words (sym (behind-is l));
-          below = s .same .below ∙ f .below ∙ ap words-below (sym (behind-is l));
+          of-header = s .same .of-header ∙ f .of-header ∙ ap header-words (sym (behind-is t (s .inside) e));
+          below = s .same .below ∙ f .below ∙ ap words-below (sym (behind-is t (s .inside) e));
         };
       }
 

@@ -10,3 +10,6 @@ mod Naming
 mod Putting
 mod WritingPrefix
 mod WritingClauses
+mod Whole
+mod Composing
+mod Texts

@@ -313,10 +313,10 @@ module _ {b : Bytes} {from r₀ : ℕ} {rs₀ rs : List Row} {p : Place} (whole 
     with-or : begins p (t .class) ≡ true → (rest : List Row) → rows-all-are (h .done ++ (or-row ∷ rest))
         → Put rs₀ r₀ (h .done ++ (or-row ∷ [])) rs₁ (p₁ .row) × rows-all-are ((h .done ++ (or-row ∷ [])) ++ rest)
     with-or e rest q = (
-        subst (Put rs₀ r₀ (h .done ++ (or-row ∷ [])) rs₁) (sym (ap (λ (z : Place). z .row) (place-open true e)))
-        (put-row or-row (h .put) (row-left or-row rest (h .put) q) (rows-open true e)),
-        q ∙ sym (append-assoc (h .done) (or-row ∷ []) rest),
-      )
+      subst (Put rs₀ r₀ (h .done ++ (or-row ∷ [])) rs₁) (sym (ap (λ (z : Place). z .row) (place-open true e)))
+          (put-row or-row (h .put) (row-left or-row rest (h .put) q) (rows-open true e)),
+      q ∙ sym (append-assoc (h .done) (or-row ∷ []) rest),
+    )
 
     without-or : begins p (t .class) ≡ false → Put rs₀ r₀ (h .done) rs₁ (p₁ .row)
     without-or e =

@@ -5,3 +5,4 @@ pub mod Cursor
 pub mod Clauses
 pub mod Marks
 pub mod Rows
+pub mod Body

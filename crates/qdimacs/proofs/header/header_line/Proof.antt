@@ -42,7 +42,7 @@ next-line-requires : tie.Need-next-line-requires Inv-loop μ-loop
 next-line-requires c κs = search needs
 
 loop-less : tie.Need-loop-less Inv-loop μ-loop
-loop-less c = omega (arith, c .next-line .ensures, next-onward (c .before .before .before .before .before .before .before .before .args .text .now) (c .before .before .before .before .before .before .loop .inv) (c .before .before .before .before .end-of .ensures) (omega arith))
+loop-less c = omega (arith, c .next-line .ensures, next-onward (c .before .before .before .before .before .before .before .before .args .text .now) (c .before .before .before .before .before .before .loop .inv .inside) (c .before .before .before .before .end-of .ensures) (omega arith))
 
 loop-again : tie.Need-loop-again Inv-loop μ-loop
 loop-again c = subst (Sought (c .before .before .before .before .before .before .before .before .args .text .now)) (sym (c .next-line .ensures)) (sought-more (c .before .before .before .before .before .before .before .before .args .text .now) (c .before .before .before .before .before .before .loop .inv) (c .before .before .before .before .end-of .ensures) (omega arith) (sym (c .before .before .is-skipped .ensures) ∙ not-false _ (c .before .if1 .left)))

@@ -50,7 +50,7 @@ loop-again c =
     let a = c .before .before .before .before .before .before .before .before .before .before .before in
     let h = c .before .before .before .before .before .before .before .before .loop .inv in (
       bound-written-more (h .0) (c .before .before .before .before .before .before .next-token .ensures) (c .before .before .before .before .before .step .ensures) (c .before .before .before .before .if1 .left)
-      (omega (arith, length-rows-in (a .args .out .now) (a .pre .1), a .pre .3)) (c .before .before .write-binding .ensures .0) (c .before .before .write-binding .ensures .1),
+          (omega (arith, length-rows-in (a .args .out .now) (a .pre .1), a .pre .3)) (c .before .before .write-binding .ensures .0) (c .before .before .write-binding .ensures .1),
       c .before .before .write-binding .kept .1 .1 .0 ∙ h .1,
     )
 

@@ -58,7 +58,7 @@ loop-again c =
     let rows = length-rows-in (a .args .out .now) (a .pre .room) in
     let o = c .before .before .before .before .before .before .open-clause in (
       clauses-written-more (a .pre .whole) (omega (arith, rows, a .pre .has-rows)) (h .0) (c .before .before .before .before .before .before .before .before .next-token .ensures) (o .ensures .0) (o .ensures .1)
-      (c .before .before .write-word .ensures .0) (c .before .before .write-word .ensures .1),
+          (c .before .before .write-word .ensures .0) (c .before .before .write-word .ensures .1),
       c .before .before .write-word .kept .1 .1 .0 ∙ o .kept .1 .1 .1 .0 ∙ h .1,
     )
 

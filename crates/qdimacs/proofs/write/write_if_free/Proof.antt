@@ -27,8 +27,8 @@ returns-2 : tie.Need-returns-2
 returns-2 c =
     let a = c .before .before .before .before .before .before in (
       c .before .before .set-row .ensures .0 ∙
-      ap (λ b. cond b (set (rows-in (a .args .s) (a .args .out .now)) (a .args .r) (row 1 (a .args .x))) (rows-in (a .args .s) (a .args .out .now)))
-      (sym (eq-eqb (a .args .mark) 2 (c .before .before .before .before .if1 .left))),
+          ap (λ b. cond b (set (rows-in (a .args .s) (a .args .out .now)) (a .args .r) (row 1 (a .args .x))) (rows-in (a .args .s) (a .args .out .now)))
+          (sym (eq-eqb (a .args .mark) 2 (c .before .before .before .before .if1 .left))),
       rw (eq-eqb (a .args .mark) 2 (c .before .before .before .before .if1 .left)),
     )
 

@@ -50,7 +50,7 @@ returns-3 c =
     let passed = literal-passed (eqb (a .args .t .class) 8) (a .args .t .magnitude) (c .before .before .before .before .before .before .before .literal-of .ensures) in (
       rw (ne-eqb (a .args .t .class) 6 (c .before .before .before .before .before .before .before .before .before .before .before .if1 .left), le-ltb (a .args .t .class) 6 (c .before .before .before .before .before .before .before .before .before .if2 .left)),
       rw (ne-eqb (a .args .t .class) 6 (c .before .before .before .before .before .before .before .before .before .before .before .if1 .left), le-ltb (a .args .t .class) 6 (c .before .before .before .before .before .before .before .before .before .if2 .left))
-      (c .before .before .before .set-row .ensures .0 ∙ ap₂ (λ k x. set (rows-in (a .args .s) (a .args .out .now)) (a .args .p .row) (row k x)) (c .before .before .before .before .before .before .kind-of .ensures ∙ ap kind passed) (c .before .before .before .before .before .variable-of .ensures ∙ ap variable passed)),
+          (c .before .before .before .set-row .ensures .0 ∙ ap₂ (λ k x. set (rows-in (a .args .s) (a .args .out .now)) (a .args .p .row) (row k x)) (c .before .before .before .before .before .before .kind-of .ensures ∙ ap kind passed) (c .before .before .before .before .before .variable-of .ensures ∙ ap variable passed)),
     )
 
 pub write-word-spec : {M : Type 1} → statement M

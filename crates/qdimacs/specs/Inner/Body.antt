@@ -1,0 +1,67 @@
+-- What is read of the words below a header, and the sheet that they are.
+-- Assumes nothing.
+use mathlib.Core.Path.{_≡_}
+use mathlib.Core.Bool.{Bool, true, false}
+use mathlib.Core.List.{List, _∷_, _++_, map}
+use Prim.Native.Nat.{ℕ, suc, _+_, _*_, _-_, _^_, _≤_, _<_}
+use lib.ListN.{length, replicate}
+use Rattle.sheet.specs.Format.{Bytes, Format, Row, row, digits}
+use Rattle.sheet.specs.Sheet.{binding-row, row-kinds, row-arguments}
+use Rattle.sheet.specs.Qdimacs.{text-header, tokens-below, well-listed, qdimacs-call}
+use Rattle.sheet.proofs.Qdimacs.Answers.{bad-header, bad-counts}
+use Rattle.rows.specs.Layouts.{total, Room}
+use Rattle.rows.specs.declared.Layout.{Layout}
+use Rattle.checking.specs.Answers.{written-answer}
+use Rattle.checking.specs.declared.Written.{Written}
+use Rattle.words.specs.Numbers.{Capped, largest}
+use Rattle.qdimacs.specs.Inner.Lists.{between, clause-tokens, ends}
+use Rattle.qdimacs.specs.Inner.Cursor.{tokens-at}
+use Rattle.qdimacs.specs.Inner.Marks.{Listed, bindings-in, frees}
+use Rattle.qdimacs.specs.Inner.Rows.{clause-rows}
+use Rattle.qdimacs.specs.declared.header.Header.{Header}
+use Rattle.qdimacs.specs.declared.body.Body.{Body}
+
+pub record Scanned (b : Bytes) (k : Body) : Type 0 where
+  pub listed : Listed b
+  pub inside : k .from ≤ length b
+  pub clauses-from : tokens-at b (k .from) ≡ clause-tokens between (tokens-at b 0)
+  pub clauses-are : k .clauses ≡ ends (tokens-at b (k .from))
+  pub words-are : k .words ≡ length (tokens-at b (k .from))
+  pub most-is : k .most ≤ 1024
+
+-- the rows: free variables, those of the quantifier lines, AND, and the clauses
+abbrev pub body-rows : Bytes → List ℕ → Body → List Row
+body-rows b m k = map binding-row (frees m (k .most)) ++ (map binding-row (bindings-in b) ++ (row 5 (k .clauses) ∷ clause-rows (tokens-at b (k .from))))
+
+pub record Placeable (b : Bytes) (m : List ℕ) (k : Body) (s : Layout) (len : ℕ) : Type 0 where
+  pub scanned : Scanned b k
+  pub variables-are : s .variables ≡ length (frees m (k .most)) + length (bindings-in b)
+  pub nodes-are : s .nodes ≡ suc (k .words)
+  pub room : Room s len
+  pub numbers-fit : 1024 < 256 ^ s .width
+  pub nodes-fit : s .nodes < 256 ^ s .width
+  pub few-rows : total s < 2 ^ 32
+
+-- rows as a sheet, with zeros behind it
+abbrev pub laid-rows : Layout → List Row → ℕ → Bytes
+laid-rows s rs len =
+    digits (s .width) (s .variables) ++ digits (s .width) (total s - s .variables) ++ row-kinds rs ++ row-arguments (s .width) rs ++
+    replicate (len - (2 * s .width + total s + s .width * total s)) 0
+
+abbrev pub laid : Layout → List Row → ℕ → Bytes
+laid s rs len = laid-rows s rs len
+
+-- a text with these words below a header that is as it should be
+pub record Below (F : Format) (t b : Bytes) (n : ℕ) : Type 0 where
+  pub tokens-are : tokens-below t ≡ tokens-at b 0
+  pub header-good : bad-header F (text-header t) ≡ false
+  pub variables-are : (text-header t) .variable-count ≡ n
+
+abbrev pub CallAnswers : Format → Bytes → Bytes → Written → Bytes → Type 0
+CallAnswers F t out r new = (written-answer r ≡ (qdimacs-call F t out) .answer) × (new ≡ (qdimacs-call F t out) .output)
+
+pub record CountedAnswers (F : Format) (b : Bytes) (k : Body) (out : Bytes) (r : Written) (new : Bytes) : Type 0 where
+  pub answers : (t : Bytes) → Below F t b (k .most) → bad-counts (text-header t) (tokens-below t) ≡ false → CallAnswers F t out r new
+
+pub record Answers (F : Format) (b : Bytes) (h : Header) (out : Bytes) (r : Written) (new : Bytes) : Type 0 where
+  pub answers : (t : Bytes) → Below F t b (h .variables) → Capped largest ((text-header t) .clause-count) (h .clauses) → CallAnswers F t out r new
