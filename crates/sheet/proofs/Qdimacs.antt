@@ -4,4 +4,6 @@ pub mod Lists
 pub mod Accepted
 pub mod Answers
 pub mod Words
+pub mod Scan
+pub mod Rows
 pub mod Examples

@@ -45,7 +45,7 @@ ended-every P [] h = tt
 ended-every P (p ∷ []) h = tt
 ended-every P (p ∷ q ∷ ps) h = (h .0, ended-every P (q ∷ ps) (h .1))
 
-lists-uncut : (ts : List Token) → Every (Uncut is-end) (lists ts)
+pub lists-uncut : (ts : List Token) → Every (Uncut is-end) (lists ts)
 unfolding pieces
 lists-uncut ts = ended-every (Uncut is-end) (pieces ts) (pieces-uncut is-end ts)
 
