@@ -95,7 +95,7 @@ numbered-by F (z ∷ p) h =
     (ap₂ _||_ (ne-eqb (z .variable) 0 (λ e. omega (arith, own .0, e))) (le-ltb (F .most-variables) (z .variable) (own .1)))
     (numbered-by F p (λ v k. h v (or-later (eqb (z .variable) v) k)))
 
-binds-positive : (F : Format) (p : Prefix) (x : ℕ) → numbered F p ≡ true → binds p x ≡ true → 1 ≤ x
+pub binds-positive : (F : Format) (p : Prefix) (x : ℕ) → numbered F p ≡ true → binds p x ≡ true → 1 ≤ x
 unfolding numbered binds
 binds-positive F [] x h e = absurd (false≢true e)
 binds-positive F (z ∷ p) x h e =

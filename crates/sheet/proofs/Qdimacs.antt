@@ -6,4 +6,5 @@ pub mod Answers
 pub mod Words
 pub mod Scan
 pub mod Rows
+pub mod Printed
 pub mod Examples

@@ -2,10 +2,11 @@
 -- Assumes nothing.
 use mathlib.Core.Bool.{Bool, true, false, not, _&&_, _||_, cond}
 use mathlib.Core.List.{List, [], _∷_, _++_, map, tail, flatten, flatMap}
-use Prim.Native.Nat.{ℕ, zero, suc, _+_, _-_, _*_}
+use Prim.Native.Nat.{ℕ, zero, suc, _+_, _-_, _*_, _/_, _%_, max}
 use lib.Dec.{eqb, ltb, leb}
 use lib.ListN.{length, getD}
-use Rattle.formula.specs.Tree.{and, or, Quantifier, exists, for-all, Tree, lit, node, Forest, ∅, _▸_, Binding, Prefix, Formula, binds, distinct, rows}
+use Rattle.formula.specs.Tree.{and, or, Quantifier, exists, for-all, Tree, lit, node, Forest, ∅, _▸_, Binding, Prefix, Formula, binds, distinct, rows, some-child}
+use Rattle.formula.specs.Reduce.{is-literal, is-clause}
 use Rattle.sheet.specs.Format.{Bytes, Format, sheet-length}
 use Rattle.sheet.specs.Sheet.{sheet}
 use Rattle.sheet.specs.Check.{Test, test}
@@ -260,3 +261,63 @@ qdimacs-tests F t len = said-tests F (text-header t) (tokens-below t) len
 
 unfoldable pub qdimacs-call : Format → Bytes → Bytes → Written
 qdimacs-call F t out = write (qdimacs-tests F t (length out)) (sheet F (qdimacs t)) out
+
+-- The other way, for a matrix that is AND of ORs of literals: a header with the highest variable number and the number of clauses, a
+-- quantifier line for each row of the prefix, a line for each clause.
+
+-- a number's digits in front of others; k bounds how many they are
+unfoldable pub decimal-before : ℕ → ℕ → Bytes → Bytes
+decimal-before zero n w = w
+decimal-before (suc k) n w = cond (ltb n 10) ((48 + n) ∷ w) (decimal-before k (n / 10) ((48 + n % 10) ∷ w))
+
+unfoldable pub decimal : ℕ → Bytes
+decimal n = decimal-before (suc n) n []
+
+unfoldable pub highest : Prefix → ℕ
+highest [] = 0
+highest (z ∷ p) = max (z .variable) (highest p)
+
+abbrev pub letter : Quantifier → ℕ
+letter or = 101
+letter and = 97
+
+abbrev pub row-words : Binding → List Bytes
+row-words z = (letter (z .quantifier) ∷ []) ∷ decimal (z .variable) ∷ []
+
+abbrev pub literal-word : Tree → Bytes
+literal-word (lit true v) = decimal v
+literal-word (lit false v) = 45 ∷ decimal v
+literal-word (node o ts) = []
+
+unfoldable pub literal-words : Forest → List Bytes
+literal-words ∅ = []
+literal-words (t ▸ ts) = literal-word t ∷ literal-words ts
+
+abbrev pub clause-words : Tree → List Bytes
+clause-words (lit s v) = []
+clause-words (node o ts) = literal-words ts
+
+unfoldable pub clauses-words : Forest → List (List Bytes)
+clauses-words ∅ = []
+clauses-words (t ▸ ts) = clause-words t ∷ clauses-words ts
+
+abbrev pub matrix-words : Tree → List (List Bytes)
+matrix-words (lit s v) = []
+matrix-words (node o ts) = clauses-words ts
+
+unfoldable pub list-text : List Bytes → Bytes
+list-text ws = flatMap (λ w. w ++ 32 ∷ []) ws ++ 48 ∷ 10 ∷ []
+
+unfoldable pub header-text : ℕ → ℕ → Bytes
+header-text v c = 112 ∷ 32 ∷ 99 ∷ 110 ∷ 102 ∷ 32 ∷ decimal v ++ 32 ∷ decimal c
+
+unfoldable pub printed : Formula → Bytes
+printed f =
+    header-text (highest (f .prefix)) (length (matrix-words (f .matrix))) ++
+    10 ∷ flatMap list-text (map row-words (f .prefix) ++ matrix-words (f .matrix))
+
+-- AND of ORs of literals
+unfoldable pub is-clause-set : Tree → Bool
+is-clause-set (lit s v) = false
+is-clause-set (node or ts) = false
+is-clause-set (node and ts) = not (some-child (λ t. is-literal t || not (is-clause t)) ts)

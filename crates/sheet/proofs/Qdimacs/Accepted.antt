@@ -1,22 +1,22 @@
 -- What is accepted is a sheet that Check accepts: its rows are within the limits, no number is bound twice, and every literal is bound.
 -- Assumes nothing.
-use mathlib.Core.Path.{_≡_, refl, sym, _∙_, ap, ap₂, subst}
+use mathlib.Core.Path.{_≡_, refl, sym, _∙_, ap, ap₂}
 use mathlib.Core.Bool.{Bool, true, false, not, _&&_, _||_, cond, or-assoc, or-false, true≢false, false≢true}
-use mathlib.Core.List.{List, [], _∷_, _++_, tail, flatten, flatMap}
+use mathlib.Core.List.{List, [], _∷_, _++_, flatten, flatMap}
 use mathlib.Core.Logic.{⊎-elim}
-use Prim.Native.Nat.{ℕ, zero, suc, _+_, _≤_, _<_}
+use Prim.Native.Nat.{ℕ, zero, suc, _+_, _≤_}
 use native.Mathlib.Omega.{arith}
-use lib.Dec.{eqb, ltb, leb}
-use lib.ListN.{length, take, replicate}
-use borrow.Author.Tests.{eqb-true, eqb-false, eq-eqb, ne-eqb, ltb-false, leb-true, le-leb, not-true, not-false}
-use Rattle.formula.specs.Tree.{or, Quantifier, exists, Tree, node, Forest, Binding, Prefix, Formula, Literals, binds, distinct, rows, has, has-any, closed}
-use Rattle.formula.proofs.Booleans.{and-parts, or-parts, or-cases, or-later, or-none, eqb-comm}
+use lib.Dec.{eqb, leb}
+use lib.ListN.{length}
+use borrow.Author.Tests.{eqb-true, eqb-false, eq-eqb, leb-true, le-leb, not-true}
+use Rattle.formula.specs.Tree.{Quantifier, exists, Prefix, Literals, binds, distinct, has, has-any, closed}
+use Rattle.formula.proofs.Booleans.{and-parts, or-cases, or-later, or-none}
 use Rattle.formula.proofs.Outer.Fresh.{unused-many}
 use Rattle.formula.proofs.Outer.Truth.{binds-++}
 use Rattle.formula.proofs.Outer.Step.{distinct-++}
-use Rattle.sheet.specs.Qdimacs.{all, split, Token, opener, plain, minus, other, is-plain, is-whole, absolute, is-end, ended-lists, is-opener, is-quantified, are-clauses, in-order, quantified, bindings, bound, clauses, literals, clause-trees, matrix-of, named, is-free, free-up-to, numbers-of, above-count}
+use Rattle.sheet.specs.Qdimacs.{all, Token, opener, plain, minus, other, is-plain, is-whole, absolute, is-end, is-opener, is-quantified, are-clauses, in-order, quantified, bindings, bound, clauses, literals, clause-trees, matrix-of, named, is-free, free-up-to, numbers-of}
 use Rattle.sheet.proofs.Every.{Every}
-use Rattle.sheet.proofs.Qdimacs.Lists.{all-++, all-both, all-leads, Uncut, pieces-uncut}
+use Rattle.sheet.proofs.Qdimacs.Lists.{all-++, all-leads, Uncut}
 
 -- numbers
 

@@ -2,16 +2,17 @@
 -- Assumes nothing.
 use mathlib.Core.Path.{_≡_, refl}
 use mathlib.Core.List.{List, [], _∷_, map, flatten, flatMap}
+use mathlib.Core.Bool.{true, false}
 use Prim.Native.Nat.{ℕ, zero, suc}
 use Prim.Native.Char.{code}
 use Prim.Native.String.{String, len, charAt}
-use lib.ListN.{length, replicate}
-use Rattle.formula.specs.Tree.{rows, count, binds, distinct}
+use lib.ListN.{replicate}
+use Rattle.formula.specs.Tree.{and, or, exists, for-all, lit, node, ∅, _▸_, rows, count, binds, distinct}
 use Rattle.sheet.specs.Format.{Bytes, narrow, sheet-length, digits}
 use Rattle.sheet.specs.Sheet.{binding-row, tree-rows, formula-rows, row-kinds, row-arguments, sheet}
 use Rattle.sheet.specs.Check.{Answer, refused, accepted, answer}
 use Rattle.sheet.specs.Operations.{padded, output-after, write}
-use Rattle.sheet.specs.Qdimacs.{onto-first, split, is-nil, all, nonempty, lines, words, unsigned, number-from, negative, magnitude, is-word, token, is-comment, from-header, header-of, text-header, words-below, tokens-below, pieces, ended-lists, open-list, is-quantified, are-clauses, in-order, well-listed, quantified, bindings, bound, clauses, literals, clause-trees, matrix-of, named, is-free, free-up-to, said, qdimacs, numbers-of, above-count, said-tests, qdimacs-tests, qdimacs-call}
+use Rattle.sheet.specs.Qdimacs.{onto-first, split, is-nil, all, nonempty, lines, words, unsigned, number-from, negative, magnitude, is-word, token, is-comment, from-header, header-of, text-header, words-below, tokens-below, pieces, ended-lists, open-list, is-quantified, are-clauses, in-order, well-listed, quantified, bindings, bound, clauses, literals, clause-trees, matrix-of, named, is-free, free-up-to, said, qdimacs, numbers-of, above-count, said-tests, qdimacs-tests, qdimacs-call, decimal-before, decimal, highest, literal-words, clauses-words, list-text, header-text, printed}
 
 unfoldable pub bytes-from : ℕ → ℕ → String → Bytes
 bytes-from zero i s = []
@@ -88,3 +89,12 @@ texts =
 pub texts-answered : map (λ (t : Tried). answer-of (t .text)) texts ≡ map (λ (t : Tried). t .says) texts
 unfolding texts bytes-from rows count binds distinct sheet-length digits binding-row tree-rows formula-rows row-kinds row-arguments sheet answer padded output-after write flatten flatMap onto-first split is-nil all nonempty lines words unsigned number-from negative magnitude is-word token is-comment from-header header-of text-header words-below tokens-below pieces ended-lists open-list is-quantified are-clauses in-order well-listed quantified bindings bound clauses literals clause-trees matrix-of named is-free free-up-to said qdimacs numbers-of above-count said-tests qdimacs-tests qdimacs-call
 texts-answered = refl
+
+-- and a formula as a text
+pub printed-example :
+    printed (record {
+      prefix = record { quantifier = exists; variable = 12 } ∷ record { quantifier = for-all; variable = 3 } ∷ [];
+      matrix = node and (node or (lit true 3 ▸ lit false 12 ▸ ∅) ▸ node or ∅ ▸ ∅);
+    }) ≡ bytes "p cnf 12 2\ne 12 0\na 3 0\n3 -12 0\n0\n"
+unfolding bytes-from flatMap decimal-before decimal highest literal-words clauses-words list-text header-text printed
+printed-example = refl

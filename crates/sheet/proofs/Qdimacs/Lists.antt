@@ -1,8 +1,8 @@
 -- Lists cut at separators, and tests of all their elements.
 -- Assumes nothing.
 use mathlib.Core.Path.{_≡_, refl, sym, _∙_, ap, ap₂}
-use mathlib.Core.Bool.{Bool, true, false, not, _&&_, _||_, cond, and-assoc, true≢false, false≢true}
-use mathlib.Core.List.{List, [], _∷_, _++_, append-assoc, append-nil, map, flatMap}
+use mathlib.Core.Bool.{Bool, true, false, not, _&&_, _||_, cond, and-assoc, false≢true}
+use mathlib.Core.List.{List, [], _∷_, _++_, append-assoc, flatMap}
 use Rattle.sheet.specs.Qdimacs.{onto-first, split, is-nil, nonempty, all}
 use Rattle.sheet.proofs.Every.{Every}
 use Rattle.formula.proofs.Booleans.{and-parts}

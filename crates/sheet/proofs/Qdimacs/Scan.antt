@@ -1,18 +1,18 @@
 -- The lists below the header, token by token: what a reader in one pass knows of a text at each place.
 -- Assumes nothing.
 use mathlib.Core.Path.{_≡_, refl, sym, _∙_, ap, ap₂, subst}
-use mathlib.Core.Bool.{Bool, true, false, not, _&&_, _||_, cond, and-true, false≢true}
-use mathlib.Core.List.{List, [], _∷_, _++_, append-nil, tail, flatten, flatMap}
-use Prim.Native.Nat.{ℕ, zero, suc, _+_}
+use mathlib.Core.Bool.{Bool, true, false, not, _&&_, cond, and-true, false≢true}
+use mathlib.Core.List.{List, [], _∷_, _++_, append-nil, append-assoc, flatten, flatMap}
+use Prim.Native.Nat.{ℕ, suc, _+_}
 use native.Mathlib.Omega.{arith}
 use lib.Dec.{eqb, leb}
 use lib.ListN.{length}
 use borrow.Author.Tests.{eqb-true, le-leb, not-true}
-use Rattle.formula.specs.Tree.{Quantifier, Binding, Prefix}
+use Rattle.formula.specs.Tree.{Quantifier, Prefix}
 use Rattle.formula.proofs.Booleans.{and-parts}
 use Rattle.sheet.specs.Qdimacs.{onto-first, split, is-nil, all, Token, opener, plain, minus, other, is-plain, is-whole, absolute, is-end, pieces, ended-lists, open-list, is-opener, is-quantified, are-clauses, in-order, well-listed, quantified, bindings, bound, clauses, numbers-of, above-count}
 use Rattle.sheet.proofs.Every.{Every}
-use Rattle.sheet.proofs.Qdimacs.Lists.{all-++, Cut, cut, Uncut, split-piece}
+use Rattle.sheet.proofs.Qdimacs.Lists.{all-++, cut, Uncut, split-piece}
 use Rattle.sheet.proofs.Qdimacs.Accepted.{whole-unquantified}
 use Rattle.sheet.proofs.Qdimacs.Answers.{lists, lists-uncut}
 
@@ -471,3 +471,31 @@ unfolding pieces ended-lists
 lists-∷ l ts u =
     let c = cut is-end ts in
     ap ended-lists (split-piece is-end l (plain 0) ts u refl) ∙ rw (c .cut-so)
+
+-- lists without a 0, joined, are the lists of what they make
+ended-front : (ls : List (List Token)) (l : List Token) → ended-lists (ls ++ l ∷ []) ≡ ls
+unfolding ended-lists
+ended-front [] l = refl
+ended-front (k ∷ []) l = refl
+ended-front (k ∷ m ∷ ls) l = ap {B = List (List Token)} (λ r. k ∷ r) (ended-front (m ∷ ls) l)
+
+open-last : (ls : List (List Token)) (l : List Token) → open-list (ls ++ l ∷ []) ≡ l
+unfolding open-list
+open-last [] l = refl
+open-last (k ∷ []) l = refl
+open-last (k ∷ m ∷ ls) l = open-last (m ∷ ls) l
+
+pieces-joined : (ls : List (List Token)) → Every (Uncut is-end) ls → pieces (joined ls) ≡ ls ++ [] ∷ []
+unfolding pieces flatMap split
+pieces-joined [] u = refl
+pieces-joined (l ∷ ls) u =
+    ap (split is-end) (append-assoc l (plain 0 ∷ []) (joined ls)) ∙ split-piece is-end l (plain 0) (joined ls) (u .0) refl ∙
+    ap {B = List (List Token)} (λ r. l ∷ r) (pieces-joined ls (u .1))
+
+pub lists-joined : (ls : List (List Token)) → Every (Uncut is-end) ls → lists (joined ls) ≡ ls
+lists-joined ls u = ap ended-lists (pieces-joined ls u) ∙ ended-front ls []
+
+pub well-listed-joined : (ls : List (List Token)) → Every (Uncut is-end) ls → in-order ls ≡ true → well-listed (joined ls) ≡ true
+unfolding well-listed is-nil
+well-listed-joined ls u h =
+    ap₂ _&&_ (ap in-order (lists-joined ls u) ∙ h) (ap (λ (ps : List (List Token)). is-nil (open-list ps)) (pieces-joined ls u) ∙ ap is-nil (open-last ls []))

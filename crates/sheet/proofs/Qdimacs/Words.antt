@@ -2,20 +2,19 @@
 -- nothing.
 -- Assumes nothing.
 use mathlib.Core.Path.{_≡_, refl, sym, _∙_, ap, ap₂, subst}
-use mathlib.Core.Bool.{Bool, true, false, not, _&&_, _||_, cond, false≢true}
-use mathlib.Core.List.{List, [], _∷_, _++_, append-assoc, map, tail, flatMap}
+use mathlib.Core.Bool.{Bool, true, false, not, _&&_, _||_, cond}
+use mathlib.Core.List.{List, [], _∷_, _++_, map, flatMap}
 use Prim.Native.Nat.{ℕ, zero, suc, _-_, _≤_, _<_}
 use native.Mathlib.Omega.{arith}
 use lib.Dec.{eqb, leb}
 use lib.ListN.{length, getD, replicate}
-use borrow.Author.Tests.{leb-true, ne-eqb, eqb-true, not-true}
-use Rattle.formula.proofs.Booleans.{and-parts, or-later}
-use Rattle.formula.specs.Tree.{exists, for-all}
+use borrow.Author.Tests.{leb-true, ne-eqb}
+use Rattle.formula.proofs.Booleans.{and-parts}
 use Rattle.sheet.specs.Format.{Bytes, Format}
 use Rattle.sheet.specs.Sheet.{sheet}
-use Rattle.sheet.specs.Operations.{Written, write}
-use Rattle.sheet.specs.Qdimacs.{split, is-nil, nonempty, all, line-end, blank, lines, words, digit, unsigned, number-from, negative, magnitude, is-word, is-e, is-a, Token, opener, plain, minus, other, token, is-comment, from-header, Header, header-of, text-header, words-below, tokens-below, said, qdimacs, said-tests, qdimacs-tests, qdimacs-call}
-use Rattle.sheet.proofs.Qdimacs.Lists.{flatMap-++, Uncut, split-++, split-separator, split-uncut, split-piece, split-either, nonempty-++, nonempty-flatMap}
+use Rattle.sheet.specs.Operations.{write}
+use Rattle.sheet.specs.Qdimacs.{split, is-nil, nonempty, all, line-end, blank, lines, words, digit, unsigned, number-from, negative, magnitude, is-word, Token, plain, minus, other, token, is-comment, from-header, Header, header-of, text-header, words-below, tokens-below, said, qdimacs, said-tests, qdimacs-tests, qdimacs-call}
+use Rattle.sheet.proofs.Qdimacs.Lists.{Uncut, split-++, split-separator, split-uncut, split-piece, split-either, nonempty-++, nonempty-flatMap}
 
 -- separators
 
@@ -48,14 +47,23 @@ separator-again l c d r e f =
     separated-++ l c (d ∷ r) e ∙ ap (λ (ws : List Bytes). separated l ++ ws) (separated-separator d r f) ∙ sym (separated-++ l c r e)
 
 -- a word up to the next separator, or to the end
-pub separated-word : (c : ℕ) (w : Bytes) (d : ℕ) (r : Bytes) → Uncut separator (c ∷ w) → separator d ≡ true
-    → separated ((c ∷ w) ++ d ∷ r) ≡ (c ∷ w) ∷ separated r
-unfolding separated nonempty is-nil
-separated-word c w d r u e = ap nonempty (split-piece separator (c ∷ w) d r u e)
+pub nonempty-word : (p : ℕ → Bool) (w : Bytes) (c : ℕ) (r : Bytes) → is-nil w ≡ false → Uncut p w → p c ≡ true
+    → nonempty (split p (w ++ c ∷ r)) ≡ w ∷ nonempty (split p r)
+unfolding nonempty
+nonempty-word p w c r h u e = ap nonempty (split-piece p w c r u e) ∙ rw h
 
-pub separated-last : (c : ℕ) (w : Bytes) → Uncut separator (c ∷ w) → separated (c ∷ w) ≡ (c ∷ w) ∷ []
-unfolding separated nonempty is-nil
-separated-last c w u = ap nonempty (split-uncut separator (c ∷ w) u)
+pub nonempty-last : (p : ℕ → Bool) (w : Bytes) → is-nil w ≡ false → Uncut p w → nonempty (split p w) ≡ w ∷ []
+unfolding nonempty
+nonempty-last p w h u = ap nonempty (split-uncut p w u) ∙ rw h
+
+pub separated-word : (w : Bytes) (c : ℕ) (r : Bytes) → is-nil w ≡ false → Uncut separator w → separator c ≡ true
+    → separated (w ++ c ∷ r) ≡ w ∷ separated r
+unfolding separated
+separated-word w c r h u e = nonempty-word separator w c r h u e
+
+pub separated-last : (w : Bytes) → is-nil w ≡ false → Uncut separator w → separated w ≡ w ∷ []
+unfolding separated
+separated-last w h u = nonempty-last separator w h u
 
 -- lines
 
