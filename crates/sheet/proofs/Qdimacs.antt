@@ -4,7 +4,7 @@ pub mod Lists
 pub mod Accepted
 pub mod Answers
 pub mod Words
-pub mod Scan
+pub mod Joined
 pub mod Rows
 pub mod Printed
 pub mod Examples

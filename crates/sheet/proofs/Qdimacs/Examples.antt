@@ -67,6 +67,9 @@ texts =
     tried "p cnf 2 1 0" (refused 15 0) ∷
     tried "p cnf -2 1\n1 0" (refused 15 0) ∷
     tried "p cnf 257 1\n1 0" (refused 15 0) ∷
+    -- a comment begins with the line's first byte, and is no header
+    tried " c\np cnf 0 0" (refused 15 0) ∷
+    tried "c p cnf 0 0" (refused 15 0) ∷
     -- a clause count of any size is a number
     tried "p cnf 2 99999999999999999999\n1 0" (refused 17 0) ∷
     -- bound twice
@@ -78,6 +81,10 @@ texts =
     -- the lowest 32-bit number is out of range, and so are digits without end
     tried "p cnf 2 1\n-2147483648 0" (refused 17 0) ∷
     tried "p cnf 2 1\n123456789012345678901234567890 0" (refused 17 0) ∷
+    -- more rows than the output has room for
+    tried "p cnf 2 1\n1 1 1 1 1 1 1 1 1 1 1 1 1 1 1 1 1 1 1 1 0" (refused 13 0) ∷
+    -- the highest number
+    tried "p cnf 256 1\n-256 0" (accepted 16) ∷
     -- an empty clause; no clause at all; a quantifier line without variables
     tried "p cnf 2 1\n0" (accepted 10) ∷
     tried "p cnf 0 0" (accepted 7) ∷

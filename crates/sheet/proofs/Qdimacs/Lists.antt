@@ -2,7 +2,7 @@
 -- Assumes nothing.
 use mathlib.Core.Path.{_≡_, refl, sym, _∙_, ap, ap₂}
 use mathlib.Core.Bool.{Bool, true, false, not, _&&_, _||_, cond, and-assoc, false≢true}
-use mathlib.Core.List.{List, [], _∷_, _++_, append-assoc, flatMap}
+use mathlib.Core.List.{List, [], _∷_, _++_, flatMap}
 use Rattle.sheet.specs.Qdimacs.{onto-first, split, is-nil, nonempty, all}
 use Rattle.sheet.proofs.Every.{Every}
 use Rattle.formula.proofs.Booleans.{and-parts}
@@ -28,13 +28,6 @@ all-leads p q f [] h = refl
 all-leads p q f (a ∷ l) h =
     let s = and-parts (p a) (all p l) h in
     ap₂ _&&_ (f a (s .0)) (all-leads p q f l (s .1))
-
--- flatMap
-
-pub flatMap-++ : {A B : Type 0} (f : A → List B) (k l : List A) → flatMap f (k ++ l) ≡ flatMap f k ++ flatMap f l
-unfolding flatMap
-flatMap-++ f [] l = refl
-flatMap-++ f (a ∷ k) l = ap (λ (r : List _). f a ++ r) (flatMap-++ f k l) ∙ sym (append-assoc (f a) (flatMap f k) (flatMap f l))
 
 -- split
 

@@ -20,7 +20,7 @@ use Rattle.sheet.proofs.Every.{Every, every-++}
 use Rattle.sheet.proofs.Limits.{numbered-∷, binds-positive}
 use Rattle.sheet.proofs.Qdimacs.Lists.{all-++, all-leads, Uncut}
 use Rattle.sheet.proofs.Qdimacs.Words.{separator, separated, nonempty-word, nonempty-last, separated-word, is-skipped, TextWords, at-header, unsigned-magnitude, plain-token, negated, minus-token}
-use Rattle.sheet.proofs.Qdimacs.Scan.{joined, clauses-all, clauses-bind-none, lists-joined, well-listed-joined}
+use Rattle.sheet.proofs.Qdimacs.Joined.{joined, clauses-all, clauses-bind-none, lists-joined, well-listed-joined}
 use Rattle.sheet.proofs.Qdimacs.Answers.{lists, bad-header, bad-counts, accepts}
 use Rattle.sheet.proofs.Carrying.{holds}
 use Rattle.sheet.proofs.Qdimacs.Accepted.{whole-unquantified, named-++, named-lists}
