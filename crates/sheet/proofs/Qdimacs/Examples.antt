@@ -52,8 +52,10 @@ texts =
     -- nor is a plus sign with digits, or digits with a letter
     tried "p cnf 2 1\n+1 0" (refused 16 0) ∷
     tried "p cnf 2 1\n1x 0" (refused 16 0) ∷
-    -- a list open at the end, with a variable above the count: 16 comes before 17
-    tried "p cnf 2 1\n1 0 3" (refused 16 0) ∷
+    -- a list that is open at the end
+    tried "p cnf 2 1\n1 0 2" (refused 16 0) ∷
+    -- 16 behind a variable above the count, and too many clauses
+    tried "p cnf 2 1\n3 0 1 0 x" (refused 16 0) ∷
     -- a variable above the count, in a clause and in a quantifier line
     tried "p cnf 2 1\n3 0" (refused 17 0) ∷
     tried "p cnf 2 1\ne 3 0 1 0" (refused 17 0) ∷
