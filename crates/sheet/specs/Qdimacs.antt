@@ -133,7 +133,7 @@ header-of ws =
       clause-count = magnitude (word 3);
     }
 
--- its line is the first one; where there is none, no words are no header
+-- its line is the first that is left; where none is, there are no words and no header
 unfoldable pub text-header : Bytes → Header
 text-header t = header-of (words (getD (from-header (lines t)) 0 []))
 
@@ -174,7 +174,7 @@ unfoldable pub is-quantified : List Token → Bool
 is-quantified [] = false
 is-quantified (t ∷ ts) = is-opener t
 
--- quantifier lines of plain numbers, then clauses of whole ones, each ended
+-- quantifier lines of numbers without sign, then clauses of whole numbers, each ended
 unfoldable pub are-clauses : List (List Token) → Bool
 are-clauses ls = all (λ l. all is-whole l) ls
 
@@ -204,7 +204,7 @@ unfoldable pub clauses : List (List Token) → List (List Token)
 clauses [] = []
 clauses (l ∷ ls) = cond (is-quantified l) (clauses ls) (l ∷ clauses ls)
 
--- a clause is OR of its literals, a minus number being the negated one, and the tree AND of the clauses
+-- a clause is OR of its literals, a negative number being the negated one; the tree is AND of the clauses
 unfoldable pub literals : List Token → Forest
 literals [] = ∅
 literals (t ∷ ts) = lit (is-plain t) (absolute t) ▸ literals ts
