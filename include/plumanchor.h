@@ -146,4 +146,12 @@ uint64_t plumanchor_compare(const uint8_t *a, size_t a_length, const uint8_t *b,
 uint64_t plumanchor_compare_wide(const uint8_t *a, size_t a_length, const uint8_t *b, size_t b_length, uint8_t *first,
                                  size_t first_room, uint8_t *second, size_t second_room);
 
+/* QDIMACS in (N1): the sheet that a QDIMACS 1.1 text of any length says, to the front of the output, zeros behind it. Accepted: the
+ * sheet's length in HIGH. Refused, with place 0 and each of the whole text before the next: 15 the header; 16 what stands below it isn't
+ * lists of whole numbers ended by 0, or a quantifier list holds a negative number or comes after a clause; 17 a variable above the
+ * header's count, or not as many clauses as it says; 6 bound twice; 2 too many nodes; 13 an output shorter than the sheet. No byte of the
+ * output changes then. The two may not overlap. The second function writes a wide sheet. */
+uint64_t plumanchor_qdimacs(const uint8_t *text, size_t length, uint8_t *output, size_t room);
+uint64_t plumanchor_qdimacs_wide(const uint8_t *text, size_t length, uint8_t *output, size_t room);
+
 #endif

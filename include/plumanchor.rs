@@ -53,6 +53,8 @@ pub struct Entries {
     pub force: Forces,
     pub guards: Sifts,
     pub steps: Lists,
+    /// The sheet that a QDIMACS text says.
+    pub qdimacs: Writes,
 }
 
 pub const NARROW: Entries = Entries {
@@ -73,6 +75,7 @@ pub const NARROW: Entries = Entries {
     force: plumanchor_force,
     guards: plumanchor_guards,
     steps: plumanchor_steps,
+    qdimacs: plumanchor_qdimacs,
 };
 
 pub const WIDE: Entries = Entries {
@@ -93,6 +96,7 @@ pub const WIDE: Entries = Entries {
     force: plumanchor_force_wide,
     guards: plumanchor_guards_wide,
     steps: plumanchor_steps_wide,
+    qdimacs: plumanchor_qdimacs_wide,
 };
 
 extern "C" {
@@ -295,4 +299,9 @@ extern "C" {
         second: Output,
         second_room: usize,
     ) -> u64;
+}
+
+extern "C" {
+    fn plumanchor_qdimacs(text: Bytes, length: usize, output: Output, room: usize) -> u64;
+    fn plumanchor_qdimacs_wide(text: Bytes, length: usize, output: Output, room: usize) -> u64;
 }

@@ -132,6 +132,16 @@ impl Library {
         )
     }
 
+    pub fn agree_on_qdimacs(&self, text: &[u8], before: &[u8]) -> Written {
+        agree(
+            "qdimacs",
+            text,
+            [before],
+            |[output]| self.qdimacs(text, output),
+            |[output]| self.reading.qdimacs(text, output),
+        )
+    }
+
     /// Carrying over to this format, or bringing back to it.
     pub fn agree_on_carry(&self, sheet: &[u8], before: &[u8]) -> Written {
         let carry = if self.reading.format == Format::WIDE { widen } else { bring_back };

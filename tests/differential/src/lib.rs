@@ -128,6 +128,12 @@ impl Library {
         written(unsafe { (self.entries.carry)(sheet.as_ptr(), sheet.len(), out, room) })
     }
 
+    /// The sheet that a QDIMACS text says.
+    pub fn qdimacs(&self, text: &[u8], output: &mut [u8]) -> Answer<usize> {
+        let (out, room) = (output.as_mut_ptr(), output.len());
+        written(unsafe { (self.entries.qdimacs)(text.as_ptr(), text.len(), out, room) })
+    }
+
     /// The raw rows of an expansion.
     pub fn quote(&self, sheet: &[u8], x: Variable) -> Answer<usize> {
         written(unsafe { (self.entries.quote)(sheet.as_ptr(), sheet.len(), x) })
