@@ -14,12 +14,15 @@ use crate::refusal::Refusal;
 pub enum Notation {
     Sheet(&'static Format),
     Qcir,
+    /// QDIMACS 1.1: only read, by the proved operation.
+    Qdimacs,
     /// A number and a name a line: only written.
     Names,
 }
 
 /// The notations of texts, and what they are called.
-const TEXTS: [(&str, Notation); 2] = [("qcir", Notation::Qcir), ("names", Notation::Names)];
+const TEXTS: [(&str, Notation); 3] =
+    [("qcir", Notation::Qcir), ("qdimacs", Notation::Qdimacs), ("names", Notation::Names)];
 
 /// A sheet, and what its variables are called where it comes from.
 pub struct Input {
@@ -54,6 +57,9 @@ impl Notation {
                 let (formula, names) =
                     read.map_err(|fault| Failure::Unusable(fault.to_string()))?;
                 Ok(Input { sheet: Sheet { format, bytes: formula.encode(format) }, names })
+            }
+            Notation::Qdimacs => {
+                Ok(Input { sheet: Sheet::of_qdimacs(&bytes, format)?, names: Names::default() })
             }
             Notation::Names => Err(Misuse::new("names alone are no formula").into()),
         }
@@ -93,6 +99,15 @@ pub fn input(mut arguments: Arguments, format: &'static Format) -> Result<Input,
         input.names = read.map_err(|why| Misuse::new(format!("{file}: {why}")))?;
     }
     Ok(input)
+}
+
+/// The same for a run, whose line tells a text's refusal too.
+pub fn of_run(arguments: Arguments) -> Result<Result<Input, Refusal>, Failure> {
+    match input(arguments, DEFAULT) {
+        Err(Failure::Refused(refusal)) => Ok(Err(refusal)),
+        Err(failure) => Err(failure),
+        Ok(input) => Ok(Ok(input)),
+    }
 }
 
 /// What an operation makes of the variable that the next word names and of the

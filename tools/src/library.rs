@@ -81,6 +81,18 @@ struct Accepted {
 // Every call is sound: each pointer comes with the length of a slice that lives until the call
 // returns, and outputs are borrowed for it alone.
 impl Sheet {
+    /// The sheet of a format that a QDIMACS text says.
+    pub fn of_qdimacs(text: &[u8], format: &'static Format) -> Result<Sheet, Refusal> {
+        let mut bytes = vec![0; format.longest()];
+        let (output, room) = (bytes.as_mut_ptr(), bytes.len());
+        let answer = unsafe { (format.entries.qdimacs)(text.as_ptr(), text.len(), output, room) };
+        match answer as u8 {
+            0 => bytes.truncate((answer >> 32) as usize),
+            number => return Err(Refusal::of_text(number)),
+        }
+        Ok(Sheet { format, bytes })
+    }
+
     /// V and N.
     pub fn check(&self) -> Result<(usize, usize), Refusal> {
         let answer = unsafe { (self.format.entries.check)(self.bytes.as_ptr(), self.bytes.len()) };

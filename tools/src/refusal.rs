@@ -10,6 +10,7 @@ pub struct Refusal {
     pub number: u8,
     pub place: usize,
     evidence: Option<String>,
+    is_of_text: bool,
 }
 
 impl Refusal {
@@ -24,17 +25,24 @@ impl Refusal {
                 .map(|row| format!("row {place}, counted from 0: {row}")),
             _ => None,
         };
-        Refusal { number, place, evidence }
+        Refusal { number, place, evidence, is_of_text: false }
+    }
+
+    /// A text's refusal, which has no place.
+    pub fn of_text(number: u8) -> Refusal {
+        Refusal { number, place: 0, evidence: None, is_of_text: true }
     }
 
     /// What the number means.
     fn meaning(&self) -> &'static str {
         match self.number {
             1 => "the sheet is shorter than its two sizes",
+            2 if self.is_of_text => "the text has more nodes than a sheet",
             2 => "a size is outside its limits",
             3 => "the sheet's length is not that of its sizes",
             4 => "the row's kind is none that may stand there",
             5 => "the quantifier's number is outside its limits",
+            6 if self.is_of_text => "a variable is bound twice",
             6 => "the row binds a number that is bound already",
             7 => "the literal's variable is not bound",
             8 if self.evidence.is_none() => "the rows end before the tree does",

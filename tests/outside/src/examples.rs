@@ -1,8 +1,10 @@
 //! The sheets of `examples/`: document 01's formulas, some that are refused or
 //! stopped at, and a question of the print works, each with the program's line.
 //! All are wide, as the program reads them, but for those of `examples/narrow`.
+//! Two texts in QDIMACS stand beside them.
 
 use crate::formulas::*;
+use crate::literature::LITERATURE;
 use crate::reference::{Format, Node, Quantifier};
 use Quantifier::{Exists, ForAll};
 
@@ -102,3 +104,52 @@ pub fn narrow_examples() -> Vec<Example> {
         example("press-line", "true 0 3 0", "the press line", press_line(Format::NARROW)),
     ]
 }
+
+/// A text in QDIMACS, with the line of `solve --from qdimacs`.
+pub struct TextExample {
+    pub name: &'static str,
+    pub says: &'static str,
+    pub text: String,
+    pub line: &'static str,
+}
+
+pub fn text_examples() -> Vec<TextExample> {
+    let equality = LITERATURE.iter().find(|family| family.name == "equality");
+    let equality = equality.expect("a family of the literature").qdimacs(3).text();
+    vec![
+        TextExample {
+            name: "press-line",
+            says: "the press line as clauses: the very rows of `press-line`",
+            text: String::from(PRESS_LINE),
+            line: "true 0 3 0",
+        },
+        TextExample {
+            name: "equality",
+            says: "equality for n = 3, of Beyersdorff, Blinkhorn and Hinde, 2018: some t is true, and none \
+                   may be whose u is its x",
+            text: format!("{EQUALITY}{equality}"),
+            line: "false 2 6 0",
+        },
+    ]
+}
+
+const PRESS_LINE: &str = "\
+c The press sends signal 1, and valve 2 answers; then it sends signal 3, and valve 4 answers.
+c Sheets keep moving if valve 2 is open exactly with signal 1, and valve 4 exactly with one of the signals.
+p cnf 4 6
+a 1 0
+e 2 0
+a 3 0
+e 4 0
+-1 2 0
+1 -2 0
+1 3 -4 0
+1 -3 4 0
+-1 3 4 0
+-1 -3 -4 0
+";
+
+const EQUALITY: &str = "\
+c Equality for n = 3: Beyersdorff, Blinkhorn, Hinde, Size, cost and capacity, 2018.
+c Exists x1 x2 x3, for all u1 u2 u3, exists t1 t2 t3: some t is true, and ti is false if ui is xi.
+";

@@ -1,6 +1,6 @@
 //! The stored examples are the ones that `write_examples` writes, and the reference solves them with their lines.
 
-use outside::examples::{examples, narrow_examples, Example};
+use outside::examples::{examples, narrow_examples, text_examples, Example};
 use outside::reference::{Format, Reading};
 use outside::with_deep_stack;
 use std::fs;
@@ -31,6 +31,21 @@ fn reference_gives_the_examples_lines() {
             }
         }
     });
+}
+
+#[test]
+fn texts_are_stored_and_give_their_lines() {
+    let folder = concat!(env!("CARGO_MANIFEST_DIR"), "/../../examples");
+    for example in text_examples() {
+        let name = format!("{folder}/{}.qdimacs", example.name);
+        assert_eq!(fs::read(&name).expect(&name), example.text.as_bytes(), "{name}");
+        let mut output = vec![0; Format::WIDE.longest_sheet()];
+        let read = Reading::WIDE.qdimacs(example.text.as_bytes(), &mut output);
+        let sheet = &output[..read.accepted().expect(&name)];
+        assert_eq!(Reading::WIDE.program_line(sheet), example.line, "{name}");
+        let fellow = examples().into_iter().find(|fellow| fellow.name == example.name);
+        assert!(fellow.is_none_or(|fellow| fellow.sheet == sheet), "{name}");
+    }
 }
 
 /// The rows of a narrow example are those of its fellow.

@@ -30,9 +30,10 @@ pub const COMMAND: Command = Command {
 fn run(mut arguments: Arguments) -> Result<Answer, Failure> {
     let room = arguments.number_option("room")?;
     let folder = arguments.option("sheets");
-    let Input { sheet, names } = input::input(arguments, DEFAULT)?;
-    let sheet = match sheet.carried(DEFAULT) {
-        Ok(sheet) => sheet,
+    let carried = input::of_run(arguments)?
+        .and_then(|Input { sheet, names }| Ok((sheet.carried(DEFAULT)?, names)));
+    let (sheet, names) = match carried {
+        Ok(carried) => carried,
         Err(refusal) => return Ok(Answer::of_run(String::new(), Err(refusal))),
     };
     let room = sheet.room(room);

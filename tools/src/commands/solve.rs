@@ -14,7 +14,8 @@ pub const COMMAND: Command = Command {
            Writes the program's line: true, false, stopped or refused; how many variables were\n\
            settled; how many expanded; 0, the variable stopped at or the refusal's number. The two\n\
            work buffers have the program's length, or BYTES each. A sheet of 16-bit numbers, '--from\n\
-           narrow', is carried over to the program's format first, by the proved operation.\n\
+           narrow', is carried over to the program's format first, by the proved operation, and a text\n\
+           in QDIMACS 1.1, '--from qdimacs', is read by it.\n\
            '--reached FILE' keeps the sheet reached, from which 'resume' goes on.\n",
     options: &["from", "room", "reached"],
     run,
@@ -23,7 +24,7 @@ pub const COMMAND: Command = Command {
 fn run(mut arguments: Arguments) -> Result<Answer, Failure> {
     let room = arguments.number_option("room")?;
     let file = arguments.option("reached");
-    let sheet = input::sheet(arguments)?.carried(DEFAULT);
+    let sheet = input::of_run(arguments)?.and_then(|input| input.sheet.carried(DEFAULT));
     let started =
         sheet.as_ref().ok().and_then(|sheet| sheet.check().ok()).map_or(0, |sizes| sizes.0);
     reached(started, file, sheet.and_then(|sheet| sheet.reach(sheet.room(room))))
