@@ -20,6 +20,7 @@ ghost use Rattle.packing.specs.Packed.{packed-check, packed-trial, packed-writt
 pub mod copies;
 mod panel;
 pub mod resuming;
+pub mod texts;
 pub mod wide;
 
 // Check: refusal number and place, or V and N.

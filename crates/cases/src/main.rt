@@ -9,6 +9,8 @@
 // whose number is the length of its second buffer and whose list that of its first, told in the same way; k is Compare with
 // the sheet in the list, in an output and a buffer of the number's length. Outputs are filled with one byte before, so that the sums tell zeros and bytes left alone too.
 //
+// Of m, QDIMACS in, the sheet's bytes are the text.
+//
 // The same letters as capitals take the sheet for a wide one (N11), and their lines begin with that word. W carries a narrow sheet over to
 // the wide format, N brings a wide one back.
 mod answers;

@@ -81,6 +81,12 @@ fn run_sort(sheet: &[u8], out: &mut [u8]) {
     print_written(answer, out);
 }
 
+fn run_qdimacs(text: &[u8], out: &mut [u8]) {
+    io::write_all(1, b"qdimacs");
+    let answer = qdimacs::qdimacs(text, out);
+    print_written(answer, out);
+}
+
 fn run_writing(operation: u8, number: usize, sheet: &[u8], out: &mut [u8]) {
     fill(out);
     if operation == b'd' {
@@ -97,6 +103,10 @@ fn run_writing(operation: u8, number: usize, sheet: &[u8], out: &mut [u8]) {
     }
     if operation == b'a' {
         run_sort(sheet, out);
+        return;
+    }
+    if operation == b'm' {
+        run_qdimacs(sheet, out);
         return;
     }
     run_expand(sheet, number, out);

@@ -141,6 +141,12 @@ fn run_guards(sheet: &[u8], list: &[u8], out: &mut [u8], length: usize) {
     guards_beside(sheet, out, first, length);
 }
 
+fn run_qdimacs(text: &[u8], out: &mut [u8]) {
+    io::write_all(1, b"qdimacs");
+    let answer = qdimacs::qdimacs_wide(text, out);
+    print_written(answer, out);
+}
+
 fn run_writing(operation: u8, number: usize, sheet: &[u8], list: &[u8], out: &mut [u8]) {
     fill(out);
     if operation == b'D' {
@@ -153,6 +159,10 @@ fn run_writing(operation: u8, number: usize, sheet: &[u8], list: &[u8], out: &mu
     }
     if operation == b'A' {
         run_sort(sheet, out);
+        return;
+    }
+    if operation == b'M' {
+        run_qdimacs(sheet, out);
         return;
     }
     if operation == b'S' {

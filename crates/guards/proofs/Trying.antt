@@ -18,6 +18,7 @@ use Rattle.rows.specs.Layouts.{total, size, rows-in, Room}
 use Rattle.rows.specs.Formulas.{prefix-in, formula-in}
 use Rattle.rows.specs.declared.Layout.{Layout}
 use Rattle.rows.proofs.Formulas.{length-prefix, formula-written}
+use Rattle.tidying.specs.Limits.{Few}
 use Rattle.tidying.proofs.Raw.{few-rows, raw-rows}
 use Rattle.solve.specs.Answers.{solved-answer}
 use Rattle.solve.specs.Inner.Running.{RawReady, answered, solution}
@@ -62,7 +63,7 @@ module _ {F : Format} {s : Layout} {b : Bytes} {ends ks : List ℕ} {p : Part} {
   read : formula-in t new ≡ g
   read = formula-written t new g is variables-are
 
-  few : total t < 256 ^ t .width
+  few : Few t
   unfolding rows
   few =
       few-rows (h .countable) t width-is (omega (arith, variables-are, h .within .few-variables))

@@ -33,6 +33,8 @@ pub enum Letter {
     Quote = b'q',
     Execute = b'x',
     Outer = b'u',
+    /// The sheet's bytes are the text.
+    Qdimacs = b'm',
     Solve = b'o',
     Force = b'f',
     Guards = b'g',

@@ -62,6 +62,7 @@ fn line(reading: Reading, sheet: &[u8], call: &Call) -> String {
         Letter::Force => force_line(reading, sheet, &call.list, room, number),
         Letter::Guards => guards_line(reading, sheet, room, call.first_of_list(), number),
         Letter::Sort => written_line("sort", room, |output| reading.sort(sheet, output)),
+        Letter::Qdimacs => written_line("qdimacs", room, |output| reading.qdimacs(sheet, output)),
         Letter::Compare => compare_line(reading, sheet, &call.list, room, number),
         Letter::Widen => written_line("widen", room, |output| widen(sheet, output)),
         Letter::BringBack => written_line("bring back", room, |output| bring_back(sheet, output)),

@@ -4,8 +4,8 @@ use super::{Call, Case, Letter, SHORT};
 use crate::formulas::*;
 use crate::generate::{deep_formula, ladder_formula, limit_sheets, wide_formula, with_variables};
 use crate::reference::{
-    block_behind, raw_rows, Format, Formula, Move, Node, Operation, Quantifier, Reading, Row,
-    Variable,
+    block_behind, raw_rows, Answer, Format, Formula, Move, Node, Operation, Quantifier, Reading,
+    Row, Variable,
 };
 use Quantifier::{Exists, ForAll};
 
@@ -167,7 +167,50 @@ fn cases_of(reading: Reading) -> Vec<Case> {
     cases.extend(guards_cases(format));
     cases.extend(ordered(format));
     cases.extend(outer_cases(format));
+    cases.extend(text_cases(format));
     cases
+}
+
+/// QDIMACS in (N1): a text for each point that a reader could get wrong, in outputs that suffice and that lack a byte.
+fn text_cases(format: Format) -> Vec<Case> {
+    let texts = [
+        "c a comment\n\n p cnf 3 2 \ne 3 0\na 1 0\n1 -2 0 -3 02 0",
+        "p cnf 2 3\na\t1\r\n2 0 0 0\n-1\n2 0",
+        "p cnf 0 0",
+        "p cnf 2 0\ne 0 a 2 0",
+        "p cnf 1 1 1\n1 0",
+        "p cnf +1 1\n1 0",
+        "p cnf 1025 0",
+        "p cnf 257 1\n257 0",
+        "1 0",
+        "",
+        "p cnf 2 1\n1 -0 0",
+        "p cnf 2 1\n1x 0",
+        "p cnf 2 1\n+1 0",
+        "p cnf 2 1\n1 0 2",
+        "p cnf 2 1\n3 0\nc below\n",
+        "p cnf 2 1\n1 0\ne 2 0",
+        "p cnf 2 1\ne -1 0 1 0",
+        "p cnf 2 1\n1 e 2 0",
+        "p cnf 2 1\n-2147483648 0",
+        "p cnf 2 1\n99999999999999999999999999999999 0",
+        "p cnf 2 1\ne 3 0 1 0",
+        "p cnf 2 99999999999999999999\n1 0",
+        "p cnf 2 1\ne 1 0 a 1 0 2 0",
+    ];
+    let mut texts: Vec<Vec<u8>> = texts.map(|text| text.as_bytes().to_vec()).into();
+    for clauses in [format.most_nodes - 1, format.most_nodes] {
+        texts.push(format!("p cnf 1 {clauses}\n{}", "0 ".repeat(clauses)).into_bytes());
+    }
+    let reading = Reading { format, ..Reading::NARROW };
+    let case = |text: Vec<u8>| {
+        let room = match reading.qdimacs(&text, &mut vec![0; format.longest_sheet()]) {
+            Answer::Accepted(length) => length,
+            Answer::Refused(..) => SHORT,
+        };
+        Case { sheet: text, calls: at_limit(Letter::Qdimacs, 0, room).into() }
+    };
+    texts.into_iter().map(case).collect()
 }
 
 /// The step one block out (N6) of every variable and of two other numbers, in an output that suffices and in one a byte too short.
