@@ -11,7 +11,7 @@ ghost use mathlib.Core.Path.{_≡_};
 ghost use mathlib.Core.Bool.{cond};
 ghost use Prim.Native.Nat.{_<_};
 ghost use Rattle.formula.specs.Tidy.{is-tidy, first-fault};
-ghost use Rattle.rows.specs.Formulas.{matrix-in, Readable};
+ghost use Rattle.rows.specs.Formulas.{matrix-in};
 ghost use Rattle.subtrees.specs.Subtrees.{subtree-in, siblings-in, Beside};
 ghost use Rattle.subtrees.specs.Ends.{Indexed};
 ghost use Rattle.tidiness.specs.Faults.{some-kind, plain-fault};

@@ -1,20 +1,19 @@
 -- Two subtrees compared row by row: what is left of the rows decides whether they are the same.
 -- Assumes nothing.
 use mathlib.Core.Path.{_≡_, refl, sym, ap, ap₂, _∙_}
-use mathlib.Core.Bool.{Bool, true, false, not, _&&_, and-assoc, and-true, true≢false}
-use mathlib.Core.List.{List}
+use mathlib.Core.Bool.{Bool, true, false, _&&_, and-assoc, and-true, true≢false}
 use Prim.Native.Nat.{ℕ, zero, suc, _+_, _-_, _≤_, _<_}
 use native.Mathlib.Omega.{arith}
 use lib.Dec.{eqb}
 use lib.ListN.{length, length-drop}
 use borrow.Author.Tests.{eqb-true, eq-eqb, ne-eqb}
-use Rattle.formula.specs.Tree.{Op, and, or, same-op, Tree, lit, node, Forest, ∅, _▸_, rows-all, count, _⧺_}
+use Rattle.formula.specs.Tree.{and, or, Tree, lit, node, Forest, ∅, _▸_, rows-all, count, _⧺_}
 use Rattle.formula.specs.Tidy.{same-tree, same-trees}
 use Rattle.formula.proofs.Booleans.{and-parts}
 use Rattle.formula.proofs.Tidy.Same.{same-tree-same}
 use Rattle.formula.proofs.Tidy.Children.{count-⧺}
 use Rattle.sheet.specs.Format.{Bytes, row, children}
-use Rattle.sheet.specs.Sheet.{front, trees, root}
+use Rattle.sheet.specs.Sheet.{front, trees}
 use Rattle.sheet.proofs.Preorder.{length-forest-rows}
 use Rattle.rows.specs.Formulas.{node-rows-in, Readable}
 use Rattle.rows.specs.declared.Layout.{Layout}

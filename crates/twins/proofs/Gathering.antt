@@ -1,21 +1,21 @@
 -- Siblings gathered one by one: what a sibling more does to the members.
 -- Assumes nothing.
 use mathlib.Core.Path.{_≡_, refl, sym, ap, ap₂, _∙_, subst}
-use mathlib.Core.Bool.{Bool, true, false, _||_, or-false, or-comm}
+use mathlib.Core.Bool.{Bool, _||_, or-false, or-comm}
 use mathlib.Core.List.{List}
 use Prim.Native.Nat.{ℕ, zero, suc, _+_, _*_, _/_, _%_, _-_, _≤_, _<_}
 use native.Mathlib.Numerals.{add-one}
 use native.Mathlib.Omega.{arith}
 use lib.ListN.{length, getD, set}
 use lib.Seq.{getD-set-same, getD-set-other}
-use Rattle.formula.specs.Tree.{and, or, Tree, lit, node, Forest, ∅, _▸_, _⧺_, rows, rows-all, count, some-child, some-two}
+use Rattle.formula.specs.Tree.{Tree, Forest, ∅, _▸_, _⧺_, count, some-child, some-two}
 use Rattle.formula.proofs.Tidy.Children.{some-child-⧺, some-two-⧺, count-⧺, ⧺-assoc, ⧺-none}
 use Rattle.buckets.specs.Prints.{print}
 use Rattle.buckets.proofs.Prints.{print-few}
 use Rattle.sheet.specs.Format.{Bytes}
 use Rattle.rows.specs.Formulas.{Readable}
 use Rattle.rows.specs.declared.Layout.{Layout}
-use Rattle.subtrees.specs.Subtrees.{top, kids, subtree-in, siblings-in, Beside}
+use Rattle.subtrees.specs.Subtrees.{kids, subtree-in, siblings-in, Beside}
 use Rattle.subtrees.proofs.Forest.{rows-kids}
 use Rattle.subtrees.proofs.Siblings.{Walked, Children, siblings-none, subtree-within}
 use Rattle.twins.specs.Members.{clash, tree-of, Member, some-member, clashes-with, two-clash, Gathered, Adds}

@@ -1,11 +1,11 @@
 -- Siblings that may not stand side by side, as they are looked for: a member is a child, by its row and its print.
 -- Assumes nothing.
 use mathlib.Core.Path.{_≡_}
-use mathlib.Core.Bool.{Bool, true, false, _||_, _&&_}
+use mathlib.Core.Bool.{Bool, false, _||_, _&&_}
 use mathlib.Core.List.{List}
-use Prim.Native.Nat.{ℕ, zero, suc, _/_, _%_, _≤_, _<_}
+use Prim.Native.Nat.{ℕ, zero, suc, _/_, _%_, _<_}
 use lib.Dec.{eqb}
-use lib.ListN.{length, getD}
+use lib.ListN.{getD}
 use Rattle.formula.specs.Tree.{Tree, Forest, ∅, _▸_, _⧺_, count, some-child, some-two}
 use Rattle.formula.specs.Tidy.{same-variable, twin}
 use Rattle.buckets.specs.Prints.{print}

@@ -11,7 +11,7 @@ use subtrees::nodes::children_at;
 use subtrees::nodes::kind_at;
 ghost use mathlib.Core.Path.{_≡_};
 ghost use mathlib.Core.Bool.{not};
-ghost use Prim.Native.Nat.{_+_, _^_, _<_, _≤_};
+ghost use Prim.Native.Nat.{_+_, _<_, _≤_};
 ghost use lib.ListN.{length, getD};
 ghost use Rattle.formula.specs.Tidy.{same-variable, same-tree};
 ghost use Rattle.rows.specs.Formulas.{Readable};

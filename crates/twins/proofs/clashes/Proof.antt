@@ -1,7 +1,7 @@
 -- `twins::clashes` meets its contract: no member passed in the chain clashes. Assumes nothing.
 use mathlib.Core.Path.{_≡_, sym, ap, ap₂, _∙_, subst}
 use mathlib.Core.Bool.{true, false≢true}
-use Prim.Native.Nat.{_+_, _-_}
+use Prim.Native.Nat.{_-_}
 use native.Mathlib.Omega.{arith}
 use lib.ListN.{getD}
 use Rattle.buckets.specs.Chains.{bucket, last, Passed}
