@@ -15,10 +15,10 @@ use Rattle.sheet.specs.Format.{Bytes, Row}
 use Rattle.rows.specs.Layouts.{rows-in, Room, total}
 use Rattle.rows.specs.declared.Layout.{Layout}
 use Rattle.rows.proofs.Layouts.{length-rows-in}
-use Rattle.blocks.specs.Blocks.{Block, gone, literal, operator, Blocks, none, _◂_, _⊕_, head, block-rows, grown, live, Laid, Here, Region}
+use Rattle.blocks.specs.Blocks.{Block, gone, literal, operator, Blocks, none, _◂_, _⊕_, head, block-rows, grown, live, Laid, Here, Region, Stands, Standing}
 use Rattle.blocks.specs.Walks.{extent, Alive, Finds, at-row}
 use Rattle.blocks.specs.Entered.{HeadAt}
-use Rattle.blocks.proofs.Blocks.{live-snoc, ⧺-◂, length-◂, extent-head, within, start, next, onward, no-rows}
+use Rattle.blocks.proofs.Blocks.{stands, live-snoc, ⧺-◂, length-◂, extent-head, within, start, next, onward, no-rows}
 
 pub record Walked (R : List Row) (from at to : ℕ) (before : List Row) (bs : Blocks) (after : List Row) (Q : Forest → Type 0) : Type 0 where
   pub done : Blocks
@@ -84,6 +84,33 @@ scan-more Q′ w l b f before bs after laid =
           here .joined ∙ ap (λ cs. live (here .done) ⧺ live cs) (m .is) ∙ ⧺-◂ (live (here .done)) (m .block) (m .others) ∙
           ap (λ ts. ts ⧺ live (m .others)) (sym (live-snoc (here .done) (m .block)));
       claim = subst Q′ (sym (live-snoc (here .done) (m .block))) (f (live (here .done)) (m .block) (m .row-is) (here .claim));
+    }
+
+pub scan-more-at : {R : List Row} {from at to s : ℕ} {Q : Forest → Type 0} (Q′ : Forest → Type 0) → Scan R from at to Q → at < to
+    → s ≡ extent (at-row R at)
+    → ((ts : Forest) (x : Block) (front back : List Row) → Stands R at front x back → Q ts → Q′ (ts ⧺ live (x ◂ none))) → Scan R from (at + s) to Q′
+scan-more-at {R} {from} {at} {to} Q′ w l b f before bs after laid =
+    let here = w before bs after laid in
+    let m = next (here .here) l in
+    record {
+      done = here .done ⊕ (m .block ◂ none);
+      rest = m .others;
+      here = here-next (here .here) (m .is) (m .row-is) b;
+      joined =
+          here .joined ∙ ap (λ cs. live (here .done) ⧺ live cs) (m .is) ∙ ⧺-◂ (live (here .done)) (m .block) (m .others) ∙
+          ap (λ ts. ts ⧺ live (m .others)) (sym (live-snoc (here .done) (m .block)));
+      claim = subst Q′ (sym (live-snoc (here .done) (m .block))) (f (live (here .done)) (m .block) _ _ (stands (subst (λ cs. Here R from at to before (here .done) cs after) (m .is) (here .here))) (here .claim));
+    }
+
+pub scan-standing : {R : List Row} {from at to : ℕ} {Q : Forest → Type 0} → Scan R from at to Q → Region R from to → at < to → Standing R at
+scan-standing {R} {from} {at} {to} w g l =
+    let h = w (g .before) (g .blocks) (g .after) (g .laid) in
+    let m = next (h .here) l in
+    record {
+      before = _;
+      block = m .block;
+      after = _;
+      stands = stands (subst (λ cs. Here R from at to (g .before) (h .done) cs (g .after)) (m .is) (h .here));
     }
 
 pub rest-none : {R : List Row} {from at to : ℕ} {before after : List Row} {done rest : Blocks}

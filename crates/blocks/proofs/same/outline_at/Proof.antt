@@ -10,7 +10,7 @@ use Rattle.blocks.specs.Blocks.{Region, head, live}
 use Rattle.buckets.specs.Prints.{outline-on}
 use Rattle.blocks.specs.Walks.{at-row}
 use Rattle.blocks.proofs.Blocks.{stands-row, stands-within, laid-within, next}
-use Rattle.blocks.proofs.Walks.{Scan, scan-none, scan-turn, scan-more, scan-end, scan-head}
+use Rattle.blocks.proofs.Walks.{Scan, scan-none, scan-turn, scan-more-at, scan-end, scan-standing}
 use Rattle.blocks.proofs.Judge.{standing-region}
 use Rattle.blocks.proofs.Entered.{Outlined, outlined-none, outlined-more, outlined-at}
 use Rattle.blocks.proofs.same.outline_at.Statement.{statement}
@@ -72,7 +72,7 @@ outline-more-requires c κs =
     let i = l .before in
     let a = outline-start i in
     let t = scan-turn (a .args .b .now) (a .pre .0) (i .loop .inv .0) (children i) (l .loop-test .taken) in
-    (a .pre .0, t .row-within, scan-head (i .loop .inv .0) (children i) (l .loop-test .taken), i .loop .inv .1)
+    (a .pre .0, scan-standing (i .loop .inv .0) (children i) (l .loop-test .taken), i .loop .inv .1)
 
 add-i-2 : tie.Need-add-i-2 Inv-loop μ-loop
 add-i-2 c =
@@ -96,7 +96,8 @@ loop-again c =
     let i = l .before in
     let a = outline-start i in
     let t = scan-turn (a .args .b .now) (a .pre .0) (i .loop .inv .0) (children i) (l .loop-test .taken) in (
-      scan-more (Outlined _ _) (i .loop .inv .0) (l .loop-test .taken) (c .before .extent-at .ensures .0) (outlined-more _ _ _ _ (c .outline-more .ensures .0)),
+      scan-more-at (Outlined _ _) (i .loop .inv .0) (l .loop-test .taken) (c .before .extent-at .ensures .0)
+          (λ ts x front back h q. outlined-more _ _ _ x ts (c .outline-more .ensures .0 front x back h) q),
       c .outline-more .ensures .1,
     )
 
