@@ -1,0 +1,1 @@
+-- The contracts of the reader need no definition of their own.
