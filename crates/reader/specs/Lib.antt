@@ -1,1 +1,2 @@
--- The contracts of the reader need no definition of their own.
+-- The contracts of the entry points need no definition of their own.
+pub mod Inner

@@ -1,0 +1,27 @@
+-- `reader::header_from` meets its contract. Assumes nothing.
+use borrow.Author.Needs.{needs}
+use Rattle.reader.proofs.Heading.{headed-from}
+use Rattle.reader.proofs.header_from.Statement.{statement}
+use Rattle.reader.proofs.header_from.Tie as tie
+
+sub-header-of : tie.Need-sub-header-of
+sub-header-of c = search needs
+
+part-header-of-start : tie.Need-part-header-of-start
+part-header-of-start c = search needs
+
+part-header-of-end : tie.Need-part-header-of-end
+part-header-of-end c = search needs
+
+header-of-requires : tie.Need-header-of-requires
+header-of-requires c κs = search needs
+
+add-to : tie.Need-add-to
+add-to c = search needs
+
+returns : tie.Need-returns
+returns c =
+    let a = c .before .before .before .before .before in headed-from (a .args .text .now) (a .args .at) (a .pre) (c .before .before .header-of .ensures)
+
+pub header-from-spec : {M : Type 1} → statement M
+header-from-spec = tie.close (tie.spec sub-header-of part-header-of-start part-header-of-end header-of-requires add-to returns)
