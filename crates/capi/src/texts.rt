@@ -11,7 +11,7 @@ pub extern "C" fn plumanchor_qdimacs(text: &[u8], out: &mut [u8]) -> u64
     ensures { λ r. ⌜ r ≡ packed-written ((qdimacs-call narrow (now (text .entry)) (now (out .entry))) .answer) ⌝ }
     ensures { λ _. ⌜ now (out .exit) ≡ (qdimacs-call narrow (now (text .entry)) (now (out .entry))) .output ⌝ }
 {
-    pack_written(qdimacs::qdimacs(text, out))
+    pack_written(reader::qdimacs(text, out))
 }
 
 // The same as a wide sheet.
@@ -20,5 +20,5 @@ pub extern "C" fn plumanchor_qdimacs_wide(text: &[u8], out: &mut [u8]) -> u64
     ensures { λ r. ⌜ r ≡ packed-written ((qdimacs-call wide (now (text .entry)) (now (out .entry))) .answer) ⌝ }
     ensures { λ _. ⌜ now (out .exit) ≡ (qdimacs-call wide (now (text .entry)) (now (out .entry))) .output ⌝ }
 {
-    pack_written(qdimacs::qdimacs_wide(text, out))
+    pack_written(reader::qdimacs_wide(text, out))
 }

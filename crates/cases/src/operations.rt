@@ -83,7 +83,7 @@ fn run_sort(sheet: &[u8], out: &mut [u8]) {
 
 fn run_qdimacs(text: &[u8], out: &mut [u8]) {
     io::write_all(1, b"qdimacs");
-    let answer = qdimacs::qdimacs(text, out);
+    let answer = reader::qdimacs(text, out);
     print_written(answer, out);
 }
 

@@ -143,7 +143,7 @@ fn run_guards(sheet: &[u8], list: &[u8], out: &mut [u8], length: usize) {
 
 fn run_qdimacs(text: &[u8], out: &mut [u8]) {
     io::write_all(1, b"qdimacs");
-    let answer = qdimacs::qdimacs_wide(text, out);
+    let answer = reader::qdimacs_wide(text, out);
     print_written(answer, out);
 }
 

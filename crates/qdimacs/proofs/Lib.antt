@@ -12,4 +12,3 @@ mod WritingPrefix
 mod WritingClauses
 mod Whole
 mod Composing
-mod Texts

@@ -1,23 +1,23 @@
 -- The header of a text, and what is unread behind its line.
 -- Assumes nothing.
-use mathlib.Core.Path.{_≡_, refl, sym, ap, _∙_, subst}
+use mathlib.Core.Path.{_≡_, refl, sym, ap, ap₂, _∙_, subst}
 use mathlib.Core.Bool.{Bool, true, false, cond}
-use mathlib.Core.List.{List}
 use Prim.Native.Nat.{ℕ, suc, _+_, _-_, _≤_, _<_}
 use native.Mathlib.Omega.{arith}
 use lib.Dec.{ltb}
 use lib.ListN.{length, take, drop, length-drop, drop-of-length-le}
 use lib.Seq.{take-all, drop-drop}
 use borrow.Author.Tests.{ltb-true, ltb-false}
-use Rattle.sheet.specs.Format.{Bytes}
-use Rattle.sheet.specs.Qdimacs.{line-end, header-of, text-header, words-below}
+use Rattle.sheet.specs.Format.{Bytes, Format}
+use Rattle.sheet.specs.Operations.{Written}
+use Rattle.sheet.specs.Qdimacs.{line-end, header-of, text-header, words-below, qdimacs-call}
 use Rattle.sheet.proofs.Qdimacs.Words.{separated}
 use Rattle.words.specs.Words.{lead}
 use Rattle.words.proofs.Words.{lead-within}
 use Rattle.qdimacs.specs.declared.header.Header.{Header}
 use Rattle.qdimacs.specs.Inner.Header.{first-line, behind-line, next-line, HeaderAt, Heads}
 use Rattle.reader.specs.declared.Headed.{Headed}
-use Rattle.reader.specs.Inner.{Headed-at}
+use Rattle.reader.specs.Inner.{Headed-at, Lists-read}
 
 module _ (t : Bytes) {from end : ℕ} (found : HeaderAt t from) (e : end ≡ from + lead line-end (drop from t)) where
   pub end-inside : end ≤ length t
@@ -71,3 +71,13 @@ headed-from t at {h} {to} within lent =
       heads = from .heads;
       below = ap separated (sym (drop-drop to at t)) ∙ from .below;
     }
+
+-- the header at a text's begin, then the lists that it leaves unread
+module _ (t : Bytes) (h : Headed) {t₁ t₂ : Bytes} {n₁ n₂ : ℕ} (opened : t₁ ≡ t) (first : n₁ ≡ 0) (headed : Headed-at t₁ n₁ h) (same : t₂ ≡ t₁) (goes : n₂ ≡ h .to) where
+  pub still-inside : n₂ ≤ length t₂
+  still-inside = subst (λ (b : Bytes). n₂ ≤ length b) (sym same) (subst (λ (n : ℕ). n ≤ length t₁) (sym goes) (headed .inside))
+
+  pub read-through : (F : Format) (out : Bytes) {w : Written} → Lists-read F (h .header) (drop n₂ t₂) out w → w ≡ qdimacs-call F t out
+  read-through F out lists =
+      let begun = subst (λ (n : ℕ). Headed-at t n h) first (subst (λ (b : Bytes). Headed-at b n₁ h) opened headed) in
+      lists .reads t (begun .heads) (sym (begun .below) ∙ ap separated (sym (ap₂ (λ (n : ℕ) (b : Bytes). drop n b) goes (same ∙ opened))))

@@ -1,2 +1,4 @@
 mod Holding
 mod Heading
+mod Listing
+mod Answering

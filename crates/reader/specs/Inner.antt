@@ -1,11 +1,13 @@
--- What the header of a text from a place on leaves unread.
+-- What the header of a text from a place on leaves unread, and what the lists below a header are answered with.
 -- Assumes nothing.
 use mathlib.Core.Path.{_≡_}
 use Prim.Native.Nat.{ℕ, _≤_}
 use lib.ListN.{length, drop}
-use Rattle.sheet.specs.Format.{Bytes}
-use Rattle.sheet.specs.Qdimacs.{text-header, words-below}
+use Rattle.sheet.specs.Format.{Bytes, Format}
+use Rattle.sheet.specs.Operations.{Written}
+use Rattle.sheet.specs.Qdimacs.{text-header, words-below, qdimacs-call}
 use Rattle.sheet.proofs.Qdimacs.Words.{separated}
+use Rattle.qdimacs.specs.declared.header.Header.{Header}
 use Rattle.qdimacs.specs.Inner.Header.{Heads}
 use Rattle.reader.specs.declared.Headed.{Headed}
 
@@ -13,3 +15,7 @@ pub record Headed-at (t : Bytes) (at : ℕ) (h : Headed) : Type 0 where
   pub inside : h .to ≤ length t
   pub heads : Heads (text-header (drop at t)) (h .header)
   pub below : separated (drop (h .to) t) ≡ words-below (drop at t)
+
+-- the lists of a text with this header and these bytes below it
+pub record Lists-read (F : Format) (h : Header) (b out : Bytes) (w : Written) : Type 0 where
+  pub reads : (t : Bytes) → Heads (text-header t) h → words-below t ≡ separated b → w ≡ qdimacs-call F t out
