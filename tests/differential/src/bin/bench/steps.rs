@@ -1,4 +1,4 @@
-//! Tidy, Reduce, Settle and Expand over rows: flat, random and chain-shaped sheets of
+//! Tidy, Reduce, Settle, Expand and Outer over rows: flat, random and chain-shaped sheets of
 //! 128 to 4,096 rows, narrow, and of 4,096 and 8,192 rows, wide, and how the
 //! time grows with each doubling.
 
@@ -61,6 +61,11 @@ const EXPAND: Both = (
     |library, sheet, x, output| library.reading.expand(sheet, x, output),
 );
 
+const OUTER: Both = (
+    |library, sheet, x, output| length_of(library.outer(sheet, x, output)),
+    |library, sheet, x, output| length_of(library.reading.outer(sheet, x, output)),
+);
+
 /// One operation on one shape, over all sizes of both formats.
 fn series(name: &str, both: Both, sheet_of: impl Fn(Format, usize) -> Sheet) {
     for sizes in [NARROW_SIZES, WIDE_SIZES] {
@@ -102,14 +107,46 @@ fn flat_literals(rows: usize) -> Formula {
     formula(&all(Exists, 256), and(literals.collect()))
 }
 
-/// Clauses of three rows side by side; variable 1 is in every `step`-th.
+/// Clauses of two variables side by side, no two of them equal; 1 is in every `step`-th too.
 fn flat_clauses(rows: usize, step: usize, both_signs: bool) -> Formula {
     let of = |at: usize| {
         let sign = if both_signs && at.is_multiple_of(2 * step) { -1 } else { 1 };
-        let first = if at.is_multiple_of(step) { sign } else { 2 };
-        clause(&[first, 3 + (at % 250) as i32])
+        let (first, second) = (2 + (at / 120) as i32, 130 + (at % 120) as i32);
+        if at.is_multiple_of(step) {
+            clause(&[sign, first, second])
+        } else {
+            clause(&[first, second])
+        }
     };
-    formula(&all(Exists, 256), and((0..(rows - 1) / 3).map(of).collect()))
+    let clauses = (rows - 1) * step / (3 * step + 1);
+    formula(&all(Exists, 256), and((0..clauses).map(of).collect()))
+}
+
+/// For all 1, exists 2 to 200: each of these depends on 1 by way of the one before, so all rows are copied.
+fn linked_clauses(raw: usize) -> Sheet {
+    let of = |at: usize| {
+        let (round, first) = (at / 197, 2 + (at % 197) as i32);
+        let second = first + 1 + (round / 4) as i32;
+        clause(&match round % 4 {
+            0 => [-first, second],
+            1 => [first, -second],
+            2 => [first, second],
+            _ => [-first, -second],
+        })
+    };
+    let linked = (0..(raw / 2 - 8) / 3).map(of);
+    let clauses = [clause(&[1, 2]), clause(&[-1, -2])].into_iter().chain(linked);
+    let prefix: Vec<Binding> =
+        [(ForAll, 1)].into_iter().chain((2..=200).map(|x| (Exists, x))).collect();
+    let formula = formula(&prefix, and(clauses.collect()));
+    Sheet { rows: 2 * formula.matrix.rows() + 1, formula, x: 1 }
+}
+
+fn length_of(answer: Answer<Copied>) -> Answer<usize> {
+    match answer {
+        Answer::Refused(number, place) => Answer::Refused(number, place),
+        Answer::Accepted(copied) => Answer::Accepted(copied.length),
+    }
 }
 
 /// Half the rows clauses, the other half literals behind them, under one operator.
@@ -119,14 +156,15 @@ fn mixed(rows: usize) -> Formula {
     formula(&all(Exists, 256), and(clauses.chain(literals).collect()))
 }
 
-/// Clauses of four literals over a prefix whose quantifiers alternate: of each
-/// the last literal goes if it is universal.
+/// Clauses of four literals, no two of them equal, over a prefix whose
+/// quantifiers alternate: of each the last literal goes if it is universal.
 fn alternating_clauses(rows: usize) -> Formula {
     let quantifier = |x: usize| if x.is_multiple_of(2) { ForAll } else { Exists };
     let prefix: Vec<Binding> = (1..=256).map(|x| (quantifier(x), x)).collect();
     let of = |at: usize| {
-        let first = 1 + (7 * at % 250) as i32;
-        clause(&[first, -first - 1, first + 2, first + 3])
+        let (first, more) = (1 + (7 * at % 250) as i32, 2 * (at / 250) as i32);
+        let wrapped = |x: i32| 1 + (x - 1) % 256;
+        clause(&[first, -first - 1, wrapped(first + 2 + more), wrapped(first + 3 + more)])
     };
     formula(&prefix, and((0..rows / 5).map(of).collect()))
 }
@@ -206,4 +244,5 @@ pub fn report() {
         Sheet::raw(ladder_past_spare_rows(f, n / 2 - 1), 1)
     });
     series("expand, ladder, one literal", EXPAND, |f, n| Sheet::raw(ladder(f, n - 3, 1), 1));
+    series("outer, linked clauses", OUTER, |_, n| linked_clauses(n));
 }
