@@ -122,6 +122,20 @@ fn flat_clauses(rows: usize, step: usize, both_signs: bool) -> Formula {
     formula(&all(Exists, 256), and((0..clauses).map(of).collect()))
 }
 
+/// One clause of three literals over and over, of which tidying keeps the first (N4).
+fn equal_clauses(rows: usize) -> Formula {
+    formula(&all(Exists, 256), and(vec![clause(&[1, 2, 3]); (rows - 1) / 4]))
+}
+
+/// Clauses of 64 literals that differ in the last two.
+fn common_beginnings(rows: usize) -> Formula {
+    let of = |at: usize| {
+        let last = [63 + (at / 90) as i32, 160 + (at % 90) as i32];
+        clause(&(1..=62).chain(last).collect::<Vec<i32>>())
+    };
+    formula(&all(Exists, 256), and((0..(rows - 1) / 65).map(of).collect()))
+}
+
 /// For all 1, exists 2 to 200: each of these depends on 1 by way of the one before, so all rows are copied.
 fn linked_clauses(raw: usize) -> Sheet {
     let of = |at: usize| {
@@ -229,6 +243,8 @@ pub fn report() {
     );
     series("tidy, flat", TIDY, |_, n| Sheet::new(flat_literals(n), 1));
     series("tidy, flat clauses", TIDY, |_, n| Sheet::new(flat_clauses(n, 4, true), 1));
+    series("tidy, equal clauses", TIDY, |_, n| Sheet::new(equal_clauses(n), 1));
+    series("tidy, common beginnings", TIDY, |_, n| Sheet::new(common_beginnings(n), 1));
     series("tidy, mixed", TIDY, |_, n| Sheet::new(mixed(n), 1));
     series("tidy, random", TIDY, |f, n| Sheet::new(random(f, Family::Untidy, n), 1));
     series("tidy, chain", TIDY, |_, n| Sheet::new(one_child_chain(n), 1));
@@ -236,6 +252,7 @@ pub fn report() {
     series("reduce, clauses", REDUCE, |_, n| Sheet::new(alternating_clauses(n), 1));
     series("settle, flat", SETTLE, |_, n| Sheet::new(flat_clauses(n, 4, false), 1));
     series("settle, random", SETTLE, random_to_settle);
+    series("settle, common beginnings", SETTLE, |_, n| Sheet::new(common_beginnings(n), 1));
     series("settle, ladder", SETTLE, |f, n| Sheet::new(ladder(f, n, 1), 1));
     series("expand, flat", EXPAND, |_, n| Sheet::raw(flat_clauses(n / 2 - 1, 1, true), 1));
     series("expand, random", EXPAND, random_to_expand);
