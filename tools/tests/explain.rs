@@ -139,7 +139,7 @@ fn a_stop_says_why() {
     let crowded = text(answered(&["explain"], &example_bytes("crowded")));
     let most = READING.format.most_nodes;
     let told = format!(
-        "Stopped at 1: exists, 9603 raw rows; a sheet has at most {most}.\nstopped 0 0 1\n"
+        "Stopped at 1: exists, 12003 raw rows; a sheet has at most {most}.\nstopped 0 0 1\n"
     );
     assert!(crowded.ends_with(&told), "{crowded}");
     let sheet = example_bytes("two-tautology");

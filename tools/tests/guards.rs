@@ -113,7 +113,8 @@ fn of_equal_guards_the_one_kept_is_named() {
         let (_, earlier) = named_as_kept(format, reading, &formula, least);
         assert!(!earlier);
     }
-    assert!(named > 500 && stopped_within > 20, "{named} {stopped_within}");
+    // Tidying drops equal guards (N4), so that few runs are left that stop.
+    assert!(named > 500 && stopped_within > 3, "{named} {stopped_within}");
 }
 
 #[test]
