@@ -260,10 +260,11 @@ fn outer_cases(format: Format) -> Vec<Case> {
         })
         .collect();
     for mut formula in [ladder_formula(format, n / 2 - 1, 2), clauses(format, n / 6)] {
-        formula.prefix = formula.variables().into_iter().map(|x| (Exists, x)).collect();
-        formula.prefix.retain(|row| row.1 != 1 && row.1 != most_variables);
-        formula.prefix.insert(0, (ForAll, 1));
-        formula.prefix.insert(0, (ForAll, most_variables));
+        // 2 to 20 are the block behind all the others.
+        let (block, others): (Vec<_>, Vec<_>) =
+            formula.variables().into_iter().partition(|x| (2..=20).contains(x));
+        formula.prefix = others.into_iter().map(|x| (ForAll, x)).collect();
+        formula.prefix.extend(block.into_iter().map(|x| (Exists, x)));
         let longest = format.longest_sheet();
         let calls = [1, most_variables].map(|x| Call::new(Letter::Outer, x, longest));
         cases.push(Case { sheet: format.encode(&formula), calls: calls.into() });
