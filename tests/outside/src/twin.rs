@@ -204,36 +204,43 @@ mod tests {
     use crate::reference::Reading;
     use crate::with_deep_stack;
 
-    const READING: Reading = Reading::NARROW;
-
-    fn agree(twin: &mut Twin, sheet: &[u8], room: usize) {
+    fn agree(twin: &mut Twin, reading: Reading, sheet: &[u8], room: usize) {
         let (mut first, mut second) = (vec![0; room], vec![0; room]);
-        let expected = READING.solve(sheet, &mut first, &mut second);
+        let expected = reading.solve(sheet, &mut first, &mut second);
         assert_eq!(twin.solve(sheet, room), expected, "{sheet:?}");
     }
 
-    #[test]
-    fn the_twin_says_the_references_line() {
-        with_deep_stack(|| {
-            let (format, mut twin) = (READING.format, Twin::new(READING.format));
+    fn agree_in(reading: Reading) {
+        with_deep_stack(move || {
+            let (format, mut twin) = (reading.format, Twin::new(reading.format));
             let longest = format.longest_sheet();
-            cases(6_000, |rng| {
+            cases(2_000, |rng| {
                 let sheet = generate::sheet(rng, Limits::small(format));
-                agree(&mut twin, &sheet, longest);
-                agree(&mut twin, &sheet, sheet.len() + rng.below(40));
-                agree(&mut twin, &generate::damage(rng, format, &sheet), longest);
+                agree(&mut twin, reading, &sheet, longest);
+                agree(&mut twin, reading, &sheet, sheet.len() + rng.below(40));
+                agree(&mut twin, reading, &generate::damage(rng, format, &sheet), longest);
             });
-            cases(150, |rng| {
+            cases(50, |rng| {
                 let formula = generate::solver_formula(rng, format);
-                agree(&mut twin, &format.encode(&formula), longest);
+                agree(&mut twin, reading, &format.encode(&formula), longest);
                 let sheet = generate::sheet(rng, Limits::full(format));
-                agree(&mut twin, &sheet, longest);
+                agree(&mut twin, reading, &sheet, longest);
             });
             for family in LITERATURE {
                 for n in 1..6 {
-                    agree(&mut twin, &format.encode(&family.formula(n)), longest);
+                    agree(&mut twin, reading, &format.encode(&family.formula(n)), longest);
                 }
             }
         });
+    }
+
+    #[test]
+    fn the_twin_says_the_references_line_of_narrow_sheets() {
+        agree_in(Reading::NARROW);
+    }
+
+    #[test]
+    fn the_twin_says_the_references_line_of_wide_sheets() {
+        agree_in(Reading::WIDE);
     }
 }

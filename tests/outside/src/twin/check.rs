@@ -4,7 +4,7 @@ use super::{is_literal, Twin, NEGATIVE, OR, POSITIVE};
 use crate::reference::Refusal;
 
 impl Twin {
-    /// Reads prefix and raw matrix of a narrow sheet that Check accepts.
+    /// Reads prefix and raw matrix of a sheet that Check accepts.
     pub(super) fn read(&mut self, sheet: &[u8]) -> Result<(), Refusal> {
         let format = self.format;
         let (v, n) = format.sizes(sheet).ok_or((1, 0))?;
@@ -15,8 +15,13 @@ impl Twin {
             return Err((3, 0));
         }
         let (kinds, arguments) = sheet[format.header()..].split_at(v + n);
-        let argument =
-            |row: usize| u16::from_le_bytes([arguments[2 * row], arguments[2 * row + 1]]);
+        let argument = |row: usize| {
+            let bytes = &arguments[format.width * row..];
+            match format.width {
+                2 => u32::from(u16::from_le_bytes([bytes[0], bytes[1]])),
+                _ => u32::from_le_bytes([bytes[0], bytes[1], bytes[2], bytes[3]]),
+            }
+        };
         self.read_prefix(&kinds[..v], argument)?;
         self.raw.clear();
         let mut unclosed = 1usize;
@@ -29,14 +34,15 @@ impl Twin {
             if kind <= NEGATIVE && !self.is_bound(argument) {
                 return Err((7, row));
             }
-            self.raw.push(kind, argument);
+            // Of a sheet that is accepted no number is cut off: variables are bound, and children have rows.
+            self.raw.push(kind, argument as u16);
             if unclosed == 0 && end.is_none() {
                 end = Some(row);
             }
             if end.is_none() {
                 unclosed -= 1;
                 if !is_literal(kind) {
-                    unclosed += usize::from(argument);
+                    unclosed += argument as usize;
                 }
             }
         }
@@ -50,7 +56,7 @@ impl Twin {
     fn read_prefix(
         &mut self,
         kinds: &[u8],
-        argument: impl Fn(usize) -> u16,
+        argument: impl Fn(usize) -> u32,
     ) -> Result<(), Refusal> {
         self.quantifiers.clear();
         self.variables.clear();
@@ -60,21 +66,21 @@ impl Twin {
             if !matches!(kind, 1 | 2) {
                 return Err((4, row));
             }
-            if x == 0 || usize::from(x) > self.format.most_variables {
+            if x == 0 || x as usize > self.format.most_variables {
                 return Err((5, row));
             }
             if self.is_bound(x) {
                 return Err((6, row));
             }
             // The table of first literals isn't in use yet.
-            self.first[usize::from(x)] = 1;
+            self.first[x as usize] = 1;
             self.quantifiers.push(kind);
-            self.variables.push(x);
+            self.variables.push(x as u16);
         }
         Ok(())
     }
 
-    fn is_bound(&self, x: u16) -> bool {
-        self.first.get(usize::from(x)).is_some_and(|&bound| bound == 1)
+    fn is_bound(&self, x: u32) -> bool {
+        self.first.get(x as usize).is_some_and(|&bound| bound == 1)
     }
 }

@@ -1,14 +1,13 @@
 //! Solve through the static library beside the tuned twin and the reading on
 //! trees, side by side on the same sheets, with the geometric means of the
-//! ratios for each family and for all.
+//! ratios for each family and for all. Narrow sheets first, and then the same
+//! formulas as wide ones.
 
 use crate::{ratio, time_of};
-use differential::NARROW;
+use differential::{Library, LIBRARIES, NARROW};
 use outside::generate::{self, Family, Limits, Rng};
 use outside::reference::{line_of, Format};
 use outside::twin::Twin;
-
-const FORMAT: Format = NARROW.reading.format;
 
 const FAMILIES: [Family; 5] =
     [Family::Clauses, Family::Tidy, Family::Parity, Family::Ladder, Family::Untidy];
@@ -39,25 +38,25 @@ fn means(ratios: &[Ratios]) -> Ratios {
 }
 
 /// The library beside the two others on one sheet.
-fn compare(twin: &mut Twin, family: Family, sheet: &[u8]) -> Ratios {
-    let room = FORMAT.longest_sheet();
+fn compare(library: &Library, twin: &mut Twin, family: Family, sheet: &[u8]) -> Ratios {
+    let room = library.reading.format.longest_sheet();
     let (mut first, mut second) = (vec![0; room], vec![0; room]);
-    let answer = NARROW.solve(sheet, &mut first, &mut second);
+    let answer = library.solve(sheet, &mut first, &mut second);
     let same = twin.solve(sheet, room) == answer;
-    let library = time_of(|| {
-        NARROW.solve(sheet, &mut first, &mut second);
+    let proved = time_of(|| {
+        library.solve(sheet, &mut first, &mut second);
     });
     let tuned = time_of(|| {
         twin.solve(sheet, room);
     });
     let trees = time_of(|| {
-        NARROW.reading.solve(sheet, &mut first, &mut second);
+        library.reading.solve(sheet, &mut first, &mut second);
     });
-    let (v, n) = FORMAT.sizes(sheet).expect("a sheet");
+    let (v, n) = library.reading.format.sizes(sheet).expect("a sheet");
     let note = if same { "" } else { "  the twin says another line" };
-    let ratios = Ratios { twin: ratio(library, tuned), trees: ratio(library, trees) };
+    let ratios = Ratios { twin: ratio(proved, tuned), trees: ratio(proved, trees) };
     println!(
-        "{:<8}{v:>5}{n:>6}  {:<18}{library:>10.1?}{tuned:>10.1?}{trees:>10.1?}{:>7.2}{:>7.2}{note}",
+        "{:<8}{v:>5}{n:>6}  {:<18}{proved:>10.1?}{tuned:>10.1?}{trees:>10.1?}{:>7.2}{:>7.2}{note}",
         format!("{family:?}"),
         line_of(&answer),
         ratios.twin,
@@ -70,21 +69,24 @@ fn print_means(of: &str, ratios: Ratios) {
     println!("{:<69}{:>7.2}{:>7.2}", format!("geometric mean, {of}"), ratios.twin, ratios.trees);
 }
 
-pub fn report() {
+/// All families at one format: formulas within the narrow limits.
+fn report_in(library: &Library) {
+    let format = library.reading.format;
+    let name = if format == Format::WIDE { "wide" } else { "twin" };
     println!();
     println!(
-        "{:<8}{:>5}{:>6}  {:<18}{:>10}{:>10}{:>10}{:>7}{:>7}",
-        "twin", "vars", "rows", "line", "library", "tuned", "trees", "ratio", "ratio"
+        "{name:<8}{:>5}{:>6}  {:<18}{:>10}{:>10}{:>10}{:>7}{:>7}",
+        "vars", "rows", "line", "library", "tuned", "trees", "ratio", "ratio"
     );
-    let (mut twin, mut families, mut all) = (Twin::new(FORMAT), Vec::new(), Vec::new());
+    let (mut twin, mut families, mut all) = (Twin::new(format), Vec::new(), Vec::new());
     for family in FAMILIES {
         let mut rng = Rng::new(generate::run_seed());
         let mut ratios = Vec::new();
         for (variables, nodes) in SIZES {
             for _ in 0..ROUNDS {
-                let limits = Limits { format: FORMAT, variables, nodes };
+                let limits = Limits { format: NARROW.reading.format, variables, nodes };
                 let formula = generate::alternating_formula(&mut rng, family, limits);
-                ratios.push(compare(&mut twin, family, &FORMAT.encode(&formula)));
+                ratios.push(compare(library, &mut twin, family, &format.encode(&formula)));
             }
         }
         families.push((family, means(&ratios)));
@@ -94,4 +96,10 @@ pub fn report() {
         print_means(&format!("{family:?}"), ratios);
     }
     print_means("all", means(&all));
+}
+
+pub fn report() {
+    for library in &LIBRARIES {
+        report_in(library);
+    }
 }
