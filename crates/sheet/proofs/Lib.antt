@@ -19,6 +19,7 @@ pub mod Order
 pub mod Verdicts
 pub mod Refusals
 pub mod Outer
+pub mod OuterExamples
 pub mod Longer
 pub mod Carrying
 pub mod Formats

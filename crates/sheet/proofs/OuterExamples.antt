@@ -1,0 +1,42 @@
+-- Expansion one block out, computed inside the definitions from the bytes of two sheets (N6): the answer with the least room, 13 with a byte
+-- less, and what the output holds.
+-- Assumes nothing.
+use mathlib.Core.Path.{_≡_, refl}
+use mathlib.Core.List.{[], _∷_}
+use lib.ListN.{replicate}
+use Rattle.formula.specs.Tree.{binds, quantifier-of, without, rows, has, replace, count, _⧺_, some-child, some-two, keep}
+use Rattle.formula.specs.Tidy.{is-op, is-empty, opposite, equal, same-variable, same-tree, twin, spliced, splice, decides, firsts, unwrap, combine, tidy, alone, childless, breaks, faults, root-faults, any, is-tidy}
+use Rattle.formula.specs.Expand.{all-of, after, among, occurring, later, relevant, one-relevant, all-relevant, copies as both, at-first, expand-tree, raw-tree, growth, raw-rows}
+use Rattle.formula.specs.Solve.{those}
+use Rattle.formula.specs.Outer.{universal-then-existential, one-block-out, existentials, block, within, touches, some-row, touched, grown, stage, depends, dependents, unused, copies-of, too-few, renamed, outer-copying, raw-outer, outer-expanded, outer-rows, lowest-of}
+use Rattle.sheet.specs.Format.{Bytes, narrow, sheet-length, fits, number, digits, variables, nodes, kind-bytes, argument-bytes, zip-rows, all-rows, prefix-rows, node-rows, children}
+use Rattle.sheet.specs.Sheet.{binding, front, behind, grow, trees, root, formula, binding-row, tree-rows, formula-rows, row-kinds, row-arguments, sheet}
+use Rattle.sheet.specs.Check.{refused, accepted, answer, size-tests, member, quantifier-tests, node-tests, tree-test, arguments, check-tests}
+use Rattle.sheet.specs.Operations.{padded, output-after, write, tidy-and-bound-tests}
+use Rattle.sheet.specs.Outer.{copies, outer-tests, outer-call, outer-answer}
+
+-- for all 1, exists 2, 3: (not 2 or 3) (2 or not 3) (not 1 or not 2) (1 or 2); 3 depends on 1 by way of 2, and their copies are 4 and 5
+abbrev linked : Bytes
+linked = 3 ∷ 0 ∷ 13 ∷ 0 ∷ 2 ∷ 1 ∷ 1 ∷ 5 ∷ 6 ∷ 4 ∷ 3 ∷ 6 ∷ 3 ∷ 4 ∷ 6 ∷ 4 ∷ 4 ∷ 6 ∷ 3 ∷ 3 ∷ 1 ∷ 0 ∷ 2 ∷ 0 ∷ 3 ∷ 0 ∷ 4 ∷ 0 ∷ 2 ∷ 0 ∷ 2 ∷ 0 ∷ 3 ∷ 0 ∷ 2 ∷ 0 ∷ 2 ∷ 0 ∷ 3 ∷ 0 ∷ 2 ∷ 0 ∷ 1 ∷ 0 ∷ 2 ∷ 0 ∷ 2 ∷ 0 ∷ 1 ∷ 0 ∷ 2 ∷ 0 ∷ []
+
+-- exists 2, 3, 4, 5: (not 2 or 3) (2 or not 3) 2 (not 4 or 5) (4 or not 5) (not 4)
+abbrev linked-expanded : Bytes
+linked-expanded = 4 ∷ 0 ∷ 15 ∷ 0 ∷ 1 ∷ 1 ∷ 1 ∷ 1 ∷ 5 ∷ 6 ∷ 4 ∷ 3 ∷ 6 ∷ 3 ∷ 4 ∷ 3 ∷ 6 ∷ 4 ∷ 3 ∷ 6 ∷ 3 ∷ 4 ∷ 4 ∷ 2 ∷ 0 ∷ 3 ∷ 0 ∷ 4 ∷ 0 ∷ 5 ∷ 0 ∷ 6 ∷ 0 ∷ 2 ∷ 0 ∷ 2 ∷ 0 ∷ 3 ∷ 0 ∷ 2 ∷ 0 ∷ 2 ∷ 0 ∷ 3 ∷ 0 ∷ 2 ∷ 0 ∷ 2 ∷ 0 ∷ 4 ∷ 0 ∷ 5 ∷ 0 ∷ 2 ∷ 0 ∷ 4 ∷ 0 ∷ 5 ∷ 0 ∷ 4 ∷ 0 ∷ []
+
+-- the same with 3 and 5 for 2 and 3, and the block begins with 5: its copy is 2, that of 3 is 4
+abbrev crossed : Bytes
+crossed = 3 ∷ 0 ∷ 13 ∷ 0 ∷ 2 ∷ 1 ∷ 1 ∷ 5 ∷ 6 ∷ 4 ∷ 3 ∷ 6 ∷ 3 ∷ 4 ∷ 6 ∷ 4 ∷ 4 ∷ 6 ∷ 3 ∷ 3 ∷ 1 ∷ 0 ∷ 5 ∷ 0 ∷ 3 ∷ 0 ∷ 4 ∷ 0 ∷ 2 ∷ 0 ∷ 3 ∷ 0 ∷ 5 ∷ 0 ∷ 2 ∷ 0 ∷ 3 ∷ 0 ∷ 5 ∷ 0 ∷ 2 ∷ 0 ∷ 1 ∷ 0 ∷ 3 ∷ 0 ∷ 2 ∷ 0 ∷ 1 ∷ 0 ∷ 3 ∷ 0 ∷ []
+
+-- exists 5, 3, 2, 4: (not 3 or 5) (3 or not 5) 3 (not 4 or 2) (4 or not 2) (not 4)
+abbrev crossed-expanded : Bytes
+crossed-expanded = 4 ∷ 0 ∷ 15 ∷ 0 ∷ 1 ∷ 1 ∷ 1 ∷ 1 ∷ 5 ∷ 6 ∷ 4 ∷ 3 ∷ 6 ∷ 3 ∷ 4 ∷ 3 ∷ 6 ∷ 4 ∷ 3 ∷ 6 ∷ 3 ∷ 4 ∷ 4 ∷ 5 ∷ 0 ∷ 3 ∷ 0 ∷ 2 ∷ 0 ∷ 4 ∷ 0 ∷ 6 ∷ 0 ∷ 2 ∷ 0 ∷ 3 ∷ 0 ∷ 5 ∷ 0 ∷ 2 ∷ 0 ∷ 3 ∷ 0 ∷ 5 ∷ 0 ∷ 3 ∷ 0 ∷ 2 ∷ 0 ∷ 4 ∷ 0 ∷ 2 ∷ 0 ∷ 2 ∷ 0 ∷ 4 ∷ 0 ∷ 2 ∷ 0 ∷ 4 ∷ 0 ∷ []
+
+pub outer-examples :
+    (outer-answer narrow linked 1 97 ≡ accepted (record { new-length = 61; copied = 2; lowest = 2 }))
+    × (outer-answer narrow linked 1 96 ≡ refused 13 0)
+    × ((outer-call narrow linked 1 (replicate 97 255)) .output ≡ padded 97 linked-expanded)
+    × (outer-answer narrow crossed 1 97 ≡ accepted (record { new-length = 61; copied = 2; lowest = 3 }))
+    × (outer-answer narrow crossed 1 96 ≡ refused 13 0)
+    × ((outer-call narrow crossed 1 (replicate 97 255)) .output ≡ padded 97 crossed-expanded)
+unfolding binds quantifier-of without rows has replace count _⧺_ some-child some-two keep is-op is-empty opposite equal same-variable same-tree twin spliced splice decides firsts unwrap combine tidy alone childless breaks faults root-faults any is-tidy all-of after among occurring later relevant one-relevant all-relevant both at-first expand-tree raw-tree growth raw-rows those universal-then-existential one-block-out existentials block within touches some-row touched grown stage depends dependents unused copies-of too-few renamed outer-copying raw-outer outer-expanded outer-rows lowest-of sheet-length fits number digits variables nodes kind-bytes argument-bytes zip-rows all-rows prefix-rows node-rows children binding front behind grow trees root formula binding-row tree-rows formula-rows row-kinds row-arguments sheet answer size-tests member quantifier-tests node-tests tree-test arguments check-tests tidy-and-bound-tests copies outer-tests outer-call outer-answer write output-after
+outer-examples = (refl, refl, refl, refl, refl, refl)
