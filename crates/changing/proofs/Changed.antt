@@ -7,7 +7,7 @@ use Prim.Native.Nat.{ℕ, suc, _≤_, _<_}
 use native.Mathlib.Omega.{arith}
 use lib.Dec.{eqb, leb}
 use lib.ListN.{length, getD}
-use borrow.Author.Tests.{le-leb, lt-leb, leb-true, not-true, not-false}
+use borrow.Author.Tests.{le-leb, lt-leb, leb-true, not-true, not-false, eq-eqb, ne-eqb}
 use Rattle.formula.specs.Tree.{Op, and, or, Tree, lit, node, Forest, ∅, _▸_, rows, has, has-any, constant, replace, replace-all, count}
 use Rattle.formula.proofs.Booleans.{and-parts, or-parts}
 use Rattle.sheet.specs.Format.{Row, row}
@@ -23,19 +23,32 @@ map-append f (x ∷ xs) ys = ap (λ l. f x ∷ l) (map-append f xs ys)
 
 -- rows
 
+-- its argument is its own entry; its kind is a quantifier's; neither
+pub chosen-own : (t : List ℕ) (r : Row) {a e : ℕ} → a ≡ r .argument → e ≡ entry t a → e ≡ a → false ≡ chosen-row t r
+unfolding chosen-row chosen
+chosen-own t r {a} h f g =
+    sym
+    (ap (λ c. leb 3 (r .kind) && leb (r .kind) 4 && not c)
+    (ap (λ n. eqb (entry t n) n) (sym h) ∙ eq-eqb (entry t a) a (sym f ∙ g)) ∙
+    none (leb 3 (r .kind) && leb (r .kind) 4))
+  where
+    none : (c : Bool) → c && false ≡ false
+    none true = refl
+    none false = refl
+
 pub chosen-low : (t : List ℕ) (r : Row) {k : ℕ} → k ≡ r .kind → k < 3 → false ≡ chosen-row t r
 unfolding chosen-row
 chosen-low t r e h = rw (lt-leb 3 (r .kind) (omega arith))
 
-pub chosen-high : (t : List ℕ) (r : Row) {k : ℕ} → k ≡ r .kind → 4 < k → false ≡ chosen-row t r
-unfolding chosen-row
-chosen-high t r e h = rw (le-leb 3 (r .kind) (omega arith), lt-leb (r .kind) 4 (omega arith))
-
-pub chosen-literal : (t : List ℕ) (r : Row) {k a e : ℕ} → k ≡ r .kind → 3 ≤ k → k ≤ 4 → a ≡ r .argument → e ≡ entry t a
-    → not (eqb e a) ≡ chosen-row t r
+pub chosen-other : (t : List ℕ) (r : Row) {k a e : ℕ} → k ≡ r .kind → 3 ≤ k → a ≡ r .argument → e ≡ entry t a → (e ≡ a → ⊥)
+    → leb k 4 ≡ chosen-row t r
 unfolding chosen-row chosen
-chosen-literal t r k l h a e =
-    rw (le-leb 3 (r .kind) (omega arith), le-leb (r .kind) 4 (omega arith), ← a, e)
+chosen-other t r {k} {a} {e} f h g i n =
+    rw (le-leb 3 (r .kind) (omega arith), ← g, ← i, ne-eqb e a n, f) (one (leb (r .kind) 4))
+  where
+    one : (c : Bool) → c ≡ true && c && true
+    one true = refl
+    one false = refl
 
 pub row-kept : (t : List ℕ) (r : Row) → chosen-row t r ≡ false → changed-row t r ≡ r
 unfolding changed-row
@@ -47,23 +60,8 @@ row-stays t r {c} e h = sym (row-kept t r (sym e ∙ not-true c h))
 pub row-changes : (t : List ℕ) (r : Row) {c : Bool} → c ≡ chosen-row t r → not c ≡ false → chosen-row t r ≡ true
 row-changes t r {c} e h = sym e ∙ not-false c h
 
--- a literal that doesn't stay, by its entry
-pub row-renamed : (t : List ℕ) (r : Row) → chosen-row t r ≡ true → {e : ℕ} → e ≡ entry t (r .argument) → e ≤ 1024
-    → changed-row t r ≡ row (literal-kind (eqb (r .kind) 3)) e
-unfolding changed-row became tree-rows
-row-renamed t r h e l = rw (h, ← e, le-leb _ 1024 l)
-
-pub row-put : (t : List ℕ) (r : Row) → chosen-row t r ≡ true → {e : ℕ} → e ≡ entry t (r .argument) → 1024 < e
-    → {m : Bool} → Bool·beq (eqb (r .kind) 3) (eqb e 1026) ≡ m → changed-row t r ≡ row (operator-kind (cond m and or)) 0
-unfolding changed-row became tree-rows count
-row-put t r h e l {m} f = rw (h, ← e, lt-leb _ 1024 l, f) (by m)
-  where
-    by : (m : Bool) → getD (tree-rows (constant m)) 0 (row 0 0) ≡ row (operator-kind (cond m and or)) 0
-    by true = refl
-    by false = refl
-
 -- a chosen row has a literal's kind
-pub chosen-kind : (t : List ℕ) (r : Row) → chosen-row t r ≡ true → literal-kind (eqb (r .kind) 3) ≡ r .kind
+chosen-kind : (t : List ℕ) (r : Row) → chosen-row t r ≡ true → literal-kind (eqb (r .kind) 3) ≡ r .kind
 unfolding chosen-row
 chosen-kind t r h =
     let kinds = and-parts (leb 3 (r .kind)) (leb (r .kind) 4) (and-parts (leb 3 (r .kind) && leb (r .kind) 4) (chosen t true (r .argument)) h .0) in
@@ -77,6 +75,21 @@ chosen-kind t r h =
         case k l h (literal false) = refl
         case k l h (operator and) = absurd (omega arith)
         case k l h (operator or) = absurd (omega arith)
+
+-- a literal that doesn't stay, by its kind and its entry
+pub row-renamed : (t : List ℕ) (r : Row) → chosen-row t r ≡ true → {k e : ℕ} → k ≡ r .kind → e ≡ entry t (r .argument) → e ≤ 1024
+    → row k e ≡ changed-row t r
+unfolding changed-row became tree-rows
+row-renamed t r h f e l = rw (h, ← e, le-leb _ 1024 l, chosen-kind t r h, f)
+
+pub row-put : (t : List ℕ) (r : Row) → chosen-row t r ≡ true → {k e : ℕ} → k ≡ r .kind → e ≡ entry t (r .argument) → 1024 < e
+    → {m : Bool} → Bool·beq (eqb k 3) (eqb e 1026) ≡ m → row (operator-kind (cond m and or)) 0 ≡ changed-row t r
+unfolding changed-row became tree-rows count
+row-put t r h k e l {m} f = rw (h, ← e, lt-leb _ 1024 l, ← k, f) (by m)
+  where
+    by : (m : Bool) → row (operator-kind (cond m and or)) 0 ≡ getD (tree-rows (constant m)) 0 (row 0 0)
+    by true = refl
+    by false = refl
 
 chosen-of-literal : (t : List ℕ) (s : Bool) (v : ℕ) → chosen-row t (row (literal-kind s) v) ≡ chosen t s v
 unfolding chosen-row chosen

@@ -1,5 +1,6 @@
 pub mod Changed
 pub mod Tables
-mod Turn
 mod Fits
+mod Spans
+mod Turn
 pub mod Splice

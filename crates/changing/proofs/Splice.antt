@@ -1,13 +1,13 @@
 -- Rows written into the bytes of an output: the kinds spliced in, then the arguments.
 -- Assumes nothing.
 use mathlib.Core.Path.{_≡_, refl, sym, ap, ap₂, _∙_, subst₂}
-use mathlib.Core.List.{List, [], _∷_, _++_, append-assoc, append-nil}
+use mathlib.Core.List.{List, [], _∷_, _++_, append-assoc, append-nil, map}
 use Prim.Native.Nat.{ℕ, _+_, _*_, _-_, _≤_, _<_}
 use native.Mathlib.Nat.{mul-zero, mul-suc, mul-add, add-mul, one-mul, add-zero, add-assoc, mul-le-mul-left}
 use native.Mathlib.Numerals.{add-one}
 use native.Mathlib.Omega.{arith}
-use lib.ListN.{length, take, drop, set, length-append, length-drop, take-append-drop, drop-of-length-le}
-use lib.Seq.{length-take-le, take-all, take-at, drop-at, drop-drop, take-append-add, drop-append-add, take-append-le, drop-append-le, take-suc-set}
+use lib.ListN.{length, take, drop, set, length-append, length-drop, take-append-drop}
+use lib.Seq.{slice, length-take-le, take-take, take-all, take-at, drop-at, drop-drop, take-append-add, drop-append-add, take-append-le, drop-append-le, take-suc-set}
 use Rattle.sheet.specs.Format.{Bytes, Row, zip-rows}
 use Rattle.sheet.specs.Sheet.{row-kinds, row-arguments}
 use Rattle.sheet.proofs.Every.{Every}
@@ -15,20 +15,8 @@ use Rattle.sheet.proofs.Parts.{ArgumentFits, zip-rows-rows, length-row-kinds, l
 use Rattle.rows.specs.Layouts.{total, kind-place, argument-place, rows-in, Room, Kept}
 use Rattle.rows.specs.declared.Layout.{Layout}
 use Rattle.rows.proofs.Layouts.{length-rows-in}
+use Rattle.changing.specs.Changes.{changed-row, copied}
 use Rattle.changing.specs.Output.{Ready, spliced, Laid}
-
--- what a lent part is when it comes back
-pub lent : (d p : Bytes) {q : Bytes} (a k : ℕ) → length p ≡ k → q ≡ p ++ drop k (take (length d - a) (drop a d))
-    → take a d ++ (q ++ drop (length d - a) (drop a d)) ≡ spliced a p d
-unfolding spliced
-lent d p {q} a k e f =
-    ap₂ (λ l r. take a d ++ (l ++ r))
-    (f ∙ ap (λ l. p ++ drop k l) (take-all (length d - a) (drop a d) whole) ∙ ap (λ l. p ++ l) (drop-drop k a d ∙ ap (λ n. drop (a + n) d) (sym e)))
-    (drop-of-length-le (drop a d) whole) ∙
-    ap (λ l. take a d ++ l) (append-nil _)
-  where
-    whole : length (drop a d) ≤ length d - a
-    whole = omega (arith, length-drop a d)
 
 -- spliced
 
@@ -91,7 +79,7 @@ module _ (w : ℕ) (ks ds : Bytes) (enough : w * length ks ≤ length ds) where
   front-rows at h =
       length-take-le (w * at) ds (omega (arith, mul-le-mul-left w h)) ∙ ap (λ n. w * n) (sym (length-take-le at ks h))
 
-  take-zip : (at : ℕ) → at ≤ length ks → take at (zip-rows w ks ds) ≡ zip-rows w (take at ks) (take (w * at) ds)
+  pub take-zip : (at : ℕ) → at ≤ length ks → take at (zip-rows w ks ds) ≡ zip-rows w (take at ks) (take (w * at) ds)
   take-zip at h =
       ap₂ (λ l m. take at (zip-rows w l m)) (sym (take-append-drop at ks)) (sym (take-append-drop (w * at) ds)) ∙
       ap (take at) (zip-append w (take at ks) (drop at ks) (take (w * at) ds) (drop (w * at) ds) (front-rows at h)) ∙
@@ -271,6 +259,33 @@ laid-on {t} {old} {at = at} {rs = rs} {ss = ss} f g =
             behind-kept = g .around .behind-kept ∙ f .around .behind-kept;
           };
     }
+
+-- rows written, then changed where they stand
+pub laid-changed : {t : Layout} {old mid new : Bytes} {at next : ℕ} {rs : List Row} (table : List ℕ) → at ≤ length (rows-in t old)
+    → Laid t old mid at next rs → Laid t mid new at next (copied table at next (rows-in t mid))
+    → Laid t old new at next (map (changed-row table) rs)
+unfolding copied
+laid-changed {t} {old} {mid} {at = at} {next} {rs} table h f g =
+    record {
+      next-row = g .next-row ∙ ap (λ l. at + length (map (changed-row table) l)) span;
+      so-far = g .so-far ∙ ap₂ (λ l m. l ++ map (changed-row table) m) front span;
+      around =
+          record {
+            sizes-kept = g .around .sizes-kept ∙ f .around .sizes-kept;
+            behind-kept = g .around .behind-kept ∙ f .around .behind-kept;
+          };
+    }
+  where
+    before : length (take at (rows-in t old)) ≡ at
+    before = length-take-le at (rows-in t old) h
+
+    span : slice at next (rows-in t mid) ≡ rs
+    span = ap (drop at) (f .so-far) ∙ drop-at (take at (rows-in t old)) rs at before
+
+    front : take at (rows-in t mid) ≡ take at (rows-in t old)
+    front =
+        sym (take-take at next (rows-in t mid) (omega (arith, f .next-row))) ∙ ap (take at) (f .so-far) ∙
+        take-at (take at (rows-in t old)) rs at before
 
 -- all rows are written
 pub laid-all : {t : Layout} {old new : Bytes} {last : ℕ} {rs : List Row} → Room t (length new) → last ≡ total t

@@ -1,185 +1,120 @@
--- Rows copied one by one to the front of a part: kinds of one byte each, or arguments of w bytes each.
+-- Bytes copied one by one, and rows changed one by one where they stand.
 -- Assumes nothing.
-use mathlib.Core.Path.{_≡_, refl, sym, ap, ap₂, _∙_}
-use mathlib.Core.List.{List, [], _∷_, _++_, append-assoc, append-nil, map}
-use Prim.Native.Nat.{ℕ, suc, _+_, _*_, _-_, _≤_, _<_}
-use native.Mathlib.Nat.{mul-zero, mul-suc, one-mul, mul-le-mul-left}
+use mathlib.Core.Path.{_≡_, refl, sym, ap, ap₂, _∙_, subst}
+use mathlib.Core.List.{List, [], _∷_, _++_, append-assoc, map}
+use Prim.Native.Nat.{ℕ, _+_, _≤_, _<_}
 use native.Mathlib.Numerals.{add-one}
 use native.Mathlib.Omega.{arith}
-use lib.ListN.{length, getD, take, drop, set, length-append, length-drop, length-map}
-use lib.Seq.{length-take-le, take-at, drop-append-add, take-suc, drop-append-le, drop-drop, set-split, append-snoc, length-slice, slice-empty}
-use Rattle.sheet.specs.Format.{Bytes, Row, row, digits}
-use Rattle.sheet.specs.Sheet.{row-kinds, row-arguments}
-use Rattle.sheet.proofs.Parts.{length-row-kinds, length-row-arguments}
-use Rattle.rows.specs.Layouts.{rows-in, Room}
+use lib.ListN.{length, getD, take, drop, set, length-drop, length-set}
+use lib.Seq.{length-take-le, take-suc, drop-append-le, drop-drop, drop-set-lt, getD-drop, slice-empty, paste, paste-zero, paste-suc}
+use Rattle.sheet.specs.Format.{Bytes, Row, row}
+use Rattle.rows.specs.Layouts.{total, rows-in, Room, Kept}
 use Rattle.rows.specs.declared.Layout.{Layout}
 use Rattle.rows.proofs.Layouts.{length-rows-in}
 use Rattle.changing.specs.Changes.{changed-row, copied}
-use Rattle.changing.specs.Output.{extent, copy-in, Within}
-use Rattle.changing.specs.declared.Span.{Span}
+use Rattle.changing.specs.Output.{spliced, Laid}
 use Rattle.changing.proofs.Changed.{map-append}
+use Rattle.changing.proofs.Splice.{none-laid, row-laid, laid-on}
+
+-- copy_bytes
+
+pub record Copied (b : Bytes) (from count : ℕ) (d : Bytes) (to : ℕ) (out : Bytes) (i : ℕ) : Type 0 where
+  pub within : i ≤ count
+  pub so-far : out ≡ paste d to (drop from b) i
+  pub same-length : length out ≡ length d
+
+module _ (b : Bytes) (from count : ℕ) (d : Bytes) (to : ℕ) (inside : from + count ≤ length b) (room : to + count ≤ length d) where
+  pub copied-none : Copied b from count d to d 0
+  copied-none = record { within = omega arith; so-far = paste-zero d to (drop from b); same-length = refl }
+
+  pub copied-byte : {out : Bytes} {i : ℕ} → i < count → Copied b from count d to out i
+      → Copied b from count d to (set out (to + i) (getD b (from + i) 0)) (i + 1)
+  copied-byte {out} {i} h c =
+      record {
+        within = omega arith;
+        so-far =
+            ap₂ (λ (q : Bytes) x. set q (to + i) x) (c .so-far) (sym (getD-drop from b i 0)) ∙
+            paste-suc d to (drop from b) i 0 (omega arith) (omega (arith, length-drop from b)) ∙
+            ap (paste d to (drop from b)) (sym (add-one i));
+        same-length = length-set out (to + i) (getD b (from + i) 0) ∙ c .same-length;
+      }
+
+  pub copied-all : {out : Bytes} {i : ℕ} → count ≤ i → Copied b from count d to out i
+      → out ≡ spliced to (take count (drop from b)) d
+  unfolding spliced
+  copied-all {out} {i} h c =
+      let last : i ≡ count = omega (arith, c .within) in
+      c .so-far ∙ ap (paste d to (drop from b)) last ∙ append-assoc (take to d) (take count (drop from b)) (drop (to + count) d) ∙
+      ap (λ n. take to d ++ (take count (drop from b) ++ drop (to + n) d)) (sym counted)
+    where
+      counted : length (take count (drop from b)) ≡ count
+      counted = length-take-le count (drop from b) (omega (arith, length-drop from b))
 
 -- copied
 
-pub copied-next : (t : List ℕ) (from i : ℕ) (R : List Row) → from ≤ i → i < length R
-    → copied t from (suc i) R ≡ copied t from i R ++ (changed-row t (getD R i (row 0 0)) ∷ [])
+copied-next : (t : List ℕ) (from i : ℕ) (R : List Row) → from ≤ i → i < length R
+    → copied t from i R ++ (changed-row t (getD R i (row 0 0)) ∷ []) ≡ copied t from (i + 1) R
 unfolding copied
 copied-next t from i R h l =
+    sym
+    (ap (λ n. map (changed-row t) (drop from (take n R))) (add-one i) ∙
     ap (λ rs. map (changed-row t) (drop from rs)) (take-suc R i (row 0 0) l) ∙
     ap (map (changed-row t)) (drop-append-le from (take i R) _ (omega (arith, length-take-le i R (omega arith)))) ∙
-    map-append (changed-row t) (drop from (take i R)) _
+    map-append (changed-row t) (drop from (take i R)) _)
 
-pub length-copied : (t : List ℕ) (from i : ℕ) (R : List Row) → i ≤ length R → length (copied t from i R) ≡ i - from
-unfolding copied
-length-copied t from i R h = length-map (drop from (take i R)) (changed-row t) ∙ length-slice from i R h
+-- change_rows: the rows from row from on are changed, up to row i, from which on they stand as they did
 
-pub length-copy : (s : Layout) (b : Bytes) → Room s (length b) → (t : List ℕ) (span : Span) → Within span s
-    → length (copy-in s b t span) ≡ extent span
-length-copy s b room t span h = length-copied t (span .from) (span .to) (rows-in s b) (omega (arith, h .inside, length-rows-in b room))
-
--- A way to write rows down, k bytes each.
-pub record Encoding (encode : List Row → Bytes) (k : ℕ) : Type 0 where
-  pub nothing : encode [] ≡ []
-  pub appended : (rs ss : List Row) → encode (rs ++ ss) ≡ encode rs ++ encode ss
-  pub width : (rs : List Row) → length (encode rs) ≡ k * length rs
-
-row-kinds-append : (rs ss : List Row) → row-kinds (rs ++ ss) ≡ row-kinds rs ++ row-kinds ss
-unfolding row-kinds
-row-kinds-append [] ss = refl
-row-kinds-append (r ∷ rs) ss = ap (λ l. r .kind ∷ l) (row-kinds-append rs ss)
-
-row-arguments-append : (w : ℕ) (rs ss : List Row) → row-arguments w (rs ++ ss) ≡ row-arguments w rs ++ row-arguments w ss
-unfolding row-arguments
-row-arguments-append w [] ss = refl
-row-arguments-append w (r ∷ rs) ss = rw (append-assoc, row-arguments-append w rs ss)
-
-pub kinds : Encoding row-kinds 1
-unfolding row-kinds
-kinds =
-    record {
-      nothing = refl;
-      appended = row-kinds-append;
-      width = λ rs. length-row-kinds rs ∙ sym (one-mul (length rs));
-    }
-
-pub arguments : (w : ℕ) → Encoding (row-arguments w) w
-unfolding row-arguments
-arguments w = record { nothing = refl; appended = row-arguments-append w; width = length-row-arguments w }
-
--- the rows before row i are copied
-pub record Copied (encode : List Row → Bytes) (k : ℕ) (t : List ℕ) (from to : ℕ) (R : List Row) (d out : Bytes) (i : ℕ) : Type 0 where
+pub record Changing (s : Layout) (t : List ℕ) (d : Bytes) (from to : ℕ) (b : Bytes) (i : ℕ) : Type 0 where
   pub start : from ≤ i
   pub within : i ≤ to
-  pub so-far : out ≡ encode (copied t from i R) ++ drop (k * (i - from)) d
-  pub same-length : length out ≡ length d
+  pub so-far : Laid s d b from i (copied t from i (rows-in s d))
+  pub behind : drop i (rows-in s b) ≡ drop i (rows-in s d)
+  pub same-length : length b ≡ length d
 
-module _ (encode : List Row → Bytes) (k : ℕ) (e : Encoding encode k) (t : List ℕ) (from to : ℕ) (R : List Row)
-    (inside : to ≤ length R) (d : Bytes) (room : k * (to - from) ≤ length d) where
-  pub copied-none : from ≤ to → Copied encode k t from to R d d from
+module _ (s : Layout) (t : List ℕ) (d : Bytes) (room : Room s (length d)) (from to : ℕ) (inside : to ≤ total s) where
+  pub changed-none : from ≤ to → Changing s t d from to d from
   unfolding copied
-  copied-none h =
+  changed-none h =
       record {
         start = omega arith;
         within = h;
-        so-far =
-            sym
-            (ap₂ (λ rs n. encode (map (changed-row t) rs) ++ drop n d) (slice-empty from R) (ap (λ n. k * n) (none from) ∙ mul-zero k) ∙
-            ap (λ l. l ++ d) (e .nothing));
+        so-far = subst (Laid s d d from from) (sym (ap (map (changed-row t)) (slice-empty from (rows-in s d)))) (none-laid s d from);
+        behind = refl;
         same-length = refl;
       }
-    where
-      none : (m : ℕ) → m - m ≡ 0
-      none m = omega arith
 
-  module _ {out : Bytes} {i : ℕ} (h : i < to) (s : Copied encode k t from to R d out i) where
-    -- the row's bytes are within
-    pub room-left : k * (i - from) + k ≤ length out
-    room-left =
-        omega (arith, mul-suc k (i - from), mul-le-mul-left k more, s .same-length)
-      where
-        more : suc (i - from) ≤ to - from
-        more = omega (arith, s .start)
+  module _ {b : Bytes} {i : ℕ} (h : i < to) (c : Changing s t d from to b i) where
+    -- there is as much room
+    pub room-left : Room s (length b)
+    room-left = record { few-bytes = room .few-bytes; holds = omega (arith, room .holds, c .same-length) }
 
-    pub copied-row : {new : Bytes} → new ≡ take (k * (i - from)) out ++ encode (changed-row t (getD R i (row 0 0)) ∷ []) ++ drop (k * (i - from) + k) out
-        → Copied encode k t from to R d new (i + 1)
-    copied-row {new} stored =
+    pub changed-next : {new : Bytes} → rows-in s new ≡ set (rows-in s b) i (changed-row t (getD (rows-in s b) i (row 0 0))) → Kept s b new
+        → length new ≡ length b → Changing s t d from to new (i + 1)
+    changed-next {new} rows kept same =
         record {
-          start = omega (arith, s .start);
+          start = omega (arith, c .start);
           within = omega arith;
-          so-far = all;
-          same-length = ap length all ∙ counted;
+          so-far =
+              subst (Laid s d new from (i + 1))
+              (ap (λ r. copied t from i (rows-in s d) ++ (changed-row t r ∷ [])) here ∙
+              copied-next t from i (rows-in s d) (c .start) (omega (arith, length-rows-in d room)))
+              (laid-on (c .so-far) (row-laid s b room-left i (changed-row t (getD (rows-in s b) i (row 0 0))) (omega arith) rows kept));
+          behind =
+              ap (drop (i + 1)) rows ∙ drop-set-lt (i + 1) (rows-in s b) i _ (omega arith) ∙ sym (drop-drop 1 i (rows-in s b)) ∙
+              ap (drop 1) (c .behind) ∙ drop-drop 1 i (rows-in s d);
+          same-length = same ∙ c .same-length;
         }
       where
-        done : Bytes
-        done = encode (copied t from i R)
+        zero-behind : i + 0 ≡ i
+        zero-behind = omega arith
 
-        one : Bytes
-        one = encode (changed-row t (getD R i (row 0 0)) ∷ [])
+        here : getD (rows-in s b) i (row 0 0) ≡ getD (rows-in s d) i (row 0 0)
+        here =
+            ap (λ n. getD (rows-in s b) n (row 0 0)) (sym zero-behind) ∙ sym (getD-drop i (rows-in s b) 0 (row 0 0)) ∙
+            ap (λ (l : List Row). getD l 0 (row 0 0)) (c .behind) ∙ getD-drop i (rows-in s d) 0 (row 0 0) ∙
+            ap (λ n. getD (rows-in s d) n (row 0 0)) zero-behind
 
-        at : ℕ
-        at = k * (i - from)
-
-        length-done : length done ≡ at
-        length-done = e .width (copied t from i R) ∙ ap (λ n. k * n) (length-copied t from i R (omega arith))
-
-        length-one : length one ≡ k
-        length-one = e .width (changed-row t (getD R i (row 0 0)) ∷ []) ∙ mul-one k
-          where
-            mul-one : (n : ℕ) → n * 1 ≡ n
-            mul-one n = omega arith
-
-        front : take at out ≡ done
-        front = ap (take at) (s .so-far) ∙ take-at done (drop at d) at length-done
-
-        back : drop (at + k) out ≡ drop (at + k) d
-        back =
-            ap₂ drop (ap (λ n. n + k) (sym length-done)) (s .so-far) ∙ drop-append-add done (drop at d) k ∙ drop-drop k at d
-
-        total : at + k ≡ k * (i + 1 - from)
-        total = sym (mul-suc k (i - from)) ∙ ap (λ n. k * n) next
-          where
-            next : suc (i - from) ≡ i + 1 - from
-            next = omega (arith, s .start)
-
-        written : encode (copied t from (i + 1) R) ≡ done ++ one
-        written =
-            ap (λ n. encode (copied t from n R)) (add-one i) ∙ ap encode (copied-next t from i R (s .start) (omega arith)) ∙
-            e .appended (copied t from i R) _
-
-        all : new ≡ encode (copied t from (i + 1) R) ++ drop (k * (i + 1 - from)) d
-        all =
-            stored ∙ ap₂ (λ l m. l ++ one ++ m) front back ∙ ap₂ (λ l n. l ++ drop n d) (sym written) total
-
-        counted : length (encode (copied t from (i + 1) R) ++ drop (k * (i + 1 - from)) d) ≡ length d
-        counted =
-            ap₂ (λ l n. length (l ++ drop n d)) written (sym total) ∙
-            rw (length-append (done ++ one) (drop (at + k) d), length-append done one, length-done, length-one, length-drop (at + k) d)
-            (omega (arith, room-left, s .same-length))
-
-  pub copied-all : {out : Bytes} {i : ℕ} → to ≤ i → Copied encode k t from to R d out i
-      → out ≡ encode (copied t from to R) ++ drop (k * (to - from)) d
-  copied-all {out} {i} h s =
-      let last : i ≡ to = omega (arith, s .within) in
-      s .so-far ∙ ap (λ n. encode (copied t from n R) ++ drop (k * (n - from)) d) last
-
--- a kind is one store
-pub kind-stored : (out : Bytes) (i : ℕ) (r : Row) {k : ℕ} → k ≡ r .kind → i < length out
-    → set out i k ≡ take (1 * i) out ++ row-kinds (r ∷ []) ++ drop (1 * i + 1) out
-unfolding row-kinds
-kind-stored out i r {k} e h =
-    set-split out i k h ∙ sym (append-snoc (take i out) k (drop (suc i) out)) ∙
-    ap₂ (λ m n. take m out ++ (k ∷ []) ++ drop n out) (sym (one-mul i)) (sym (add-one i) ∙ ap (λ n. n + 1) (sym (one-mul i))) ∙
-    ap (λ n. take (1 * i) out ++ (n ∷ []) ++ drop (1 * i + 1) out) e
-
--- an argument is one number
-pub argument-stored : (w : ℕ) (new out : Bytes) (at : ℕ) (r : Row) {a : ℕ} → a ≡ r .argument
-    → new ≡ take at out ++ digits w a ++ drop (at + w) out → new ≡ take at out ++ row-arguments w (r ∷ []) ++ drop (at + w) out
-unfolding row-arguments
-argument-stored w new out at r e stored =
-    stored ∙ ap (λ l. take at out ++ l ++ drop (at + w) out) (ap (digits w) e ∙ sym (append-nil (digits w (r .argument))))
-
-pub kinds-copied : (t : List ℕ) (from to : ℕ) (R : List Row) → to ≤ length R → (d : Bytes) → 1 * (to - from) ≤ length d
-    → {out : Bytes} {i : ℕ} → to ≤ i → Copied row-kinds 1 t from to R d out i → out ≡ row-kinds (copied t from to R) ++ drop (to - from) d
-kinds-copied t from to R inside d room h s =
-    copied-all row-kinds 1 kinds t from to R inside d room h s ∙
-    ap (λ n. row-kinds (copied t from to R) ++ drop n d) (one-mul (to - from))
+  pub changed-all : {b : Bytes} {i : ℕ} → to ≤ i → Changing s t d from to b i → Laid s d b from to (copied t from to (rows-in s d))
+  changed-all {b} {i} h c =
+      let last : i ≡ to = omega (arith, c .within) in
+      subst (λ n. Laid s d b from n (copied t from n (rows-in s d))) last (c .so-far)

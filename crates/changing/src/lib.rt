@@ -2,7 +2,7 @@
 // the output's numbers have the same width.
 use rows::Layout;
 
-pub mod copy;
+pub mod change;
 pub mod table;
 pub mod write;
 

@@ -1,19 +1,18 @@
 // Rows written to the output one after the other: each function takes the row to write from and returns the row behind what it wrote.
 use crate::Span;
 use crate::Target;
-use crate::copy::copy_arguments;
-use crate::copy::copy_kinds;
+use crate::change::change_rows;
 use rows::Layout;
 use rows::places::argument_place;
 use rows::places::kind_place;
 use rows::write::set_row;
 ghost use mathlib.Core.Path.{_≡_};
 ghost use mathlib.Core.List.{[], _∷_};
-ghost use Prim.Native.Nat.{_+_, _-_, _*_, _^_, _≤_, _<_};
-ghost use lib.ListN.{length};
+ghost use Prim.Native.Nat.{_+_, _^_, _≤_, _<_};
+ghost use lib.ListN.{length, take, drop};
+ghost use lib.Seq.{slice};
 ghost use Rattle.sheet.specs.Format.{row};
-ghost use Rattle.sheet.specs.Sheet.{row-kinds, row-arguments};
-ghost use Rattle.rows.specs.Layouts.{total, Room};
+ghost use Rattle.rows.specs.Layouts.{total, rows-in, Room};
 ghost use Rattle.changing.specs.Output.{extent, copy-in, Within, Ready, spliced, Laid};
 
 // Writes a row.
@@ -26,23 +25,37 @@ pub fn write_row(out: &mut [u8], to: Target, kind: u8, argument: usize) -> usize
     to.at + 1
 }
 
-// Writes the kinds of a copy from byte `start` of the output on, which is lent to the copying function from there.
-fn write_kinds(b: &[u8], s: Layout, table: &[u16], span: Span, out: &mut [u8], start: usize)
-    requires { ⌜ Room s (length (now b)) × Within span s × (start + extent span ≤ length (now out)) ⌝ }
-    ensures { λ _. ⌜ now (out .exit) ≡ spliced start (row-kinds (copy-in s (now (b .entry)) (now (table .entry)) span)) (now (out .entry)) ⌝ }
+// Copies `count` bytes from byte `from` of `b` on to byte `to` of the output and on. The loop moves bytes and does no more, so that the
+// compiler can move many at once.
+fn copy_bytes(b: &[u8], from: usize, count: usize, out: &mut [u8], to: usize)
+    requires { ⌜ (from + count ≤ length (now b)) × (to + count ≤ length (now out)) ⌝ }
+    ensures { λ _. ⌜ now (out .exit) ≡ spliced to (take count (drop from (now (b .entry)))) (now (out .entry)) ⌝ }
 {
-    copy_kinds(b, s, table, span, &mut out[start..]);
+    let mut i: usize = 0;
+    while i < count {
+        out[to + i] = b[from + i];
+        i += 1;
+    }
 }
 
-// Writes the arguments of a copy from byte `start` of the output on.
-fn write_arguments(b: &[u8], s: Layout, table: &[u16], span: Span, out: &mut [u8], start: usize)
-    requires { ⌜ Room s (length (now b)) × Within span s × (start + s .width * extent span ≤ length (now out)) ⌝ }
-    ensures { λ _. ⌜ now (out .exit) ≡ spliced start (row-arguments (s .width) (copy-in s (now (b .entry)) (now (table .entry)) span)) (now (out .entry)) ⌝ }
+// Writes the rows `span` of `b` as they are.
+pub fn write_rows(b: &[u8], s: Layout, span: Span, out: &mut [u8], to: Target) -> usize
+    requires { ⌜ Ready s (now b) (to .layout) (now out) × Within span s × (to .at + extent span ≤ total (to .layout)) ⌝ }
+    ensures { λ next. ⌜ Laid (to .layout) (now (out .entry)) (now (out .exit)) (to .at) next (slice (span .from) (span .to) (rows-in s (now (b .entry)))) ⌝ }
+    ensures { λ next. ⌜ next ≡ to .at + extent span ⌝ }
 {
-    copy_arguments(b, s, table, span, &mut out[start..]);
+    let t = to.layout;
+    let at = to.at;
+    let from = span.from;
+    let count = span.to - from;
+    let kinds = kind_place(t, at);
+    let arguments = argument_place(t, at);
+    copy_bytes(b, kind_place(s, from), count, out, kinds);
+    copy_bytes(b, argument_place(s, from), s.width * count, out, arguments);
+    at + count
 }
 
-// Writes the rows `span` of `b`, changed by the table.
+// Writes the rows `span` of `b`, changed by the table: as they are first, then the literals that don't stay are changed.
 pub fn write_copy(
     b: &[u8],
     s: Layout,
@@ -55,12 +68,12 @@ pub fn write_copy(
     ensures { λ next. ⌜ Laid (to .layout) (now (out .entry)) (now (out .exit)) (to .at) next (copy-in s (now (b .entry)) (now (table .entry)) span) ⌝ }
     ensures { λ next. ⌜ next ≡ to .at + extent span ⌝ }
 {
-    let at = to.at;
     let t = to.layout;
-    let kinds = kind_place(t, at);
-    let arguments = argument_place(t, at);
-    let next = at + (span.to - span.from);
-    write_kinds(b, s, table, span, out, kinds);
-    write_arguments(b, s, table, span, out, arguments);
+    let next = write_rows(b, s, span, out, to);
+    let written = Span {
+        from: to.at,
+        to: next,
+    };
+    change_rows(out, t, table, written);
     next
 }
