@@ -22,7 +22,7 @@ pub fn write_outer(
     ensures { λ next. ⌜ Laid (e .layout) (now (out .entry)) (now (out .exit)) 0 next (written-rows s (now (b .entry)) (now (tables .entry)) e) ⌝ }
 {
     let t = e.layout;
-    let front = write_prefix(b, s, &tables[NUMBERS..], e.row, out, t);
+    let front = write_prefix(b, s, e.row, out, t);
     let to = Target {
         layout: t,
         at: front,

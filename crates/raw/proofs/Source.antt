@@ -59,7 +59,7 @@ prefix-kept : (t : List ℕ) (p : Prefix) → map (changed-row t) (map binding-r
 prefix-kept t [] = refl
 prefix-kept t (z ∷ p) = ap₂ _∷_ (quantifier-kept t z) (prefix-kept t p)
 
-module _ (s : Layout) (b : Bytes) (ok : Readable s b) (t : List ℕ) where
+module _ (s : Layout) (b : Bytes) (ok : Readable s b) where
   abbrev R : List Row
   R = rows-in s b
 
@@ -70,32 +70,37 @@ module _ (s : Layout) (b : Bytes) (ok : Readable s b) (t : List ℕ) where
   length-R = length-rows-in b (ok .room)
 
   -- a part of the prefix
-  pub copied-prefix : (from to : ℕ) → to ≤ s .variables → copied t from to R ≡ map binding-row (drop from (take to p))
-  unfolding copied
-  copied-prefix from to h =
-      ap (λ l. map (changed-row t) (drop from l))
-      (sym (take-take to (s .variables) R h) ∙ ap (take to) (sym (quantifiers b ok)) ∙ take-map binding-row to p) ∙
-      ap (map (changed-row t)) (drop-map binding-row from (take to p)) ∙
-      prefix-kept t (drop from (take to p))
+  prefix-part : (from to : ℕ) → to ≤ s .variables → slice from to R ≡ map binding-row (drop from (take to p))
+  prefix-part from to h =
+      ap (drop from) (sym (take-take to (s .variables) R h) ∙ ap (take to) (sym (quantifiers b ok)) ∙ take-map binding-row to p) ∙
+      drop-map binding-row from (take to p)
 
-  pub prefix-copied : (i : ℕ) → i < s .variables
-      → copied t 0 i R ++ copied t (i + 1) (s .variables) R ≡ map binding-row (without-row i p)
+  pub prefix-without : (i : ℕ) → i < s .variables
+      → slice 0 i R ++ slice (i + 1) (s .variables) R ≡ map binding-row (without-row i p)
   unfolding without-row
-  prefix-copied i h =
-      ap₂ _++_ (copied-prefix 0 i (omega arith))
-      (copied-prefix (i + 1) (s .variables) (omega arith) ∙
+  prefix-without i h =
+      ap₂ _++_ (prefix-part 0 i (omega arith))
+      (prefix-part (i + 1) (s .variables) (omega arith) ∙
       ap₂ (λ k l. map binding-row (drop k l)) (add-one i) (take-all (s .variables) p (omega (arith, length-prefix b ok)))) ∙
       sym (map-append binding-row (take i p) (drop (suc i) p))
 
+module _ (s : Layout) (b : Bytes) (ok : Readable s b) (t : List ℕ) where
+  -- a part of the prefix, by a table
+  pub copied-prefix : (from to : ℕ) → to ≤ s .variables
+      → copied t from to (rows-in s b) ≡ map binding-row (drop from (take to (prefix-in s b)))
+  unfolding copied
+  copied-prefix from to h =
+      ap (map (changed-row t)) (prefix-part s b ok from to h) ∙ prefix-kept t (drop from (take to (prefix-in s b)))
+
   -- a part of the matrix
   pub nodes-copied : (from to : ℕ)
-      → copied t (s .variables + from) (s .variables + to) R ≡ map (changed-row t) (slice from to (node-rows-in s b))
+      → copied t (s .variables + from) (s .variables + to) (rows-in s b) ≡ map (changed-row t) (slice from to (node-rows-in s b))
   unfolding copied node-rows-in
-  nodes-copied from to = ap (map (changed-row t)) (slice-behind (s .variables) from to R (omega (arith, length-R)))
+  nodes-copied from to = ap (map (changed-row t)) (slice-behind (s .variables) from to (rows-in s b) (omega (arith, length-R s b ok)))
 
   -- the whole of it
-  pub matrix-copied : copied t (s .variables) (total s) R ≡ tree-rows (replace (changed t) (matrix-in s b))
+  pub matrix-copied : copied t (s .variables) (total s) (rows-in s b) ≡ tree-rows (replace (changed t) (matrix-in s b))
   matrix-copied =
-      ap (λ k. copied t k (total s) R) (sym (add-zero (s .variables))) ∙ nodes-copied 0 (s .nodes) ∙
+      ap (λ k. copied t k (total s) (rows-in s b)) (sym (add-zero (s .variables))) ∙ nodes-copied 0 (s .nodes) ∙
       ap (map (changed-row t)) (take-all (s .nodes) (node-rows-in s b) (omega (arith, length-nodes b ok)) ∙ sym (one-tree b ok)) ∙
       rows-changed t (matrix-in s b)

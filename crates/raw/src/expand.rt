@@ -207,6 +207,6 @@ pub fn write_raw(b: &[u8], s: Layout, tables: &[u16], cuts: &[u16], e: Expansion
     ensures { λ _. ⌜ Raw (e .layout) (now (out .entry)) (now (out .exit)) (expanded-raw (e .row) (copying-by (now (tables .entry)) (e .joint)) (formula-in s (now (b .entry)))) ⌝ }
 {
     let t = e.layout;
-    write_prefix(b, s, &tables[NUMBERS..], e.row, out, t);
+    write_prefix(b, s, e.row, out, t);
     write_matrix(b, s, tables, cuts, e, out);
 }

@@ -2,6 +2,7 @@
 use changing::Span;
 use changing::Target;
 use changing::write::write_copy;
+use changing::write::write_rows;
 use rows::Layout;
 ghost use mathlib.Core.Path.{_≡_};
 ghost use mathlib.Core.List.{map};
@@ -13,15 +14,8 @@ ghost use Rattle.rows.specs.Formulas.{Readable, prefix-in, formula-in};
 ghost use Rattle.changing.specs.Output.{Ready, Laid};
 ghost use Rattle.raw.specs.Formulas.{without-row, settled-raw, raw-layout, Raw};
 
-// Writes the prefix without row `i` as the first rows of the layout `t`; no table changes a quantifier's row.
-pub fn write_prefix(
-    b: &[u8],
-    s: Layout,
-    table: &[u16],
-    i: usize,
-    out: &mut [u8],
-    t: Layout,
-) -> usize
+// Writes the prefix without row `i` as the first rows of the layout `t`.
+pub fn write_prefix(b: &[u8], s: Layout, i: usize, out: &mut [u8], t: Layout) -> usize
     requires { ⌜ Readable s (now b) × Ready s (now b) t (now out) × (i < s .variables) × (s .variables ≤ total t + 1) ⌝ }
     ensures { λ next. ⌜ Laid t (now (out .entry)) (now (out .exit)) 0 next (map binding-row (without-row i (prefix-in s (now (b .entry))))) ⌝ }
     ensures { λ next. ⌜ next ≡ s .variables - 1 ⌝ }
@@ -32,9 +26,9 @@ pub fn write_prefix(
         to: s.variables,
     };
     let front = Target { layout: t, at: 0 };
-    let at = write_copy(b, s, table, above, out, front);
+    let at = write_rows(b, s, above, out, front);
     let back = Target { layout: t, at: at };
-    write_copy(b, s, table, below, out, back)
+    write_rows(b, s, below, out, back)
 }
 
 // Writes the raw sheet of settling: the prefix without row `i`, and the matrix with its literals changed by the table.
@@ -51,7 +45,7 @@ pub fn write_settled(b: &[u8], s: Layout, table: &[u16], i: usize, out: &mut [u8
         from: s.variables,
         to: s.variables + s.nodes,
     };
-    let at = write_prefix(b, s, table, i, out, t);
+    let at = write_prefix(b, s, i, out, t);
     let back = Target { layout: t, at: at };
     write_copy(b, s, table, matrix, out, back);
 }

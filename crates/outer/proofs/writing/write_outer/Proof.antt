@@ -13,28 +13,19 @@ use borrow.Author.Needs.{needs}
 use Rattle.outer.proofs.writing.write_outer.Statement.{statement}
 use Rattle.outer.proofs.writing.write_outer.Tie as tie
 
-sub-write-prefix : tie.Need-sub-write-prefix
-sub-write-prefix c = search needs
-
-part-write-prefix-start : tie.Need-part-write-prefix-start
-part-write-prefix-start c = search needs
-
-part-write-prefix-end : tie.Need-part-write-prefix-end
-part-write-prefix-end c = search needs
-
 write-prefix-requires : tie.Need-write-prefix-requires
 write-prefix-requires c κs =
-    let a = c .before .before .before .before .before .before .before in
+    let a = c .before .before .before .before .before .before in
     (a .pre .copyable .readable, ready-raw (a .pre .copyable), a .pre .in-prefix, omega (arith, a .pre .variables-are))
 
 sub-write-all-copied : tie.Need-sub-write-all-copied
 sub-write-all-copied c =
-    let a = c .before .before .before .before .before .before .before .before .before .before in
+    let a = c .before .before .before .before .before .before .before .before .before in
     omega (arith, a .pre .copyable .two-tables)
 
 part-write-all-copied-start : tie.Need-part-write-all-copied-start
 part-write-all-copied-start c =
-    let a = c .before .before .before .before .before .before .before .before .before .before in
+    let a = c .before .before .before .before .before .before .before .before .before in
     omega (arith, a .pre .copyable .two-tables)
 
 part-write-all-copied-end : tie.Need-part-write-all-copied-end
@@ -42,25 +33,25 @@ part-write-all-copied-end c = search needs
 
 write-all-copied-requires : tie.Need-write-all-copied-requires
 write-all-copied-requires c κs =
-    let a = c .before .before .before .before .before .before .before .before .before .before .before .before in
+    let a = c .before .before .before .before .before .before .before .before .before .before .before in
     let x = a .pre .copyable in (
       x .readable,
-      room-on (x .room) (c .before .before .before .before .write-prefix .kept .1 .1 .1 .1 .0),
+      room-on (x .room) (c .before .before .before .before .write-prefix .kept .1 .1 .1 .0),
       numbers-fit (a .pre),
       omega (arith, c .before .before .before .before .write-prefix .ensures .1, a .pre .variables-are, ap (λ t. length (rows-from t (prefix-in (a .args .s) (a .args .b .now)))) (rest-of 1025 (a .args .tables .now))),
     )
 
 write-matrix-requires : tie.Need-write-matrix-requires
 write-matrix-requires c κs =
-    let a = c .before .before .before .before .before .before .before .before .before .before .before .before .before .before .before .before in
-    (copyable-on (a .pre .copyable) (c .before .before .before .write-all-copied .kept .1 .1 .1 .0 ∙ c .before .before .before .before .before .before .before .before .write-prefix .kept .1 .1 .1 .1 .0), a .pre .told)
+    let a = c .before .before .before .before .before .before .before .before .before .before .before .before .before .before .before in
+    (copyable-on (a .pre .copyable) (c .before .before .before .write-all-copied .kept .1 .1 .1 .0 ∙ c .before .before .before .before .before .before .before .before .write-prefix .kept .1 .1 .1 .0), a .pre .told)
 
 same-length : tie.Need-same-length
 same-length c = search needs
 
 returns : tie.Need-returns
 returns c =
-    let a = c .before .before .before .before .before .before .before .before .before .before .before .before .before .before .before .before .before .before .before in
+    let a = c .before .before .before .before .before .before .before .before .before .before .before .before .before .before .before .before .before .before in
     let p = prefix-in (a .args .s) (a .args .b .now) in
     let at : c .before .before .before .before .before .before .write-all-copied .result ≡ a .args .e .layout .variables
     = omega (arith, c .before .before .before .before .before .before .write-all-copied .ensures .next-row, c .before .before .before .before .before .before .before .before .before .before .before .write-prefix .ensures .1, a .pre .variables-are, ap (λ t. length (rows-from t p)) (rest-of 1025 (a .args .tables .now))) in
@@ -72,9 +63,6 @@ pub write-outer-spec : {M : Type 1} → statement M
 write-outer-spec =
     tie.close
     (tie.spec
-    sub-write-prefix
-    part-write-prefix-start
-    part-write-prefix-end
     write-prefix-requires
     sub-write-all-copied
     part-write-all-copied-start

@@ -9,31 +9,22 @@ use borrow.Author.Needs.{needs}
 use Rattle.raw.proofs.expand.write_raw.Statement.{statement}
 use Rattle.raw.proofs.expand.write_raw.Tie as tie
 
-sub-write-prefix : tie.Need-sub-write-prefix
-sub-write-prefix c = search needs
-
-part-write-prefix-start : tie.Need-part-write-prefix-start
-part-write-prefix-start c = search needs
-
-part-write-prefix-end : tie.Need-part-write-prefix-end
-part-write-prefix-end c = search needs
-
 write-prefix-requires : tie.Need-write-prefix-requires
 write-prefix-requires c κs =
-    let a = c .before .before .before .before .before .before .before in
+    let a = c .before .before .before .before .before .before in
     (a .pre .0 .readable, ready-raw (copyable (a .pre .0)), a .pre .0 .in-prefix, omega (arith, ap (λ (t : Layout). t .variables) (a .pre .0 .layout-is)))
 
 write-matrix-requires : tie.Need-write-matrix-requires
 write-matrix-requires c κs =
-    let a = c .before .before .before .before .before .before .before .before .before .before .before in
-    (copyable-on (copyable (a .pre .0)) (c .before .before .before .write-prefix .kept .1 .1 .1 .1 .0), (a .pre .1, a .pre .2))
+    let a = c .before .before .before .before .before .before .before .before .before .before in
+    (copyable-on (copyable (a .pre .0)) (c .before .before .before .write-prefix .kept .1 .1 .1 .0), (a .pre .1, a .pre .2))
 
 same-length : tie.Need-same-length
 same-length c = search needs
 
 returns : tie.Need-returns
 returns c =
-    let a = c .before .before .before .before .before .before .before .before .before .before .before .before .before .before in
+    let a = c .before .before .before .before .before .before .before .before .before .before .before .before .before in
     let x = copyable (a .pre .0) in
     let prefix = c .before .before .before .before .before .before in
     let matrix = c .before .before in
@@ -41,17 +32,9 @@ returns c =
     = omega (arith, prefix .write-prefix .ensures .1, ap (λ (t : Layout). t .variables) (a .pre .0 .layout-is)) in
     raw-laid (omega (arith, matrix .write-matrix .ensures .next-row, matrix-rows x))
     (laid-on (laid-to at (prefix .write-prefix .ensures .0)) (matrix .write-matrix .ensures))
-    (room-on (a .pre .0 .room) (matrix .write-matrix .kept .1 .1 .1 .1 .1 .0 ∙ prefix .write-prefix .kept .1 .1 .1 .1 .0))
+    (room-on (a .pre .0 .room) (matrix .write-matrix .kept .1 .1 .1 .1 .1 .0 ∙ prefix .write-prefix .kept .1 .1 .1 .0))
     (expanded-rows (a .args .s) (a .args .b .now) (a .args .tables .now) (a .args .e))
 
 pub write-raw-spec : {M : Type 1} → statement M
 write-raw-spec =
-    tie.close
-    (tie.spec
-    sub-write-prefix
-    part-write-prefix-start
-    part-write-prefix-end
-    write-prefix-requires
-    write-matrix-requires
-    same-length
-    returns)
+    tie.close (tie.spec write-prefix-requires write-matrix-requires same-length returns)

@@ -1,21 +1,21 @@
 -- `raw::settle::write_prefix` meets its contract. Assumes nothing.
 use Rattle.changing.specs.Output.{Laid}
 use Rattle.changing.proofs.Splice.{laid-on}
-use Rattle.raw.proofs.Source.{prefix-copied}
+use Rattle.raw.proofs.Source.{prefix-without}
 use mathlib.Core.Path.{subst}
 use native.Mathlib.Omega.{arith}
 use borrow.Author.Needs.{needs}
 use Rattle.raw.proofs.settle.write_prefix.Statement.{statement}
 use Rattle.raw.proofs.settle.write_prefix.Tie as tie
 
-add-t12 : tie.Need-add-t12
-add-t12 c = search needs
+add-t11 : tie.Need-add-t11
+add-t11 c = search needs
 
-write-copy-requires : tie.Need-write-copy-requires
-write-copy-requires c κs = search needs
+write-rows-requires : tie.Need-write-rows-requires
+write-rows-requires c κs = search needs
 
-write-copy-requires-2 : tie.Need-write-copy-requires-2
-write-copy-requires-2 c κs = search needs
+write-rows-requires-2 : tie.Need-write-rows-requires-2
+write-rows-requires-2 c κs = search needs
 
 same-length : tie.Need-same-length
 same-length c = search needs
@@ -23,13 +23,13 @@ same-length c = search needs
 returns : tie.Need-returns
 returns c =
     let first = c .before .before .before .before .before .before in
-    let a = first .before .before .before .before .before in (
+    let a = first .before .before .before .before in (
       subst (Laid (a .args .t) (a .args .out .now) _ 0 _)
-          (prefix-copied (a .args .s) (a .args .b .now) (a .pre .0) (a .args .table .now) (a .args .i) (a .pre .2))
-          (laid-on (first .write-copy .ensures .0) (c .before .before .write-copy2 .ensures .0)),
-      omega (arith, first .write-copy .ensures .1, c .before .before .write-copy2 .ensures .1, a .pre),
+          (prefix-without (a .args .s) (a .args .b .now) (a .pre .0) (a .args .i) (a .pre .2))
+          (laid-on (first .write-rows .ensures .0) (c .before .before .write-rows2 .ensures .0)),
+      omega (arith, first .write-rows .ensures .1, c .before .before .write-rows2 .ensures .1, a .pre),
     )
 
 pub write-prefix-spec : {M : Type 1} → statement M
 write-prefix-spec =
-    tie.close (tie.spec add-t12 write-copy-requires write-copy-requires-2 same-length returns)
+    tie.close (tie.spec add-t11 write-rows-requires write-rows-requires-2 same-length returns)
