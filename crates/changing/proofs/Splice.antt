@@ -6,7 +6,7 @@ use Prim.Native.Nat.{ℕ, _+_, _*_, _-_, _≤_, _<_}
 use native.Mathlib.Nat.{mul-zero, mul-suc, mul-add, add-mul, one-mul, add-zero, add-assoc, mul-le-mul-left}
 use native.Mathlib.Numerals.{add-one}
 use native.Mathlib.Omega.{arith}
-use lib.ListN.{length, take, drop, set, length-append, length-drop, take-append-drop}
+use lib.ListN.{length, take, drop, set, length-append, length-drop, take-append-drop, drop-of-length-le}
 use lib.Seq.{slice, length-take-le, take-take, take-all, take-at, drop-at, drop-drop, take-append-add, drop-append-add, take-append-le, drop-append-le, take-suc-set}
 use Rattle.sheet.specs.Format.{Bytes, Row, zip-rows}
 use Rattle.sheet.specs.Sheet.{row-kinds, row-arguments}
@@ -17,6 +17,19 @@ use Rattle.rows.specs.declared.Layout.{Layout}
 use Rattle.rows.proofs.Layouts.{length-rows-in}
 use Rattle.changing.specs.Changes.{changed-row, copied}
 use Rattle.changing.specs.Output.{Ready, spliced, Laid}
+
+-- what a lent part is when it comes back
+pub lent : (d p : Bytes) {q : Bytes} (a k : ℕ) → length p ≡ k → q ≡ p ++ drop k (take (length d - a) (drop a d))
+    → take a d ++ (q ++ drop (length d - a) (drop a d)) ≡ spliced a p d
+unfolding spliced
+lent d p {q} a k e f =
+    ap₂ (λ l r. take a d ++ (l ++ r))
+    (f ∙ ap (λ l. p ++ drop k l) (take-all (length d - a) (drop a d) whole) ∙ ap (λ l. p ++ l) (drop-drop k a d ∙ ap (λ n. drop (a + n) d) (sym e)))
+    (drop-of-length-le (drop a d) whole) ∙
+    ap (λ l. take a d ++ l) (append-nil _)
+  where
+    whole : length (drop a d) ≤ length d - a
+    whole = omega (arith, length-drop a d)
 
 -- spliced
 

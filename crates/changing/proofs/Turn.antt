@@ -1,8 +1,9 @@
 -- Bytes copied one by one, and rows changed one by one where they stand.
 -- Assumes nothing.
 use mathlib.Core.Path.{_≡_, refl, sym, ap, ap₂, _∙_, subst}
-use mathlib.Core.List.{List, [], _∷_, _++_, append-assoc, map}
+use mathlib.Core.List.{List, [], _∷_, _++_, map}
 use Prim.Native.Nat.{ℕ, _+_, _≤_, _<_}
+use native.Mathlib.Nat.{zero-add}
 use native.Mathlib.Numerals.{add-one}
 use native.Mathlib.Omega.{arith}
 use lib.ListN.{length, getD, take, drop, set, length-drop, length-set}
@@ -12,43 +13,38 @@ use Rattle.rows.specs.Layouts.{total, rows-in, Room, Kept}
 use Rattle.rows.specs.declared.Layout.{Layout}
 use Rattle.rows.proofs.Layouts.{length-rows-in}
 use Rattle.changing.specs.Changes.{changed-row, copied}
-use Rattle.changing.specs.Output.{spliced, Laid}
+use Rattle.changing.specs.Output.{Laid}
 use Rattle.changing.proofs.Changed.{map-append}
 use Rattle.changing.proofs.Splice.{none-laid, row-laid, laid-on}
 
 -- copy_bytes
 
-pub record Copied (b : Bytes) (from count : ℕ) (d : Bytes) (to : ℕ) (out : Bytes) (i : ℕ) : Type 0 where
+pub record Copied (b : Bytes) (from count : ℕ) (d out : Bytes) (i : ℕ) : Type 0 where
   pub within : i ≤ count
-  pub so-far : out ≡ paste d to (drop from b) i
+  pub so-far : out ≡ paste d 0 (drop from b) i
   pub same-length : length out ≡ length d
 
-module _ (b : Bytes) (from count : ℕ) (d : Bytes) (to : ℕ) (inside : from + count ≤ length b) (room : to + count ≤ length d) where
-  pub copied-none : Copied b from count d to d 0
-  copied-none = record { within = omega arith; so-far = paste-zero d to (drop from b); same-length = refl }
+module _ (b : Bytes) (from count : ℕ) (d : Bytes) (inside : from + count ≤ length b) (room : count ≤ length d) where
+  pub copied-none : Copied b from count d d 0
+  copied-none = record { within = omega arith; so-far = paste-zero d 0 (drop from b); same-length = refl }
 
-  pub copied-byte : {out : Bytes} {i : ℕ} → i < count → Copied b from count d to out i
-      → Copied b from count d to (set out (to + i) (getD b (from + i) 0)) (i + 1)
+  pub copied-byte : {out : Bytes} {i : ℕ} → i < count → Copied b from count d out i
+      → Copied b from count d (set out i (getD b (from + i) 0)) (i + 1)
   copied-byte {out} {i} h c =
       record {
         within = omega arith;
         so-far =
-            ap₂ (λ (q : Bytes) x. set q (to + i) x) (c .so-far) (sym (getD-drop from b i 0)) ∙
-            paste-suc d to (drop from b) i 0 (omega arith) (omega (arith, length-drop from b)) ∙
-            ap (paste d to (drop from b)) (sym (add-one i));
-        same-length = length-set out (to + i) (getD b (from + i) 0) ∙ c .same-length;
+            ap₂ (λ (q : Bytes) x. set q i x) (c .so-far) (sym (getD-drop from b i 0)) ∙
+            ap (λ n. set (paste d 0 (drop from b) i) n (getD (drop from b) i 0)) (sym (zero-add i)) ∙
+            paste-suc d 0 (drop from b) i 0 (omega arith) (omega (arith, length-drop from b)) ∙
+            ap (paste d 0 (drop from b)) (sym (add-one i));
+        same-length = length-set out i (getD b (from + i) 0) ∙ c .same-length;
       }
 
-  pub copied-all : {out : Bytes} {i : ℕ} → count ≤ i → Copied b from count d to out i
-      → out ≡ spliced to (take count (drop from b)) d
-  unfolding spliced
+  pub copied-all : {out : Bytes} {i : ℕ} → count ≤ i → Copied b from count d out i → out ≡ take count (drop from b) ++ drop count d
   copied-all {out} {i} h c =
       let last : i ≡ count = omega (arith, c .within) in
-      c .so-far ∙ ap (paste d to (drop from b)) last ∙ append-assoc (take to d) (take count (drop from b)) (drop (to + count) d) ∙
-      ap (λ n. take to d ++ (take count (drop from b) ++ drop (to + n) d)) (sym counted)
-    where
-      counted : length (take count (drop from b)) ≡ count
-      counted = length-take-le count (drop from b) (omega (arith, length-drop from b))
+      c .so-far ∙ ap (λ n. take i (drop from b) ++ drop n d) (zero-add i) ∙ ap (λ n. take n (drop from b) ++ drop n d) last
 
 -- copied
 

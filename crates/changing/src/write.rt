@@ -7,7 +7,7 @@ use rows::places::argument_place;
 use rows::places::kind_place;
 use rows::write::set_row;
 ghost use mathlib.Core.Path.{_≡_};
-ghost use mathlib.Core.List.{[], _∷_};
+ghost use mathlib.Core.List.{[], _∷_, _++_};
 ghost use Prim.Native.Nat.{_+_, _^_, _≤_, _<_};
 ghost use lib.ListN.{length, take, drop};
 ghost use lib.Seq.{slice};
@@ -25,17 +25,25 @@ pub fn write_row(out: &mut [u8], to: Target, kind: u8, argument: usize) -> usize
     to.at + 1
 }
 
-// Copies `count` bytes from byte `from` of `b` on to byte `to` of the output and on. The loop moves bytes and does no more, so that the
-// compiler can move many at once.
-fn copy_bytes(b: &[u8], from: usize, count: usize, out: &mut [u8], to: usize)
-    requires { ⌜ (from + count ≤ length (now b)) × (to + count ≤ length (now out)) ⌝ }
-    ensures { λ _. ⌜ now (out .exit) ≡ spliced to (take count (drop from (now (b .entry)))) (now (out .entry)) ⌝ }
+// Copies `count` bytes from byte `from` of `b` on to the front of `out`. The loop moves bytes and does no more, so that the compiler can
+// move many at once.
+fn copy_bytes(b: &[u8], from: usize, count: usize, out: &mut [u8])
+    requires { ⌜ (from + count ≤ length (now b)) × (count ≤ length (now out)) ⌝ }
+    ensures { λ _. ⌜ now (out .exit) ≡ take count (drop from (now (b .entry))) ++ drop count (now (out .entry)) ⌝ }
 {
     let mut i: usize = 0;
     while i < count {
-        out[to + i] = b[from + i];
+        out[i] = b[from + i];
         i += 1;
     }
+}
+
+// Writes them from byte `start` of the output on, which is lent to the copying function from there.
+fn write_bytes(b: &[u8], from: usize, count: usize, out: &mut [u8], start: usize)
+    requires { ⌜ (from + count ≤ length (now b)) × (start + count ≤ length (now out)) ⌝ }
+    ensures { λ _. ⌜ now (out .exit) ≡ spliced start (take count (drop from (now (b .entry)))) (now (out .entry)) ⌝ }
+{
+    copy_bytes(b, from, count, &mut out[start..]);
 }
 
 // Writes the rows `span` of `b` as they are.
@@ -50,8 +58,8 @@ pub fn write_rows(b: &[u8], s: Layout, span: Span, out: &mut [u8], to: Target) -
     let count = span.to - from;
     let kinds = kind_place(t, at);
     let arguments = argument_place(t, at);
-    copy_bytes(b, kind_place(s, from), count, out, kinds);
-    copy_bytes(b, argument_place(s, from), s.width * count, out, arguments);
+    write_bytes(b, kind_place(s, from), count, out, kinds);
+    write_bytes(b, argument_place(s, from), s.width * count, out, arguments);
     at + count
 }
 

@@ -6,22 +6,19 @@ use Rattle.changing.proofs.write.copy_bytes.Statement.{statement}
 use Rattle.changing.proofs.write.copy_bytes.Tie as tie
 
 abbrev Inv-loop : tie.InvT-loop
-Inv-loop b from count out₀ to i₀ out i = Copied b from count out₀ to out i
+Inv-loop b from count out₀ i₀ out i = Copied b from count out₀ out i
 
 abbrev μ-loop : tie.MeasureT-loop
-μ-loop b from count out₀ to i₀ out i = count - i
+μ-loop b from count out₀ i₀ out i = count - i
 
 loop-holds : tie.Need-loop-holds Inv-loop μ-loop
-loop-holds c = copied-none _ _ _ _ _ (c .pre .0) (c .pre .1)
+loop-holds c = copied-none _ _ _ _ (c .pre .0) (c .pre .1)
 
 add-out : tie.Need-add-out Inv-loop μ-loop
 add-out c = omega arith
 
 shared-slice-read-out : tie.Need-shared-slice-read-out Inv-loop μ-loop
 shared-slice-read-out c = omega arith
-
-add-out-2 : tie.Need-add-out-2 Inv-loop μ-loop
-add-out-2 c = omega arith
 
 slice-write-out : tie.Need-slice-write-out Inv-loop μ-loop
 slice-write-out c = omega arith
@@ -36,7 +33,7 @@ loop-again : tie.Need-loop-again Inv-loop μ-loop
 loop-again c =
     let turn = c .before in
     let a = turn .before .before in
-    copied-byte _ _ _ _ _ (a .pre .0) (a .pre .1) (turn .loop-test .taken) (turn .before .loop .inv)
+    copied-byte _ _ _ _ (a .pre .0) (a .pre .1) (turn .loop-test .taken) (turn .before .loop .inv)
 
 same-length : tie.Need-same-length Inv-loop μ-loop
 same-length c = c .before .loop .inv .same-length
@@ -44,7 +41,7 @@ same-length c = c .before .loop .inv .same-length
 returns : tie.Need-returns Inv-loop μ-loop
 returns c =
     let a = c .before .before in
-    copied-all _ _ _ _ _ (a .pre .0) (a .pre .1) (c .loop-test .left) (c .before .loop .inv)
+    copied-all _ _ _ _ (a .pre .0) (a .pre .1) (c .loop-test .left) (c .before .loop .inv)
 
 pub copy-bytes-spec : {M : Type 1} → statement M
 copy-bytes-spec =
@@ -55,7 +52,6 @@ copy-bytes-spec =
     loop-holds
     add-out
     shared-slice-read-out
-    add-out-2
     slice-write-out
     add-i
     loop-less

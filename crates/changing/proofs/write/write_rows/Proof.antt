@@ -27,8 +27,8 @@ argument-place-requires c κs =
 kind-place-requires-2 : tie.Need-kind-place-requires-2
 kind-place-requires-2 c κs = search needs
 
-copy-bytes-requires : tie.Need-copy-bytes-requires
-copy-bytes-requires c κs =
+write-bytes-requires : tie.Need-write-bytes-requires
+write-bytes-requires c κs =
     let places = c .before .before in
     let a = places .before .before .before .before .before .before in (
       rw (c .before .kind-place2 .ensures)
@@ -41,20 +41,20 @@ argument-place-requires-2 c κs =
     let a = c .before .before .before .before .before .before .before .before .before .before .before in
     omega (arith, arguments-within (a .args .s) (a .args .b .now) (a .pre .0 .source) (a .args .span) (a .pre .1), a .good)
 
-mul-copy-bytes : tie.Need-mul-copy-bytes
-mul-copy-bytes c =
+mul-write-bytes : tie.Need-mul-write-bytes
+mul-write-bytes c =
     let a = c .before .before .before .before .before .before .before .before .before .before .before .before .before in
     omega (arith, arguments-within (a .args .s) (a .args .b .now) (a .pre .0 .source) (a .args .span) (a .pre .1), a .good)
 
-copy-bytes-requires-2 : tie.Need-copy-bytes-requires-2
-copy-bytes-requires-2 c κs =
+write-bytes-requires-2 : tie.Need-write-bytes-requires-2
+write-bytes-requires-2 c κs =
     let read = c .before .before in
     let first = read .before .before .before in
     let places = first .before .before .before in
     let a = places .before .before .before .before .before .before in (
       rw (read .argument-place2 .ensures)
           (arguments-within (a .args .s) (a .args .b .now) (a .pre .0 .source) (a .args .span) (a .pre .1)),
-      rw (first .copy-bytes .kept .1 .1 .1 .0, places .argument-place .ensures)
+      rw (first .write-bytes .kept .1 .1 .1 .0, places .argument-place .ensures)
           (arguments-room (a .pre .0) (a .args .to .at) (extent (a .args .span)) (a .pre .2)),
     )
 
@@ -80,11 +80,11 @@ returns c =
           (slice-fits s b bytes (span .from) (span .to)) (extent span)
           (length-span s b (a .pre .0 .source) span (a .pre .1)) (a .pre .2)
           (places .before .kind-place .ensures) (places .argument-place .ensures)
-          (first .copy-bytes .ensures ∙
+          (first .write-bytes .ensures ∙
           ap (λ l. spliced (places .before .kind-place .result) l (a .args .out .now))
           (ap (λ n. take (extent span) (drop n b)) (first .before .before .kind-place2 .ensures) ∙ span-kinds s b (a .pre .0 .source) span (a .pre .1)))
-          (second .copy-bytes2 .ensures ∙
-          ap (λ l. spliced (places .argument-place .result) l (first .copy-bytes .last .1 .1 .1 .0))
+          (second .write-bytes2 .ensures ∙
+          ap (λ l. spliced (places .argument-place .result) l (first .write-bytes .last .1 .1 .1 .0))
           (ap (λ n. take (s .width * extent span) (drop n b)) (read .argument-place2 .ensures) ∙ span-arguments s b (a .pre .0 .source) span (a .pre .1) bytes)),
       refl,
     )
@@ -97,10 +97,10 @@ write-rows-spec =
     kind-place-requires
     argument-place-requires
     kind-place-requires-2
-    copy-bytes-requires
+    write-bytes-requires
     argument-place-requires-2
-    mul-copy-bytes
-    copy-bytes-requires-2
+    mul-write-bytes
+    write-bytes-requires-2
     add-result
     same-length
     returns)
