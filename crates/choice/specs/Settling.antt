@@ -1,11 +1,11 @@
 -- The next variable to settle, as code holds it ("Solve").
 -- Assumes nothing.
 use mathlib.Core.Path.{_≡_}
-use mathlib.Core.Bool.{Bool, cond}
+use mathlib.Core.Bool.{Bool, false}
 use mathlib.Core.Option.{Option, none, some}
 use Prim.Native.Nat.{ℕ, _<_}
 use lib.Dec.{ltb}
-use lib.ListN.{drop}
+use lib.ListN.{take}
 use Rattle.formula.specs.Tree.{Formula}
 use Rattle.formula.specs.Settle.{may-settle}
 use Rattle.formula.specs.Solve.{those, least, is-some, lowest}
@@ -35,14 +35,14 @@ ToSettle s b r = SettleOf s b (lowest (formula-in s b)) r
 abbrev pub Unsettled : Layout → Bytes → Type 0
 Unsettled s b = lowest (formula-in s b) ≡ none
 
--- the lowest-numbered variable that may be settled, of those from prefix row i on, and the code's choice among them
-unfoldable pub lowest-from : ℕ → Formula → Option ℕ
-lowest-from i f = least ltb (those (λ x. is-some (may-settle x f)) (drop i (f .prefix)))
+-- the lowest-numbered variable that may be settled, of those before prefix row i, and the code's choice among them
+unfoldable pub lowest-before : ℕ → Formula → Option ℕ
+lowest-before i f = least ltb (those (λ x. is-some (may-settle x f)) (take i (f .prefix)))
 
-abbrev pub SettlesFrom : ℕ → Layout → Bytes → SettleChoice → Type 0
-SettlesFrom i s b r = SettleOf s b (lowest-from i (formula-in s b)) r
+abbrev pub SettlesBefore : ℕ → Layout → Bytes → SettleChoice → Type 0
+SettlesBefore i s b r = SettleOf s b (lowest-before i (formula-in s b)) r
 
--- the lower-numbered of a choice and the variable x of row i, which takes the value c
-abbrev pub lower-of : SettleChoice → ℕ → ℕ → Bool → SettleChoice
-lower-of Nothing i x c = Settle i x c
-lower-of (Settle j y d) i x c = cond (ltb y x) (Settle j y d) (Settle i x c)
+-- whether a choice has a number below x
+abbrev pub is-lower : SettleChoice → ℕ → Bool
+is-lower Nothing x = false
+is-lower (Settle i y c) x = ltb y x

@@ -11,7 +11,7 @@ ghost use Rattle.rows.specs.Formulas.{Readable};
 ghost use Rattle.subtrees.specs.Ends.{Indexed};
 ghost use Rattle.signs.specs.Table.{Signed};
 ghost use Rattle.choice.specs.Choosing.{Bound};
-ghost use Rattle.choice.specs.Settling.{ToSettle, SettlesFrom, lower-of};
+ghost use Rattle.choice.specs.Settling.{ToSettle, SettlesBefore, is-lower};
 
 // The variable to settle: its prefix row, its number and the value that goes in; or none may be settled.
 pub enum SettleChoice {
@@ -19,30 +19,30 @@ pub enum SettleChoice {
     Nothing,
 }
 
-// Of `best` and the variable `x` of row `i`, which takes `value`: the one with the lower number.
-fn lower_of(best: SettleChoice, i: usize, x: usize, value: bool) -> SettleChoice
-    ensures { λ r. ⌜ r ≡ lower-of best i x value ⌝ }
+// Whether the choice so far has a number below `x`: a variable `x` is then not the lowest, whether or not it may be settled.
+fn is_lower(best: SettleChoice, x: usize) -> bool
+    ensures { λ r. ⌜ r ≡ is-lower best x ⌝ }
 {
-    let SettleChoice::Settle(j, y, other) = best else {
-        return SettleChoice::Settle(i, x, value);
+    let SettleChoice::Settle(_, y, _) = best else {
+        return false;
     };
-    if y < x {
-        return SettleChoice::Settle(j, y, other);
-    }
-    SettleChoice::Settle(i, x, value)
+    y < x
 }
 
-// The choice among the prefix rows from row `i` on, where `best` is the choice among those behind it.
-fn choose_from(b: &[u8], s: Layout, signs: &[bool], i: usize, best: SettleChoice) -> SettleChoice
+// The choice among the prefix rows up to row `i`, where `best` is the choice among those before it.
+fn choose_to(b: &[u8], s: Layout, signs: &[bool], i: usize, best: SettleChoice) -> SettleChoice
     requires { ⌜ Readable s (now b) × Bound s (now b) × Signed s (now b) (now signs) × (i < s .variables) ⌝ }
-    requires { ⌜ SettlesFrom (suc i) s (now b) best ⌝ }
-    ensures { λ r. ⌜ SettlesFrom i s (now (b .entry)) r ⌝ }
+    requires { ⌜ SettlesBefore i s (now b) best ⌝ }
+    ensures { λ r. ⌜ SettlesBefore (suc i) s (now (b .entry)) r ⌝ }
 {
+    let x = variable_at(b, s, i);
+    if is_lower(best, x) {
+        return best;
+    }
     let Settling::Take(value) = value_at(b, s, i, signs) else {
         return best;
     };
-    let x = variable_at(b, s, i);
-    lower_of(best, i, x, value)
+    SettleChoice::Settle(i, x, value)
 }
 
 // The choice among all prefix rows.
@@ -50,11 +50,12 @@ fn choose_by(b: &[u8], s: Layout, signs: &[bool]) -> SettleChoice
     requires { ⌜ Readable s (now b) × Bound s (now b) × Signed s (now b) (now signs) ⌝ }
     ensures { λ r. ⌜ ToSettle s (now (b .entry)) r ⌝ }
 {
+    let v = s.variables;
     let mut best = SettleChoice::Nothing;
-    let mut i = s.variables;
-    while 0 < i {
-        i -= 1;
-        best = choose_from(b, s, signs, i, best);
+    let mut i = 0;
+    while i < v {
+        best = choose_to(b, s, signs, i, best);
+        i += 1;
     }
     best
 }
