@@ -23,7 +23,7 @@ use Rattle.signs.specs.Value.{value-of, settling-in}
 use Rattle.signs.specs.declared.value.Settling.{Settling}
 use Rattle.signs.specs.declared.value.Settling.the-variants.{Take, Not}
 use Rattle.choice.specs.Choosing.{Bound}
-use Rattle.choice.specs.Settling.{SettleHere, SettleOf, SettlesBefore, ToSettle, lowest-before, is-lower}
+use Rattle.choice.specs.Settling.{SettleOf, SettlesBefore, ToSettle, lowest-before, is-lower}
 use Rattle.choice.specs.declared.settle.SettleChoice.{SettleChoice}
 use Rattle.choice.specs.declared.settle.SettleChoice.the-variants.{Settle, Nothing}
 use Rattle.choice.proofs.Rows.{place-in, may-settle-row}

@@ -8,7 +8,6 @@ use signs::value::value_at;
 ghost use mathlib.Core.Path.{_≡_};
 ghost use Prim.Native.Nat.{suc, _<_};
 ghost use Rattle.rows.specs.Formulas.{Readable};
-ghost use Rattle.subtrees.specs.Ends.{Indexed};
 ghost use Rattle.signs.specs.Table.{Signed};
 ghost use Rattle.choice.specs.Choosing.{Bound};
 ghost use Rattle.choice.specs.Settling.{ToSettle, SettlesBefore, is-lower};
@@ -61,11 +60,11 @@ fn choose_by(b: &[u8], s: Layout, signs: &[bool]) -> SettleChoice
 }
 
 // The lowest-numbered variable that may be settled.
-pub fn choose_settle(b: &[u8], s: Layout, ends: &[u16]) -> SettleChoice
-    requires { ⌜ Indexed s (now b) (now ends) × Bound s (now b) ⌝ }
+pub fn choose_settle(b: &[u8], s: Layout) -> SettleChoice
+    requires { ⌜ Readable s (now b) × Bound s (now b) ⌝ }
     ensures { λ r. ⌜ ToSettle s (now (b .entry)) r ⌝ }
 {
     let mut signs = [false; SIGNS];
-    fill_signs(b, s, ends, &mut signs);
+    fill_signs(b, s, &mut signs);
     choose_by(b, s, &signs)
 }

@@ -13,8 +13,7 @@ use stepping::admission::admit;
 use stepping::settling::Put;
 ghost use Rattle.rows.specs.Formats.{format-of};
 ghost use Rattle.checking.specs.Limits.{Countable};
-ghost use Rattle.stepping.specs.Admission.{Admitted};
-ghost use Rattle.settle.specs.Inner.Plan.{Plans};
+ghost use Rattle.settle.specs.Inner.Plan.{Admissible, Plans};
 
 // A refusal's number and place; or the sheet's layout and what is put in.
 pub enum Plan {
@@ -23,12 +22,12 @@ pub enum Plan {
 }
 
 // Decides on a variable that tests 1 to 10 admit: 12 may not be settled, 13 no room for the raw sheet.
-fn plan_admitted(sheet: &[u8], f: Format, s: Layout, ends: &[u16], z: Binding, room: usize) -> Plan
-    requires { ⌜ Countable (format-of f) × Admitted (format-of f) (now sheet) (z .variable) s (z .row) (now ends) ⌝ }
+fn plan_admitted(sheet: &[u8], f: Format, s: Layout, z: Binding, room: usize) -> Plan
+    requires { ⌜ Countable (format-of f) × Admissible (format-of f) (now sheet) (z .variable) s (z .row) ⌝ }
     ensures { λ r. ⌜ Plans (format-of f) (now (sheet .entry)) (z .variable) room r ⌝ }
 {
     let mut table = [false; SIGNS];
-    fill_signs(sheet, s, ends, &mut table);
+    fill_signs(sheet, s, &mut table);
     let v = value_at(sheet, s, z.row, &table);
     let Settling::Take(value) = v else {
         return Plan::Refused(12, 0);
@@ -53,6 +52,6 @@ pub fn plan_settle(sheet: &[u8], f: Format, x: usize, room: usize) -> Plan
     let a = admit(sheet, f, x, &mut ends);
     match a {
         Admission::Refused(number, place) => Plan::Refused(number, place),
-        Admission::Admitted(s, z) => plan_admitted(sheet, f, s, &ends, z, room),
+        Admission::Admitted(s, z) => plan_admitted(sheet, f, s, z, room),
     }
 }

@@ -131,7 +131,7 @@ fn expand_step(
     })
 }
 
-// Decides what a sheet that isn't decided takes next. The table of ends is lent: it is filled anew for each sheet.
+// Decides what a sheet that isn't decided takes next. The table of ends is lent: it is filled anew for each sheet that is expanded.
 fn open_step(
     first: &mut [u8],
     second: &mut [u8],
@@ -144,8 +144,7 @@ fn open_step(
     ensures { λ r. ⌜ Stepped (format-of f) room s (now (first .entry)) (now (second .entry)) (now (first .exit)) (now (second .exit)) r ⌝ }
 {
     let t = s.sheet;
-    fill_ends(first, t, ends);
-    let c = choose_settle(first, t, ends);
+    let c = choose_settle(first, t);
     match c {
         SettleChoice::Settle(i, x, value) => {
             let p = Put {
@@ -155,7 +154,10 @@ fn open_step(
             };
             settle_step(first, second, f, room, s, p)
         }
-        SettleChoice::Nothing => expand_step(first, second, f, room, s, ends),
+        SettleChoice::Nothing => {
+            fill_ends(first, t, ends);
+            expand_step(first, second, f, room, s, ends)
+        }
     }
 }
 

@@ -2,6 +2,7 @@
 -- Assumes nothing.
 use mathlib.Core.Path.{_≡_}
 use mathlib.Core.Bool.{true}
+use mathlib.Core.List.{List}
 use mathlib.Core.Option.{some}
 use Prim.Native.Nat.{ℕ}
 use Rattle.formula.specs.Settle.{may-settle}
@@ -11,10 +12,15 @@ use Rattle.sheet.specs.Check.{refused, answer, passes}
 use Rattle.sheet.specs.Operations.{settle-tests}
 use Rattle.rows.specs.Formulas.{formula-in}
 use Rattle.rows.specs.declared.Layout.{Layout}
+use Rattle.stepping.specs.Admission.{Admitted}
 use Rattle.stepping.specs.Steps.{Puts}
 use Rattle.stepping.specs.declared.settling.Put.{Put}
 use Rattle.settle.specs.declared.plan.Plan as plan
 use Rattle.settle.specs.declared.plan.Plan.{Plan}
+
+-- tests 1 to 10 admit x, whose prefix row is row i
+abbrev pub Admissible : Format → Bytes → ℕ → Layout → ℕ → Type 0
+Admissible F b x s i = (ends : List ℕ) × Admitted F b x s i ends
 
 -- every test passes, and the value that is put in for x is the one it may be settled by
 pub record Planned (F : Format) (b : Bytes) (x room : ℕ) (s : Layout) (p : Put) : Type 0 where

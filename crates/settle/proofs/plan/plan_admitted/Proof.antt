@@ -18,11 +18,11 @@ slice-aggregate-value-at c = search needs
 
 value-at-requires : tie.Need-value-at-requires
 value-at-requires c κs =
-    let a = c .before .before .before .before .before .before in
+    let a = c .before .before .before .before .before in
     let k = a .pre .0 .manageable in (
-      sheet-readable (a .pre .1 .sheet) k,
-      sheet-numbered (a .pre .1 .sheet) k,
-      a .pre .1 .named .inside,
+      sheet-readable (a .pre .1 .1 .sheet) k,
+      sheet-numbered (a .pre .1 .1 .sheet) k,
+      a .pre .1 .1 .named .inside,
       c .before .before .fill-signs .ensures,
     )
 
@@ -35,8 +35,8 @@ enum-told c = search needs
 returns : tie.Need-returns
 returns c =
     let value = c .before .before in
-    let a = value .before .before .before .before .before .before .before in
-    not-settled (a .pre .0) (a .pre .1) (a .args .room) (value .value-at .result) (value .value-at .ensures) (c .enum-told .given .1)
+    let a = value .before .before .before .before .before .before in
+    not-settled (a .pre .0) (a .pre .1 .1) (a .args .room) (value .value-at .result) (value .value-at .ensures) (c .enum-told .given .1)
 
 sub-sheet-length : tie.Need-sub-sheet-length
 sub-sheet-length c = search needs
@@ -47,15 +47,15 @@ sheet-length-requires c κs = search needs
 returns-2 : tie.Need-returns-2
 returns-2 c =
     let value = c .before .before .before .before .before .before in
-    let a = value .before .before .before .before .before .before .before in
-    no-room (a .pre .0) (a .pre .1) (a .args .room) (value .value-at .result) (value .value-at .ensures) (c .before .before .before .before .v .given .1)
+    let a = value .before .before .before .before .before .before in
+    no-room (a .pre .0) (a .pre .1 .1) (a .args .room) (value .value-at .result) (value .value-at .ensures) (c .before .before .before .before .v .given .1)
     (omega (arith, c .before .sheet-length .ensures, c .if1 .taken))
 
 returns-3 : tie.Need-returns-3
 returns-3 c =
     let value = c .before .before .before .before .before .before in
-    let a = value .before .before .before .before .before .before .before in
-    planned (a .pre .0) (a .pre .1) (a .args .room) (value .value-at .result) (value .value-at .ensures) _ (c .before .before .before .before .v .given .1)
+    let a = value .before .before .before .before .before .before in
+    planned (a .pre .0) (a .pre .1 .1) (a .args .room) (value .value-at .result) (value .value-at .ensures) _ (c .before .before .before .before .v .given .1)
     (omega (arith, c .before .sheet-length .ensures, c .if1 .left))
 
 pub plan-admitted-spec : {M : Type 1} → statement M

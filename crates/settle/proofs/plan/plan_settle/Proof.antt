@@ -21,15 +21,12 @@ enum-known-a c = search needs
 enum-known-a-2 : tie.Need-enum-known-a-2
 enum-known-a-2 c = search needs
 
-slice-aggregate-plan-admitted : tie.Need-slice-aggregate-plan-admitted
-slice-aggregate-plan-admitted c = search needs
-
 plan-admitted-requires : tie.Need-plan-admitted-requires
 plan-admitted-requires c κs =
-    let told = c .before .before in
+    let told = c .before in
     let admitted = told .before .before .before in
     let a = admitted .before .before .before in
-    (a .pre, subst (Admits (format-of (a .args .f)) (a .args .sheet .now) (a .args .x) _) (told .a2 .given .1) (admitted .admit .ensures) .1)
+    (a .pre, (_, subst (Admits (format-of (a .args .f)) (a .args .sheet .now) (a .args .x) _) (told .a2 .given .1) (admitted .admit .ensures) .1))
 
 returns : tie.Need-returns
 returns c =
@@ -41,7 +38,7 @@ returns c =
 
 returns-2 : tie.Need-returns-2
 returns-2 c =
-    let told = c .before .before .before in
+    let told = c .before .before in
     let admitted = told .before .before .before in
     let a = admitted .before .before .before in
     subst (λ (y : ℕ). Plans (format-of (a .args .f)) (a .args .sheet .now) y (a .args .room) (c .plan-admitted .result))
@@ -56,7 +53,6 @@ plan-settle-spec =
     admit-requires
     enum-known-a
     enum-known-a-2
-    slice-aggregate-plan-admitted
     plan-admitted-requires
     returns
     returns-2)

@@ -7,17 +7,13 @@ use Rattle.solve.proofs.Holding.{readable, bound}
 use Rattle.solve.proofs.step.open_step.Statement.{statement}
 use Rattle.solve.proofs.step.open_step.Tie as tie
 
-fill-ends-requires : tie.Need-fill-ends-requires
-fill-ends-requires c κs =
-    let a = c .before .before .before .before .before .before in
-    let ok = readable (a .pre .0 .countable) (a .pre .0 .held) in
-    (ok, omega (arith, ok .few-nodes, a .pre .2))
+abbrev start : tie.After-choose-settle → tie.Start
+start c = c .before .before .before .before .before .before
 
 choose-settle-requires : tie.Need-choose-settle-requires
 choose-settle-requires c κs =
-    let filled = c .before .before .before .before in
-    let r = filled .before .before .before .before .before .before .before .pre .0 in
-    (filled .fill-ends .ensures .0, bound (r .countable) (r .held))
+    let r = c .before .before .before .before .before .pre .0 in
+    (readable (r .countable) (r .held), bound (r .countable) (r .held))
 
 enum-known-c : tie.Need-enum-known-c
 enum-known-c c = search needs
@@ -26,18 +22,24 @@ settle-step-requires : tie.Need-settle-step-requires
 settle-step-requires c κs =
     let told = c .before .before .before in
     let chosen = told .before .before in
-    let a = chosen .before .before .before .before .before .before .before .before .before .before .before .before in
+    let a = start chosen in
     (a .pre .0, a .pre .1, subst (ToSettle (a .args .s .sheet) (a .args .first .now)) (told .c .given .1) (chosen .choose-settle .ensures))
 
 enum-told : tie.Need-enum-told
 enum-told c = search needs
 
+fill-ends-requires : tie.Need-fill-ends-requires
+fill-ends-requires c κs =
+    let a = start (c .before .before .before .before) in
+    let ok = readable (a .pre .0 .countable) (a .pre .0 .held) in
+    (ok, omega (arith, ok .few-nodes, a .pre .2))
+
 expand-step-requires : tie.Need-expand-step-requires
 expand-step-requires c κs =
-    let told = c .before .before .before in
+    let filled = c .before .before .before .before .before in
+    let told = filled .before .before .before in
     let chosen = told .before .before in
-    let filled = chosen .before .before .before .before .before in
-    let a = filled .before .before .before .before .before .before .before in (
+    let a = start chosen in (
       a .pre .0,
       a .pre .1,
       subst (ToSettle (a .args .s .sheet) (a .args .first .now)) (told .enum-told .given .1) (chosen .choose-settle .ensures),
@@ -50,20 +52,17 @@ same-length c = search needs
 same-length-2 : tie.Need-same-length-2
 same-length-2 c = search needs
 
-same-length-3 : tie.Need-same-length-3
-same-length-3 c = search needs
-
 returns : tie.Need-returns
 returns c = search needs
+
+same-length-3 : tie.Need-same-length-3
+same-length-3 c = search needs
 
 same-length-4 : tie.Need-same-length-4
 same-length-4 c = search needs
 
 same-length-5 : tie.Need-same-length-5
 same-length-5 c = search needs
-
-same-length-6 : tie.Need-same-length-6
-same-length-6 c = search needs
 
 returns-2 : tie.Need-returns-2
 returns-2 c = search needs
@@ -72,17 +71,16 @@ pub open-step-spec : {M : Type 1} → statement M
 open-step-spec =
     tie.close
     (tie.spec
-    fill-ends-requires
     choose-settle-requires
     enum-known-c
     settle-step-requires
     enum-told
+    fill-ends-requires
     expand-step-requires
     same-length
     same-length-2
-    same-length-3
     returns
+    same-length-3
     same-length-4
     same-length-5
-    same-length-6
     returns-2)
