@@ -2,6 +2,7 @@
 pub mod Blocks
 pub mod Walks
 pub mod Hop
+pub mod Told
 pub mod Notes
 pub mod Grouped
 pub mod Find

@@ -58,14 +58,14 @@ note-dead r (operator or ks) e = absurd (omega arith)
 halved : (r y g : ℕ) → g < 2 → (r * 65536 + (y * 2 + g)) / 2 ≡ r * 32768 + y
 halved r y g l = omega arith
 
-low-bits : (r y : ℕ) → (r * 32768 + y) % 4096 ≡ y % 4096
+low-bits : (r y : ℕ) → (r * 32768 + y) % 1024 ≡ y % 1024
 low-bits r y = omega arith
 
 place-of : (r q : ℕ) → q < 65536 → place (r * 65536 + q) ≡ r
 place-of r q l = omega arith
 
 bucket-of : (r q : ℕ) → bucket (r * 65536 + q) ≡ bucket q
-bucket-of r q = ap (λ z. z % 4096) (halved-all r q) ∙ low-bits r (q / 2)
+bucket-of r q = ap (λ z. z % 1024) (halved-all r q) ∙ low-bits r (q / 2)
   where
     halved-all : (r q : ℕ) → (r * 65536 + q) / 2 ≡ r * 32768 + q / 2
     halved-all r q = omega arith
@@ -85,15 +85,15 @@ sign-few true = omega arith
 sign-few false = omega arith
 
 -- the sign is no part of the bucket
-mix-bucket : (r y g : ℕ) → g < 2 → bucket (r * 65536 + (y * 2 + g)) ≡ y % 4096
-mix-bucket r y g l = ap (λ z. z % 4096) (halved r y g l) ∙ low-bits r y
+mix-bucket : (r y g : ℕ) → g < 2 → bucket (r * 65536 + (y * 2 + g)) ≡ y % 1024
+mix-bucket r y g l = ap (λ z. z % 1024) (halved r y g l) ∙ low-bits r y
 
 bucket-note : (r : ℕ) (s s′ : Bool) (v : ℕ) → bucket (r * 65536 + literal-mix (sign s) v) ≡ bucket (literal-mix (sign s′) v)
 bucket-note r s s′ v =
     mix-bucket r (v * 20251 % 32768) (sign s) (sign-few s) ∙ sym (alone (v * 20251 % 32768) (sign s′) (sign-few s′))
   where
-    alone : (y g : ℕ) → g < 2 → bucket (y * 2 + g) ≡ y % 4096
-    alone y g l = ap (λ z. z % 4096) (half y g l)
+    alone : (y g : ℕ) → g < 2 → bucket (y * 2 + g) ≡ y % 1024
+    alone y g l = ap (λ z. z % 1024) (half y g l)
       where
         half : (y g : ℕ) → g < 2 → (y * 2 + g) / 2 ≡ y
         half y g l = omega arith

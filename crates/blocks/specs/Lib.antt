@@ -2,4 +2,5 @@
 pub mod Blocks
 pub mod Walks
 pub mod Entered
+pub mod Known
 pub mod Rules

@@ -118,7 +118,7 @@ module _ (m : ℕ) {H L M H′ L′ M′ : List ℕ} {n f : ℕ} (lk : Linked H 
   last-old : (k i : ℕ) → i ≤ n → last M′ k i ≡ last M k i
   last-old k i l = ap (λ (l : List ℕ). last l k i) M-is ∙ last-set M k n m i l
 
-  head-entry : (k : ℕ) → k < 4096 → Entry M′ k (n + 1) (getD H′ k 0)
+  head-entry : (k : ℕ) → k < 1024 → Entry M′ k (n + 1) (getD H′ k 0)
   head-entry k l =
       decide k (bucket m)
       (λ e.

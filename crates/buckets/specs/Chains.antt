@@ -10,7 +10,7 @@ use lib.ListN.{length, getD}
 
 -- the bucket that a member falls into
 abbrev pub bucket : ℕ → ℕ
-bucket m = m / 2 % 4096
+bucket m = m / 2 % 1024
 
 -- one more than the number of the last of the first n members that falls into bucket k, or 0 if none does
 unfoldable pub last : List ℕ → ℕ → ℕ → ℕ
@@ -19,7 +19,7 @@ last M k (suc n) = cond (eqb (bucket (getD M n 0)) k) (suc n) (last M k n)
 
 -- tables that are long enough for n members
 pub record Room (H L M : List ℕ) (n : ℕ) : Type 0 where
-  pub all-heads : length H ≡ 4096
+  pub all-heads : length H ≡ 1024
   pub links-fit : n ≤ length L
   pub members-fit : n ≤ length M
   pub countable : n < 65536
@@ -27,7 +27,7 @@ pub record Room (H L M : List ℕ) (n : ℕ) : Type 0 where
 -- Tables of heads and links for the first n members: a head is right wherever its bucket has a member, and a link wherever there is
 -- one. What they hold elsewhere doesn't matter.
 pub record Linked (H L M : List ℕ) (n : ℕ) : Type 0 where
-  pub heads : (k : ℕ) → k < 4096 → (last M k n ≡ 0) ⊎ (last M k n ≡ getD H k 0)
+  pub heads : (k : ℕ) → k < 1024 → (last M k n ≡ 0) ⊎ (last M k n ≡ getD H k 0)
   pub links : (i : ℕ) → i < n → getD L i 0 ≡ last M (bucket (getD M i 0)) i
 
 -- a walk along a chain has come to i (one more than a member's number, 0 at the end): no member of the bucket from there on passes

@@ -10,7 +10,7 @@ ghost use Rattle.buckets.specs.Chains.{bucket, last, Linked, Room};
 pub mod print;
 
 // Entries of a table of heads.
-pub const HEADS: usize = 4096;
+pub const HEADS: usize = 1024;
 
 // A number of 16 bits, and one of 32.
 pub fn small(x: u16) -> usize
@@ -27,9 +27,9 @@ pub fn large(x: u32) -> usize
 
 // The bucket that a member falls into.
 pub fn bucket_of(m: usize) -> usize
-    ensures { λ k. ⌜ (k ≡ bucket m) × (k < 4096) ⌝ }
+    ensures { λ k. ⌜ (k ≡ bucket m) × (k < 1024) ⌝ }
 {
-    m / 2 % 4096
+    m / 2 % 1024
 }
 
 // One more than the number of the last of the first `n` members that falls into bucket `k`, or 0 if none does.

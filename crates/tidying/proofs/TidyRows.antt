@@ -79,10 +79,10 @@ module _ (R₀ : List Row) {v r n : ℕ} (counted : length R₀ ≡ n) (p : Preo
 pub back-end : (R₀ : List Row) {R : List Row} {v r n : ℕ} → v ≤ r → r ≤ v → Tidies R₀ R r n → Tidies R₀ R v n
 back-end R₀ {R} {v} {r} {n} l u b = subst (λ m. Tidies R₀ R m n) (omega arith) b
 
-pub blank-tables : (s : Layout) → Few s → Tables s (replicate 4096 0) (replicate 9216 0) (replicate 9216 0)
+pub blank-tables : (s : Layout) → Few s → Tables s (replicate 1024 0) (replicate 9216 0) (replicate 9216 0)
 blank-tables s f =
     record {
-      all-heads = blank 4096;
+      all-heads = blank 1024;
       links-fit = omega (arith, blank 9216);
       members-fit = omega (arith, blank 9216);
       countable = omega arith;

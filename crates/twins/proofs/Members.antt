@@ -70,14 +70,14 @@ print-half t u e = ⊎-elim (literals t u) (λ q. ap (λ w. print w / 2) (twin-s
     literals (lit s v) (lit s′ v′) q =
         half s v ∙ ap (λ (x : ℕ). x * 20251 % 32768) (eqb-true v v′ q) ∙ sym (half s′ v′)
 
-bucket-half : (m : ℕ) → bucket m ≡ (m % 65536 / 2) % 4096
+bucket-half : (m : ℕ) → bucket m ≡ (m % 65536 / 2) % 1024
 bucket-half m = omega arith
 
 module _ {s : Layout} {b : Bytes} {m w : ℕ} (p : Member s b m) (q : Member s b w) where
   pub buckets-same : clash (tree-of s b m) (tree-of s b w) ≡ true → bucket m ≡ bucket w
   buckets-same e =
       bucket-half m ∙
-      ap (λ (x : ℕ). x % 4096)
+      ap (λ (x : ℕ). x % 1024)
       (ap (λ (x : ℕ). x / 2) (p .printed) ∙ print-half (tree-of s b m) (tree-of s b w) e ∙ sym (ap (λ (x : ℕ). x / 2) (q .printed))) ∙
       sym (bucket-half w)
 

@@ -9,7 +9,7 @@ use Rattle.tidiness.proofs.first_fault.Statement.{statement}
 use Rattle.tidiness.proofs.first_fault.Tie as tie
 
 abbrev Inv-loop : tie.InvT-loop
-Inv-loop b s ends prints heads₀ links₀ members₀ i₀ heads links members i = Searching s b i × (length heads ≡ 4096) × (length links ≡ 8192) × (length members ≡ 8192)
+Inv-loop b s ends prints heads₀ links₀ members₀ i₀ heads links members i = Searching s b i × (length heads ≡ 1024) × (length links ≡ 8192) × (length members ≡ 8192)
 
 abbrev μ-loop : tie.MeasureT-loop
 μ-loop b s ends prints heads₀ links₀ members₀ i₀ heads links members i = s .nodes - i

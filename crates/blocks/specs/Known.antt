@@ -1,0 +1,26 @@
+-- What a table tells of operators by their rows: how many children one has, and its print.
+-- Assumes nothing.
+use mathlib.Core.Path.{_≡_}
+use mathlib.Core.List.{List}
+use Prim.Native.Nat.{ℕ, suc, _+_, _*_}
+use lib.ListN.{getD}
+use Rattle.formula.specs.Tree.{node, count}
+use Rattle.buckets.specs.Prints.{print}
+use Rattle.blocks.specs.Blocks.{Block, gone, literal, operator, Blocks, none, _◂_, size, live}
+
+-- one number for both
+unfoldable pub Says : ℕ → Block → Type 0
+Says w (gone rs) = Unit {0}
+Says w (literal s v) = Unit {0}
+Says w (operator o ks) = w ≡ count (live ks) * 65536 + print (node o (live ks))
+
+-- of every operator in the blocks from a row on
+unfoldable mutual
+  pub Told : List ℕ → ℕ → Block → Type 0
+  Told K r (gone rs) = Unit {0}
+  Told K r (literal s v) = Unit {0}
+  Told K r (operator o ks) = Says (getD K r 0) (operator o ks) × AllTold K (suc r) ks
+
+  pub AllTold : List ℕ → ℕ → Blocks → Type 0
+  AllTold K r none = Unit {0}
+  AllTold K r (x ◂ bs) = Told K r x × AllTold K (r + size x) bs
