@@ -23,7 +23,7 @@ told-join K r (x ◂ bs) cs t u =
 
 pub told-first : (K : List ℕ) (r : ℕ) (bs cs : Blocks) → AllTold K r (bs ⊕ cs) → AllTold K r bs
 unfolding AllTold _⊕_
-told-first K r none cs t = record { }
+told-first K r none cs t = record {}
 told-first K r (x ◂ bs) cs t = (t .0, told-first K (r + size x) bs cs (t .1))
 
 pub told-last : (K : List ℕ) (r : ℕ) (bs cs : Blocks) → AllTold K r (bs ⊕ cs) → AllTold K (r + length (block-rows bs)) cs
@@ -33,14 +33,14 @@ told-last K r (x ◂ bs) cs t = told-at K cs (omega (arith, length-◂ x bs)) (t
 
 pub told-one : (K : List ℕ) (r : ℕ) (x : Block) → Told K r x → AllTold K r (x ◂ none)
 unfolding AllTold
-told-one K r x t = (t, record { })
+told-one K r x t = (t, record {})
 
 -- an operator's own, and the blocks that come next when it is entered
 
 pub told-says : (K : List ℕ) (r : ℕ) (x : Block) → Told K r x → Says (getD K r 0) x
 unfolding Told Says
-told-says K r (gone rs) t = record { }
-told-says K r (literal s v) t = record { }
+told-says K r (gone rs) t = record {}
+told-says K r (literal s v) t = record {}
 told-says K r (operator o ks) t = t .0
 
 -- entries before the blocks' first row don't matter
@@ -48,11 +48,11 @@ mutual
   unfolding Told AllTold
 
   told-block : (K K′ : List ℕ) (r : ℕ) (x : Block) → ((j : ℕ) → r ≤ j → getD K′ j 0 ≡ getD K j 0) → Told K r x → Told K′ r x
-  told-block K K′ r (gone rs) e t = record { }
-  told-block K K′ r (literal s v) e t = record { }
+  told-block K K′ r (gone rs) e t = record {}
+  told-block K K′ r (literal s v) e t = record {}
   told-block K K′ r (operator o ks) e t =
       (subst (λ w. Says w (operator o ks)) (sym (e r (omega arith))) (t .0), told-keeps K K′ (suc r) ks (λ j l. e j (omega (arith, l))) (t .1))
 
   pub told-keeps : (K K′ : List ℕ) (r : ℕ) (bs : Blocks) → ((j : ℕ) → r ≤ j → getD K′ j 0 ≡ getD K j 0) → AllTold K r bs → AllTold K′ r bs
-  told-keeps K K′ r none e t = record { }
+  told-keeps K K′ r none e t = record {}
   told-keeps K K′ r (x ◂ bs) e t = (told-block K K′ r x e (t .0), told-keeps K K′ (r + size x) bs (λ j l. e j (omega (arith, l))) (t .1))

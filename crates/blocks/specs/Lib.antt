@@ -4,3 +4,4 @@ pub mod Walks
 pub mod Entered
 pub mod Known
 pub mod Rules
+pub mod Gather

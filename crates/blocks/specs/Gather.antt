@@ -1,0 +1,51 @@
+-- Rules 1 to 5 at an operator's children ("Tidy sheets"), of which the number is known and not where they end.
+-- Assumes nothing.
+use mathlib.Core.Path.{_≡_}
+use mathlib.Core.Bool.{true, false}
+use mathlib.Core.List.{List}
+use Prim.Native.Nat.{ℕ, _-_, _≤_}
+use lib.Dec.{eqb}
+use lib.ListN.{take}
+use Rattle.formula.specs.Tree.{Op, same-op, lit, node, Forest, ∅, _▸_, some-child, count}
+use Rattle.formula.specs.Tidy.{is-op, same-tree, splice, decides, firsts}
+use Rattle.sheet.specs.Format.{Row}
+use Rattle.sheet.specs.Sheet.{operator-kind, front, behind}
+use Rattle.blocks.specs.Blocks.{Blocks, _⊕_, live, Laid, Here}
+use Rattle.blocks.specs.Known.{AllTold}
+use Rattle.blocks.specs.Rules.{notes}
+
+-- children of this kind have none of it among their own, as tidied ones have not
+unfoldable pub Flat : Op → Forest → Type 0
+Flat o ∅ = Unit {0}
+Flat o (lit s v ▸ ts) = Flat o ts
+Flat o (node k us ▸ ts) = (same-op o k ≡ true → some-child (is-op o) us ≡ false) × Flat o ts
+
+-- rows that hold as many trees, of which the table tells
+pub record Children (R : List Row) (K : List ℕ) (from to owed kind : ℕ) : Type 0 where
+  pub before : List Row
+  pub blocks : Blocks
+  pub after : List Row
+  pub laid : Laid R from to before blocks after
+  pub told : AllTold K from blocks
+  pub enough : owed ≤ count (live blocks)
+  pub op : Op
+  pub is : kind ≡ operator-kind op
+  pub flat : Flat op (front owed (live blocks))
+
+-- the first trees, ts, have become what the rules leave of them, up to a row, and the others, us, are as they were: 0 if ts decide the
+-- operator, else one more than there are left, which are the members
+pub record Gathered (R : List Row) (K M : List ℕ) (from end to : ℕ) (before after : List Row) (o : Op) (ts us : Forest) (left : ℕ) : Type 0 where
+  pub first : Blocks
+  pub others : Blocks
+  pub here : Here R from end to before first others after
+  pub others-are : live others ≡ us
+  pub told : AllTold K from (first ⊕ others)
+  pub decided-is : eqb left 0 ≡ decides o (splice o ts)
+  pub reads : (left ≡ 0 → ⊥) → live first ≡ firsts same-tree (splice o ts)
+  pub noted : (left ≡ 0 → ⊥) → take (left - 1) M ≡ notes from first
+
+abbrev pub Gathers : List Row → List Row → List ℕ → List ℕ → ℕ → ℕ → ℕ → ℕ → ℕ → ℕ → Type 0
+Gathers R R′ K M from end to owed kind left =
+    (before : List Row) (bs : Blocks) (after : List Row) → Laid R from to before bs after → AllTold K from bs → owed ≤ count (live bs)
+    → (o : Op) → kind ≡ operator-kind o → Flat o (front owed (live bs))
+    → Gathered R′ K M from end to before after o (front owed (live bs)) (behind owed (live bs)) left
