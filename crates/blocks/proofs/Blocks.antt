@@ -28,6 +28,11 @@ unfolding _⊕_
 ⊕-assoc none cs ds = refl
 ⊕-assoc (x ◂ bs) cs ds = ap (λ l. x ◂ l) (⊕-assoc bs cs ds)
 
+pub ⊕-◂ : (bs : Blocks) (x : Block) (cs : Blocks) → bs ⊕ (x ◂ cs) ≡ (bs ⊕ (x ◂ none)) ⊕ cs
+unfolding _⊕_
+⊕-◂ none x cs = refl
+⊕-◂ (y ◂ bs) x cs = ap (λ l. y ◂ l) (⊕-◂ bs x cs)
+
 grown-⧺ : (x : Block) (ts us : Forest) → grown x (ts ⧺ us) ≡ grown x ts ⧺ us
 unfolding grown _⧺_
 grown-⧺ (gone rs) ts us = refl
@@ -254,6 +259,21 @@ behind-here {before = before} {after = after} {earlier = earlier} {done = done} 
       starts = starts;
       place = place;
       ends = omega (arith, h .place, h .ends, length-⊕ done rest);
+    }
+
+pub past-here : {R : List Row} {from at p to : ℕ} {before after : List Row} (earlier : Blocks) {done rest : Blocks}
+    → Here R at p to (before ++ block-rows earlier) done rest after → length before ≡ from → from + length (block-rows earlier) ≡ at
+    → Here R from p to before (earlier ⊕ done) rest after
+past-here {before = before} {after = after} earlier {done} {rest} h starts place =
+    record {
+      whole =
+          h .whole ∙ append-assoc before (block-rows earlier) _ ∙
+          ap (λ rs. before ++ rs)
+          (sym (append-assoc (block-rows earlier) (block-rows done) (block-rows rest ++ after)) ∙
+          ap (λ rs. rs ++ (block-rows rest ++ after)) (sym (rows-⊕ earlier done)));
+      starts = starts;
+      place = omega (arith, h .place, place, length-⊕ earlier done);
+      ends = h .ends;
     }
 
 -- room is a matter of the length

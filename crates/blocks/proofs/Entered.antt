@@ -1,4 +1,4 @@
--- A block's own row and what comes behind it when it is entered; blocks compared row by row; outlines.
+-- A block's own row and what comes behind it when it is entered; blocks compared row by row.
 -- Assumes nothing.
 use mathlib.Core.Path.{_≡_, refl, sym, ap, ap₂, _∙_, subst}
 use mathlib.Core.Bool.{Bool, true, false, _&&_, true≢false, false≢true}
@@ -16,11 +16,9 @@ use Rattle.sheet.specs.Format.{Row, row}
 use Rattle.sheet.specs.Sheet.{literal-kind, operator-kind, tree-rows, forest-rows}
 use Rattle.sheet.proofs.Preorder.{forest-rows-⧺}
 use Rattle.sheet.proofs.Same.{same-rows}
-use Rattle.buckets.specs.Prints.{literal-mix, sign, operator-mix, mix, tip, flat-on, flat, outline-on, outline}
-use Rattle.buckets.proofs.Prints.{flat-on-⧺, outline-on-⧺}
 use Rattle.blocks.specs.Blocks.{Block, gone, literal, operator, Blocks, none, _◂_, _⊕_, head, inner, block-rows, size, grown, live, Laid, Here, Region, Stands, Standing}
 use Rattle.blocks.specs.Walks.{at-row, extent, Counts, FirstLive, Finds}
-use Rattle.blocks.specs.Entered.{packed, entered, ArgumentOf, ArgumentAt, LiveAt, Same, same-row, SameRow, HeadAt, Flats, FlatAt, Outlines, OutlineAt}
+use Rattle.blocks.specs.Entered.{packed, entered, ArgumentOf, ArgumentAt, LiveAt, Same, same-row, SameRow}
 use Rattle.blocks.proofs.Blocks.{rows-⊕, live-⊕, length-◂, length-one, length-⊕, stands-row, stands, extent-head, start, next, no-rows, rest-laid, laid-within}
 use Rattle.blocks.proofs.Walks.{dead-holds}
 use Rattle.blocks.proofs.Judge.{inner-laid, live-kind}
@@ -329,108 +327,3 @@ pub finds-within : {R : List Row} {from to at : ℕ} → Finds R from to at → 
 finds-within f g =
     let h = f (g .before) (g .blocks) (g .after) (g .laid) .here in
     (omega (arith, h .place), omega (arith, h .ends))
-
--- flat outlines
-
-pub flat-dead : (h : ℕ) (x : Block) → (head x) .kind ≡ 0 → h ≡ flat-on h (live (x ◂ none))
-unfolding flat-on
-flat-dead h x e = sym (ap (flat-on h) (dead-holds x e))
-
-pub flat-literal : (h k v : ℕ) (x : Block) → k ≡ (head x) .kind → 2 < k → k ≤ 4 → v ≡ (head x) .argument
-    → mix h (literal-mix (4 - k) v) ≡ flat-on h (live (x ◂ none))
-unfolding flat-on head live grown
-flat-literal h k v (gone rs) e l u f = absurd (omega (arith, e))
-flat-literal h k v (literal true w) e l u f = ap₂ (λ j y. mix h (literal-mix (4 - j) y)) e f
-flat-literal h k v (literal false w) e l u f = ap₂ (λ j y. mix h (literal-mix (4 - j) y)) e f
-flat-literal h k v (operator and ks) e l u f = absurd (omega (arith, e))
-flat-literal h k v (operator or ks) e l u f = absurd (omega (arith, e))
-
-pub flat-operator : (h k : ℕ) (x : Block) → k ≡ (head x) .kind → 4 < k → mix h k ≡ flat-on h (live (x ◂ none))
-unfolding flat-on head live grown
-flat-operator h k (gone rs) e l = absurd (omega (arith, e))
-flat-operator h k (literal true w) e l = absurd (omega (arith, e))
-flat-operator h k (literal false w) e l = absurd (omega (arith, e))
-flat-operator h k (operator and ks) e l = ap (mix h) e
-flat-operator h k (operator or ks) e l = ap (mix h) e
-
-abbrev pub Flattened : ℕ → ℕ → Forest → Type 0
-Flattened k h ts = h ≡ flat-on k ts
-
-pub flattened-none : (k : ℕ) → Flattened k k ∅
-unfolding flat-on
-flattened-none k = refl
-
-pub flattened-more : (r : Row) (k h h′ : ℕ) → ((x : Block) → r ≡ head x → h′ ≡ flat-on h (live (x ◂ none)))
-    → (ts : Forest) (x : Block) → r ≡ head x → Flattened k h ts → Flattened k h′ (ts ⧺ live (x ◂ none))
-flattened-more r k h h′ f ts x e q = f x e ∙ ap (λ g. flat-on g (live (x ◂ none))) q ∙ sym (flat-on-⧺ k ts (live (x ◂ none)))
-
-operator-flat : (o : Op) (ks : Blocks) → flat-on ((head (operator o ks)) .kind) (live ks) ≡ flat (node o (live ks))
-unfolding head flat
-operator-flat and ks = refl
-operator-flat or ks = refl
-
-pub flattened-at : {R : List Row} {at a h : ℕ} {front back : List Row} (x : Block) (t : Tree) → 4 < (head x) .kind → a ≡ (head x) .argument
-    → Stands R at front x back → live (x ◂ none) ≡ t ▸ ∅
-    → ((before after : List Row) (bs : Blocks) → Laid R (at + 1) (at + a) before bs after → Flattened ((head x) .kind) h (live bs)) → h ≡ flat t
-unfolding head live grown
-flattened-at (gone rs) t l e s i f = absurd (omega arith)
-flattened-at (literal true v) t l e s i f = absurd (omega arith)
-flattened-at (literal false v) t l e s i f = absurd (omega arith)
-flattened-at {R} {at} {front = front} {back} (operator o ks) t l e s i f =
-    f _ _ ks (subst (λ m. Laid R (at + 1) (at + m) (front ++ (head (operator o ks) ∷ [])) ks back) (sym e) (inner-laid o ks s)) ∙ both o ∙ ap flat tree-is
-  where
-    both : (o : Op) → flat-on ((head (operator o ks)) .kind) (live ks) ≡ flat (node o (live ks))
-    both o = operator-flat o ks
-
-    tree-is : node o (live ks) ≡ t
-    tree-is = cc
-
--- outlines
-
-pub outline-dead : (h : ℕ) (x : Block) → (head x) .kind ≡ 0 → h ≡ outline-on h (live (x ◂ none))
-unfolding outline-on
-outline-dead h x e = sym (ap (outline-on h) (dead-holds x e))
-
-pub outline-literal : (h k v : ℕ) (x : Block) → k ≡ (head x) .kind → 2 < k → k ≤ 4 → v ≡ (head x) .argument
-    → mix h (literal-mix (4 - k) v) ≡ outline-on h (live (x ◂ none))
-unfolding outline-on flat head live grown
-outline-literal h k v (gone rs) e l u f = absurd (omega (arith, e))
-outline-literal h k v (literal true w) e l u f = ap₂ (λ j y. mix h (literal-mix (4 - j) y)) e f
-outline-literal h k v (literal false w) e l u f = ap₂ (λ j y. mix h (literal-mix (4 - j) y)) e f
-outline-literal h k v (operator and ks) e l u f = absurd (omega (arith, e))
-outline-literal h k v (operator or ks) e l u f = absurd (omega (arith, e))
-
-pub outline-one : (h p : ℕ) (x : Block) (t : Tree) → live (x ◂ none) ≡ t ▸ ∅ → p ≡ flat t → mix h p ≡ outline-on h (live (x ◂ none))
-unfolding outline-on
-outline-one h p x t e f = ap (mix h) f ∙ sym (ap (outline-on h) e)
-
-abbrev pub Outlined : ℕ → ℕ → Forest → Type 0
-Outlined k h ts = h ≡ outline-on k ts
-
-pub outlined-none : (k : ℕ) → Outlined k k ∅
-unfolding outline-on
-outlined-none k = refl
-
-pub outlined-more : (k h h′ : ℕ) (x : Block) (ts : Forest) → h′ ≡ outline-on h (live (x ◂ none)) → Outlined k h ts → Outlined k h′ (ts ⧺ live (x ◂ none))
-outlined-more k h h′ x ts f q = f ∙ ap (λ g. outline-on g (live (x ◂ none))) q ∙ sym (outline-on-⧺ k ts (live (x ◂ none)))
-
-operator-outline : (o : Op) (ks : Blocks) → outline-on ((head (operator o ks)) .kind) (live ks) ≡ outline (node o (live ks))
-unfolding head outline
-operator-outline and ks = refl
-operator-outline or ks = refl
-
-pub outlined-at : {R : List Row} {at a h : ℕ} {front back : List Row} (x : Block) (t : Tree) → 4 < (head x) .kind → a ≡ (head x) .argument
-    → Stands R at front x back → live (x ◂ none) ≡ t ▸ ∅
-    → ((before after : List Row) (bs : Blocks) → Laid R (at + 1) (at + a) before bs after → Outlined ((head x) .kind) h (live bs)) → h ≡ outline t
-unfolding head live grown
-outlined-at (gone rs) t l e s i f = absurd (omega arith)
-outlined-at (literal true v) t l e s i f = absurd (omega arith)
-outlined-at (literal false v) t l e s i f = absurd (omega arith)
-outlined-at {R} {at} {front = front} {back} (operator o ks) t l e s i f =
-    f _ _ ks (subst (λ m. Laid R (at + 1) (at + m) (front ++ (head (operator o ks) ∷ [])) ks back) (sym e) (inner-laid o ks s)) ∙ both o ∙ ap outline tree-is
-  where
-    both : (o : Op) → outline-on ((head (operator o ks)) .kind) (live ks) ≡ outline (node o (live ks))
-    both o = operator-outline o ks
-
-    tree-is : node o (live ks) ≡ t
-    tree-is = cc

@@ -1,20 +1,21 @@
 -- Searches along a chain of members.
 -- Assumes nothing.
 use mathlib.Core.Path.{_≡_, refl, sym, ap, _∙_, subst}
-use mathlib.Core.Bool.{true, false, false≢true}
+use mathlib.Core.Bool.{Bool, true, false, false≢true, true≢false}
 use mathlib.Core.List.{List}
 use mathlib.Core.Logic.{inl, inr, ⊎-elim}
-use Prim.Native.Nat.{ℕ, _-_, _≤_, _<_}
+use Prim.Native.Nat.{ℕ, _-_, _%_, _≤_, _<_}
 use native.Mathlib.Omega.{arith}
 use lib.ListN.{length, getD}
-use Rattle.formula.specs.Tree.{Tree, ∅, _▸_}
+use Rattle.formula.specs.Tidy.{same-tree}
+use Rattle.formula.proofs.Tidy.Same.{same-tree-same}
 use Rattle.sheet.specs.Format.{Row}
 use Rattle.buckets.specs.Chains.{last, Linked, Passed}
+use Rattle.buckets.specs.Prints.{print}
 use Rattle.buckets.proofs.Chains.{passed-none, passed-more, link-down}
-use Rattle.blocks.specs.Blocks.{Block, none, _◂_, live, Stands}
 use Rattle.blocks.specs.Walks.{at-row}
 use Rattle.blocks.specs.Entered.{LiveAt, Same}
-use Rattle.blocks.specs.Rules.{place, literal-test, Test, Chain, Seeks, Finds, Twin, FindsTwin, LiveChain}
+use Rattle.blocks.specs.Rules.{place, literal-test, Test, Chain, Seeks, Finds, Member, Twin, Twins, FindsTwin, LiveChain}
 
 pub record Seek (L M : List ℕ) (start : ℕ) (T : ℕ → Type 0) (i : ℕ) : Type 0 where
   pub passed : (H : List ℕ) (n k : ℕ) → Linked H L M n → start ≡ last M k n → Passed M n k T i
@@ -68,40 +69,49 @@ seek-end R x w l = seek-last w l
 
 -- a block that holds the same tree
 
-pub record SeekTwin (R : List Row) (L M : List ℕ) (start q i : ℕ) : Type 0 where
-  pub seeks : (front : List Row) (y : Block) (back : List Row) → Stands R q front y back → (u : Tree) → live (y ◂ none) ≡ u ▸ ∅
-      → Seek L M start (λ j. Twin R (place (getD M j 0)) u) i
+pub twins-apart : {R : List Row} {t m : ℕ} → (t % 65536 ≡ m % 65536 → ⊥) → Twins R t m false
+twins-apart d =
+    inr (refl, (λ w f. d (f .member .printed ∙ ap print (same-tree-same _ _ (f .same)) ∙ sym (w .printed))))
 
-pub twin-none : {R : List Row} {L M : List ℕ} {start q : ℕ} → SeekTwin R L M start q start
-twin-none = record { seeks = λ front y back h u e. seek-none }
+pub twins-same : {R : List Row} {t m : ℕ} (d : Bool) → Same R (place t) (place m) d → Twins R t m d
+twins-same true s = inl (refl, s)
+twins-same {R} {t} {m} false s = inr (refl, (λ w f. differ (w .lives) (f .member .lives) (f .same)))
+  where
+    differ : (v : LiveAt R (place m)) (u : LiveAt R (place t)) → same-tree (u .tree) (v .tree) ≡ true → ⊥
+    differ v u e =
+        false≢true
+        (s (u .before) (u .block) (u .after) (u .stands) (u .tree) (u .holds) (v .before) (v .block) (v .after) (v .stands) (v .tree) (v .holds) ∙ e)
 
-pub twin-sought : {R : List Row} {rows : ℕ} {L M : List ℕ} {start q i : ℕ} (c : LiveChain R rows L M start) → LiveAt R q → SeekTwin R L M start q i → 0 < i
+pub record SeekTwin (R : List Row) (L M : List ℕ) (start m i : ℕ) : Type 0 where
+  pub seeks : (w : Member R m) → Seek L M start (λ j. Twin R (getD M j 0) (w .lives .tree)) i
+
+pub twin-none : {R : List Row} {L M : List ℕ} {start m : ℕ} → SeekTwin R L M start m start
+twin-none = record { seeks = λ w. seek-none }
+
+pub twin-sought : {R : List Row} {rows : ℕ} {L M : List ℕ} {start m i : ℕ} (c : LiveChain R rows L M start) → Member R m → SeekTwin R L M start m i → 0 < i
     → Sought rows L M i (c .chain .count)
-twin-sought c a w l = sought (c .chain) (w .seeks (a .before) (a .block) (a .after) (a .stands) (a .tree) (a .holds)) l
+twin-sought c a w l = sought (c .chain) (w .seeks a) l
 
-pub twin-less : {R : List Row} {rows : ℕ} {L M : List ℕ} {start q i r : ℕ} → LiveChain R rows L M start → LiveAt R q → SeekTwin R L M start q i → 0 < i
+pub twin-less : {R : List Row} {rows : ℕ} {L M : List ℕ} {start m i r : ℕ} → LiveChain R rows L M start → Member R m → SeekTwin R L M start m i → 0 < i
     → r ≡ getD L (i - 1) 0 → r < i
-twin-less c a w l e = seek-less (c .chain) (w .seeks (a .before) (a .block) (a .after) (a .stands) (a .tree) (a .holds)) l e
+twin-less c a w l e = seek-less (c .chain) (w .seeks a) l e
 
-pub twin-more : {R : List Row} {L M : List ℕ} {start q i p r : ℕ} → SeekTwin R L M start q i → 0 < i → p ≡ place (getD M (i - 1) 0)
-    → Same R p q false → r ≡ getD L (i - 1) 0 → SeekTwin R L M start q r
-twin-more {R} {M = M} {q = q} {i} w l at d e =
+pub twin-more : {R : List Row} {L M : List ℕ} {start m i t r : ℕ} → SeekTwin R L M start m i → 0 < i → t ≡ getD M (i - 1) 0
+    → Twins R t m false → r ≡ getD L (i - 1) 0 → SeekTwin R L M start m r
+twin-more {R} {m = m} w l at d e =
     record {
       seeks =
-          λ front y back h u f.
-          seek-on (w .seeks front y back h u f) l
-          (λ t.
-          let s = subst (λ m. Same R m q false) at d in
-          false≢true (s (t .before) (t .block) (t .after) (t .stands) (t .tree) (t .holds) front y back h u f ∙ t .same))
-          e;
+          λ v.
+          seek-on (w .seeks v) l (λ f. ⊎-elim (λ s. false≢true (s .0)) (λ s. s .1 v (subst (λ t. Twin R t (v .lives .tree)) (sym at) f)) d) e;
     }
 
-pub twin-found : {R : List Row} {L M : List ℕ} {start q i p : ℕ} → SeekTwin R L M start q i → 0 < i → p ≡ place (getD M (i - 1) 0)
-    → Same R p q true → FindsTwin R L M start q i
-twin-found {R} {q = q} w l at d front y back h u f = seek-there (w .seeks front y back h u f) l (subst (λ m. Same R m q true) at d)
+pub twin-found : {R : List Row} {L M : List ℕ} {start m i t : ℕ} → SeekTwin R L M start m i → 0 < i → t ≡ getD M (i - 1) 0
+    → Twins R t m true → FindsTwin R L M start m i
+twin-found {R} {m = m} w l at d v =
+    ⊎-elim (λ s. seek-there (w .seeks v) l (subst (λ t. Same R (place t) (place m) true) at (s .1))) (λ s. absurd (true≢false (s .0))) d
 
-pub twin-end : {R : List Row} {L M : List ℕ} {start q i : ℕ} → SeekTwin R L M start q i → i ≤ 0 → FindsTwin R L M start q 0
-twin-end w l front y back h u f = seek-last (w .seeks front y back h u f) l
+pub twin-end : {R : List Row} {L M : List ℕ} {start m i : ℕ} → SeekTwin R L M start m i → i ≤ 0 → FindsTwin R L M start m 0
+twin-end w l v = seek-last (w .seeks v) l
 
 -- what a search tells
 

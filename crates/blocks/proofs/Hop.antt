@@ -14,12 +14,13 @@ use Rattle.rows.specs.Layouts.{rows-in, Room, total}
 use Rattle.rows.specs.declared.Layout.{Layout}
 use Rattle.blocks.specs.Blocks.{Block, gone, literal, operator, Blocks, none, _◂_, _⊕_, head, block-rows, grown, live, Laid, Here, Owed}
 use Rattle.blocks.specs.Walks.{extent, Alive, Hops, at-row}
-use Rattle.blocks.proofs.Blocks.{live-snoc, live-◂, start, next}
+use Rattle.blocks.proofs.Blocks.{⊕-◂, live-snoc, live-◂, start, next}
 use Rattle.blocks.proofs.Walks.{Turn, here-next, dead-holds, turn-at}
 
 pub record Hopping (R : List Row) (from at to : ℕ) (before : List Row) (bs : Blocks) (after : List Row) (owed left : ℕ) : Type 0 where
   pub done : Blocks
   pub rest : Blocks
+  pub parts : bs ≡ done ⊕ rest
   pub here : Here R from at to before done rest after
   pub ahead : front owed (live bs) ≡ live done ⧺ front left (live rest)
   pub past : behind owed (live bs) ≡ behind left (live rest)
@@ -31,11 +32,11 @@ Hop R from at to owed left =
     → Hopping R from at to before bs after owed left
 
 pub hop-none : {R : List Row} {from to owed : ℕ} → Hop R from from to owed owed
-unfolding live _⧺_
-hop-none before bs after l e = record { done = none; rest = bs; here = start l; ahead = refl; past = refl; enough = e }
+unfolding live _⧺_ _⊕_
+hop-none before bs after l e = record { done = none; rest = bs; parts = refl; here = start l; ahead = refl; past = refl; enough = e }
 
 -- trees that are owed have rows
-not-end : {R : List Row} {from at to : ℕ} {before after : List Row} {done rest : Blocks}
+pub not-end : {R : List Row} {from at to : ℕ} {before after : List Row} {done rest : Blocks}
     → Here R from at to before done rest after → 0 < count (live rest) → at < to
 unfolding live count block-rows
 not-end {rest = none} h e = absurd (omega arith)
@@ -99,6 +100,7 @@ hop-more {R} {from} {at} {to} {owed} {left} {one} w l k e before bs after laid e
     record {
       done = h .done ⊕ (m .block ◂ none);
       rest = m .others;
+      parts = h .parts ∙ ap (λ cs. h .done ⊕ cs) (m .is) ∙ ⊕-◂ (h .done) (m .block) (m .others);
       here = here-next (h .here) (m .is) (m .row-is) e;
       ahead =
           h .ahead ∙ ap (λ ts. live (h .done) ⧺ front left ts) opened ∙ ap (λ ts. live (h .done) ⧺ ts) (p .paid-front) ∙
@@ -116,6 +118,7 @@ hop-end {left = left} w l before bs after laid enough =
     record {
       first = h .done;
       others = h .rest;
+      parts = h .parts;
       here = h .here;
       owned = sym (h .ahead ∙ ap (λ m. live (h .done) ⧺ front m (live (h .rest))) zeroth ∙ nothing-more (live (h .done)) (live (h .rest)));
       left = sym (h .past ∙ ap (λ m. behind m (live (h .rest))) zeroth ∙ all-left (live (h .rest)));

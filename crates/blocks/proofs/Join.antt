@@ -12,9 +12,11 @@ use Rattle.formula.proofs.Tidy.Children.{⧺-none}
 use Rattle.sheet.specs.Format.{Row, row}
 use Rattle.blocks.specs.Blocks.{Block, gone, Blocks, none, _◂_, _⊕_, head, inner, block-rows, size, grown, live, Here}
 use Rattle.blocks.specs.Walks.{JoinsAt, at-row}
+use Rattle.blocks.specs.Known.{Told, AllTold}
 use Rattle.blocks.specs.Rules.{note, notes}
 use Rattle.blocks.proofs.Blocks.{rows-⊕, live-⊕, live-snoc, length-⊕, onward, part-done, stands, stands-row}
 use Rattle.blocks.proofs.Walks.{dead-holds}
+use Rattle.blocks.proofs.Told.{told-at, told-join, told-first, told-one, told-gone}
 use Rattle.blocks.proofs.Notes.{notes-⊕, notes-snoc, notes-dead, note-dead}
 
 -- the rows of dead blocks and of one more: the first, and those behind it
@@ -82,6 +84,7 @@ pub record Advanced (R : List Row) (from at next to : ℕ) (before : List Row) (
   pub hidden : live dead ≡ ∅
   pub reads : live (early ⊕ dead) ≡ live done ⧺ live (x ◂ none)
   pub noted : notes from (early ⊕ dead) ≡ notes from done ++ note at x
+  pub tells : (K : List ℕ) → AllTold K from done → Told K at x → AllTold K from (early ⊕ dead)
 
 ⊕-none : (bs : Blocks) → bs ⊕ none ≡ bs
 unfolding _⊕_
@@ -101,6 +104,10 @@ module _ {R : List Row} {from run at to : ℕ} {before after : List Row} (early 
         hidden = refl;
         reads = ap live (⊕-none ((early ⊕ dead) ⊕ (x ◂ none))) ∙ live-snoc (early ⊕ dead) x;
         noted = ap (notes from) (⊕-none ((early ⊕ dead) ⊕ (x ◂ none))) ∙ notes-snoc from (early ⊕ dead) x (h .place);
+        tells =
+            λ K t u.
+            subst (AllTold K from) (sym (⊕-none ((early ⊕ dead) ⊕ (x ◂ none))))
+            (told-join K from (early ⊕ dead) (x ◂ none) t (told-at K (x ◂ none) (sym (h .place)) (told-one K at x u)));
       }
 
   behind-early : Here R from run at before early dead (block-rows (x ◂ others) ++ after)
@@ -142,6 +149,10 @@ module _ {R : List Row} {from run at to : ℕ} {before after : List Row} (early 
             sym
             (ap (λ ns. notes from (early ⊕ dead) ++ ns) (note-dead at x k) ∙ append-nil (notes from (early ⊕ dead)) ∙ notes-⊕ from early dead ∙
             ap (λ ns. notes from early ++ ns) (notes-dead _ dead hidden));
+        tells =
+            λ K t _.
+            told-join K from early dead-block (told-first K from early dead t)
+            (told-one K _ (gone (rows-of dead x .others)) (told-gone K _ (rows-of dead x .others)));
       }
 
   pub advanced : {R′ : List Row} {s run′ : ℕ} → s ≡ size x → JoinsAt R R′ run at (at + s) run′

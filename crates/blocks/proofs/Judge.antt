@@ -3,28 +3,31 @@
 use mathlib.Core.Path.{_≡_, refl, sym, ap, ap₂, _∙_, subst}
 use mathlib.Core.Bool.{Bool, true, false, not, _||_, or-false}
 use mathlib.Core.List.{List, [], _∷_, _++_, append-nil}
-use Prim.Native.Nat.{ℕ, suc, _+_, _*_, _-_, _≤_, _<_}
+use Prim.Native.Nat.{ℕ, suc, _+_, _*_, _-_, _%_, _≤_, _<_}
 use native.Mathlib.Omega.{arith}
-use lib.Dec.{eqb, leb}
+use lib.Dec.{eqb, leb, ltb}
 use lib.ListN.{length, getD, set, take, length-append}
 use lib.Seq.{append-snoc, set-getD, take-suc-set}
-use borrow.Author.Tests.{eq-eqb, ne-eqb, eqb-true, leb-true}
-use Rattle.formula.specs.Tree.{Op, and, or, dual, same-op, Tree, lit, node, Forest, ∅, _▸_, _⧺_, some-child, keep}
+use borrow.Author.Tests.{eq-eqb, ne-eqb, eqb-true, leb-true, lt-ltb, le-ltb}
+use Rattle.formula.specs.Tree.{Op, and, or, dual, same-op, Tree, lit, node, Forest, ∅, _▸_, _⧺_, some-child, keep, count}
 use Rattle.formula.specs.Tidy.{is-empty, opposite, same-tree, childless}
 use Rattle.formula.proofs.Booleans.{and-parts}
 use Rattle.formula.proofs.Tidy.Children.{keep-all, some-child-same}
 use Rattle.sheet.specs.Format.{Row, row}
 use Rattle.sheet.specs.Sheet.{literal-kind, operator-kind}
 use Rattle.buckets.specs.Chains.{bucket, Passed}
-use Rattle.buckets.specs.Prints.{literal-mix, sign, outline}
-use Rattle.blocks.specs.Blocks.{Block, gone, literal, operator, Blocks, none, _◂_, head, inner, block-rows, size, grown, live, Laid, Here, Stands, Standing, Region}
-use Rattle.blocks.specs.Rules.{decisive, repeated, new, Unopposed, place, note, notes, literal-test, Test, Twin, Noted, LiteralRow, Kept, Judged}
-use Rattle.blocks.specs.Walks.{at-row, FirstLive, Finds}
+use Rattle.buckets.specs.Prints.{literal-mix, sign, print}
+use Rattle.buckets.proofs.Prints.{print-few}
+use Rattle.blocks.specs.Blocks.{Block, gone, literal, operator, Blocks, none, _◂_, head, inner, block-rows, size, grown, live, Laid, Here, Stands, Region}
+use Rattle.blocks.specs.Known.{Says}
+use Rattle.blocks.specs.Rules.{decisive, repeated, new, Unopposed, place, note, notes, literal-test, Test, Member, Twin, Noted, LiteralRow, Kept, Judged}
+use Rattle.blocks.specs.Walks.{at-row, FirstLive}
 use Rattle.blocks.specs.Entered.{LiveAt, Same}
 use Rattle.blocks.proofs.Blocks.{stands, live-◂, stands-row, start}
 use Rattle.blocks.proofs.Walks.{like, dead-holds}
 use Rattle.blocks.proofs.Hop.{live-one}
-use Rattle.blocks.proofs.Notes.{noted-count, noted-at, notes-places, unseen, seen, unseen-twin, seen-twin, member-lives}
+use Rattle.blocks.proofs.Told.{told-gone}
+use Rattle.blocks.proofs.Notes.{noted-count, noted-at, notes-places, unseen, seen, unseen-twin, seen-twin, member-lives, place-of, print-of, bucket-of}
 use Rattle.blocks.proofs.Grouped.{Unknown, unknown, repeated-indecisive}
 
 -- rules 2 and 3 at one block
@@ -106,11 +109,6 @@ pub inner-region : {R : List Row} {at a : ℕ} {before after : List Row} (x : Bl
     → Stands R at before x after → Region R (at + 1) (at + a)
 inner-region {R} {at} x l e h = subst (λ m. Region R (at + 1) (at + m)) (sym e) (inner-region-head x l h)
 
-pub standing-region : {R : List Row} {at a : ℕ} → Standing R at → 4 < (at-row R at) .kind → a ≡ (at-row R at) .argument → Region R (at + 1) (at + a)
-standing-region st l e =
-    let r = stands-row (st .stands) in
-    inner-region (st .block) (omega (arith, ap (λ (q : Row). q .kind) r)) (e ∙ ap (λ (q : Row). q .argument) r) (st .stands)
-
 pub first-live-none : {R : List Row} {from at to : ℕ} {before after : List Row} {bs : Blocks} → FirstLive R from at to before bs after
     → eqb at to ≡ childless (live bs)
 unfolding block-rows live childless _⧺_
@@ -123,28 +121,25 @@ first-live-none {R} {from} {at} {to} {before} {after} {bs} f = rw (f .others) (g
         let t = live-one y (λ e. f .found more (ap (λ (r : Row). r .kind) (stands-row (stands h)) ∙ e)) in
         ne-eqb at to (λ e. omega arith) ∙ sym (ap childless (live-◂ y ys ∙ ap (λ ts. ts ⧺ live ys) (t .is)))
 
-decisive-hollow : {R : List Row} {at : ℕ} {before after : List Row} (o : Op) (us : Forest) (x : Block) (p : ℕ)
-    → 4 < (head x) .kind → ((head x) .kind ≡ operator-kind o → ⊥) → Stands R at before x after
-    → Finds R (at + 1) (at + (head x) .argument) p
-    → eqb p (at + (head x) .argument) ≡ some-child (decisive o us) (live (x ◂ none))
-unfolding head
-decisive-hollow o us (gone rs) p l e h f = absurd (omega arith)
-decisive-hollow o us (literal true v) p l e h f = absurd (omega arith)
-decisive-hollow o us (literal false v) p l e h f = absurd (omega arith)
-decisive-hollow and us (operator and ks) p l e h f = absurd (e refl)
-decisive-hollow and us (operator or ks) p l e h f =
-    first-live-none (f _ ks _ (inner-laid or ks h)) ∙ sym (decisive-operator and us or ks ∙ is-empty-same or (live ks))
-decisive-hollow or us (operator and ks) p l e h f =
-    first-live-none (f _ ks _ (inner-laid and ks h)) ∙ sym (decisive-operator or us and ks ∙ is-empty-same and (live ks))
-decisive-hollow or us (operator or ks) p l e h f = absurd (e refl)
+-- an operator has no children where the table says so
+childless-told : (w : ℕ) (o : Op) (ts : Forest) → w ≡ count ts * 65536 + print (node o ts) → ltb w 65536 ≡ childless ts
+unfolding count childless
+childless-told w o ∅ e = lt-ltb w 65536 (omega (arith, e, print-few (node o ∅)))
+childless-told w o (t ▸ ts) e = le-ltb w 65536 (omega (arith, e))
 
--- one of the other kind does if no tree is found in it
-pub decisive-other : {R : List Row} {at a : ℕ} {before after : List Row} (o : Op) (us : Forest) (x : Block) (p : ℕ)
-    → 4 < (head x) .kind → ((head x) .kind ≡ operator-kind o → ⊥) → a ≡ (head x) .argument → Stands R at before x after
-    → Finds R (at + 1) (at + a) p
-    → eqb p (at + a) ≡ some-child (decisive o us) (live (x ◂ none))
-decisive-other {R} {at} o us x p l d e h =
-    subst (λ m. Finds R (at + 1) (at + m) p → eqb p (at + m) ≡ some-child (decisive o us) (live (x ◂ none))) (sym e) (decisive-hollow o us x p l d h)
+-- one of the other kind does if it has none
+pub decisive-other : (o : Op) (us : Forest) (x : Block) (w : ℕ) → 4 < (head x) .kind → ((head x) .kind ≡ operator-kind o → ⊥) → Says w x
+    → ltb w 65536 ≡ some-child (decisive o us) (live (x ◂ none))
+unfolding head Says
+decisive-other o us (gone rs) w l d e = absurd (omega arith)
+decisive-other o us (literal true v) w l d e = absurd (omega arith)
+decisive-other o us (literal false v) w l d e = absurd (omega arith)
+decisive-other and us (operator and ks) w l d e = absurd (d refl)
+decisive-other and us (operator or ks) w l d e =
+    childless-told w or (live ks) e ∙ sym (decisive-operator and us or ks ∙ is-empty-same or (live ks))
+decisive-other or us (operator and ks) w l d e =
+    childless-told w and (live ks) e ∙ sym (decisive-operator or us and ks ∙ is-empty-same and (live ks))
+decisive-other or us (operator or ks) w l d e = absurd (d refl)
 
 -- the block stays as it is
 pub kept-same : {R : List Row} {at : ℕ} {before after : List Row} (x : Block) → Stands R at before x after → Kept R R at x
@@ -153,6 +148,7 @@ kept-same {R} {at} x h =
       block = x;
       stored = sym (set-getD R at (row 0 0)) ∙ ap (set R at) (stands-row h);
       same-rows = refl;
+      tells = λ K t. t;
     }
 
 -- it decides the node
@@ -328,7 +324,7 @@ module _ {R : List Row} {at kind v : ℕ} (row-is : LiteralRow R at kind) (v-is 
         let again : repeated us literal-tree ≡ true = member-row j l t (b .sign-of) (k ∙ kind-sign) in
         record {
           decided-is = not-zero left n e ∙ sym (tested (decisive o us) ∙ repeated-indecisive o us (b .sign-of) (b .variable) two again);
-          kept = record { block = gone []; stored = R-is; same-rows = sym (ap inner (b .is)) };
+          kept = record { block = gone []; stored = R-is; same-rows = sym (ap inner (b .is)); tells = λ K _. told-gone K at [] };
           holds = λ _. sym (ap (new us) one-tree ∙ gone-again again);
           noted = λ _. taken M (notes from done) n left (noted .are) e;
         }
@@ -361,12 +357,45 @@ dropped-one : (us : Forest) (t : Tree) → some-child (λ w. same-tree w t) us �
 unfolding keep repeated
 dropped-one us t r = rw r
 
+print-literal : (s : Bool) (v : ℕ) → print (lit s v) ≡ literal-mix (sign s) v
+unfolding print
+print-literal s v = refl
+
 -- a live block is noted by its tree
-note-is : (r : ℕ) (x : Block) (t : Tree) → live (x ◂ none) ≡ t ▸ ∅ → note r x ≡ (r * 65536 + outline t) ∷ []
-unfolding note live grown outline
+note-is : (r : ℕ) (x : Block) (t : Tree) → live (x ◂ none) ≡ t ▸ ∅ → note r x ≡ (r * 65536 + print t) ∷ []
+unfolding note live grown
 note-is r (gone rs) t e = let z : _≡_ {A = ℕ} 0 1 = cc in absurd (omega arith)
-note-is r (literal s v) t e = ap (λ u. (r * 65536 + outline u) ∷ []) (first-of e)
-note-is r (operator o ks) t e = ap (λ u. (r * 65536 + outline u) ∷ []) (first-of e)
+note-is r (literal s v) t e = ap (λ p. (r * 65536 + p) ∷ []) (sym (print-literal s v) ∙ ap print (first-of e))
+note-is r (operator o ks) t e = ap (λ u. (r * 65536 + print u) ∷ []) (first-of e)
+
+-- what the table tells of an operator ends with its print
+pub said-print : (w : ℕ) (x : Block) {t : Tree} → 4 < (head x) .kind → Says w x → live (x ◂ none) ≡ t ▸ ∅ → w % 65536 ≡ print t
+unfolding head Says live grown
+said-print w (gone rs) l e i = absurd (omega arith)
+said-print w (literal true v) l e i = absurd (omega arith)
+said-print w (literal false v) l e i = absurd (omega arith)
+said-print w (operator o ks) l e i =
+    ap (λ m. m % 65536) e ∙ print-of (count (live ks)) _ (print-few (node o (live ks))) ∙ ap print (first-of i)
+
+-- so it makes a member
+pub place-said : (at w : ℕ) → place (at * 65536 + w % 65536) ≡ at
+place-said at w = place-of at (w % 65536) (omega arith)
+
+abbrev pub said-member : {R : List Row} {at : ℕ} {front back : List Row} (w : ℕ) (x : Block) (t : Tree) → Stands R at front x back
+    → 4 < (head x) .kind → Says w x → live (x ◂ none) ≡ t ▸ ∅ → Member R (at * 65536 + w % 65536)
+said-member {R} {at} {front} {back} w x t h l e i =
+    record {
+      lives =
+          record {
+            before = front;
+            block = x;
+            after = back;
+            stands = subst (λ r. Stands R r front x back) (sym (place-said at w)) h;
+            tree = t;
+            holds = i;
+          };
+      printed = print-of at (w % 65536) (omega arith) ∙ said-print w x l e i;
+    }
 
 -- an operator covers as many rows as it says
 pub operator-size : (x : Block) → 4 < (head x) .kind → (head x) .argument ≡ size x
@@ -376,7 +405,7 @@ operator-size (literal true v) l = absurd (omega arith)
 operator-size (literal false v) l = absurd (omega arith)
 operator-size (operator o ks) l = refl
 
--- An operator at a row, by its outline.
+-- An operator at a row, by its print.
 module _ {R : List Row} {at from n : ℕ} {M : List ℕ} {before after : List Row} {done : Blocks} (laid : Laid R from at before done after)
     (noted : Noted M n from done) {front back : List Row} {x : Block} {t : Tree} (h : Stands R at front x back) (tree-there : live (x ◂ none) ≡ t ▸ ∅)
     (o : Op) (undecided : some-child (decisive o (live done)) (live (x ◂ none)) ≡ false) where
@@ -385,17 +414,17 @@ module _ {R : List Row} {at from n : ℕ} {M : List ℕ} {before after : List Ro
   operator-tested P = ap (some-child P) tree-there ∙ or-false (P t)
 
   -- none is the same
-  pub operator-new : {p left : ℕ} {M′ : List ℕ} → p ≡ outline t → Passed M n (bucket p) (λ j. Twin R (place (getD M j 0)) t) 0
-      → M′ ≡ set M n (at * 65536 + p) → n < length M → left ≡ n + 2 → Judged R R M′ from at done x o left
+  pub operator-new : {m left : ℕ} {M′ : List ℕ} → m ≡ at * 65536 + print t → Passed M n (bucket m) (λ j. Twin R (getD M j 0) t) 0
+      → M′ ≡ set M n m → n < length M → left ≡ n + 2 → Judged R R M′ from at done x o left
   unfolding kept-same repeated
-  operator-new {p} {left} {M′} p-is passed M-is few l =
+  operator-new {m} {left} {M′} m-is passed M-is few l =
       record {
         decided-is = ne-eqb left 0 (λ z. omega arith) ∙ sym undecided;
         kept = kept-same x h;
         holds = λ _. sym (keep-all (repeated (live done)) (live (x ◂ none)) (operator-tested (repeated (live done)) ∙ fresh));
         noted =
             λ _.
-            ap₂ take less M-is ∙ take-suc-set M n (at * 65536 + p) few ∙ ap₂ (λ ns m. ns ++ (m ∷ [])) (noted .are) (ap (λ q. at * 65536 + q) p-is) ∙
+            ap₂ take less M-is ∙ take-suc-set M n m few ∙ ap₂ (λ ns q. ns ++ (q ∷ [])) (noted .are) m-is ∙
             ap (λ ns. notes from done ++ ns) (sym (note-is at x t tree-there));
       }
     where
@@ -407,17 +436,17 @@ module _ {R : List Row} {at from n : ℕ} {M : List ℕ} {before after : List Ro
           unseen-twin t done (start laid)
           (λ j u e w.
           let i = noted-at noted j (omega (arith, noted-count noted)) in
-          passed .failed j (omega arith) (omega (arith, noted-count noted)) (ap bucket i ∙ e ∙ sym (ap bucket p-is))
-          (subst (λ m. Twin R (place m) t) (sym i) w))
+          passed .failed j (omega arith) (omega (arith, noted-count noted)) (ap bucket i ∙ e ∙ sym (ap bucket m-is ∙ bucket-of at (print t)))
+          (subst (λ q. Twin R q t) (sym i) w))
 
   -- one is
-  pub operator-again : {left j : ℕ} {R′ : List Row} → j < n → Same R (place (getD M j 0)) at true → R′ ≡ set R at (row 0 (size x)) → left ≡ n + 1
+  pub operator-again : {left j q : ℕ} {R′ : List Row} → j < n → q ≡ at → Same R (place (getD M j 0)) q true → R′ ≡ set R at (row 0 (size x)) → left ≡ n + 1
       → Judged R R′ M from at done x o left
   unfolding head inner live grown note
-  operator-again {left} {j} {R′} l d R-is e =
+  operator-again {left} {j} {R′ = R′} l q-is d R-is e =
       record {
         decided-is = not-zero left n e ∙ sym undecided;
-        kept = record { block = gone (inner x); stored = R-is; same-rows = refl };
+        kept = record { block = gone (inner x); stored = R-is; same-rows = refl; tells = λ K _. told-gone K at (inner x) };
         holds = λ _. sym (ap (new (live done)) tree-there ∙ dropped again);
         noted = λ _. taken M (notes from done) n left (noted .are) e;
       }
@@ -425,7 +454,7 @@ module _ {R : List Row} {at from n : ℕ} {M : List ℕ} {before after : List Ro
       again : some-child (λ w. same-tree w t) (live done) ≡ true
       again =
           seen-twin done x t h tree-there (start laid) j (omega (arith, noted-count noted))
-          (subst (λ m. Same R (place m) at true) (noted-at noted j l) d)
+          (subst (λ m. Same R (place m) at true) (noted-at noted j l) (subst (λ q. Same R (place (getD M j 0)) q true) q-is d))
 
       dropped : some-child (λ w. same-tree w t) (live done) ≡ true → new (live done) (t ▸ ∅) ≡ ∅
       dropped r = dropped-one (live done) t r

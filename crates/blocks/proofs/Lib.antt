@@ -9,5 +9,4 @@ pub mod Find
 pub mod Judge
 pub mod Entered
 pub mod Join
-pub mod Sift
-pub mod Splice
+pub mod Gather

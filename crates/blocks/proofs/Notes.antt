@@ -17,11 +17,11 @@ use Rattle.formula.proofs.Booleans.{and-parts, or-none, or-later}
 use Rattle.sheet.specs.Format.{Row, row}
 use Rattle.sheet.specs.Sheet.{literal-kind}
 use Rattle.buckets.specs.Chains.{bucket}
-use Rattle.buckets.specs.Prints.{literal-mix, sign, outline}
-use Rattle.buckets.proofs.Prints.{outline-few}
+use Rattle.buckets.specs.Prints.{literal-mix, sign, print}
+use Rattle.buckets.proofs.Prints.{print-few}
 use Rattle.blocks.specs.Blocks.{Block, gone, literal, operator, Blocks, none, _◂_, _⊕_, head, inner, block-rows, size, grown, live, Here, Stands}
 use Rattle.blocks.specs.Walks.{at-row}
-use Rattle.blocks.specs.Rules.{place, note, notes, Noted, literal-test, Twin}
+use Rattle.blocks.specs.Rules.{place, note, notes, Noted, literal-test, Member, Twin}
 use Rattle.blocks.specs.Entered.{LiveAt, Same}
 use Rattle.blocks.proofs.Blocks.{length-◂, stands, stands-row, onward}
 use Rattle.blocks.proofs.Walks.{like}
@@ -61,10 +61,13 @@ halved r y g l = omega arith
 low-bits : (r y : ℕ) → (r * 32768 + y) % 1024 ≡ y % 1024
 low-bits r y = omega arith
 
-place-of : (r q : ℕ) → q < 65536 → place (r * 65536 + q) ≡ r
+pub place-of : (r q : ℕ) → q < 65536 → place (r * 65536 + q) ≡ r
 place-of r q l = omega arith
 
-bucket-of : (r q : ℕ) → bucket (r * 65536 + q) ≡ bucket q
+pub print-of : (r q : ℕ) → q < 65536 → (r * 65536 + q) % 65536 ≡ q
+print-of r q l = omega arith
+
+pub bucket-of : (r q : ℕ) → bucket (r * 65536 + q) ≡ bucket q
 bucket-of r q = ap (λ z. z % 1024) (halved-all r q) ∙ low-bits r (q / 2)
   where
     halved-all : (r q : ℕ) → (r * 65536 + q) / 2 ≡ r * 32768 + q / 2
@@ -73,8 +76,8 @@ bucket-of r q = ap (λ z. z % 1024) (halved-all r q) ∙ low-bits r (q / 2)
 abbrev operator-tree : Op → Blocks → Tree
 operator-tree o ks = node o (live ks)
 
-place-operator : (r : ℕ) (o : Op) (ks : Blocks) → place (r * 65536 + outline (operator-tree o ks)) ≡ r
-place-operator r o ks = place-of r (outline (operator-tree o ks)) (outline-few (operator-tree o ks))
+place-operator : (r : ℕ) (o : Op) (ks : Blocks) → place (r * 65536 + print (operator-tree o ks)) ≡ r
+place-operator r o ks = place-of r (print (operator-tree o ks)) (print-few (operator-tree o ks))
 
 place-note : (r : ℕ) (s : Bool) (v : ℕ) → place (r * 65536 + literal-mix (sign s) v) ≡ r
 place-note r true v = omega arith
@@ -198,23 +201,37 @@ member-lives (operator o ks ◂ rest) h (suc j) l = member-lives rest (onward h)
 -- where no member of a tree's bucket holds the same tree, none does
 module _ (u : Tree) where
   abbrev Fresh : List Row → List ℕ → Type 0
-  Fresh R N = (j : ℕ) → j < length N → bucket (getD N j 0) ≡ bucket (outline u) → Twin R (place (getD N j 0)) u → ⊥
+  Fresh R N = (j : ℕ) → j < length N → bucket (getD N j 0) ≡ bucket (print u) → Twin R (getD N j 0) u → ⊥
 
   differs : {R : List Row} {at : ℕ} {front back : List Row} (x : Block) (t : Tree) → Stands R at front x back → live (x ◂ none) ≡ t ▸ ∅
-      → (bucket (at * 65536 + outline t) ≡ bucket (outline u) → Twin R (place (at * 65536 + outline t)) u → ⊥) → same-tree t u ≡ false
-  differs {R} {at} x t h e q = go (same-tree t u) refl
+      → (bucket (at * 65536 + print t) ≡ bucket (print u) → Twin R (at * 65536 + print t) u → ⊥) → same-tree t u ≡ false
+  differs {R} {at} {front} {back} x t h e q = go (same-tree t u) refl
     where
+      own : Member R (at * 65536 + print t)
+      own =
+          record {
+            lives =
+                record {
+                  before = front;
+                  block = x;
+                  after = back;
+                  stands = subst (λ p. Stands R p front x back) (sym (place-of at (print t) (print-few t))) h;
+                  tree = t;
+                  holds = e;
+                };
+            printed = print-of at (print t) (print-few t);
+          }
+
       go : (b : Bool) → same-tree t u ≡ b → b ≡ false
       go false s = refl
       go true s =
           absurd
-          (q (bucket-of at (outline t) ∙ ap (λ w. bucket (outline w)) (same-tree-same t u s))
-          (subst (λ p. Twin R p u) (sym (place-of at (outline t) (outline-few t)))
-          (record { before = _; block = x; after = _; stands = h; tree = t; holds = e; same = s })))
+          (q (bucket-of at (print t) ∙ ap (λ w. bucket (print w)) (same-tree-same t u s))
+          (record { member = own; same = s }))
 
   pub unseen-twin : {R : List Row} {from at to : ℕ} {before after : List Row} {done : Blocks} (rest : Blocks)
       → Here R from at to before done rest after → Fresh R (notes at rest) → some-child (λ t. same-tree t u) (live rest) ≡ false
-  unfolding notes note live grown some-child outline
+  unfolding notes note live grown some-child print
   unseen-twin none h q = refl
   unseen-twin (gone rs ◂ rest) h q = unseen-twin rest (onward h) q
   unseen-twin (literal s v ◂ rest) h q =

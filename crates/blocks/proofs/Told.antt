@@ -5,6 +5,7 @@ use mathlib.Core.List.{List}
 use Prim.Native.Nat.{ℕ, suc, _+_, _≤_}
 use native.Mathlib.Omega.{arith}
 use lib.ListN.{length, getD}
+use Rattle.sheet.specs.Format.{Row}
 use Rattle.blocks.specs.Blocks.{Block, gone, literal, operator, Blocks, none, _◂_, _⊕_, block-rows, size}
 use Rattle.blocks.specs.Known.{Says, Told, AllTold}
 use Rattle.blocks.proofs.Blocks.{length-◂}
@@ -35,7 +36,11 @@ pub told-one : (K : List ℕ) (r : ℕ) (x : Block) → Told K r x → AllTold K
 unfolding AllTold
 told-one K r x t = (t, record {})
 
--- an operator's own, and the blocks that come next when it is entered
+pub told-gone : (K : List ℕ) (r : ℕ) (rs : List Row) → Told K r (gone rs)
+unfolding Told
+told-gone K r rs = record {}
+
+-- an operator's own
 
 pub told-says : (K : List ℕ) (r : ℕ) (x : Block) → Told K r x → Says (getD K r 0) x
 unfolding Told Says

@@ -17,7 +17,6 @@ use Rattle.rows.specs.declared.Layout.{Layout}
 use Rattle.rows.proofs.Layouts.{length-rows-in}
 use Rattle.blocks.specs.Blocks.{Block, gone, literal, operator, Blocks, none, _◂_, _⊕_, head, block-rows, grown, live, Laid, Here, Region, Stands, Standing}
 use Rattle.blocks.specs.Walks.{extent, Alive, Finds, at-row}
-use Rattle.blocks.specs.Entered.{HeadAt}
 use Rattle.blocks.proofs.Blocks.{stands, live-snoc, ⧺-◂, length-◂, extent-head, within, start, next, onward, no-rows}
 
 pub record Walked (R : List Row) (from at to : ℕ) (before : List Row) (bs : Blocks) (after : List Row) (Q : Forest → Type 0) : Type 0 where
@@ -58,11 +57,6 @@ pub scan-turn : {s : Layout} {from at to : ℕ} {Q : Forest → Type 0} (b : Byt
     → Region (rows-in s b) from to → at < to → Turn s b at to
 scan-turn b room w g l = turn-at b room (w (g .before) (g .blocks) (g .after) (g .laid) .here) l
 
-pub scan-head : {R : List Row} {from at to : ℕ} {Q : Forest → Type 0} → Scan R from at to Q → Region R from to → at < to → HeadAt R at
-scan-head w g l =
-    let m = next (w (g .before) (g .blocks) (g .after) (g .laid) .here) l in
-    record { block = m .block; is = m .row-is }
-
 pub here-next : {R : List Row} {from at to : ℕ} {before after : List Row} {done rest others : Blocks} {x : Block} {s : ℕ}
     → Here R from at to before done rest after → rest ≡ x ◂ others → at-row R at ≡ head x → s ≡ extent (at-row R at)
     → Here R from (at + s) to before (done ⊕ (x ◂ none)) others after
@@ -84,33 +78,6 @@ scan-more Q′ w l b f before bs after laid =
           here .joined ∙ ap (λ cs. live (here .done) ⧺ live cs) (m .is) ∙ ⧺-◂ (live (here .done)) (m .block) (m .others) ∙
           ap (λ ts. ts ⧺ live (m .others)) (sym (live-snoc (here .done) (m .block)));
       claim = subst Q′ (sym (live-snoc (here .done) (m .block))) (f (live (here .done)) (m .block) (m .row-is) (here .claim));
-    }
-
-pub scan-more-at : {R : List Row} {from at to s : ℕ} {Q : Forest → Type 0} (Q′ : Forest → Type 0) → Scan R from at to Q → at < to
-    → s ≡ extent (at-row R at)
-    → ((ts : Forest) (x : Block) (front back : List Row) → Stands R at front x back → Q ts → Q′ (ts ⧺ live (x ◂ none))) → Scan R from (at + s) to Q′
-scan-more-at {R} {from} {at} {to} Q′ w l b f before bs after laid =
-    let here = w before bs after laid in
-    let m = next (here .here) l in
-    record {
-      done = here .done ⊕ (m .block ◂ none);
-      rest = m .others;
-      here = here-next (here .here) (m .is) (m .row-is) b;
-      joined =
-          here .joined ∙ ap (λ cs. live (here .done) ⧺ live cs) (m .is) ∙ ⧺-◂ (live (here .done)) (m .block) (m .others) ∙
-          ap (λ ts. ts ⧺ live (m .others)) (sym (live-snoc (here .done) (m .block)));
-      claim = subst Q′ (sym (live-snoc (here .done) (m .block))) (f (live (here .done)) (m .block) _ _ (stands (subst (λ cs. Here R from at to before (here .done) cs after) (m .is) (here .here))) (here .claim));
-    }
-
-pub scan-standing : {R : List Row} {from at to : ℕ} {Q : Forest → Type 0} → Scan R from at to Q → Region R from to → at < to → Standing R at
-scan-standing {R} {from} {at} {to} w g l =
-    let h = w (g .before) (g .blocks) (g .after) (g .laid) in
-    let m = next (h .here) l in
-    record {
-      before = _;
-      block = m .block;
-      after = _;
-      stands = stands (subst (λ cs. Here R from at to (g .before) (h .done) cs (g .after)) (m .is) (h .here));
     }
 
 pub rest-none : {R : List Row} {from at to : ℕ} {before after : List Row} {done rest : Blocks}

@@ -9,7 +9,6 @@ use Rattle.formula.specs.Tree.{Tree, ∅, _▸_, count}
 use Rattle.formula.specs.Tidy.{same-tree}
 use Rattle.sheet.specs.Format.{Row, row}
 use Rattle.sheet.specs.Sheet.{literal-kind, operator-kind}
-use Rattle.buckets.specs.Prints.{flat-on, flat, outline-on, outline}
 use Rattle.blocks.specs.Blocks.{Block, gone, literal, operator, Blocks, none, _◂_, _⊕_, head, live, Stands}
 use Rattle.blocks.specs.Walks.{at-row}
 
@@ -57,21 +56,3 @@ SameRow R p q d =
     (front : List Row) (x : Block) (back : List Row) → Stands R p front x back → ((head x) .kind ≡ 0 → ⊥)
     → (front′ : List Row) (y : Block) (back′ : List Row) → Stands R q front′ y back′ → ((head y) .kind ≡ 0 → ⊥)
     → (a c : ℕ) → ArgumentOf x a → ArgumentOf y c → d ≡ same-row (row ((head x) .kind) a) (row ((head y) .kind) c)
-
--- an operator's flat outline, with one more block of its children
-pub record HeadAt (R : List Row) (at : ℕ) : Type 0 where
-  pub block : Block
-  pub is : at-row R at ≡ head block
-
-abbrev pub Flats : List Row → ℕ → ℕ → ℕ → Type 0
-Flats R at h h′ = (x : Block) → at-row R at ≡ head x → h′ ≡ flat-on h (live (x ◂ none))
-
-abbrev pub FlatAt : List Row → ℕ → ℕ → Type 0
-FlatAt R at p = (front : List Row) (x : Block) (back : List Row) → Stands R at front x back → (t : Tree) → live (x ◂ none) ≡ t ▸ ∅ → p ≡ flat t
-
--- and its outline
-abbrev pub Outlines : List Row → ℕ → ℕ → ℕ → Type 0
-Outlines R at h h′ = (front : List Row) (x : Block) (back : List Row) → Stands R at front x back → h′ ≡ outline-on h (live (x ◂ none))
-
-abbrev pub OutlineAt : List Row → ℕ → ℕ → Type 0
-OutlineAt R at p = (front : List Row) (x : Block) (back : List Row) → Stands R at front x back → (t : Tree) → live (x ◂ none) ≡ t ▸ ∅ → p ≡ outline t

@@ -3,14 +3,16 @@
 use mathlib.Core.Path.{_≡_}
 use mathlib.Core.Bool.{true, false}
 use mathlib.Core.List.{List}
-use Prim.Native.Nat.{ℕ, _-_, _≤_}
+use mathlib.Core.Logic.{_⊎_}
+use Prim.Native.Nat.{ℕ, _+_, _-_, _/_, _≤_}
 use lib.Dec.{eqb}
-use lib.ListN.{take}
+use lib.ListN.{set, take}
 use Rattle.formula.specs.Tree.{Op, same-op, lit, node, Forest, ∅, _▸_, some-child, count}
 use Rattle.formula.specs.Tidy.{is-op, same-tree, splice, decides, firsts}
-use Rattle.sheet.specs.Format.{Row}
+use Rattle.sheet.specs.Format.{Row, row}
 use Rattle.sheet.specs.Sheet.{operator-kind, front, behind}
 use Rattle.blocks.specs.Blocks.{Blocks, _⊕_, live, Laid, Here}
+use Rattle.blocks.specs.Walks.{at-row}
 use Rattle.blocks.specs.Known.{AllTold}
 use Rattle.blocks.specs.Rules.{notes}
 
@@ -20,8 +22,16 @@ Flat o ∅ = Unit {0}
 Flat o (lit s v ▸ ts) = Flat o ts
 Flat o (node k us ▸ ts) = (same-op o k ≡ true → some-child (is-op o) us ≡ false) × Flat o ts
 
+-- rule 1 at a child, the first of as many trees from its row on, and how many are owed behind it then: a dead block is none of them, and
+-- one of the parent's own kind leaves its children in its place
+abbrev pub SplicesAt : List Row → List Row → ℕ → ℕ → ℕ → ℕ → ℕ → Type 0
+SplicesAt R R′ at kind known owed left =
+    (((at-row R at) .kind ≡ 0) × (R′ ≡ R) × (left ≡ owed)) ⊎
+    ((((at-row R at) .kind ≡ 0 → ⊥) × ((at-row R at) .kind ≡ kind → ⊥) × (R′ ≡ R) × (left ≡ owed - 1)) ⊎
+    (((at-row R at) .kind ≡ kind) × (R′ ≡ set R at (row 0 1)) × (left ≡ owed - 1 + known / 65536)))
+
 -- rows that hold as many trees, of which the table tells
-pub record Children (R : List Row) (K : List ℕ) (from to owed kind : ℕ) : Type 0 where
+pub record ChildrenAt (R : List Row) (K : List ℕ) (from to owed kind : ℕ) : Type 0 where
   pub before : List Row
   pub blocks : Blocks
   pub after : List Row

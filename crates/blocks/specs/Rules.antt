@@ -1,47 +1,33 @@
--- Rules 1 to 5 at an operator's children ("Tidy sheets"), one child after another.
+-- Rules 2 to 5 at an operator's children ("Tidy sheets"), one child after another.
 -- Assumes nothing.
 use mathlib.Core.Path.{_≡_}
 use mathlib.Core.Bool.{Bool, true, false, not, _&&_, _||_, cond}
 use mathlib.Core.List.{List, [], _∷_, _++_}
 use mathlib.Core.Logic.{_⊎_}
-use Prim.Native.Nat.{ℕ, _+_, _*_, _-_, _/_, _≤_, _<_}
+use Prim.Native.Nat.{ℕ, _+_, _*_, _-_, _/_, _%_, _≤_, _<_}
 use lib.Dec.{eqb, leb}
 use lib.ListN.{length, getD, set, take}
 use Rattle.formula.specs.Tree.{Op, dual, Tree, node, Forest, ∅, _▸_, some-child, some-two, keep}
-use Rattle.formula.specs.Tidy.{is-empty, opposite, same-tree, splice, decides, firsts}
+use Rattle.formula.specs.Tidy.{is-empty, opposite, same-tree}
 use Rattle.sheet.specs.Format.{Row, row}
 use Rattle.sheet.specs.Sheet.{operator-kind}
 use Rattle.rows.specs.Layouts.{total}
 use Rattle.rows.specs.declared.Layout.{Layout}
 use Rattle.buckets.specs.Chains.{bucket, last, Linked, Passed}
 use Rattle.buckets.specs.Chains as chains
-use Rattle.buckets.specs.Prints.{literal-mix, sign, outline}
+use Rattle.buckets.specs.Prints.{literal-mix, sign, print}
 use Rattle.blocks.specs.Blocks.{Block, gone, literal, operator, Blocks, none, _◂_, head, inner, size, live, Laid, Stands, Standing}
 use Rattle.blocks.specs.Walks.{at-row}
 use Rattle.blocks.specs.Entered.{LiveAt, Same}
-
--- rule 1: a row of this kind has gone, and its children stand in its place
-abbrev pub beheaded : List Row → ℕ → ℕ → List Row
-beheaded R r kind = cond (eqb ((at-row R r) .kind) kind) (set R r (row 0 1)) R
-
--- the blocks of a region hold these trees now
-pub record Held (R : List Row) (from to : ℕ) (before after : List Row) (ts : Forest) : Type 0 where
-  pub blocks : Blocks
-  pub laid : Laid R from to before blocks after
-  pub reads : live blocks ≡ ts
-
-abbrev pub Splices : List Row → List Row → ℕ → ℕ → ℕ → Type 0
-Splices R R′ from to kind =
-    (before : List Row) (bs : Blocks) (after : List Row) → Laid R from to before bs after → (o : Op) → kind ≡ operator-kind o
-    → Held R′ from to before after (splice o (live bs))
+use Rattle.blocks.specs.Known.{Says, Told}
 
 -- rules 2 and 3: a child behind these, of which none decides the node, does
 unfoldable pub decisive : Op → Forest → Tree → Bool
 decisive o ts u = is-empty (dual o) u || some-child (λ t. opposite t u) ts
 
-abbrev pub Decides : List Row → ℕ → ℕ → Bool → Type 0
-Decides R at kind decided =
-    (us : Forest) (front : List Row) (x : Block) (back : List Row) → Stands R at front x back → (o : Op) → kind ≡ operator-kind o
+abbrev pub Decides : List Row → ℕ → ℕ → ℕ → Bool → Type 0
+Decides R at kind known decided =
+    (us : Forest) (front : List Row) (x : Block) (back : List Row) → Stands R at front x back → Says known x → (o : Op) → kind ≡ operator-kind o
     → decided ≡ some-child (decisive o us) (live (x ◂ none))
 
 -- rules 4 and 5: a child behind these is equal to one of them
@@ -55,14 +41,14 @@ new ts us = keep (λ u. not (repeated ts u)) us
 abbrev pub Unopposed : Forest → Type 0
 Unopposed ts = some-two opposite ts ≡ false
 
--- Members: the live blocks from a row on, each by its row and its outline.
+-- Members: the live blocks from a row on, each by its row and its print.
 abbrev pub place : ℕ → ℕ
 place m = m / 65536
 
 unfoldable pub note : ℕ → Block → List ℕ
 note r (gone rs) = []
 note r (literal s v) = (r * 65536 + literal-mix (sign s) v) ∷ []
-note r (operator o ks) = (r * 65536 + outline (node o (live ks))) ∷ []
+note r (operator o ks) = (r * 65536 + print (node o (live ks))) ∷ []
 
 unfoldable pub notes : ℕ → Blocks → List ℕ
 notes r none = []
@@ -103,29 +89,33 @@ Test R M x j = literal-test (at-row R (place (getD M j 0))) x ≡ true
 abbrev pub Finds : List Row → List ℕ → List ℕ → ℕ → ℕ → ℕ → Type 0
 Finds R L M start x i = Seeks L M start (Test R M x) (Test R M x) i
 
--- a block that holds the same tree
-pub record Twin (R : List Row) (at : ℕ) (u : Tree) : Type 0 where
-  pub before : List Row
-  pub block : Block
-  pub after : List Row
-  pub stands : Stands R at before block after
-  pub tree : Tree
-  pub holds : live (block ◂ none) ≡ tree ▸ ∅
-  pub same : same-tree tree u ≡ true
+-- a live block's row and the print of its tree
+pub record Member (R : List Row) (m : ℕ) : Type 0 where
+  pub lives : LiveAt R (place m)
+  pub printed : m % 65536 ≡ print (lives .tree)
+
+-- the same tree as this
+pub record Twin (R : List Row) (m : ℕ) (u : Tree) : Type 0 where
+  pub member : Member R m
+  pub same : same-tree (member .lives .tree) u ≡ true
+
+abbrev pub Twins : List Row → ℕ → ℕ → Bool → Type 0
+Twins R t m same =
+    ((same ≡ true) × Same R (place t) (place m) true) ⊎ ((same ≡ false) × ((w : Member R m) → Twin R t (w .lives .tree) → ⊥))
 
 abbrev pub FindsTwin : List Row → List ℕ → List ℕ → ℕ → ℕ → ℕ → Type 0
-FindsTwin R L M start q i =
-    (front : List Row) (y : Block) (back : List Row) → Stands R q front y back → (u : Tree) → live (y ◂ none) ≡ u ▸ ∅
-    → Seeks L M start (λ j. Twin R (place (getD M j 0)) u) (λ j. Same R (place (getD M j 0)) q true) i
+FindsTwin R L M start m i =
+    (w : Member R m) → Seeks L M start (λ j. Twin R (getD M j 0) (w .lives .tree)) (λ j. Same R (place (getD M j 0)) (place m) true) i
 
 -- members that are live blocks
 pub record LiveChain (R : List Row) (rows : ℕ) (L M : List ℕ) (start : ℕ) : Type 0 where
   pub chain : Chain rows L M start
   pub lives : (j : ℕ) → j < chain .count → LiveAt R (place (getD M j 0))
 
--- the block at a row stands behind others, which are the members
-pub record Behind (R : List Row) (at : ℕ) (H L M : List ℕ) (n : ℕ) : Type 0 where
+-- the block at a row, of which this is told, stands behind others, which are the members
+pub record Behind (R : List Row) (at known : ℕ) (H L M : List ℕ) (n : ℕ) : Type 0 where
   pub standing : Standing R at
+  pub says : Says known (standing .block)
   pub from : ℕ
   pub before : List Row
   pub done : Blocks
@@ -141,11 +131,12 @@ pub record LiteralRow (R : List Row) (at kind : ℕ) : Type 0 where
   pub above : 2 < kind
   pub below : kind ≤ 4
 
--- the block at a row has become another that covers the same rows
+-- the block at a row has become another that covers the same rows, and of which a table tells what it should
 pub record Kept (R R′ : List Row) (at : ℕ) (x : Block) : Type 0 where
   pub block : Block
   pub stored : R′ ≡ set R at (head block)
   pub same-rows : inner block ≡ inner x
+  pub tells : (K : List ℕ) → Told K at x → Told K at block
 
 -- rules 2 to 5 at one block behind others: 0 if it decides the node, else one more than the members now
 pub record Judged (R R′ : List Row) (M′ : List ℕ) (from at : ℕ) (done : Blocks) (x : Block) (o : Op) (left : ℕ) : Type 0 where
@@ -154,32 +145,14 @@ pub record Judged (R R′ : List Row) (M′ : List ℕ) (from at : ℕ) (done : 
   pub holds : (left ≡ 0 → ⊥) → live (kept .block ◂ none) ≡ new (live done) (live (x ◂ none))
   pub noted : (left ≡ 0 → ⊥) → take (left - 1) M′ ≡ notes from done ++ note at (kept .block)
 
-abbrev pub JudgesFor : List Row → List Row → ℕ → ℕ → List ℕ → List ℕ → ℕ → Op → Type 0
-JudgesFor R R′ at n M M′ left o =
+abbrev pub JudgesFor : List Row → List Row → ℕ → ℕ → ℕ → List ℕ → List ℕ → ℕ → Op → Type 0
+JudgesFor R R′ at known n M M′ left o =
     (from : ℕ) (before : List Row) (done : Blocks) (after : List Row) → Laid R from at before done after → Noted M n from done
-    → Unopposed (live done) → (front : List Row) (x : Block) (back : List Row) → Stands R at front x back
+    → Unopposed (live done) → (front : List Row) (x : Block) (back : List Row) → Stands R at front x back → Says known x
     → Judged R R′ M′ from at done x o left
 
-abbrev pub JudgesAs : List Row → List Row → ℕ → ℕ → List ℕ → List ℕ → ℕ → Type 0
-JudgesAs R R′ at n M M′ left = (o : Op) → JudgesFor R R′ at n M M′ left o
+abbrev pub JudgesAs : List Row → List Row → ℕ → ℕ → ℕ → List ℕ → List ℕ → ℕ → Type 0
+JudgesAs R R′ at known n M M′ left = (o : Op) → JudgesFor R R′ at known n M M′ left o
 
-abbrev pub Judges : List Row → List Row → ℕ → ℕ → ℕ → List ℕ → List ℕ → ℕ → Type 0
-Judges R R′ at kind n M M′ left = (o : Op) → kind ≡ operator-kind o → JudgesFor R R′ at n M M′ left o
-
--- rules 2 to 5 at all blocks of a region
-pub record Sifted (R : List Row) (from to : ℕ) (before after : List Row) (o : Op) (ts : Forest) (decided : Bool) : Type 0 where
-  pub blocks : Blocks
-  pub laid : Laid R from to before blocks after
-  pub decided-is : decided ≡ decides o ts
-  pub reads : decided ≡ false → live blocks ≡ firsts same-tree ts
-
-abbrev pub Sifts : List Row → List Row → ℕ → ℕ → ℕ → Bool → Type 0
-Sifts R R′ from to kind decided =
-    (before : List Row) (bs : Blocks) (after : List Row) → Laid R from to before bs after → (o : Op) → kind ≡ operator-kind o
-    → Sifted R′ from to before after o (live bs) decided
-
--- rules 1 to 5 at all children
-abbrev pub Reduces : List Row → List Row → ℕ → ℕ → ℕ → Bool → Type 0
-Reduces R R′ from to kind decided =
-    (before : List Row) (bs : Blocks) (after : List Row) → Laid R from to before bs after → (o : Op) → kind ≡ operator-kind o
-    → Sifted R′ from to before after o (splice o (live bs)) decided
+abbrev pub Judges : List Row → List Row → ℕ → ℕ → ℕ → ℕ → List ℕ → List ℕ → ℕ → Type 0
+Judges R R′ at kind known n M M′ left = (o : Op) → kind ≡ operator-kind o → JudgesFor R R′ at known n M M′ left o

@@ -11,7 +11,7 @@ use Rattle.formula.specs.Tree.{lit, Forest, ∅, some-child, count}
 use Rattle.formula.specs.Tidy.{equal}
 use Rattle.sheet.specs.Format.{Row, row}
 use Rattle.sheet.specs.Sheet.{literal-kind, front, behind}
-use Rattle.blocks.specs.Blocks.{Blocks, live, Laid, Here}
+use Rattle.blocks.specs.Blocks.{Blocks, _⊕_, live, Laid, Here}
 
 -- a row by its number
 abbrev pub at-row : List Row → ℕ → Row
@@ -41,18 +41,19 @@ Finds R from to at = (before : List Row) (bs : Blocks) (after : List Row) → La
 abbrev pub Counts : List Row → ℕ → ℕ → ℕ → Type 0
 Counts R from to c = (before : List Row) (bs : Blocks) (after : List Row) → Laid R from to before bs after → c ≡ count (live bs)
 
--- the first trees of a region, and those behind them
-pub record Hopped (R : List Row) (from at to : ℕ) (before after : List Row) (owed : ℕ) (ts : Forest) : Type 0 where
+-- the first trees of some blocks, and those behind them
+pub record Hopped (R : List Row) (from at to : ℕ) (before : List Row) (bs : Blocks) (after : List Row) (owed : ℕ) : Type 0 where
   pub first : Blocks
   pub others : Blocks
+  pub parts : bs ≡ first ⊕ others
   pub here : Here R from at to before first others after
-  pub owned : live first ≡ front owed ts
-  pub left : live others ≡ behind owed ts
+  pub owned : live first ≡ front owed (live bs)
+  pub left : live others ≡ behind owed (live bs)
 
 abbrev pub Hops : List Row → ℕ → ℕ → ℕ → ℕ → Type 0
 Hops R from to owed at =
     (before : List Row) (bs : Blocks) (after : List Row) → Laid R from to before bs after → owed ≤ count (live bs)
-    → Hopped R from at to before after owed (live bs)
+    → Hopped R from at to before bs after owed
 
 -- a dead block joins the dead rows from a row on, which are then a block up to its end; behind a live one no row is dead yet
 abbrev pub JoinsAt : List Row → List Row → ℕ → ℕ → ℕ → ℕ → Type 0

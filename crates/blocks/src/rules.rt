@@ -1,15 +1,15 @@
-// Rules 1 to 5 at an operator's children ("Tidy sheets", N4). A child is looked for among those before it by its outline; whether it is
-// equal or opposite to one of them is decided by comparing rows.
+// Rules 1 to 5 at an operator's children ("Tidy sheets", N4). A child is looked for among those before it by its print; whether it is
+// equal or opposite to one of them is decided by comparing rows. A table tells of an operator how many children it has, and its print.
 use crate::GONE;
 use crate::dead::join_at;
-use crate::same::outline_at;
 use crate::same::same_at;
 use crate::walk::extent_at;
-use crate::walk::first_live;
+use crate::walk::hop;
 use buckets::add;
 use buckets::behind;
 use buckets::bucket_of;
 use buckets::first;
+use buckets::large;
 use buckets::member;
 use buckets::print::literal_print;
 use rows::Layout;
@@ -23,46 +23,50 @@ ghost use Prim.Native.Nat.{_-_, _+_, _^_, _≤_, _<_};
 ghost use lib.ListN.{length};
 ghost use Rattle.rows.specs.Layouts.{total, rows-in, Room};
 ghost use Rattle.buckets.specs.Chains.{Linked};
-ghost use Rattle.blocks.specs.Blocks.{Region, Standing, OperatorKind};
 ghost use Rattle.blocks.specs.Walks.{at-row};
 ghost use Rattle.blocks.specs.Entered.{LiveAt};
-ghost use Rattle.blocks.specs.Rules.{beheaded, Splices, Decides, literal-test, Chain, Finds, FindsTwin, LiveChain, Tables, Behind, LiteralRow, JudgesAs, Judges, Sifts, Reduces};
+ghost use Rattle.blocks.specs.Gather.{SplicesAt, ChildrenAt, Gathers};
+ghost use Rattle.blocks.specs.Rules.{Decides, literal-test, Chain, Finds, place, Member, Twins, FindsTwin, LiveChain, Tables, Behind, LiteralRow, JudgesAs, Judges};
 
-// The child at row `at` of an operator of this kind, behind `before` members; or a literal of this kind there.
+// The child at row `at` of an operator of this kind, with what the table tells of it, behind `before` members; or a literal of this
+// kind there.
 pub struct Child {
     pub at: usize,
     pub kind: u8,
+    pub known: usize,
     pub before: usize,
 }
 
-// The children from row `from` to row `to` of an operator of this kind.
-pub struct Span {
+// The first `owed` trees from row `from` on: the children of an operator of this kind, whose row is before them.
+pub struct Children {
+    pub sheet: Layout,
     pub from: usize,
-    pub to: usize,
+    pub owed: usize,
     pub kind: u8,
 }
 
-// Rule 1 at the block at row `r`: of the parent's own kind, it leaves its children in its place.
-pub fn behead(b: &mut [u8], s: Layout, r: usize, kind: u8)
-    requires { ⌜ Room s (length (now b)) × (total s < 256 ^ s .width) × (r < total s) ⌝ }
-    ensures { λ _. ⌜ rows-in s (now (b .exit)) ≡ beheaded (rows-in s (now (b .entry))) r kind ⌝ }
-{
-    if kind_at(b, s, r) == kind {
-        set_row(b, s, r, GONE, 1);
-    }
+// The row behind the children, and one more than the members that are left of them; 0 if they decide their operator.
+pub struct Gathered {
+    pub end: usize,
+    pub left: usize,
 }
 
-// Rule 1 at the children from `from` to `to`.
-pub fn splice(b: &mut [u8], s: Layout, from: usize, to: usize, kind: u8)
-    requires { ⌜ Room s (length (now b)) × (total s < 256 ^ s .width) × Region (rows-in s (now b)) from to × OperatorKind kind ⌝ }
-    ensures { λ _. ⌜ Splices (rows-in s (now (b .entry))) (rows-in s (now (b .exit))) from to kind ⌝ }
+// Rule 1 at the child, the first of `owed` trees: of the parent's own kind, it leaves its children in its place. How many trees are owed
+// behind it then; a dead block is none of them.
+pub fn splice_at(b: &mut [u8], s: Layout, c: Child, owed: usize) -> usize
+    requires { ⌜ Room s (length (now b)) × (total s < 256 ^ s .width) × (c .at < total s) × (0 < owed) × (owed < 65536) × (c .known < 2 ^ 32) ⌝ }
+    ensures { λ left. ⌜ SplicesAt (rows-in s (now (b .entry))) (rows-in s (now (b .exit))) (c .at) (c .kind) (c .known) owed left ⌝ }
 {
-    let mut at = from;
-    while at < to {
-        let end = at + extent_at(b, s, at);
-        behead(b, s, at, kind);
-        at = end;
+    let at = c.at;
+    let k = kind_at(b, s, at);
+    if k == GONE {
+        return owed;
     }
+    if k != c.kind {
+        return owed - 1;
+    }
+    set_row(b, s, at, GONE, 1);
+    owed - 1 + c.known / 65536
 }
 
 // Whether row `r` is a literal of the variable `x`.
@@ -102,8 +106,8 @@ pub fn judge_literal(
     links: &mut [u16],
     members: &mut [u32],
 ) -> usize
-    requires { ⌜ Room s (length (now b)) × (total s < 256 ^ s .width) × Tables s (now heads) (now links) (now members) × Behind (rows-in s (now b)) (c .at) (now heads) (now links) (now members) (c .before) × LiteralRow (rows-in s (now b)) (c .at) (c .kind) ⌝ }
-    ensures { λ left. ⌜ JudgesAs (rows-in s (now (b .entry))) (rows-in s (now (b .exit))) (c .at) (c .before) (now (members .entry)) (now (members .exit)) left ⌝ }
+    requires { ⌜ Room s (length (now b)) × (total s < 256 ^ s .width) × Tables s (now heads) (now links) (now members) × Behind (rows-in s (now b)) (c .at) (c .known) (now heads) (now links) (now members) (c .before) × LiteralRow (rows-in s (now b)) (c .at) (c .kind) ⌝ }
+    ensures { λ left. ⌜ JudgesAs (rows-in s (now (b .entry))) (rows-in s (now (b .exit))) (c .at) (c .known) (c .before) (now (members .entry)) (now (members .exit)) left ⌝ }
     ensures { λ left. ⌜ Linked (now (heads .exit)) (now (links .exit)) (now (members .exit)) (left - 1) × (left ≤ c .before + 2) ⌝ }
 {
     let at = c.at;
@@ -124,34 +128,43 @@ pub fn judge_literal(
     n + 1
 }
 
-// Rule 2: whether the block at row `at` is an empty operator of another kind than this.
-pub fn decides_at(b: &[u8], s: Layout, at: usize, kind: u8) -> bool
-    requires { ⌜ Room s (length (now b)) × Standing (rows-in s (now b)) at × (4 < (at-row (rows-in s (now b)) at) .kind) ⌝ }
-    ensures { λ r. ⌜ Decides (rows-in s (now (b .entry))) at kind r ⌝ }
+// Rule 2: whether the operator is empty, and of another kind than the one above.
+pub fn decides_at(b: &[u8], s: Layout, c: Child) -> bool
+    requires { ⌜ Room s (length (now b)) × (c .at < total s) × (4 < (at-row (rows-in s (now b)) (c .at)) .kind) ⌝ }
+    ensures { λ r. ⌜ Decides (rows-in s (now (b .entry))) (c .at) (c .kind) (c .known) r ⌝ }
 {
-    if kind_at(b, s, at) == kind {
+    if kind_at(b, s, c.at) == c.kind {
         return false;
     }
-    let end = at + argument_at(b, s, at);
-    first_live(b, s, at + 1, end) == end
+    c.known < 65536
 }
 
-// One more than the number of a member on this chain that holds the same tree as the block at row `q`, or 0 if there is none.
+// Whether two members hold the same tree. Rows are compared only where the prints are equal.
+pub fn are_twins(b: &[u8], s: Layout, t: usize, m: usize) -> bool
+    requires { ⌜ Room s (length (now b)) × LiveAt (rows-in s (now b)) (place t) × LiveAt (rows-in s (now b)) (place m) ⌝ }
+    ensures { λ r. ⌜ Twins (rows-in s (now (b .entry))) t m r ⌝ }
+{
+    if t % 65536 != m % 65536 {
+        return false;
+    }
+    same_at(b, s, t / 65536, m / 65536)
+}
+
+// One more than the number of a member on this chain that holds the same tree as the member `m`, or 0 if there is none.
 pub fn find_twin(
     b: &[u8],
     s: Layout,
     links: &[u16],
     members: &[u32],
     start: usize,
-    q: usize,
+    m: usize,
 ) -> usize
-    requires { ⌜ Room s (length (now b)) × LiveChain (rows-in s (now b)) (total s) (now links) (now members) start × LiveAt (rows-in s (now b)) q ⌝ }
-    ensures { λ i. ⌜ FindsTwin (rows-in s (now (b .entry))) (now (links .entry)) (now (members .entry)) start q i ⌝ }
+    requires { ⌜ Room s (length (now b)) × LiveChain (rows-in s (now b)) (total s) (now links) (now members) start × Member (rows-in s (now b)) m ⌝ }
+    ensures { λ i. ⌜ FindsTwin (rows-in s (now (b .entry))) (now (links .entry)) (now (members .entry)) start m i ⌝ }
 {
     let mut i = start;
     while 0 < i {
-        let r = member(members, i - 1) / 65536;
-        if same_at(b, s, r, q) {
+        if are_twins(b, s, member(members, i - 1), m) {
             return i;
         }
         i = behind(links, i - 1);
@@ -169,20 +182,20 @@ pub fn judge_operator(
     links: &mut [u16],
     members: &mut [u32],
 ) -> usize
-    requires { ⌜ Room s (length (now b)) × (total s < 256 ^ s .width) × Tables s (now heads) (now links) (now members) × Behind (rows-in s (now b)) (c .at) (now heads) (now links) (now members) (c .before) × (4 < (at-row (rows-in s (now b)) (c .at)) .kind) ⌝ }
-    ensures { λ left. ⌜ Judges (rows-in s (now (b .entry))) (rows-in s (now (b .exit))) (c .at) (c .kind) (c .before) (now (members .entry)) (now (members .exit)) left ⌝ }
+    requires { ⌜ Room s (length (now b)) × (total s < 256 ^ s .width) × Tables s (now heads) (now links) (now members) × Behind (rows-in s (now b)) (c .at) (c .known) (now heads) (now links) (now members) (c .before) × (4 < (at-row (rows-in s (now b)) (c .at)) .kind) ⌝ }
+    ensures { λ left. ⌜ Judges (rows-in s (now (b .entry))) (rows-in s (now (b .exit))) (c .at) (c .kind) (c .known) (c .before) (now (members .entry)) (now (members .exit)) left ⌝ }
     ensures { λ left. ⌜ Linked (now (heads .exit)) (now (links .exit)) (now (members .exit)) (left - 1) × (left ≤ c .before + 2) ⌝ }
 {
     let at = c.at;
     let n = c.before;
-    if decides_at(b, s, at, c.kind) {
+    if decides_at(b, s, c) {
         return 0;
     }
-    let p = outline_at(b, s, at);
-    let start = first(heads, members, n, bucket_of(p));
-    let i = find_twin(b, s, links, members, start, at);
+    let m = at * 65536 + c.known % 65536;
+    let start = first(heads, members, n, bucket_of(m));
+    let i = find_twin(b, s, links, members, start, m);
     if i == 0 {
-        add(heads, links, members, n, at * 65536 + p);
+        add(heads, links, members, n, m);
         return n + 2;
     }
     let rows = argument_at(b, s, at);
@@ -199,8 +212,8 @@ pub fn judge(
     links: &mut [u16],
     members: &mut [u32],
 ) -> usize
-    requires { ⌜ Room s (length (now b)) × (total s < 256 ^ s .width) × Tables s (now heads) (now links) (now members) × Behind (rows-in s (now b)) (c .at) (now heads) (now links) (now members) (c .before) ⌝ }
-    ensures { λ left. ⌜ Judges (rows-in s (now (b .entry))) (rows-in s (now (b .exit))) (c .at) (c .kind) (c .before) (now (members .entry)) (now (members .exit)) left ⌝ }
+    requires { ⌜ Room s (length (now b)) × (total s < 256 ^ s .width) × Tables s (now heads) (now links) (now members) × Behind (rows-in s (now b)) (c .at) (c .known) (now heads) (now links) (now members) (c .before) ⌝ }
+    ensures { λ left. ⌜ Judges (rows-in s (now (b .entry))) (rows-in s (now (b .exit))) (c .at) (c .kind) (c .known) (c .before) (now (members .entry)) (now (members .exit)) left ⌝ }
     ensures { λ left. ⌜ Linked (now (heads .exit)) (now (links .exit)) (now (members .exit)) (left - 1) × (left ≤ c .before + 2) ⌝ }
 {
     let at = c.at;
@@ -212,6 +225,7 @@ pub fn judge(
         let l = Child {
             at: at,
             kind: k,
+            known: c.known,
             before: c.before,
         };
         return judge_literal(b, s, l, heads, links, members);
@@ -219,53 +233,48 @@ pub fn judge(
     judge_operator(b, s, c, heads, links, members)
 }
 
-// Rules 2 to 5 at spliced children: whether they decide their operator. If not, those that are equal to one before have gone. Rows that
-// have gone are joined, so that a later walk passes them in one step.
-pub fn sift(
+// Rules 1 to 5 at the children. If they don't decide their operator, they are now what the rules leave of them, and rows that have gone are
+// joined, so that a later walk passes them in one step. A child of the parent's own kind is entered: its children, which are tidied, have
+// none of that kind among them. The tables of members may hold anything.
+pub fn gather(
     b: &mut [u8],
-    s: Layout,
-    w: Span,
+    w: Children,
     heads: &mut [u16],
     links: &mut [u16],
     members: &mut [u32],
-) -> bool
-    requires { ⌜ Room s (length (now b)) × (total s < 256 ^ s .width) × Tables s (now heads) (now links) (now members) × Region (rows-in s (now b)) (w .from) (w .to) × OperatorKind (w .kind) ⌝ }
-    ensures { λ r. ⌜ Sifts (rows-in s (now (b .entry))) (rows-in s (now (b .exit))) (w .from) (w .to) (w .kind) r ⌝ }
+    known: &[u32],
+) -> Gathered
+    requires { ⌜ Room (w .sheet) (length (now b)) × (total (w .sheet) < 256 ^ w .sheet .width) × Tables (w .sheet) (now heads) (now links) (now members) × (total (w .sheet) ≤ length (now known)) × ChildrenAt (rows-in (w .sheet) (now b)) (now known) (w .from) (total (w .sheet)) (w .owed) (w .kind) ⌝ }
+    ensures { λ r. ⌜ Gathers (rows-in (w .sheet) (now (b .entry))) (rows-in (w .sheet) (now (b .exit))) (now (known .entry)) (now (members .exit)) (w .from) (r .end) (total (w .sheet)) (w .owed) (w .kind) (r .left) ⌝ }
+    ensures { λ r. ⌜ r .left ≤ total (w .sheet) + 1 ⌝ }
 {
+    let s = w.sheet;
     let mut at = w.from;
     let mut run = w.from;
     let mut n: usize = 0;
-    while at < w.to {
-        let next = at + extent_at(b, s, at);
+    let mut left = w.owed;
+    while 0 < left {
         let c = Child {
             at: at,
             kind: w.kind,
+            known: large(known[at]),
             before: n,
         };
-        let left = judge(b, s, c, heads, links, members);
-        if left == 0 {
-            return true;
+        left = splice_at(b, s, c, left);
+        let next = at + extent_at(b, s, at);
+        let more = judge(b, s, c, heads, links, members);
+        if more == 0 {
+            return Gathered {
+                end: hop(b, s, next, left),
+                left: 0,
+            };
         }
-        n = left - 1;
+        n = more - 1;
         run = join_at(b, s, run, at, next);
         at = next;
     }
-    false
-}
-
-// Rules 1 to 5 at the children: whether they decide their operator. If not, they are now what the rules leave of them. The tables may
-// hold anything.
-pub fn reduce(
-    b: &mut [u8],
-    s: Layout,
-    w: Span,
-    heads: &mut [u16],
-    links: &mut [u16],
-    members: &mut [u32],
-) -> bool
-    requires { ⌜ Room s (length (now b)) × (total s < 256 ^ s .width) × Tables s (now heads) (now links) (now members) × Region (rows-in s (now b)) (w .from) (w .to) × OperatorKind (w .kind) ⌝ }
-    ensures { λ r. ⌜ Reduces (rows-in s (now (b .entry))) (rows-in s (now (b .exit))) (w .from) (w .to) (w .kind) r ⌝ }
-{
-    splice(b, s, w.from, w.to, w.kind);
-    sift(b, s, w, heads, links, members)
+    Gathered {
+        end: at,
+        left: n + 1,
+    }
 }

@@ -1,24 +1,29 @@
 -- All six rules at a row: what the steps at an operator make of its row and its children's blocks.
 -- Assumes nothing.
-use mathlib.Core.Path.{_≡_, refl, sym, ap, ap₂, _∙_}
+use mathlib.Core.Path.{_≡_, refl, sym, ap, ap₂, _∙_, subst}
 use mathlib.Core.Bool.{Bool, true, false}
 use mathlib.Core.List.{List, [], _∷_, _++_, append-assoc}
 use Prim.Native.Nat.{ℕ, zero, suc, _+_, _-_, _≤_, _<_}
 use native.Mathlib.Omega.{arith}
+use lib.ListN.{length}
 use lib.Seq.{append-snoc, getD-at}
+use borrow.Author.Tests.{eq-eqb, ne-eqb}
 use Rattle.formula.specs.Tree.{Op, and, or, dual, Tree, lit, node, Forest, ∅, _▸_, _⧺_, count}
 use Rattle.formula.specs.Tidy.{same-tree, splice, decides, firsts, unwrap, combine, tidy, tidy-all}
 use Rattle.formula.proofs.Tidy.Same.{firsts-once}
 use Rattle.sheet.specs.Format.{Row, row, children}
 use Rattle.sheet.specs.Sheet.{literal-kind, operator-kind, front, behind, grow}
 use Rattle.sheet.proofs.Preorder.{NodeKind, literal, operator, node-kind}
-use Rattle.blocks.specs.Blocks.{Blocks, _◂_, _⊕_, head, inner, block-rows, grown, live, Region, Owed, OperatorKind}
-use Rattle.blocks.specs.Walks.{Hopped, Hops, at-row}
-use Rattle.blocks.specs.Rules.{Sifted, Reduces}
-use Rattle.blocks.proofs.Blocks.{live-⊕, rows-⊕, length-⊕, done-laid}
-use Rattle.tidying.specs.Inner.Operators.{Headed, Replaced, Ready, Combines, Hollows, Concludes}
+use Rattle.blocks.specs.Blocks.{Blocks, _◂_, _⊕_, head, inner, block-rows, grown, live, OperatorKind}
 use Rattle.blocks.specs.Blocks as blocks
+use Rattle.blocks.specs.Gather.{Flat, ChildrenAt, Gathered, Gathers}
+use Rattle.blocks.specs.Known.{Told, AllTold}
+use Rattle.blocks.specs.Walks.{at-row}
+use Rattle.blocks.proofs.Blocks.{live-⊕, rows-⊕, length-⊕}
+use Rattle.blocks.proofs.Told.{told-at, told-join, told-first, told-last, told-keeps}
+use Rattle.tidying.specs.Inner.Operators.{Headed, Replaced, KeptBehind, Left, LeftAt, Ready, Combines, Hollows, Concludes}
 use Rattle.tidying.proofs.Conclude.{behind-row}
+use Rattle.tidying.proofs.Flat.{flat-tidied}
 
 -- tidying children one by one
 
@@ -53,21 +58,23 @@ tidy-grow-operator and a ts = ap₂ (λ us ws. combine and us ▸ ws) (tidy-fron
 tidy-grow-operator or a ts = ap₂ (λ us ws. combine or us ▸ ws) (tidy-front a ts) (tidy-behind a ts)
 
 -- a literal's row is its block already
-literal-kept : {R : List Row} {r n : ℕ} {before : List Row} {bs : Blocks} (ts : Forest) (k a : ℕ) → NodeKind k → k ≤ 4 → live bs ≡ tidy-all ts
-    → Headed R r n before (row k a) bs [] → Replaced R r n before [] (tidy-all (grow (row k a) ts))
-unfolding block-rows head inner live grown
-literal-kept {bs = bs} ts k a (literal s) l e h =
+literal-kept : {R : List Row} {r n : ℕ} {before : List Row} {bs : Blocks} (K : List ℕ) (ts : Forest) (k a : ℕ) → NodeKind k → k ≤ 4
+    → live bs ≡ tidy-all ts → AllTold K (r + 1) bs → Headed R r n before (row k a) bs [] → Replaced R K r n before [] (tidy-all (grow (row k a) ts))
+unfolding block-rows head inner live grown Told AllTold
+literal-kept {bs = bs} K ts k a (literal s) l e told h =
     record {
       blocks = blocks.literal s a ◂ bs;
       laid = record { whole = h .whole; starts = h .starts; ends = omega (arith, h .ends) };
+      told = (tt, told-at K bs (omega arith) told);
       reads = ap (λ us. lit s a ▸ us) e ∙ sym (tidy-grow-literal s a ts);
     }
-literal-kept ts k a (operator and) l e h = absurd (omega arith)
-literal-kept ts k a (operator or) l e h = absurd (omega arith)
+literal-kept K ts k a (operator and) l e told h = absurd (omega arith)
+literal-kept K ts k a (operator or) l e told h = absurd (omega arith)
 
-ready-literal : {R : List Row} {r n : ℕ} {before : List Row} {x : Row} {bs : Blocks} {ts : Forest} → x .kind ≤ 4
-    → Ready R r n before x bs ts → Replaced R r n before [] (tidy-all (grow x ts))
-ready-literal {x = x} {ts = ts} l h = literal-kept ts (x .kind) (x .argument) (node-kind (x .kind) (h .node .0) (h .node .1)) l (h .reads) (h .headed)
+ready-literal : {R : List Row} {K : List ℕ} {r n : ℕ} {before : List Row} {x : Row} {bs : Blocks} {ts : Forest} → x .kind ≤ 4
+    → Ready R K r n before x bs ts → Replaced R K r n before [] (tidy-all (grow x ts))
+ready-literal {K = K} {x = x} {ts = ts} l h =
+    literal-kept K ts (x .kind) (x .argument) (node-kind (x .kind) (h .node .0) (h .node .1)) l (h .reads) (h .told) (h .headed)
 
 -- an operator's row
 
@@ -105,13 +112,12 @@ headed-row : {R : List Row} {r to : ℕ} {before after : List Row} {x : Row} {bs
 headed-row {r = r} {before = before} {after = after} {x = x} {bs = bs} h =
     ap (λ (l : List Row). at-row l r) (h .whole) ∙ getD-at before x (block-rows bs ++ after) (row 0 0) r (h .starts)
 
-pub ready-literal-at : {R : List Row} {r n k : ℕ} → k ≡ (at-row R r) .kind → k ≤ 4
-    → Combines R R r n
+pub ready-literal-at : {R : List Row} {K : List ℕ} {r n k : ℕ} → k ≡ (at-row R r) .kind → k ≤ 4 → Combines R R K K r n
 ready-literal-at e l before x bs ts h = ready-literal (omega (arith, e, ap (λ (q : Row). q .kind) (headed-row (h .headed)))) h
 
 -- An operator's row: its kind and its number of children as they were read.
-module _ {R : List Row} {r n k a : ℕ} (k-is : k ≡ (at-row R r) .kind) (a-is : a ≡ (at-row R r) .argument) (l : 4 < k)
-    {before : List Row} {x : Row} {bs : Blocks} {ts : Forest} (h : Ready R r n before x bs ts) where
+module _ {R : List Row} {K : List ℕ} {r n k a : ℕ} (k-is : k ≡ (at-row R r) .kind) (a-is : a ≡ (at-row R r) .argument) (l : 4 < k)
+    {before : List Row} {x : Row} {bs : Blocks} {ts : Forest} (h : Ready R K r n before x bs ts) where
   kind-is : k ≡ x .kind
   kind-is = k-is ∙ ap (λ (q : Row). q .kind) (headed-row (h .headed))
 
@@ -121,7 +127,7 @@ module _ {R : List Row} {r n k a : ℕ} (k-is : k ≡ (at-row R r) .kind) (a-is 
   pub ready-few : k ≤ 6
   ready-few = omega (arith, kind-is, h .node .1)
 
-  pub ready-kind : OperatorKind k
+  ready-kind : OperatorKind k
   ready-kind = operator-of k l (omega (arith, kind-is, h .node .1))
 
   row-is : x ≡ row (operator-kind (ready-kind .op)) a
@@ -132,72 +138,107 @@ module _ {R : List Row} {r n k a : ℕ} (k-is : k ≡ (at-row R r) .kind) (a-is 
       omega
       (arith, h .enough, ap children row-is, children-is (operator-kind (ready-kind .op)) a (record { op = ready-kind .op; is = refl }), ap count (h .reads), count-tidy ts)
 
-  pub ready-owed : Owed R (r + 1) n a
-  ready-owed = record { region = record { before = _; blocks = _; after = _; laid = behind-row (h .headed) }; enough = enough }
+  -- its children
+  kids : Forest
+  kids = front a (live bs)
 
-  module _ {end : ℕ} (hop : Hops R (r + 1) n a end) where
-    hopped : Hopped R (r + 1) end n (before ++ (x ∷ [])) [] a (live bs)
-    hopped = hop (before ++ (x ∷ [])) bs [] (behind-row (h .headed)) enough
+  flat : Flat (ready-kind .op) kids
+  unfolding kids
+  flat = subst (λ us. Flat (ready-kind .op) (front a us)) (sym (h .reads)) (flat-tidied (ready-kind .op) a ts)
 
-    -- its children
-    kids : Forest
-    kids = live (hopped .first)
+  pub ready-children : ChildrenAt R K (r + 1) n a k
+  unfolding kids
+  ready-children =
+      record {
+        before = _;
+        blocks = bs;
+        after = _;
+        laid = behind-row (h .headed);
+        told = h .told;
+        enough = enough;
+        op = ready-kind .op;
+        is = ready-kind .is;
+        flat = flat;
+      }
 
-    pub ready-region : Region R (r + 1) end
-    ready-region = record { before = _; blocks = _; after = _; laid = done-laid (hopped .here) }
+  module _ {R₁ : List Row} {M : List ℕ} {end left : ℕ} (gathers : Gathers R R₁ K M (r + 1) end n a k left) where
+    gathered : Gathered R₁ K M (r + 1) end n (before ++ (x ∷ [])) [] (ready-kind .op) kids (behind a (live bs)) left
+    unfolding kids
+    gathered = gathers (before ++ (x ∷ [])) bs [] (behind-row (h .headed)) (h .told) enough (ready-kind .op) (ready-kind .is) flat
 
     pub ready-within : (r < end) × (end ≤ n)
-    ready-within = (omega (arith, hopped .here .place), omega (arith, hopped .here .ends))
+    ready-within = (omega (arith, gathered .here .place), omega (arith, gathered .here .ends))
 
     behind-them : List Row
-    behind-them = block-rows (hopped .others) ++ []
+    behind-them = block-rows (gathered .others) ++ []
+
+    -- its row is still before what is left of them
+    headed : Headed R₁ r end before x (gathered .first) behind-them
+    unfolding behind-them
+    headed =
+        record {
+          whole = gathered .here .whole ∙ append-snoc before x (block-rows (gathered .first) ++ behind-them);
+          starts = h .headed .starts;
+          ends = gathered .here .place;
+        }
 
     -- the node with what is behind it
-    combined : {R′ : List Row} {t : Tree} → Replaced R′ r end before behind-them (t ▸ ∅) → t ≡ combine (ready-kind .op) kids
-        → Replaced R′ r n before [] (tidy-all (grow x ts))
+    combined : {R′ : List Row} {K′ : List ℕ} {t : Tree} → Replaced R′ K′ r end before behind-them (t ▸ ∅) → KeptBehind K K′ r → t ≡ combine (ready-kind .op) kids
+        → Replaced R′ K′ r n before [] (tidy-all (grow x ts))
     unfolding behind-them kids _⧺_
-    combined {R′} {t} q e =
+    combined {R′} {K′} {t} q later e =
+        let others = gathered .others in
+        let ends : r + length (block-rows (q .blocks)) ≡ end = q .laid .ends in
         record {
-          blocks = q .blocks ⊕ hopped .others;
+          blocks = q .blocks ⊕ others;
           laid =
               record {
                 whole =
                     q .laid .whole ∙
                     ap (λ rs. before ++ rs)
-                    (sym (append-assoc (block-rows (q .blocks)) (block-rows (hopped .others)) []) ∙
-                    ap (λ rs. rs ++ []) (sym (rows-⊕ (q .blocks) (hopped .others))));
+                    (sym (append-assoc (block-rows (q .blocks)) (block-rows others) []) ∙ ap (λ rs. rs ++ []) (sym (rows-⊕ (q .blocks) others)));
                 starts = q .laid .starts;
-                ends = omega (arith, length-⊕ (q .blocks) (hopped .others), q .laid .ends, hopped .here .ends);
+                ends = omega (arith, length-⊕ (q .blocks) others, ends, gathered .here .ends);
               };
+          told =
+              told-join K′ r (q .blocks) others (q .told)
+              (told-at K′ others (sym ends)
+              (told-keeps K K′ end others (λ j u. later j (omega (arith, u, ready-within .0)))
+              (told-at K others (gathered .here .place) (told-last K (r + 1) (gathered .first) others (gathered .told)))));
           reads =
-              live-⊕ (q .blocks) (hopped .others) ∙ ap (λ us. us ⧺ live (hopped .others)) (q .reads) ∙
-              ap₂ _▸_ (e ∙ ap (combine (ready-kind .op)) (hopped .owned ∙ ap (front a) (h .reads))) (hopped .left ∙ ap (behind a) (h .reads)) ∙
+              live-⊕ (q .blocks) others ∙ ap (λ us. us ⧺ live others) (q .reads) ∙
+              ap₂ _▸_ (e ∙ ap (λ us. combine (ready-kind .op) (front a us)) (h .reads)) (gathered .others-are ∙ ap (behind a) (h .reads)) ∙
               sym (ap (λ y. tidy-all (grow y ts)) row-is ∙ tidy-grow-operator (ready-kind .op) a ts);
         }
 
-    module _ {R₁ : List Row} {d : Bool} (reduce : Reduces R R₁ (r + 1) end k d) where
-      reduced : Sifted R₁ (r + 1) end (before ++ (x ∷ [])) behind-them (ready-kind .op) (splice (ready-kind .op) kids) d
-      unfolding behind-them kids
-      reduced = reduce (before ++ (x ∷ [])) (hopped .first) behind-them (done-laid (hopped .here)) (ready-kind .op) (ready-kind .is)
+    pub ready-decided : {R₂ : List Row} {K₂ : List ℕ} → left ≡ 0 → Hollows R₁ R₂ K₂ r end (11 - k) → KeptBehind K K₂ r
+        → Replaced R₂ K₂ r n before [] (tidy-all (grow x ts))
+    ready-decided e f later =
+        combined (f before x (gathered .first) behind-them headed (dual (ready-kind .op)) (dual-kind k (ready-kind .op) (ready-kind .is))) later
+        (combine-decided (ready-kind .op) kids (sym (eq-eqb left 0 e) ∙ gathered .decided-is))
 
-      pub reduced-region : Region R₁ (r + 1) end
-      reduced-region = record { before = _; blocks = _; after = _; laid = reduced .laid }
+    module _ (u : left ≡ 0 → ⊥) where
+      is-left : Left R₁ K M r end left before x (gathered .first) behind-them
+      is-left =
+          record { headed = headed; told = told-first K (r + 1) (gathered .first) (gathered .others) (gathered .told); noted = gathered .noted u }
 
-      -- its row is still before them
-      headed : Headed R₁ r end before x (reduced .blocks) behind-them
-      headed =
+      pub ready-left : left ≤ length M + 1 → left ≤ 65536 → LeftAt R₁ K M r end k left
+      ready-left fit few =
           record {
-            whole = reduced .laid .whole ∙ append-snoc before x (block-rows (reduced .blocks) ++ behind-them);
-            starts = h .headed .starts;
-            ends = reduced .laid .ends;
+            before = _;
+            first = _;
+            blocks = _;
+            after = _;
+            is-left = is-left;
+            op = ready-kind .op;
+            is = ready-kind .is;
+            undecided = omega arith;
+            members-fit = fit;
+            countable = few;
           }
 
-      pub ready-decided : {R₂ : List Row} → d ≡ true → Hollows R₁ R₂ r end (11 - k) → Replaced R₂ r n before [] (tidy-all (grow x ts))
-      ready-decided e f =
-          combined (f before x (reduced .blocks) behind-them headed (dual (ready-kind .op)) (dual-kind k (ready-kind .op) (ready-kind .is)))
-          (combine-decided (ready-kind .op) kids (sym e ∙ reduced .decided-is))
-
-      pub ready-undecided : {R₂ : List Row} → d ≡ false → Concludes R₁ R₂ r end k → Replaced R₂ r n before [] (tidy-all (grow x ts))
-      ready-undecided e f =
-          combined (f before x (reduced .blocks) behind-them headed (ready-kind .op) (ready-kind .is))
-          (combine-undecided (ready-kind .op) kids (live (reduced .blocks)) (sym e ∙ reduced .decided-is) (reduced .reads e))
+      pub ready-undecided : {R₂ : List Row} {K₂ : List ℕ} → Concludes R₁ R₂ K K₂ M r end k left → KeptBehind K K₂ r
+          → Replaced R₂ K₂ r n before [] (tidy-all (grow x ts))
+      ready-undecided f later =
+          combined (f before x (gathered .first) behind-them is-left (ready-kind .op) (ready-kind .is)) later
+          (combine-undecided (ready-kind .op) kids (live (gathered .first)) (sym (ne-eqb left 0 u) ∙ gathered .decided-is) (gathered .reads u))

@@ -2,29 +2,31 @@
 -- Assumes nothing.
 use mathlib.Core.Path.{_≡_, refl, sym, ap, ap₂, _∙_, subst}
 use mathlib.Core.Bool.{true, false}
-use mathlib.Core.List.{List, [], _∷_, _++_, append-assoc, append-nil}
-use Prim.Native.Nat.{ℕ, _+_, _*_, _-_, _^_, _≤_, _<_}
+use mathlib.Core.List.{List, _∷_, _++_, append-assoc, append-nil}
+use Prim.Native.Nat.{ℕ, suc, _+_, _*_, _-_, _/_, _^_, _≤_, _<_}
 use native.Mathlib.Numerals.{add-one}
 use native.Mathlib.Omega.{arith}
-use lib.ListN.{length, take, drop, set, length-drop, take-append-drop}
+use lib.ListN.{length, getD, take, drop, set, length-drop, take-append-drop}
 use lib.Seq.{take-suc-set, drop-set-lt, drop-drop, drop-append-le, drop-at, take-at, length-take-le}
 use borrow.Author.Tests.{eq-eqb, ne-eqb}
-use Rattle.formula.specs.Tree.{and, or, count}
+use Rattle.formula.specs.Tree.{and, or, node}
 use Rattle.sheet.specs.Format.{Bytes, Row, row, number}
-use Rattle.sheet.specs.Sheet.{operator-kind, forest-rows}
+use Rattle.sheet.specs.Sheet.{forest-rows}
 use Rattle.sheet.proofs.Every.{every-take, every-drop}
 use Rattle.sheet.proofs.Numbers.{IsByte, AllBytes, number-bound}
-use Rattle.sheet.proofs.Preorder.{forest-rows-⧺}
 use Rattle.rows.specs.Layouts.{rows-in, Room, total}
 use Rattle.rows.specs.declared.Layout.{Layout}
 use Rattle.rows.proofs.Layouts.{row-in, argument-within}
-use Rattle.blocks.specs.Blocks.{Block, gone, literal, operator, Blocks, none, _◂_, head, inner, block-rows, size, grown, live, Laid, Region, Stands, Standing}
-use Rattle.blocks.specs.Walks.{Counts, at-row}
-use Rattle.blocks.proofs.Blocks.{rows-⊕, live-⊕, length-◂, stands-row, stands-within, laid-within, no-rows}
+use Rattle.buckets.proofs.Prints.{print-few}
+use Rattle.blocks.specs.Blocks.{Block, gone, literal, operator, Blocks, none, _◂_, _⊕_, head, inner, block-rows, size, live, Laid, Stands}
+use Rattle.blocks.specs.Known.{Says, Told, AllTold}
+use Rattle.blocks.specs.Walks.{at-row}
+use Rattle.blocks.proofs.Blocks.{rows-⊕, length-◂, stands-row, stands-within, laid-within, no-rows}
 use Rattle.blocks.proofs.Walks.{count-rows}
+use Rattle.blocks.proofs.Told.{told-at, told-join, told-says}
 use Rattle.blocks.specs.Entered.{packed, entered, ArgumentOf}
-use Rattle.blocks.proofs.Entered.{entered-forest, packed-row}
-use Rattle.tidying.specs.Inner.Packed.{stride, Put, Puts, Packs}
+use Rattle.blocks.proofs.Entered.{entered-forest, packed-row, argument-literal}
+use Rattle.tidying.specs.Inner.Packed.{stride, ToldRegion, ToldAt, ArgumentTold, Put, Puts, Packs}
 
 entered-rows : (x : Block) (bs : Blocks) → drop (stride (head x)) (block-rows (x ◂ bs)) ≡ block-rows (entered x bs)
 unfolding stride head inner block-rows entered
@@ -33,6 +35,19 @@ entered-rows (literal true v) bs = refl
 entered-rows (literal false v) bs = refl
 entered-rows (operator and ks) bs = sym (rows-⊕ ks bs)
 entered-rows (operator or ks) bs = sym (rows-⊕ ks bs)
+
+-- the table tells of the blocks that come next
+entered-operator : (K : List ℕ) (at : ℕ) (ks bs : Blocks) → AllTold K (suc at) ks → AllTold K (at + suc (length (block-rows ks))) bs
+    → AllTold K (at + 1) (ks ⊕ bs)
+entered-operator K at ks bs t u = told-at K (ks ⊕ bs) (omega arith) (told-join K (suc at) ks bs t (told-at K bs (omega arith) u))
+
+entered-told : (K : List ℕ) (at : ℕ) (x : Block) (bs : Blocks) → AllTold K at (x ◂ bs) → AllTold K (at + stride (head x)) (entered x bs)
+unfolding AllTold Told stride head inner entered
+entered-told K at (gone rs) bs t = t .1
+entered-told K at (literal true v) bs t = told-at K bs (omega arith) (t .1)
+entered-told K at (literal false v) bs t = told-at K bs (omega arith) (t .1)
+entered-told K at (operator and ks) bs t = entered-operator K at ks bs (t .0 .1) (t .1)
+entered-told K at (operator or ks) bs t = entered-operator K at ks bs (t .0 .1) (t .1)
 
 -- the stride is within the block, and a row is put for no fewer
 stride-within : (x : Block) → (length (packed x) ≤ stride (head x)) × (0 < stride (head x)) × (stride (head x) ≤ size x)
@@ -73,6 +88,27 @@ put-fits (gone rs) a e h l u f = absurd (e refl)
 put-fits (literal s v) a e h l u f = omega arith
 put-fits (operator o ks) a e h l u f = omega (arith, f, count-rows ks, stands-within h)
 
+-- argument_told
+
+says-count : (x : Block) (w : ℕ) → 4 < (head x) .kind → Says w x → ArgumentOf x (w / 65536)
+unfolding head Says ArgumentOf
+says-count (gone rs) w l e = tt
+says-count (literal true v) w l e = absurd (omega arith)
+says-count (literal false v) w l e = absurd (omega arith)
+says-count (operator o ks) w l e = omega (arith, e, print-few (node o (live ks)))
+
+module _ (R : List Row) {at k : ℕ} (k-is : k ≡ (at-row R at) .kind) (K : List ℕ) where
+  block-kind : {before after : List Row} {x : Block} → Stands R at before x after → k ≡ (head x) .kind
+  block-kind h = k-is ∙ ap (λ (r : Row). r .kind) (stands-row h)
+
+  pub told-literal : {a : ℕ} → k ≤ 4 → a ≡ (at-row R at) .argument → ArgumentTold R K at a
+  told-literal {a} l e before x after h t =
+      argument-literal x a (omega (arith, block-kind h)) (e ∙ ap (λ (r : Row). r .argument) (stands-row h))
+
+  pub told-operator : {w : ℕ} → 4 < k → w ≡ getD K at 0 → ArgumentTold R K at (w / 65536)
+  told-operator {w} l e before x after h t =
+      says-count x w (omega (arith, block-kind h)) (subst (λ v. Says v x) (sym e) (told-says K at x t))
+
 -- put_live
 
 pub put-dead : {R : List Row} {at to : ℕ} (x : Block) → (head x) .kind ≡ 0 → Put R R at to x to
@@ -96,43 +132,48 @@ put-row {R} {R′} {at} {to} x k a e l u nz k-is a-is =
 
 -- pack
 
-pub record Packing (R : List Row) (at to n : ℕ) (before : List Row) (bs : Blocks) (after : List Row) : Type 0 where
+pub record Packing (R : List Row) (K : List ℕ) (at to n : ℕ) (before : List Row) (bs : Blocks) (after : List Row) : Type 0 where
   pub rest : Blocks
   pub ahead : drop at R ≡ block-rows rest ++ after
   pub ends : at + length (block-rows rest) ≡ n
+  pub told : AllTold K at rest
   pub so-far : take to R ++ forest-rows (live rest) ≡ before ++ forest-rows (live bs)
 
-pub record Pack (R₀ R : List Row) (v n at to : ℕ) : Type 0 where
+pub record Pack (R₀ R : List Row) (K : List ℕ) (v n at to : ℕ) : Type 0 where
   pub behind : to ≤ at
   pub within : at ≤ n
-  pub packing : (before : List Row) (bs : Blocks) (after : List Row) → Laid R₀ v n before bs after → Packing R at to n before bs after
+  pub packing : (before : List Row) (bs : Blocks) (after : List Row) → Laid R₀ v n before bs after → AllTold K v bs
+      → Packing R K at to n before bs after
 
-pub pack-none : {R : List Row} {v n : ℕ} → Region R v n → Pack R R v n v v
-pack-none {R} {v} {n} g =
+pub pack-none : {R : List Row} {K : List ℕ} {v n : ℕ} → ToldRegion R K v n → Pack R R K v n v v
+pack-none {R} {K} {v} {n} g =
     record {
       behind = omega arith;
       within = laid-within (g .laid) .0;
       packing =
-          λ before bs after l.
+          λ before bs after l told.
           record {
             rest = bs;
             ahead = ap (drop v) (l .whole) ∙ drop-at before (block-rows bs ++ after) v (l .starts);
             ends = l .ends;
+            told = told;
             so-far = ap (λ rs. rs ++ forest-rows (live bs)) (ap (take v) (l .whole) ∙ take-at before (block-rows bs ++ after) v (l .starts));
           };
     }
 
-record Block-there (R : List Row) (at n : ℕ) (rest : Blocks) (after : List Row) : Type 0 where
+record Block-there (R : List Row) (K : List ℕ) (at n : ℕ) (rest : Blocks) (after : List Row) : Type 0 where
   pub block : Block
   pub others : Blocks
   pub is : rest ≡ block ◂ others
   pub stands : Stands R at (take at R) block (block-rows others ++ after)
+  pub told : Told K at block
+  pub onward : AllTold K (at + stride (head block)) (entered block others)
 
-there : {R : List Row} {at n : ℕ} {after : List Row} (rest : Blocks) → at < n → n ≤ length R → drop at R ≡ block-rows rest ++ after
-    → at + length (block-rows rest) ≡ n → Block-there R at n rest after
-unfolding block-rows
-there none l u d e = absurd (omega arith)
-there {R} {at} {n} {after} (x ◂ others) l u d e =
+there : {R : List Row} {K : List ℕ} {at n : ℕ} {after : List Row} (rest : Blocks) → at < n → n ≤ length R → drop at R ≡ block-rows rest ++ after
+    → at + length (block-rows rest) ≡ n → AllTold K at rest → Block-there R K at n rest after
+unfolding block-rows AllTold
+there none l u d e t = absurd (omega arith)
+there {R} {K} {at} {n} {after} (x ◂ others) l u d e t =
     record {
       block = x;
       others = others;
@@ -142,77 +183,83 @@ there {R} {at} {n} {after} (x ◂ others) l u d e =
             whole = sym (take-append-drop at R) ∙ ap (λ rs. take at R ++ rs) (d ∙ ap (λ rs. head x ∷ rs) (append-assoc (inner x) (block-rows others) after));
             starts = length-take-le at R (omega arith);
           };
+      told = t .0;
+      onward = entered-told K at x others t;
     }
 
-pub pack-standing : {R₀ R : List Row} {v n at to : ℕ} → Pack R₀ R v n at to → Region R₀ v n → at < n → n ≤ length R → Standing R at
-pack-standing p g l u =
-    let q = p .packing (g .before) (g .blocks) (g .after) (g .laid) in
-    let t = there (q .rest) l u (q .ahead) (q .ends) in
-    record { before = _; block = t .block; after = _; stands = t .stands }
+module _ {R₀ R : List Row} {K : List ℕ} {v n at to : ℕ} (p : Pack R₀ R K v n at to) (l : at < n) (u : n ≤ length R) where
+  block-there : {before : List Row} {bs : Blocks} {after : List Row} (laid : Laid R₀ v n before bs after) (told : AllTold K v bs)
+      → Block-there R K at n (p .packing before bs after laid told .rest) after
+  block-there laid told =
+      let q = p .packing _ _ _ laid told in
+      there (q .rest) l u (q .ahead) (q .ends) (q .told)
 
-pub pack-safe : {R₀ R : List Row} {v n at to : ℕ} → Pack R₀ R v n at to → Region R₀ v n → at < n → n ≤ length R
-    → (0 < stride (at-row R at)) × (at + stride (at-row R at) ≤ n)
-pack-safe {R = R} {at = at} p g l u =
-    let q = p .packing (g .before) (g .blocks) (g .after) (g .laid) in
-    let t = there (q .rest) l u (q .ahead) (q .ends) in
-    let w = stride-within (t .block) in
-    let e = ap stride (stands-row (t .stands)) in (
-      omega (arith, e, w .1),
-      omega (arith, e, w .2, q .ends, ap (λ cs. length (block-rows cs)) (t .is), length-◂ (t .block) (t .others)),
-    )
+  module _ (g : ToldRegion R₀ K v n) where
+    pub pack-told : ToldAt R K at
+    pack-told =
+        let t = block-there (g .laid) (g .told) in
+        record { before = _; block = t .block; after = _; stands = t .stands; told = t .told }
 
-pub pack-more : {R₀ R R′ : List Row} {v n at to s next : ℕ} → Pack R₀ R v n at to → Region R₀ v n → at < n → n ≤ length R
-    → s ≡ stride (at-row R at)
-    → Puts R R′ at to next → Pack R₀ R′ v n (at + s) next
-pack-more {R₀} {R} {R′} {v} {n} {at} {to} {s} {next} p g l u e f =
-    let q₀ = p .packing (g .before) (g .blocks) (g .after) (g .laid) in
-    let t₀ = there (q₀ .rest) l u (q₀ .ahead) (q₀ .ends) in
-    record {
-      behind =
-          omega
-          (arith, p .behind, f _ _ _ (t₀ .stands) .moved, stride-within (t₀ .block) .0, e, ap stride (stands-row (t₀ .stands)));
-      within = omega (arith, e, pack-safe p g l u .1);
-      packing =
-          λ before bs after laid.
-          let q = p .packing before bs after laid in
-          let t = there (q .rest) l u (q .ahead) (q .ends) in
-          let x = t .block in
-          let put = f _ x _ (t .stands) in
-          let is : s ≡ stride (head x) = e ∙ ap stride (stands-row (t .stands)) in
-          let w = stride-within x in
-          let counted : length (block-rows (q .rest)) ≡ size x + length (block-rows (t .others)) = ap (λ cs. length (block-rows cs)) (t .is) ∙ length-◂ x (t .others) in
-          let few : s ≤ length (block-rows (x ◂ t .others)) = omega (arith, is, w .2, length-◂ x (t .others)) in
-          let left = entered-after x (t .others) is in
-          record {
-            rest = entered x (t .others);
-            ahead =
-                later s (omega (arith, is, w .1)) (put .ahead) ∙
-                ap (drop s) (q .ahead ∙ ap (λ cs. block-rows cs ++ after) (t .is)) ∙
-                drop-append-le s (block-rows (x ◂ t .others)) after few ∙ ap (λ rs. rs ++ after) left;
-            ends =
-                omega
-                (arith, q .ends, counted, ap length left, length-drop s (block-rows (x ◂ t .others)), length-◂ x (t .others), few);
-            so-far =
-                ap (λ rs. rs ++ forest-rows (live (entered x (t .others)))) (put .added) ∙
-                append-assoc (take to R) (packed x) (forest-rows (live (entered x (t .others)))) ∙
-                ap (λ rs. take to R ++ rs) (entered-forest x (t .others) ∙ ap (λ cs. forest-rows (live cs)) (sym (t .is))) ∙ q .so-far;
-          };
-    }
-  where
-    -- what is ahead of the next row is as it was
-    later : (s : ℕ) → 0 < s → drop (at + 1) R′ ≡ drop (at + 1) R → drop (at + s) R′ ≡ drop s (drop at R)
-    later s l a =
-        ap (λ m. drop m R′) far ∙ sym (drop-drop (s - 1) (at + 1) R′) ∙ ap (drop (s - 1)) a ∙ drop-drop (s - 1) (at + 1) R ∙
-        ap (λ m. drop m R) (sym far) ∙ sym (drop-drop s at R)
+    pub pack-safe : (0 < stride (at-row R at)) × (at + stride (at-row R at) ≤ n)
+    pack-safe =
+        let q = p .packing _ _ _ (g .laid) (g .told) in
+        let t = block-there (g .laid) (g .told) in
+        let w = stride-within (t .block) in
+        let e = ap stride (stands-row (t .stands)) in (
+          omega (arith, e, w .1),
+          omega (arith, e, w .2, q .ends, ap (λ cs. length (block-rows cs)) (t .is), length-◂ (t .block) (t .others)),
+        )
+
+    pub pack-more : {R′ : List Row} {s next : ℕ} → s ≡ stride (at-row R at) → Puts R R′ K at to next → Pack R₀ R′ K v n (at + s) next
+    pack-more {R′} {s} {next} e f =
+        let t₀ = block-there (g .laid) (g .told) in
+        record {
+          behind =
+              omega
+              (arith, p .behind, f _ _ _ (t₀ .stands) (t₀ .told) .moved, stride-within (t₀ .block) .0, e, ap stride (stands-row (t₀ .stands)));
+          within = omega (arith, e, pack-safe .1);
+          packing =
+              λ before bs after laid told.
+              let q = p .packing before bs after laid told in
+              let t = block-there laid told in
+              let x = t .block in
+              let put = f _ x _ (t .stands) (t .told) in
+              let is : s ≡ stride (head x) = e ∙ ap stride (stands-row (t .stands)) in
+              let w = stride-within x in
+              let counted : length (block-rows (q .rest)) ≡ size x + length (block-rows (t .others)) = ap (λ cs. length (block-rows cs)) (t .is) ∙ length-◂ x (t .others) in
+              let few : s ≤ length (block-rows (x ◂ t .others)) = omega (arith, is, w .2, length-◂ x (t .others)) in
+              let left = entered-after x (t .others) is in
+              record {
+                rest = entered x (t .others);
+                ahead =
+                    later s (omega (arith, is, w .1)) (put .ahead) ∙
+                    ap (drop s) (q .ahead ∙ ap (λ cs. block-rows cs ++ after) (t .is)) ∙
+                    drop-append-le s (block-rows (x ◂ t .others)) after few ∙ ap (λ rs. rs ++ after) left;
+                ends =
+                    omega
+                    (arith, q .ends, counted, ap length left, length-drop s (block-rows (x ◂ t .others)), length-◂ x (t .others), few);
+                told = subst (λ m. AllTold K (at + m) (entered x (t .others))) (sym is) (t .onward);
+                so-far =
+                    ap (λ rs. rs ++ forest-rows (live (entered x (t .others)))) (put .added) ∙
+                    append-assoc (take to R) (packed x) (forest-rows (live (entered x (t .others)))) ∙
+                    ap (λ rs. take to R ++ rs) (entered-forest x (t .others) ∙ ap (λ cs. forest-rows (live cs)) (sym (t .is))) ∙ q .so-far;
+              };
+        }
       where
-        far : at + s ≡ at + 1 + (s - 1)
-        far = omega arith
+        -- what is ahead of the next row is as it was
+        later : (s : ℕ) → 0 < s → drop (at + 1) R′ ≡ drop (at + 1) R → drop (at + s) R′ ≡ drop s (drop at R)
+        later s l a =
+            ap (λ m. drop m R′) far ∙ sym (drop-drop (s - 1) (at + 1) R′) ∙ ap (drop (s - 1)) a ∙ drop-drop (s - 1) (at + 1) R ∙
+            ap (λ m. drop m R) (sym far) ∙ sym (drop-drop s at R)
+          where
+            far : at + s ≡ at + 1 + (s - 1)
+            far = omega arith
 
-    entered-after : {s : ℕ} (x : Block) (others : Blocks) → s ≡ stride (head x) → drop s (block-rows (x ◂ others)) ≡ block-rows (entered x others)
-    entered-after x others e = ap (λ m. drop m (block-rows (x ◂ others))) e ∙ entered-rows x others
+        entered-after : {s : ℕ} (x : Block) (others : Blocks) → s ≡ stride (head x) → drop s (block-rows (x ◂ others)) ≡ block-rows (entered x others)
+        entered-after x others e = ap (λ m. drop m (block-rows (x ◂ others))) e ∙ entered-rows x others
 
-pub pack-end : {R₀ R : List Row} {v n at to : ℕ} → Pack R₀ R v n at to → n ≤ at → Packs R₀ R v n to
+pub pack-end : {R₀ R : List Row} {K : List ℕ} {v n at to : ℕ} → Pack R₀ R K v n at to → n ≤ at → Packs R₀ R K v n to
 unfolding forest-rows live
-pack-end {R = R} {to = to} p l before bs after h =
-    let q = p .packing before bs after h in
+pack-end {R = R} {to = to} p l before bs after h told =
+    let q = p .packing before bs after h told in
     sym (append-nil (take to R)) ∙ ap (λ cs. take to R ++ forest-rows (live cs)) (sym (no-rows (q .rest) (omega (arith, q .ends)))) ∙ q .so-far

@@ -1,7 +1,6 @@
 -- Rows of a formula before they are tidied: a sheet's, and those that a caller has written.
 -- Assumes nothing.
-use mathlib.Core.Path.{_≡_, sym, ap, ap₂, _∙_, subst}
-use mathlib.Core.Bool.{true}
+use mathlib.Core.Path.{_≡_, sym, ap, _∙_, subst}
 use mathlib.Core.List.{_++_}
 use Prim.Native.Nat.{ℕ, _≤_}
 use native.Mathlib.Omega.{arith}
@@ -10,7 +9,6 @@ use Rattle.formula.specs.Tree.{Formula}
 use Rattle.formula.specs.Tidy.{tidied}
 use Rattle.sheet.specs.Format.{Bytes, Format, sheet-length, variables, nodes, prefix-rows}
 use Rattle.sheet.specs.Sheet.{binding, formula, formula-rows, sheet}
-use Rattle.sheet.specs.Check.{passes, check-tests}
 use Rattle.sheet.specs.Operations.{padded}
 use Rattle.sheet.proofs.CheckTests.{SizesFit, passed, passed-sizes}
 use Rattle.sheet.proofs.Accepted.{length-prefix-rows}

@@ -23,7 +23,7 @@ use Rattle.rows.proofs.Layouts.{length-rows-in}
 use Rattle.rows.proofs.Formulas.{prefix-length, prefix-is, matrix-is}
 use Rattle.tidying.specs.Inner.Operators.{Preorder, Tidies}
 use Rattle.tidying.specs.Inner.Packed.{Packs}
-use Rattle.tidying.specs.Limits.{Raw}
+use Rattle.tidying.specs.Inner.Tables.{RawRows, Leaves}
 
 -- the rows of a tree are nodes with their children behind them
 
@@ -56,7 +56,7 @@ mutual
 abbrev laid-out : ℕ → ℕ → ℕ → List Row → ℕ → Bytes
 laid-out w v n rs zeros = digits w v ++ digits w n ++ row-kinds rs ++ row-arguments w rs ++ replicate zeros 0
 
-module _ {F : Format} {s : Layout} (b : Bytes) (raw : Raw F s b) where
+module _ {s : Layout} (b : Bytes) (raw : RawRows s b) where
   abbrev g : Formula
   g = formula-in s b
 
@@ -84,12 +84,12 @@ module _ {F : Format} {s : Layout} (b : Bytes) (raw : Raw F s b) where
   one-tree = ap (λ rs. tidy-all (trees rs)) nodes-are ∙ ap tidy-all (trees-tree (g .matrix) [])
 
   -- the rows that are left, as a sheet
-  module _ {R : List Row} (b′ : Bytes) {m : ℕ} (tidies : Tidies (rows-in s b) R (s .variables) (total s))
-      (packs : Packs R (rows-in s b′) (s .variables) (total s) m) (l : m ≤ total s) (same : length b′ ≡ length b) where
+  module _ {R : List Row} {K : List ℕ} (b′ : Bytes) {m : ℕ} (tidies : Tidies (rows-in s b) R K (s .variables) (total s))
+      (packs : Packs R (rows-in s b′) K (s .variables) (total s) m) (l : m ≤ total s) (same : length b′ ≡ length b) where
     left : take m (rows-in s b′) ≡ formula-rows (tidied g)
     unfolding formula-rows tidied forest-rows bound
     left =
-        packs (take (s .variables) (rows-in s b)) (tidies .blocks) [] (tidies .laid) ∙
+        packs (take (s .variables) (rows-in s b)) (tidies .blocks) [] (tidies .laid) (tidies .told) ∙
         ap₂ (λ p ts. p ++ forest-rows ts) bound-is (tidies .reads ∙ one-tree) ∙
         ap (λ rs. bound ++ rs) (append-nil (tree-rows (tidy (g .matrix))))
 
@@ -105,24 +105,27 @@ module _ {F : Format} {s : Layout} (b : Bytes) (raw : Raw F s b) where
     pub prefix-left : s .variables ≤ m
     prefix-left = omega (arith, rows-left)
 
-    pub sheet-end : 2 * s .width + m + s .width * m ≡ length (sheet F (tidied g))
+    sheet-end : (F : Format) → s .width ≡ F .width → 2 * s .width + m + s .width * m ≡ length (sheet F (tidied g))
     unfolding tidied formula-in
-    sheet-end =
+    sheet-end F w-is =
         sym
         (length-sheet F (tidied g) ∙ sheet-length-rows F (length (g .prefix)) (rows ((tidied g) .matrix)) ∙
         ap (λ k. header F + (k + rows ((tidied g) .matrix) + F .width * (k + rows ((tidied g) .matrix)))) length-prefix ∙
-        ap (λ k. header F + (k + F .width * k)) (sym rows-left) ∙ regroup (F .width) ∙ ap (λ w. 2 * w + m + w * m) (sym (raw .width-is)))
+        ap (λ k. header F + (k + F .width * k)) (sym rows-left) ∙ regroup (F .width) ∙ ap (λ w. 2 * w + m + w * m) (sym w-is))
       where
         regroup : (w : ℕ) → 2 * w + (m + w * m) ≡ 2 * w + m + w * m
         regroup w = omega arith
 
-    pub sheet-is : sealed s m b′ ≡ padded (length b) (sheet F (tidied g))
+    sheet-is : (F : Format) → s .width ≡ F .width → sealed s m b′ ≡ padded (length b) (sheet F (tidied g))
     unfolding sealed padded sheet tidied formula-in
-    sheet-is =
+    sheet-is F w-is =
         ap (λ len. laid-out (s .width) (s .variables) (m - s .variables) (take m (rows-in s b′)) (len - (2 * s .width + m + s .width * m))) same ∙
-        ap₂ (λ rs k. laid-out (s .width) (s .variables) (m - s .variables) rs (length b - k)) left sheet-end ∙
+        ap₂ (λ rs k. laid-out (s .width) (s .variables) (m - s .variables) rs (length b - k)) left (sheet-end F w-is) ∙
         ap₂ (λ v n. laid-out (s .width) v n (formula-rows (tidied g)) (length b - length (sheet F (tidied g)))) (sym length-prefix) nodes-left ∙
-        ap (λ w. laid-out w (length (g .prefix)) (rows ((tidied g) .matrix)) (formula-rows (tidied g)) (length b - length (sheet F (tidied g)))) (raw .width-is)
+        ap (λ w. laid-out w (length (g .prefix)) (rows ((tidied g) .matrix)) (formula-rows (tidied g)) (length b - length (sheet F (tidied g)))) w-is
       where
         nodes-left : m - s .variables ≡ rows ((tidied g) .matrix)
         nodes-left = omega (arith, rows-left)
+
+    pub leaves : {b₂ : Bytes} {end : ℕ} → b₂ ≡ sealed s m b′ → end ≡ 2 * s .width + m + s .width * m → Leaves s b b₂ end
+    leaves e f F w-is = (e ∙ sheet-is F w-is, f ∙ sheet-end F w-is)

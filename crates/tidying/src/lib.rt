@@ -1,11 +1,13 @@
 // Tidy. The rows of a raw sheet are worked on in place, from the last to the first, packed, and made a sheet again.
-use crate::operator::tidy_rows;
-use crate::pack::pack;
+use crate::tables::FEW;
+use crate::tables::SOME;
+use crate::tables::tidy_few;
+use crate::tables::tidy_many;
+use crate::tables::tidy_some;
 use checking::Checked;
 use checking::Written;
 use rows::Format;
 use rows::Layout;
-use rows::write::seal;
 ghost use mathlib.Core.Path.{_≡_};
 ghost use mathlib.Core.List.{_++_};
 ghost use Prim.Native.Nat.{_≤_};
@@ -22,6 +24,7 @@ ghost use Rattle.tidying.specs.Limits.{Raw};
 
 pub mod operator;
 pub mod pack;
+pub mod tables;
 
 // Tidies the formula whose rows stand in `b`, and returns the tidied sheet's length. The sizes need not have been written.
 pub fn tidy_in_place(b: &mut [u8], f: Format, s: Layout) -> usize
@@ -29,9 +32,14 @@ pub fn tidy_in_place(b: &mut [u8], f: Format, s: Layout) -> usize
     ensures { λ _. ⌜ now (b .exit) ≡ padded (length (now (b .entry))) (sheet (format-of f) (tidied (formula-in s (now (b .entry))))) ⌝ }
     ensures { λ r. ⌜ r ≡ length (sheet (format-of f) (tidied (formula-in s (now (b .entry))))) ⌝ }
 {
-    tidy_rows(b, s);
-    let rows = pack(b, s);
-    seal(b, s, rows)
+    let rows = s.variables + s.nodes;
+    if rows <= FEW {
+        return tidy_few(b, s);
+    }
+    if rows <= SOME {
+        return tidy_some(b, s);
+    }
+    tidy_many(b, s)
 }
 
 // Copies a sheet to the front of an output.

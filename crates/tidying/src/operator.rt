@@ -1,106 +1,148 @@
-// Tidying at an operator's row, and at all rows from the last to the first ("Tidy sheets").
+// Tidying at an operator's row, and at all rows from the last to the first ("Tidy sheets"). A table tells of every live operator how many
+// children it has and its print, in one number.
 use blocks::GONE;
-use blocks::rules::Span;
-use blocks::rules::reduce;
-use blocks::walk::extent_at;
-use blocks::walk::first_live;
-use blocks::walk::hop;
-use buckets::HEADS;
+use blocks::rules::Children;
+use blocks::rules::gather;
+use buckets::member;
+use buckets::print::mixed;
 use rows::AND;
 use rows::Layout;
 use rows::NEGATIVE;
 use rows::OR;
 use rows::read::argument_at;
 use rows::read::kind_at;
+use rows::wide;
 use rows::write::set_row;
-ghost use Prim.Native.Nat.{_+_, _^_, _≤_, _<_};
-ghost use lib.ListN.{length, drop};
-ghost use Rattle.rows.specs.Layouts.{total, rows-in, Room};
-ghost use Rattle.blocks.specs.Blocks.{Region};
+ghost use mathlib.Core.Path.{_≡_};
+ghost use Prim.Native.Nat.{_+_, _≤_, _<_};
+ghost use lib.ListN.{length, take, drop};
+ghost use Rattle.rows.specs.Layouts.{total, rows-in};
 ghost use Rattle.blocks.specs.Rules.{Tables};
-ghost use Rattle.tidying.specs.Limits.{Few};
-ghost use Rattle.tidying.specs.Inner.Operators.{Hollows, Concludes, ReadyAt, Combines, Preorder, Tidies};
+ghost use Rattle.tidying.specs.Inner.Operators.{KeptBehind, Hollows, mixes, LeftAt, Concludes, ReadyAt, Combines, Preorder, Tidies};
+ghost use Rattle.tidying.specs.Inner.Tables.{InPlace};
 
-// Members at most: as many as the rows of the largest sheet.
-pub const MEMBERS: usize = 9216;
+// A row of a sheet.
+pub struct Place {
+    pub sheet: Layout,
+    pub row: usize,
+}
+
+// The operator of this kind at a row. Its children end before row `end`, and `left` is one more than there are left of them.
+pub struct Node {
+    pub sheet: Layout,
+    pub row: usize,
+    pub kind: u8,
+    pub end: usize,
+    pub left: usize,
+}
 
 // Makes the rows from `r` to `end` an empty operator of this kind.
-pub fn hollow(b: &mut [u8], s: Layout, r: usize, kind: u8, end: usize)
-    requires { ⌜ Room s (length (now b)) × (total s < 256 ^ s .width) × (r < end) × (end ≤ total s) ⌝ }
-    ensures { λ _. ⌜ Hollows (rows-in s (now (b .entry))) (rows-in s (now (b .exit))) r end kind ⌝ }
+pub fn hollow(b: &mut [u8], s: Layout, r: usize, kind: u8, end: usize, known: &mut [u32])
+    requires { ⌜ InPlace s (now b) (now known) × (r < end) × (end ≤ total s) ⌝ }
+    ensures { λ _. ⌜ Hollows (rows-in s (now (b .entry))) (rows-in s (now (b .exit))) (now (known .exit)) r end kind ⌝ }
+    ensures { λ _. ⌜ KeptBehind (now (known .entry)) (now (known .exit)) r ⌝ }
 {
     set_row(b, s, r, kind, end - r);
+    known[r] = kind as u32;
     if r + 1 < end {
         set_row(b, s, r + 1, GONE, end - r - 1);
     }
 }
 
-// Rule 6 at an operator's row, once the other rules have left what stands from there to `end`: a lone child replaces the node.
-pub fn conclude(b: &mut [u8], s: Layout, r: usize, kind: u8, end: usize)
-    requires { ⌜ Room s (length (now b)) × (total s < 256 ^ s .width) × Region (rows-in s (now b)) (r + 1) end ⌝ }
-    ensures { λ _. ⌜ Concludes (rows-in s (now (b .entry))) (rows-in s (now (b .exit))) r end kind ⌝ }
+// The print of an operator so far, `h`, with those of the first `n` members.
+pub fn print_on(h: usize, members: &[u32], n: usize) -> usize
+    requires { ⌜ (h < 65536) × (n ≤ length (now members)) ⌝ }
+    ensures { λ p. ⌜ (p ≡ mixes h (take n (now (members .entry)))) × (p < 65536) ⌝ }
 {
-    let first = first_live(b, s, r + 1, end);
-    if first == end {
-        hollow(b, s, r, kind, end);
+    let mut p = h;
+    let mut i: usize = 0;
+    while i < n {
+        p = mixed(p, member(members, i) % 65536);
+        i += 1;
+    }
+    p
+}
+
+// Rule 6 at an operator's row, once the other rules have left members of its children: a lone child replaces the node.
+pub fn conclude(b: &mut [u8], n: Node, members: &[u32], known: &mut [u32])
+    requires { ⌜ InPlace (n .sheet) (now b) (now known) × (n .end ≤ total (n .sheet)) × LeftAt (rows-in (n .sheet) (now b)) (now known) (now members) (n .row) (n .end) (n .kind) (n .left) ⌝ }
+    ensures { λ _. ⌜ Concludes (rows-in (n .sheet) (now (b .entry))) (rows-in (n .sheet) (now (b .exit))) (now (known .entry)) (now (known .exit)) (now (members .entry)) (n .row) (n .end) (n .kind) (n .left) ⌝ }
+    ensures { λ _. ⌜ KeptBehind (now (known .entry)) (now (known .exit)) (n .row) ⌝ }
+{
+    let s = n.sheet;
+    let r = n.row;
+    let kind = n.kind;
+    let end = n.end;
+    let left = n.left;
+    if left == 1 {
+        hollow(b, s, r, kind, end, known);
         return;
     }
-    let next = first + extent_at(b, s, first);
-    if first_live(b, s, next, end) == end {
-        set_row(b, s, r, GONE, first - r);
+    if left == 2 {
+        let child = member(members, 0) / 65536;
+        set_row(b, s, r, GONE, child - r);
         return;
     }
     set_row(b, s, r, kind, end - r);
+    let count = left - 1;
+    known[r] = (count * 65536 + print_on(wide(kind), members, count)) as u32;
 }
 
 // All six rules at a row, the trees behind it being tidied.
 pub fn combine(
     b: &mut [u8],
-    s: Layout,
-    r: usize,
+    p: Place,
     heads: &mut [u16],
     links: &mut [u16],
     members: &mut [u32],
+    known: &mut [u32],
 )
-    requires { ⌜ Room s (length (now b)) × (total s < 256 ^ s .width) × Tables s (now heads) (now links) (now members) × ReadyAt (rows-in s (now b)) r (total s) ⌝ }
-    ensures { λ _. ⌜ Combines (rows-in s (now (b .entry))) (rows-in s (now (b .exit))) r (total s) ⌝ }
+    requires { ⌜ InPlace (p .sheet) (now b) (now known) × Tables (p .sheet) (now heads) (now links) (now members) × ReadyAt (rows-in (p .sheet) (now b)) (now known) (p .row) (total (p .sheet)) ⌝ }
+    ensures { λ _. ⌜ Combines (rows-in (p .sheet) (now (b .entry))) (rows-in (p .sheet) (now (b .exit))) (now (known .entry)) (now (known .exit)) (p .row) (total (p .sheet)) ⌝ }
 {
+    let s = p.sheet;
+    let r = p.row;
     let kind = kind_at(b, s, r);
     if kind <= NEGATIVE {
         return;
     }
-    let end = hop(b, s, r + 1, argument_at(b, s, r));
-    let w = Span {
+    let w = Children {
+        sheet: s,
         from: r + 1,
-        to: end,
+        owed: argument_at(b, s, r),
         kind: kind,
     };
-    if reduce(b, s, w, heads, links, members) {
-        hollow(b, s, r, AND + OR - kind, end);
+    let g = gather(b, w, heads, links, members, known);
+    if g.left == 0 {
+        hollow(b, s, r, AND + OR - kind, g.end, known);
         return;
     }
-    conclude(b, s, r, kind, end);
+    let n = Node {
+        sheet: s,
+        row: r,
+        kind: kind,
+        end: g.end,
+        left: g.left,
+    };
+    conclude(b, n, members, known);
 }
 
 // Tidies the trees whose rows stand behind the quantifiers, each operator after its children. The tables may hold anything.
-pub fn tidy_each(b: &mut [u8], s: Layout, heads: &mut [u16], links: &mut [u16], members: &mut [u32])
-    requires { ⌜ Room s (length (now b)) × (total s < 256 ^ s .width) × Tables s (now heads) (now links) (now members) × Preorder (drop (s .variables) (rows-in s (now b))) ⌝ }
-    ensures { λ _. ⌜ Tidies (rows-in s (now (b .entry))) (rows-in s (now (b .exit))) (s .variables) (total s) ⌝ }
+pub fn tidy_each(
+    b: &mut [u8],
+    s: Layout,
+    heads: &mut [u16],
+    links: &mut [u16],
+    members: &mut [u32],
+    known: &mut [u32],
+)
+    requires { ⌜ InPlace s (now b) (now known) × Tables s (now heads) (now links) (now members) × Preorder (drop (s .variables) (rows-in s (now b))) ⌝ }
+    ensures { λ _. ⌜ Tidies (rows-in s (now (b .entry))) (rows-in s (now (b .exit))) (now (known .exit)) (s .variables) (total s) ⌝ }
 {
     let mut r = s.variables + s.nodes;
     while s.variables < r {
         r -= 1;
-        combine(b, s, r, heads, links, members);
+        let p = Place { sheet: s, row: r };
+        combine(b, p, heads, links, members, known);
     }
-}
-
-// The same, with tables for as many members as a sheet has rows.
-pub fn tidy_rows(b: &mut [u8], s: Layout)
-    requires { ⌜ Room s (length (now b)) × Few s × Preorder (drop (s .variables) (rows-in s (now b))) ⌝ }
-    ensures { λ _. ⌜ Tidies (rows-in s (now (b .entry))) (rows-in s (now (b .exit))) (s .variables) (total s) ⌝ }
-{
-    let mut heads = [0u16; HEADS];
-    let mut links = [0u16; MEMBERS];
-    let mut members = [0u32; MEMBERS];
-    tidy_each(b, s, &mut heads, &mut links, &mut members);
 }

@@ -1,7 +1,8 @@
 // Rows that have gone are left out, and the others stand one behind the other.
 use blocks::GONE;
-use blocks::same::argument_of;
+use buckets::large;
 use rows::Layout;
+use rows::NEGATIVE;
 use rows::read::argument_at;
 use rows::read::kind_at;
 use rows::write::set_row;
@@ -9,9 +10,9 @@ ghost use mathlib.Core.Path.{_≡_};
 ghost use Prim.Native.Nat.{_^_, _≤_, _<_};
 ghost use lib.ListN.{length};
 ghost use Rattle.rows.specs.Layouts.{total, rows-in, Room};
-ghost use Rattle.blocks.specs.Blocks.{Region, Standing};
 ghost use Rattle.blocks.specs.Walks.{at-row};
-ghost use Rattle.tidying.specs.Inner.Packed.{stride, Puts, Packs};
+ghost use Rattle.tidying.specs.Inner.Packed.{stride, ToldAt, ToldRegion, ArgumentTold, Puts, Packs};
+ghost use Rattle.tidying.specs.Inner.Tables.{InPlace};
 
 // How many rows on the next row stands that may be packed: all of a dead block is passed.
 pub fn stride_at(b: &[u8], s: Layout, r: usize) -> usize
@@ -24,30 +25,41 @@ pub fn stride_at(b: &[u8], s: Layout, r: usize) -> usize
     1
 }
 
+// The argument that the row of the live block at `at` has in a sheet: of an operator the table tells how many children it has.
+pub fn argument_told(b: &[u8], s: Layout, at: usize, known: &[u32]) -> usize
+    requires { ⌜ InPlace s (now b) (now known) × (at < total s) ⌝ }
+    ensures { λ a. ⌜ ArgumentTold (rows-in s (now (b .entry))) (now (known .entry)) at a ⌝ }
+{
+    if kind_at(b, s, at) <= NEGATIVE {
+        return argument_at(b, s, at);
+    }
+    large(known[at]) / 65536
+}
+
 // Puts the row of the block at `at` to row `to`, if it is live, and returns the row behind those packed.
-pub fn put_live(b: &mut [u8], s: Layout, at: usize, to: usize) -> usize
-    requires { ⌜ Room s (length (now b)) × (total s < 256 ^ s .width) × Standing (rows-in s (now b)) at × (to ≤ at) ⌝ }
-    ensures { λ next. ⌜ Puts (rows-in s (now (b .entry))) (rows-in s (now (b .exit))) at to next ⌝ }
+pub fn put_live(b: &mut [u8], s: Layout, at: usize, to: usize, known: &[u32]) -> usize
+    requires { ⌜ InPlace s (now b) (now known) × ToldAt (rows-in s (now b)) (now known) at × (to ≤ at) ⌝ }
+    ensures { λ next. ⌜ Puts (rows-in s (now (b .entry))) (rows-in s (now (b .exit))) (now (known .entry)) at to next ⌝ }
 {
     let kind = kind_at(b, s, at);
     if kind == GONE {
         return to;
     }
-    let argument = argument_of(b, s, at);
+    let argument = argument_told(b, s, at, known);
     set_row(b, s, to, kind, argument);
     to + 1
 }
 
 // Leaves the dead blocks behind the quantifiers out, and returns the row behind the last that is left.
-pub fn pack(b: &mut [u8], s: Layout) -> usize
-    requires { ⌜ Room s (length (now b)) × (total s < 256 ^ s .width) × Region (rows-in s (now b)) (s .variables) (total s) ⌝ }
-    ensures { λ m. ⌜ (m ≤ total s) × Packs (rows-in s (now (b .entry))) (rows-in s (now (b .exit))) (s .variables) (total s) m ⌝ }
+pub fn pack(b: &mut [u8], s: Layout, known: &[u32]) -> usize
+    requires { ⌜ InPlace s (now b) (now known) × ToldRegion (rows-in s (now b)) (now known) (s .variables) (total s) ⌝ }
+    ensures { λ m. ⌜ (m ≤ total s) × Packs (rows-in s (now (b .entry))) (rows-in s (now (b .exit))) (now (known .entry)) (s .variables) (total s) m ⌝ }
 {
     let mut at = s.variables;
     let mut to = s.variables;
     while at < s.variables + s.nodes {
         let step = stride_at(b, s, at);
-        to = put_live(b, s, at, to);
+        to = put_live(b, s, at, to, known);
         at += step;
     }
     to

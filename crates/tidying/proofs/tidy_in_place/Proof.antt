@@ -1,47 +1,55 @@
 -- `tidying::tidy_in_place` meets its contract. Assumes nothing.
-use mathlib.Core.Path.{_∙_}
-use Rattle.blocks.proofs.Blocks.{room-as}
-use Rattle.tidying.proofs.TidyInPlace.{raw-preorder, prefix-left, sheet-end, sheet-is}
 use borrow.Author.Needs.{needs}
 use Rattle.tidying.proofs.tidy_in_place.Statement.{statement}
 use Rattle.tidying.proofs.tidy_in_place.Tie as tie
 
-tidy-rows-requires : tie.Need-tidy-rows-requires
-tidy-rows-requires c κs =
-    let a = c .before .before in
-    (a .pre .room, a .pre .few-rows, raw-preorder (a .args .b .now) (a .pre))
+add-rows : tie.Need-add-rows
+add-rows c = search needs
 
-pack-requires : tie.Need-pack-requires
-pack-requires c κs = search needs
-
-seal-requires : tie.Need-seal-requires
-seal-requires c κs =
-    let packed = c .before .before .before in
-    let tidied = packed .before .before .before .before in
-    let a = tidied .before .before .before in
-    let same = packed .pack .kept .0 ∙ tidied .tidy-rows .kept .0 in
-    let few = packed .pack .ensures .0 in (
-      room-as same (a .pre .room),
-      few,
-      prefix-left (a .args .b .now) (a .pre) (packed .pack .last .0) (tidied .tidy-rows .ensures) (packed .pack .ensures .1) few same,
-    )
+tidy-few-requires : tie.Need-tidy-few-requires
+tidy-few-requires c κs = search needs
 
 same-length : tie.Need-same-length
 same-length c = search needs
 
 returns : tie.Need-returns
 returns c =
-    let sealed = c .before .before in
-    let packed = sealed .before .before .before .before in
-    let tidied = packed .before .before .before .before in
-    let a = tidied .before .before .before in
-    let same = packed .pack .kept .0 ∙ tidied .tidy-rows .kept .0 in
-    let few = packed .pack .ensures .0 in (
-      sealed .seal .ensures .0 ∙
-          sheet-is (a .args .b .now) (a .pre) (packed .pack .last .0) (tidied .tidy-rows .ensures) (packed .pack .ensures .1) few same,
-      sealed .seal .ensures .1 ∙
-          sheet-end (a .args .b .now) (a .pre) (packed .pack .last .0) (tidied .tidy-rows .ensures) (packed .pack .ensures .1) few same,
-    )
+    let a = c .before .before .before .before .before .before .before in
+    c .before .before .tidy-few .ensures _ (a .pre .width-is)
+
+tidy-some-requires : tie.Need-tidy-some-requires
+tidy-some-requires c κs = search needs
+
+same-length-2 : tie.Need-same-length-2
+same-length-2 c = search needs
+
+returns-2 : tie.Need-returns-2
+returns-2 c =
+    let a = c .before .before .before .before .before .before .before .before in
+    c .before .before .tidy-some .ensures _ (a .pre .width-is)
+
+tidy-many-requires : tie.Need-tidy-many-requires
+tidy-many-requires c κs = search needs
+
+same-length-3 : tie.Need-same-length-3
+same-length-3 c = search needs
+
+returns-3 : tie.Need-returns-3
+returns-3 c =
+    let a = c .before .before .before .before .before .before .before .before in
+    c .before .before .tidy-many .ensures _ (a .pre .width-is)
 
 pub tidy-in-place-spec : {M : Type 1} → statement M
-tidy-in-place-spec = tie.close (tie.spec tidy-rows-requires pack-requires seal-requires same-length returns)
+tidy-in-place-spec =
+    tie.close
+    (tie.spec
+    add-rows
+    tidy-few-requires
+    same-length
+    returns
+    tidy-some-requires
+    same-length-2
+    returns-2
+    tidy-many-requires
+    same-length-3
+    returns-3)

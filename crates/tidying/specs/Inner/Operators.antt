@@ -2,13 +2,16 @@
 -- Assumes nothing.
 use mathlib.Core.Path.{_≡_}
 use mathlib.Core.List.{List, [], _∷_, _++_}
-use Prim.Native.Nat.{ℕ, _+_, _≤_}
-use lib.ListN.{length, take, drop}
+use Prim.Native.Nat.{ℕ, _+_, _-_, _%_, _≤_, _<_}
+use lib.ListN.{length, getD, take, drop}
 use Rattle.formula.specs.Tree.{Op, node, Forest, ∅, _▸_, count}
 use Rattle.formula.specs.Tidy.{unwrap, tidy-all}
 use Rattle.sheet.specs.Format.{Row, children}
 use Rattle.sheet.specs.Sheet.{operator-kind, grow, trees}
+use Rattle.buckets.specs.Prints.{mix}
 use Rattle.blocks.specs.Blocks.{Blocks, block-rows, live, Laid}
+use Rattle.blocks.specs.Rules.{notes}
+use Rattle.blocks.specs.Known.{AllTold}
 
 -- a row, and behind it blocks
 pub record Headed (R : List Row) (r to : ℕ) (before : List Row) (x : Row) (bs : Blocks) (after : List Row) : Type 0 where
@@ -16,44 +19,71 @@ pub record Headed (R : List Row) (r to : ℕ) (before : List Row) (x : Row) (bs 
   pub starts : length before ≡ r
   pub ends : r + 1 + length (block-rows bs) ≡ to
 
--- the rows from one number up to another have become blocks that hold these trees
-pub record Replaced (R : List Row) (from to : ℕ) (before after : List Row) (ts : Forest) : Type 0 where
+-- the rows from one number up to another have become blocks that hold these trees, and the table tells of them
+pub record Replaced (R : List Row) (K : List ℕ) (from to : ℕ) (before after : List Row) (ts : Forest) : Type 0 where
   pub blocks : Blocks
   pub laid : Laid R from to before blocks after
+  pub told : AllTold K from blocks
   pub reads : live blocks ≡ ts
 
--- an operator's row and its children have become a tree, which depends on the operator and on what the children hold
-abbrev pub Becomes : (Op → Forest → Forest) → List Row → List Row → ℕ → ℕ → ℕ → Type 0
-Becomes makes R R′ r end kind =
-    (before : List Row) (x : Row) (bs : Blocks) (after : List Row) → Headed R r end before x bs after
-    → (o : Op) → kind ≡ operator-kind o → Replaced R′ r end before after (makes o (live bs))
+-- the table's entries behind a row are as they were
+abbrev pub KeptBehind : List ℕ → List ℕ → ℕ → Type 0
+KeptBehind K K′ r = (j : ℕ) → r < j → getD K′ j 0 ≡ getD K j 0
 
--- rules 2 and 3: the empty operator
-abbrev pub Hollows : List Row → List Row → ℕ → ℕ → ℕ → Type 0
-Hollows = Becomes (λ o ts. node o ∅ ▸ ∅)
+-- rules 2 and 3: an operator's row and its children have become the empty operator
+abbrev pub Hollows : List Row → List Row → List ℕ → ℕ → ℕ → ℕ → Type 0
+Hollows R R′ K′ r end kind =
+    (before : List Row) (x : Row) (bs : Blocks) (after : List Row) → Headed R r end before x bs after
+    → (o : Op) → kind ≡ operator-kind o → Replaced R′ K′ r end before after (node o ∅ ▸ ∅)
+
+-- the prints of members, which are their low halves, mixed into a number one by one
+unfoldable pub mixes : ℕ → List ℕ → ℕ
+mixes h [] = h
+mixes h (m ∷ ms) = mixes (mix h (m % 65536)) ms
+
+-- an operator's row, and behind it what the other rules have left of its children, which are the members; left is one more than there are
+pub record Left (R : List Row) (K M : List ℕ) (r end left : ℕ) (before : List Row) (x : Row) (bs : Blocks) (after : List Row) : Type 0 where
+  pub headed : Headed R r end before x bs after
+  pub told : AllTold K (r + 1) bs
+  pub noted : take (left - 1) M ≡ notes (r + 1) bs
+
+pub record LeftAt (R : List Row) (K M : List ℕ) (r end kind left : ℕ) : Type 0 where
+  pub before : List Row
+  pub first : Row
+  pub blocks : Blocks
+  pub after : List Row
+  pub is-left : Left R K M r end left before first blocks after
+  pub op : Op
+  pub is : kind ≡ operator-kind op
+  pub undecided : 0 < left
+  pub members-fit : left ≤ length M + 1
+  pub countable : left ≤ 65536
 
 -- rule 6: a lone child replaces the node
-abbrev pub Concludes : List Row → List Row → ℕ → ℕ → ℕ → Type 0
-Concludes = Becomes (λ o ts. unwrap o ts ▸ ∅)
+abbrev pub Concludes : List Row → List Row → List ℕ → List ℕ → List ℕ → ℕ → ℕ → ℕ → ℕ → Type 0
+Concludes R R′ K K′ M r end kind left =
+    (before : List Row) (x : Row) (bs : Blocks) (after : List Row) → Left R K M r end left before x bs after
+    → (o : Op) → kind ≡ operator-kind o → Replaced R′ K′ r end before after (unwrap o (live bs) ▸ ∅)
 
 -- a node row before blocks that hold the tidied trees behind it, of which there are as many as it has children
-pub record Ready (R : List Row) (r n : ℕ) (before : List Row) (x : Row) (bs : Blocks) (ts : Forest) : Type 0 where
+pub record Ready (R : List Row) (K : List ℕ) (r n : ℕ) (before : List Row) (x : Row) (bs : Blocks) (ts : Forest) : Type 0 where
   pub headed : Headed R r n before x bs []
+  pub told : AllTold K (r + 1) bs
   pub reads : live bs ≡ tidy-all ts
   pub node : (3 ≤ x .kind) × (x .kind ≤ 6)
   pub enough : children x ≤ count ts
 
-pub record ReadyAt (R : List Row) (r n : ℕ) : Type 0 where
+pub record ReadyAt (R : List Row) (K : List ℕ) (r n : ℕ) : Type 0 where
   pub before : List Row
   pub first : Row
   pub blocks : Blocks
   pub trees : Forest
-  pub ready : Ready R r n before first blocks trees
+  pub ready : Ready R K r n before first blocks trees
 
 -- all six rules at a row: the node is tidied
-abbrev pub Combines : List Row → List Row → ℕ → ℕ → Type 0
-Combines R R′ r n =
-    (before : List Row) (x : Row) (bs : Blocks) (ts : Forest) → Ready R r n before x bs ts → Replaced R′ r n before [] (tidy-all (grow x ts))
+abbrev pub Combines : List Row → List Row → List ℕ → List ℕ → ℕ → ℕ → Type 0
+Combines R R′ K K′ r n =
+    (before : List Row) (x : Row) (bs : Blocks) (ts : Forest) → Ready R K r n before x bs ts → Replaced R′ K′ r n before [] (tidy-all (grow x ts))
 
 -- rows that are nodes, each with as many trees behind it as it has children
 unfoldable pub Preorder : List Row → Type 0
@@ -61,5 +91,5 @@ Preorder [] = Unit {0}
 Preorder (r ∷ rs) = ((3 ≤ r .kind) × (r .kind ≤ 6)) × (children r ≤ count (trees rs)) × Preorder rs
 
 -- the trees from a row on are tidied
-abbrev pub Tidies : List Row → List Row → ℕ → ℕ → Type 0
-Tidies R R′ r n = Replaced R′ r n (take r R) [] (tidy-all (trees (drop r R)))
+abbrev pub Tidies : List Row → List Row → List ℕ → ℕ → ℕ → Type 0
+Tidies R R′ K′ r n = Replaced R′ K′ r n (take r R) [] (tidy-all (trees (drop r R)))

@@ -36,7 +36,7 @@ returns c =
     let a = start-of k in
     let n = a .args .c .before in
     let same : n ≡ n + 1 - 1 = omega arith in (
-      (λ o _ from before done after laid noted two front x back h.
+      (λ o _ from before done after laid noted two front x back h _.
           let dead = sym (k .kind-at .ensures ∙ ap (λ (r : Row). r .kind) (stands-row h)) ∙ c .before .if1 .taken in
           judged-passed h (none-dead (decisive o (live done)) x dead) (none-dead (repeated (live done)) x dead) (note-dead _ x dead) noted refl),
       (subst (Linked _ _ _) same (a .pre .3 .linked), omega arith),

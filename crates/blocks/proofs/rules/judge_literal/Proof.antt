@@ -141,7 +141,7 @@ returns c =
     let a = start-of g in
     let n = a .args .c .before in
     let same : n + 1 ≡ n + 2 - 1 = omega arith in (
-      (λ o from before done after laid noted two front x back h.
+      (λ o from before done after laid noted two front x back h _.
           judged-new (a .pre .4) (g .before .before .before .argument-at .ensures .0) laid noted h o (print-is g)
           (unfound (bucket (g .literal-print .result)) (f .find .ensures) (a .pre .3 .linked) (start-is f) (d .before .before .before .before .if1 .taken))
           (d .add .ensures .0) (omega (arith, inside a, a .pre .2 .members-fit, a .pre .3 .few)) refl),
@@ -184,7 +184,7 @@ returns-2 c =
     let g = printed (e .before) in
     let a = start-of g in
     let i = found-there e in (
-      (λ o from before done after laid noted two front x back h.
+      (λ o from before done after laid noted two front x back h _.
           judged-opposite (a .pre .4) (g .before .before .before .argument-at .ensures .0) laid noted h o (omega (arith, i .some, i .within)) (i .passes)
           (λ z. c .if2 .taken (k .kind-at .ensures ∙ ap (λ p. (at-row (rows-in (a .args .s) (a .args .b .now)) (p / 65536)) .kind) (m .member .ensures .0) ∙ z))),
       (linked-none _ _ _, omega arith),
@@ -226,7 +226,7 @@ returns-3 c =
     let n = a .args .c .before in
     let same : n ≡ n + 1 - 1 = omega arith in
     let i = found-there e in (
-      (λ o from before done after laid noted two front x back h.
+      (λ o from before done after laid noted two front x back h _.
           judged-again (a .pre .4) (g .before .before .before .argument-at .ensures .0) laid noted h o (omega (arith, i .some, i .within)) (i .passes)
           (sym (k .kind-at .ensures ∙ ap (λ p. (at-row (rows-in (a .args .s) (a .args .b .now)) (p / 65536)) .kind) (m .member .ensures .0)) ∙ t .if2 .left)
           (w .set-row .ensures .0) two refl),

@@ -1,7 +1,7 @@
 -- `blocks::rules::judge_operator` meets its contract. Assumes nothing.
 use mathlib.Core.Path.{_≡_, refl, sym, ap, _∙_, subst}
 use mathlib.Core.List.{List}
-use Prim.Native.Nat.{ℕ, _+_, _-_, _<_}
+use Prim.Native.Nat.{ℕ, _+_, _*_, _-_, _%_, _<_}
 use native.Mathlib.Omega.{arith}
 use lib.ListN.{set}
 use Rattle.sheet.specs.Format.{Row, row}
@@ -10,20 +10,20 @@ use Rattle.rows.proofs.Layouts.{length-rows-in}
 use Rattle.buckets.specs.Chains.{bucket, last, Linked}
 use Rattle.buckets.proofs.Chains.{linked-none}
 use Rattle.blocks.specs.Blocks.{Block, none, _◂_, head, live, Stands}
-use Rattle.blocks.specs.Entered.{LiveAt}
+use Rattle.blocks.specs.Rules.{Member}
 use Rattle.blocks.proofs.Blocks.{stands-row, stands-within}
 use Rattle.blocks.proofs.Hop.{One, live-one}
 use Rattle.blocks.proofs.Find.{found, unfound}
-use Rattle.blocks.proofs.Judge.{members-within, member-at, judged-decided, operator-size, operator-new, operator-again}
+use Rattle.blocks.proofs.Judge.{members-within, member-at, judged-decided, said-print, said-member, place-said, operator-size, operator-new, operator-again}
 use borrow.Author.Needs.{needs}
 use Rattle.blocks.proofs.rules.judge_operator.Statement.{statement}
 use Rattle.blocks.proofs.rules.judge_operator.Tie as tie
 
-abbrev start-of : tie.After-outline-at → tie.Start
-start-of c = c .before .before .before .before .before .before .before .before .before
+abbrev start-of : tie.After-find-twin → tie.Start
+start-of f = f .before .before .before .before .before .before .before .before .before .before .before .before .before .before .before .before
 
-abbrev outlined : tie.After-find-twin → tie.After-outline-at
-outlined c = c .before .before .before .before .before .before .before .before
+abbrev undecided : tie.After-find-twin → tie.Else1
+undecided f = f .before .before .before .before .before .before .before .before .before
 
 inside : (a : tie.Start) → a .args .c .at < total (a .args .s)
 inside a = omega (arith, stands-within (a .pre .3 .standing .stands), length-rows-in (a .args .b .now) (a .pre .0))
@@ -31,24 +31,31 @@ inside a = omega (arith, stands-within (a .pre .3 .standing .stands), length-row
 abbrev rows-of : tie.Start → List Row
 rows-of a = rows-in (a .args .s) (a .args .b .now)
 
-one : (a : tie.Start) {front back : List Row} (x : Block) → Stands (rows-of a) (a .args .c .at) front x back → One (live (x ◂ none))
-one a x h = live-one x (λ z. omega (arith, a .pre .4, ap (λ (q : Row). q .kind) (stands-row h)))
+abbrev member-of : tie.Start → ℕ
+member-of a = a .args .c .at * 65536 + a .args .c .known % 65536
 
-own : (a : tie.Start) → LiveAt (rows-of a) (a .args .c .at)
+above : (a : tie.Start) {front back : List Row} (x : Block) → Stands (rows-of a) (a .args .c .at) front x back → 4 < (head x) .kind
+above a x h = omega (arith, a .pre .4, ap (λ (q : Row). q .kind) (stands-row h))
+
+one : (a : tie.Start) {front back : List Row} (x : Block) → Stands (rows-of a) (a .args .c .at) front x back → One (live (x ◂ none))
+one a x h = live-one x (λ z. omega (arith, above a x h))
+
+own : (a : tie.Start) → Member (rows-of a) (member-of a)
 own a =
     let g = a .pre .3 .standing in
     let u = one a (g .block) (g .stands) in
-    record { before = g .before; block = g .block; after = g .after; stands = g .stands; tree = u .tree; holds = u .is }
+    said-member (a .args .c .known) (g .block) (u .tree) (g .stands) (above a (g .block) (g .stands)) (a .pre .3 .says) (u .is)
 
 start-is : (f : tie.After-find-twin)
-    → f .before .before .before .before .first .result ≡ last (start-of (outlined f) .args .members .now) (bucket (outlined f .outline-at .result)) (start-of (outlined f) .args .c .before)
+    → f .before .before .before .before .first .result ≡ last (start-of f .args .members .now) (bucket (member-of (start-of f))) (start-of f .args .c .before)
 start-is f =
     let k = f .before .before .before .before in
-    k .first .ensures ∙
-    ap (λ j. last (start-of (outlined f) .args .members .now) j (start-of (outlined f) .args .c .before)) (k .before .bucket-of .ensures .0)
+    k .first .ensures ∙ ap (λ j. last (start-of f .args .members .now) j (start-of f .args .c .before)) (k .before .bucket-of .ensures .0)
 
 decides-at-requires : tie.Need-decides-at-requires
-decides-at-requires c κs = search needs
+decides-at-requires c κs =
+    let a = c .before .before .before .before .before in
+    (a .pre .0, inside a, a .pre .4)
 
 same-length : tie.Need-same-length
 same-length c = search needs
@@ -56,27 +63,34 @@ same-length c = search needs
 returns : tie.Need-returns
 returns c =
     let d = c .before in (
-      (λ o e from before done after laid noted two front x back h.
-          judged-decided h (sym (d .decides-at .ensures (live done) front x back h o e) ∙ c .if1 .taken)),
+      (λ o e from before done after laid noted two front x back h w.
+          judged-decided h (sym (d .decides-at .ensures (live done) front x back h w o e) ∙ c .if1 .taken)),
       (linked-none _ _ _, omega arith),
     )
 
-outline-at-requires : tie.Need-outline-at-requires
-outline-at-requires c κs = search needs
+mul-m : tie.Need-mul-m
+mul-m c =
+    let a = c .before .before .before .before .before .before .before in
+    omega (arith, inside a, a .pre .2 .countable)
+
+add-m : tie.Need-add-m
+add-m c =
+    let a = c .before .before .before .before .before .before .before .before in
+    omega (arith, inside a, a .pre .2 .countable)
 
 bucket-of-requires : tie.Need-bucket-of-requires
 bucket-of-requires c κs = search needs
 
 first-requires : tie.Need-first-requires
 first-requires c κs =
-    let a = start-of (c .before .before .before) in
+    let a = c .before .before .before .before .before .before .before .before .before .before .before in
     let k = c .bucket-of in
     (omega (arith, k .ensures .1, a .pre .2 .all-heads), omega (arith, inside a, a .pre .2 .members-fit, a .pre .3 .few), a .pre .3 .linked .heads (k .result) (k .ensures .1))
 
 find-twin-requires : tie.Need-find-twin-requires
 find-twin-requires c κs =
     let f = c .before .before .before in
-    let a = start-of (f .before .before .before .before) in (
+    let a = c .before .before .before .before .before .before .before .before .before .before .before .before .before .before .before in (
       a .pre .0,
       record {
         chain =
@@ -95,21 +109,9 @@ find-twin-requires c κs =
       own a,
     )
 
-mul-add : tie.Need-mul-add
-mul-add c =
-    let a = start-of (outlined (c .before .before .before .before)) in
-    omega (arith, inside a, a .pre .2 .countable)
-
-add-add : tie.Need-add-add
-add-add c =
-    let g = outlined (c .before .before .before .before) in
-    let a = start-of g in
-    omega (arith, inside a, a .pre .2 .countable, g .outline-at .ensures .1)
-
 add-requires : tie.Need-add-requires
 add-requires c κs =
-    let g = outlined (c .before .before .before .before) in
-    let a = start-of g in
+    let a = start-of (c .before .before .before .before) in
     let t = a .pre .2 in
     let few = a .pre .3 .few in (
       record {
@@ -118,13 +120,13 @@ add-requires c κs =
         members-fit = omega (arith, inside a, t .members-fit, few);
         countable = omega (arith, inside a, t .countable, few);
       },
-      omega (arith, inside a, t .countable, g .outline-at .ensures .1),
+      omega (arith, inside a, t .countable),
       a .pre .3 .linked,
     )
 
 add-result : tie.Need-add-result
 add-result c =
-    let a = start-of (outlined (c .before .before .before .before .before .before .before .before .before .before .before)) in
+    let a = start-of (c .before .before .before .before .before .before .before .before .before .before .before) in
     omega (arith, inside a, a .pre .2 .countable, a .pre .3 .few)
 
 same-length-2 : tie.Need-same-length-2
@@ -143,16 +145,16 @@ returns-2 : tie.Need-returns-2
 returns-2 c =
     let d = c .before .before .before .before .before .before in
     let f = d .before .before .before .before .before in
-    let g = outlined f in
-    let t = g .before .before in
-    let a = start-of g in
+    let t = undecided f in
+    let a = start-of f in
     let n = a .args .c .before in
     let same : n + 1 ≡ n + 2 - 1 = omega arith in (
-      (λ o e from before done after laid noted two front x back h.
+      (λ o e from before done after laid noted two front x back h w.
           let u = one a x h in
-          operator-new laid noted h (u .is) o (sym (t .before .decides-at .ensures (live done) front x back h o e) ∙ t .if1 .left)
-          (g .outline-at .ensures .0 front x back h (u .tree) (u .is))
-          (unfound (bucket (g .outline-at .result)) (f .find-twin .ensures front x back h (u .tree) (u .is)) (a .pre .3 .linked) (start-is f)
+          let l = above a x h in
+          operator-new laid noted h (u .is) o (sym (t .before .decides-at .ensures (live done) front x back h w o e) ∙ t .if1 .left)
+          (ap (λ p. a .args .c .at * 65536 + p) (said-print (a .args .c .known) x l w (u .is)))
+          (unfound (bucket (member-of a)) (f .find-twin .ensures (said-member (a .args .c .known) x (u .tree) h l w (u .is))) (a .pre .3 .linked) (start-is f)
           (d .before .before .before .before .if2 .taken))
           (d .add .ensures .0) (omega (arith, inside a, a .pre .2 .members-fit, a .pre .3 .few)) refl),
       (subst (Linked _ _ _) same (d .add .ensures .1), omega arith),
@@ -160,20 +162,20 @@ returns-2 c =
 
 argument-at-requires : tie.Need-argument-at-requires
 argument-at-requires c κs =
-    let a = start-of (outlined (c .before .before)) in
+    let a = start-of (c .before .before) in
     (a .pre .0, inside a)
 
 set-row-requires : tie.Need-set-row-requires
 set-row-requires c κs =
     let v = c .before in
-    let a = start-of (outlined (v .before .before .before)) in
+    let a = start-of (v .before .before .before) in
     let g = a .pre .3 .standing in
     let r = stands-row (g .stands) in
-    (a .pre .0, inside a, omega (arith, v .argument-at .ensures .0, ap (λ (q : Row). q .argument) r, operator-size (g .block) (omega (arith, a .pre .4, ap (λ (q : Row). q .kind) r)), stands-within (g .stands), length-rows-in (a .args .b .now) (a .pre .0), a .pre .1))
+    (a .pre .0, inside a, omega (arith, v .argument-at .ensures .0, ap (λ (q : Row). q .argument) r, operator-size (g .block) (above a (g .block) (g .stands)), stands-within (g .stands), length-rows-in (a .args .b .now) (a .pre .0), a .pre .1))
 
 add-result-2 : tie.Need-add-result-2
 add-result-2 c =
-    let a = start-of (outlined (c .before .before .before .before .before .before .before)) in
+    let a = start-of (c .before .before .before .before .before .before .before) in
     omega (arith, inside a, a .pre .2 .countable, a .pre .3 .few)
 
 same-length-6 : tie.Need-same-length-6
@@ -194,20 +196,19 @@ returns-3 c =
     let v = w .before .before in
     let e = v .before .before in
     let f = e .before in
-    let g = outlined f in
-    let t = g .before .before in
-    let a = start-of g in
+    let t = undecided f in
+    let a = start-of f in
     let n = a .args .c .before in
     let same : n ≡ n + 1 - 1 = omega arith in (
-      (λ o k from before done after laid noted two front x back h.
+      (λ o k from before done after laid noted two front x back h says.
           let u = one a x h in
-          let i = found (bucket (g .outline-at .result)) (f .find-twin .ensures front x back h (u .tree) (u .is)) (a .pre .3 .linked) (start-is f) (e .if2 .left) in
-          let r = stands-row h in
-          operator-again laid noted h (u .is) o (sym (t .before .decides-at .ensures (live done) front x back h o k) ∙ t .if1 .left)
-          (omega (arith, i .some, i .within)) (i .passes)
+          let l = above a x h in
+          let i = found (bucket (member-of a)) (f .find-twin .ensures (said-member (a .args .c .known) x (u .tree) h l says (u .is))) (a .pre .3 .linked) (start-is f) (e .if2 .left) in
+          operator-again laid noted h (u .is) o (sym (t .before .decides-at .ensures (live done) front x back h says o k) ∙ t .if1 .left)
+          (omega (arith, i .some, i .within)) (place-said (a .args .c .at) (a .args .c .known)) (i .passes)
           (w .set-row .ensures .0 ∙
           ap (λ m. set (rows-of a) (a .args .c .at) (row 0 m))
-          (v .argument-at .ensures .0 ∙ ap (λ (q : Row). q .argument) r ∙ operator-size x (omega (arith, a .pre .4, ap (λ (q : Row). q .kind) r)))) refl),
+          (v .argument-at .ensures .0 ∙ ap (λ (q : Row). q .argument) (stands-row h) ∙ operator-size x l)) refl),
       (subst (Linked _ _ _) same (a .pre .3 .linked), omega arith),
     )
 
@@ -218,12 +219,11 @@ judge-operator-spec =
     decides-at-requires
     same-length
     returns
-    outline-at-requires
+    mul-m
+    add-m
     bucket-of-requires
     first-requires
     find-twin-requires
-    mul-add
-    add-add
     add-requires
     add-result
     same-length-2

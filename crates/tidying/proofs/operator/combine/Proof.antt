@@ -1,10 +1,28 @@
 -- `tidying::operator::combine` meets its contract. Assumes nothing.
+use mathlib.Core.Path.{refl}
 use native.Mathlib.Omega.{arith}
-use Rattle.blocks.proofs.Blocks.{room-as}
-use Rattle.tidying.proofs.Combine.{ready-literal-at, ready-few, ready-kind, ready-owed, ready-region, ready-within, reduced-region, ready-decided, ready-undecided}
+use Rattle.tidying.proofs.InPlace.{in-place-as}
+use Rattle.tidying.proofs.Combine.{ready-literal-at, ready-few, ready-children, ready-within, ready-decided, ready-left, ready-undecided}
 use borrow.Author.Needs.{needs}
 use Rattle.tidying.proofs.operator.combine.Statement.{statement}
 use Rattle.tidying.proofs.operator.combine.Tie as tie
+
+-- what has been read of the row, and the arguments
+abbrev argued-of : tie.After-gather → tie.After-argument-at
+argued-of g = g .before .before .before .before .before .before
+
+abbrev test-of : tie.After-argument-at → tie.Else1
+test-of c = c .before .before
+
+abbrev start-of : tie.Else1 → tie.Start
+start-of c = c .before .before .before .before .before .before .before .before .before
+
+-- the children gathered, seen from the two branches
+abbrev decided-by : tie.Then2 → tie.After-gather
+decided-by c = c .before .before .before .before .before .before .before .before .before .before
+
+abbrev left-by : tie.Else2 → tie.After-gather
+left-by c = c .before .before .before .before .before .before .before .before .before .before
 
 kind-at-requires : tie.Need-kind-at-requires
 kind-at-requires c κs = search needs
@@ -15,57 +33,47 @@ same-length c = search needs
 returns : tie.Need-returns
 returns c = ready-literal-at (c .before .kind-at .ensures) (c .if1 .taken)
 
-add-hop : tie.Need-add-hop
-add-hop c = search needs
+add-t16 : tie.Need-add-t16
+add-t16 c = search needs
 
 argument-at-requires : tie.Need-argument-at-requires
 argument-at-requires c κs = search needs
 
-hop-requires : tie.Need-hop-requires
-hop-requires c κs =
-    let test = c .before .before in
-    let a = test .before .before .before .before .before .before .before in
-    (a .pre .0, ready-owed (test .before .kind-at .ensures) (c .argument-at .ensures .0) (test .if1 .left) (a .pre .3 .ready))
-
-add-t15 : tie.Need-add-t15
-add-t15 c = search needs
-
-reduce-requires : tie.Need-reduce-requires
-reduce-requires c κs =
-    let hopped = c .before .before .before .before in
-    let argued = hopped .before in
-    let test = argued .before .before in
-    let k = test .before .kind-at .ensures in
-    let n = argued .argument-at .ensures .0 in
-    let a = test .before .before .before .before .before .before .before in
-    let h = a .pre .3 .ready in
-    (a .pre .0, a .pre .1, a .pre .2, ready-region k n (test .if1 .left) h (hopped .hop .ensures), ready-kind k n (test .if1 .left) h)
+gather-requires : tie.Need-gather-requires
+gather-requires c κs =
+    let argued = c .before .before .before .before .before in
+    let test = test-of argued in
+    let a = start-of test in (
+      a .pre .0 .room,
+      a .pre .0 .counted,
+      a .pre .1,
+      a .pre .0 .known-fit,
+      ready-children (test .before .kind-at .ensures) (argued .argument-at .ensures .0) (test .if1 .left) (a .pre .2 .ready),
+    )
 
 add-hollow : tie.Need-add-hollow
 add-hollow c = search needs
 
 sub-hollow : tie.Need-sub-hollow
 sub-hollow c =
-    let reduced = c .before .before .before .before .before .before .before .before .before .before in
-    let hopped = reduced .before .before .before .before .before in
-    let argued = hopped .before in
-    let test = argued .before .before in
+    let g = decided-by (c .before) in
+    let argued = argued-of g in
+    let test = test-of argued in
     let k = test .before .kind-at .ensures in
     let n = argued .argument-at .ensures .0 in
-    let a = test .before .before .before .before .before .before .before in
-    omega (arith, ready-few k n (test .if1 .left) (a .pre .3 .ready))
+    let a = start-of test in
+    omega (arith, ready-few k n (test .if1 .left) (a .pre .2 .ready))
 
 hollow-requires : tie.Need-hollow-requires
 hollow-requires c κs =
-    let reduced = c .before .before .before .before .before .before .before .before .before .before in
-    let hopped = reduced .before .before .before .before .before in
-    let argued = hopped .before in
-    let test = argued .before .before in
+    let g = decided-by (c .before .before) in
+    let argued = argued-of g in
+    let test = test-of argued in
     let k = test .before .kind-at .ensures in
     let n = argued .argument-at .ensures .0 in
-    let a = test .before .before .before .before .before .before .before in
-    let w = ready-within k n (test .if1 .left) (a .pre .3 .ready) (hopped .hop .ensures) in
-    (room-as (reduced .reduce .kept .0) (a .pre .0), a .pre .1, w .0, w .1)
+    let a = start-of test in
+    let w = ready-within k n (test .if1 .left) (a .pre .2 .ready) (g .gather .ensures .0) in
+    (in-place-as (g .gather .kept .0) refl (a .pre .0), w .0, w .1)
 
 same-length-2 : tie.Need-same-length-2
 same-length-2 c = search needs
@@ -79,34 +87,40 @@ same-length-4 c = search needs
 same-length-5 : tie.Need-same-length-5
 same-length-5 c = search needs
 
+same-length-6 : tie.Need-same-length-6
+same-length-6 c = search needs
+
 returns-2 : tie.Need-returns-2
 returns-2 c =
-    let decision = c .before .before .before .before in
-    let reduced = decision .before .before .before .before .before .before .before .before .before in
-    let hopped = reduced .before .before .before .before .before in
-    let argued = hopped .before in
-    let test = argued .before .before in
+    let h = c .before .before .before .before in
+    let decision = h .before .before .before in
+    let g = decided-by decision in
+    let argued = argued-of g in
+    let test = test-of argued in
     let k = test .before .kind-at .ensures in
     let n = argued .argument-at .ensures .0 in
-    λ before x bs ts h.
-    ready-decided k n (test .if1 .left) h (hopped .hop .ensures) (reduced .reduce .ensures) (decision .if2 .taken) (c .before .before .hollow .ensures)
+    let a = start-of test in
+    λ before x bs ts r.
+    ready-decided k n (test .if1 .left) r (g .gather .ensures .0) (decision .if2 .taken) (h .hollow .ensures .0) (h .hollow .ensures .1)
 
 conclude-requires : tie.Need-conclude-requires
 conclude-requires c κs =
-    let reduced = c .before .before .before .before .before .before .before .before .before .before in
-    let hopped = reduced .before .before .before .before .before in
-    let argued = hopped .before in
-    let test = argued .before .before in
+    let decision = c .before .before .before in
+    let g = left-by decision in
+    let argued = argued-of g in
+    let test = test-of argued in
     let k = test .before .kind-at .ensures in
     let n = argued .argument-at .ensures .0 in
-    let a = test .before .before .before .before .before .before .before in (
-      room-as (reduced .reduce .kept .0) (a .pre .0),
-      a .pre .1,
-      reduced-region k n (test .if1 .left) (a .pre .3 .ready) (hopped .hop .ensures) (reduced .reduce .ensures),
+    let a = start-of test in
+    let r = a .pre .2 .ready in
+    let f = g .gather .ensures in
+    let t = a .pre .1 in (
+      in-place-as (g .gather .kept .0) refl (a .pre .0),
+      ready-within k n (test .if1 .left) r (f .0) .1,
+      ready-left k n (test .if1 .left) r (f .0) (decision .if2 .left)
+          (omega (arith, f .1, t .members-fit, g .gather .kept .1 .1 .1 .1 .0))
+          (omega (arith, f .1, t .countable)),
     )
-
-same-length-6 : tie.Need-same-length-6
-same-length-6 c = search needs
 
 same-length-7 : tie.Need-same-length-7
 same-length-7 c = search needs
@@ -117,17 +131,24 @@ same-length-8 c = search needs
 same-length-9 : tie.Need-same-length-9
 same-length-9 c = search needs
 
+same-length-10 : tie.Need-same-length-10
+same-length-10 c = search needs
+
+same-length-11 : tie.Need-same-length-11
+same-length-11 c = search needs
+
 returns-3 : tie.Need-returns-3
 returns-3 c =
-    let decision = c .before .before .before .before in
-    let reduced = decision .before .before .before .before .before .before .before .before .before in
-    let hopped = reduced .before .before .before .before .before in
-    let argued = hopped .before in
-    let test = argued .before .before in
+    let h = c .before .before .before .before in
+    let decision = h .before .before .before .before in
+    let g = left-by decision in
+    let argued = argued-of g in
+    let test = test-of argued in
     let k = test .before .kind-at .ensures in
     let n = argued .argument-at .ensures .0 in
-    λ before x bs ts h.
-    ready-undecided k n (test .if1 .left) h (hopped .hop .ensures) (reduced .reduce .ensures) (decision .if2 .left) (c .before .before .conclude .ensures)
+    let a = start-of test in
+    λ before x bs ts r.
+    ready-undecided k n (test .if1 .left) r (g .gather .ensures .0) (decision .if2 .left) (h .conclude .ensures .0) (h .conclude .ensures .1)
 
 pub combine-spec : {M : Type 1} → statement M
 combine-spec =
@@ -136,11 +157,9 @@ combine-spec =
     kind-at-requires
     same-length
     returns
-    add-hop
+    add-t16
     argument-at-requires
-    hop-requires
-    add-t15
-    reduce-requires
+    gather-requires
     add-hollow
     sub-hollow
     hollow-requires
@@ -148,10 +167,12 @@ combine-spec =
     same-length-3
     same-length-4
     same-length-5
+    same-length-6
     returns-2
     conclude-requires
-    same-length-6
     same-length-7
     same-length-8
     same-length-9
+    same-length-10
+    same-length-11
     returns-3)

@@ -1,133 +1,138 @@
 -- `tidying::operator::conclude` meets its contract. Assumes nothing.
+use mathlib.Core.Path.{refl}
 use native.Mathlib.Omega.{arith}
-use Rattle.rows.proofs.Layouts.{length-rows-in}
-use Rattle.blocks.specs.Walks.{extent}
-use Rattle.blocks.proofs.Blocks.{laid-within}
-use Rattle.tidying.proofs.Conclude.{first-within, not-equal, concludes-none, second-region, concludes-one, concludes-many}
+use Rattle.tidying.proofs.Conclude.{behind-set, lone-within, concludes-none, concludes-one, concludes-many}
 use borrow.Author.Needs.{needs}
 use Rattle.tidying.proofs.operator.conclude.Statement.{statement}
 use Rattle.tidying.proofs.operator.conclude.Tie as tie
 
-add-first-live : tie.Need-add-first-live
-add-first-live c = search needs
+-- the arguments, seen from the branches of a lone child and of more
+abbrev start-of : tie.Then2 → tie.Start
+start-of c = c .before .before .before .before .before .before
 
-first-live-requires : tie.Need-first-live-requires
-first-live-requires c κs = search needs
+abbrev many-of : tie.After-print-on → tie.Start
+many-of c = c .before .before .before .before .before .before .before .before .before .before .before .before
 
 hollow-requires : tie.Need-hollow-requires
-hollow-requires c κs =
-    let a = c .before .before .before .before .before in
-    let i = laid-within (a .pre .2 .laid) in
-    let counted = length-rows-in (a .args .b .now) (a .pre .0) in
-    (a .pre .0, a .pre .1, omega (arith, i .0), omega (arith, i .1, counted))
+hollow-requires c κs = search needs
 
 same-length : tie.Need-same-length
 same-length c = search needs
 
+same-length-2 : tie.Need-same-length-2
+same-length-2 c = search needs
+
 returns : tie.Need-returns
 returns c =
-    let test = c .before .before .before .before in
-    concludes-none (test .before .first-live .ensures) (test .if1 .taken) (c .before .before .hollow .ensures)
+    let h = c .before .before .before .before .hollow .ensures in
+    let test = c .before .before .before .before .before .before .before in
+    let a = test .before .before .before .before .before in
+    (concludes-none (a .pre .2 .members-fit) (test .if1 .taken) (h .0), h .1)
 
-extent-at-requires : tie.Need-extent-at-requires
-extent-at-requires c κs =
-    let a = c .before .before .before .before .before in
-    let g = a .pre .2 in
-    let i = laid-within (g .laid) in
-    let counted = length-rows-in (a .args .b .now) (a .pre .0) in
-    let f = c .before .before .first-live .ensures (g .before) (g .blocks) (g .after) (g .laid) in
-    let w = first-within f in
-    (a .pre .0, omega (arith, i .1, counted, (not-equal (w .1) (c .before .if1 .left))))
-
-add-next : tie.Need-add-next
-add-next c =
-    let a = c .before .before .before .before .before .before in
-    let g = a .pre .2 in
-    let i = laid-within (g .laid) in
-    let counted = length-rows-in (a .args .b .now) (a .pre .0) in
-    let f = c .before .before .before .first-live .ensures (g .before) (g .blocks) (g .after) (g .laid) in
-    let w = first-within f in
-    omega (arith, c .extent-at .ensures .1, i .1, counted, w .1)
-
-first-live-requires-2 : tie.Need-first-live-requires-2
-first-live-requires-2 c κs =
-    let extent = c .before in
-    let test = extent .before .before in
-    let a = test .before .before .before .before in
-    (a .pre .0, second-region (test .before .first-live .ensures) (test .if1 .left) (extent .extent-at .ensures .0) (a .pre .2))
+member-requires : tie.Need-member-requires
+member-requires c κs = search needs
 
 sub-set-row : tie.Need-sub-set-row
 sub-set-row c =
-    let a = c .before .before .before .before .before .before .before .before .before .before in
+    let a = start-of (c .before .before) in
     let g = a .pre .2 in
-    let i = laid-within (g .laid) in
-    let counted = length-rows-in (a .args .b .now) (a .pre .0) in
-    let f = c .before .before .before .before .before .before .before .first-live .ensures (g .before) (g .blocks) (g .after) (g .laid) in
-    let w = first-within f in
+    let w = lone-within (g .is-left) (g .members-fit) (c .before .before .if2 .taken) (c .before .member .ensures .0) in
     omega (arith, w .0)
 
 set-row-requires : tie.Need-set-row-requires
 set-row-requires c κs =
-    let a = c .before .before .before .before .before .before .before .before .before .before in
+    let a = start-of (c .before .before) in
     let g = a .pre .2 in
-    let i = laid-within (g .laid) in
-    let counted = length-rows-in (a .args .b .now) (a .pre .0) in
-    let f = c .before .before .before .before .before .before .before .first-live .ensures (g .before) (g .blocks) (g .after) (g .laid) in
-    let w = first-within f in
-    (a .pre .0, omega (arith, i .0, i .1, counted), omega (arith, w .0, w .1, i .1, counted, a .pre .1))
+    let w = lone-within (g .is-left) (g .members-fit) (c .before .before .if2 .taken) (c .before .member .ensures .0) in
+    (a .pre .0 .room, omega (arith, w .0, w .1, a .pre .1), omega (arith, w .1, a .pre .0 .counted, a .pre .1))
 
-same-length-2 : tie.Need-same-length-2
-same-length-2 c = search needs
+same-length-3 : tie.Need-same-length-3
+same-length-3 c = search needs
 
 returns-2 : tie.Need-returns-2
 returns-2 c =
-    let test = c .before .before .before .before in
-    let extent = test .before .before .before in
-    let found = extent .before .before in
-    concludes-one (found .before .first-live .ensures) (found .if1 .left) (extent .extent-at .ensures .0) (test .before .first-live2 .ensures)
-    (test .if2 .taken) (c .before .before .set-row .ensures .0)
+    let got = c .before .before .before .before in
+    let a = start-of (got .before) in
+    (concludes-one (a .pre .2 .members-fit) (got .before .if2 .taken) (got .member .ensures .0) (c .before .before .set-row .ensures .0), λ j l. refl)
 
 sub-set-row-2 : tie.Need-sub-set-row-2
 sub-set-row-2 c = search needs
 
 set-row-requires-2 : tie.Need-set-row-requires-2
-set-row-requires-2 c κs =
-    let a = c .before .before .before .before .before .before .before .before .before .before in
-    let g = a .pre .2 in
-    let i = laid-within (g .laid) in
-    let counted = length-rows-in (a .args .b .now) (a .pre .0) in
-    let f = c .before .before .before .before .before .before .before .first-live .ensures (g .before) (g .blocks) (g .after) (g .laid) in
-    let w = first-within f in
-    (a .pre .0, omega (arith, i .0, i .1, counted), omega (arith, i .0, i .1, counted, a .pre .1))
+set-row-requires-2 c κs = search needs
 
-same-length-3 : tie.Need-same-length-3
-same-length-3 c = search needs
+sub-count : tie.Need-sub-count
+sub-count c = search needs
+
+mul-known : tie.Need-mul-known
+mul-known c = search needs
+
+wide-requires : tie.Need-wide-requires
+wide-requires c κs = search needs
+
+print-on-requires : tie.Need-print-on-requires
+print-on-requires c κs = search needs
+
+add-known : tie.Need-add-known
+add-known c =
+    let a = many-of c in
+    omega (arith, c .print-on .ensures .1, a .pre .2 .countable, a .pre .2 .is-left .headed .ends, a .pre .1, a .pre .0 .known-fit)
+
+cast-known : tie.Need-cast-known
+cast-known c =
+    let a = many-of c in
+    omega (arith, c .print-on .ensures .1, a .pre .2 .countable, a .pre .2 .is-left .headed .ends, a .pre .1, a .pre .0 .known-fit)
+
+mul-known-2 : tie.Need-mul-known-2
+mul-known-2 c =
+    let a = many-of c in
+    omega (arith, c .print-on .ensures .1, a .pre .2 .countable, a .pre .2 .is-left .headed .ends, a .pre .1, a .pre .0 .known-fit)
+
+slice-write-known : tie.Need-slice-write-known
+slice-write-known c =
+    let a = many-of c in
+    omega (arith, c .print-on .ensures .1, a .pre .2 .countable, a .pre .2 .is-left .headed .ends, a .pre .1, a .pre .0 .known-fit)
+
+same-length-4 : tie.Need-same-length-4
+same-length-4 c = search needs
+
+same-length-5 : tie.Need-same-length-5
+same-length-5 c = search needs
 
 returns-3 : tie.Need-returns-3
 returns-3 c =
-    let test = c .before .before .before .before in
-    let extent = test .before .before .before in
-    let found = extent .before .before in
-    concludes-many (found .before .first-live .ensures) (found .if1 .left) (extent .extent-at .ensures .0) (test .before .first-live2 .ensures)
-    (test .if2 .left) (c .before .before .set-row2 .ensures .0)
+    let second = c .before .before .before .before .before .before in
+    let first = second .before in
+    let a = many-of c in
+    let g = a .pre .2 in (
+      concludes-many (g .members-fit) (omega (arith, second .if2 .left, first .if1 .left, g .undecided)) (omega (arith, g .is-left .headed .ends, a .pre .1, a .pre .0 .known-fit))
+          (c .before .before .before .before .set-row2 .ensures .0) (c .before .wide .ensures .0) (c .print-on .ensures .0) refl,
+      behind-set (a .args .known .now) _ refl,
+    )
 
 pub conclude-spec : {M : Type 1} → statement M
 conclude-spec =
     tie.close
     (tie.spec
-    add-first-live
-    first-live-requires
     hollow-requires
     same-length
+    same-length-2
     returns
-    extent-at-requires
-    add-next
-    first-live-requires-2
+    member-requires
     sub-set-row
     set-row-requires
-    same-length-2
+    same-length-3
     returns-2
     sub-set-row-2
     set-row-requires-2
-    same-length-3
+    sub-count
+    mul-known
+    wide-requires
+    print-on-requires
+    add-known
+    cast-known
+    mul-known-2
+    slice-write-known
+    same-length-4
+    same-length-5
     returns-3)

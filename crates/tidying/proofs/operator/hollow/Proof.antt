@@ -1,5 +1,7 @@
 -- `tidying::operator::hollow` meets its contract. Assumes nothing.
-use Rattle.tidying.proofs.Conclude.{hollows-short, hollows-long}
+use mathlib.Core.Path.{refl}
+use native.Mathlib.Omega.{arith}
+use Rattle.tidying.proofs.Conclude.{behind-set, hollows-short, hollows-long}
 use borrow.Author.Needs.{needs}
 use Rattle.tidying.proofs.operator.hollow.Statement.{statement}
 use Rattle.tidying.proofs.operator.hollow.Tie as tie
@@ -9,6 +11,12 @@ sub-set-row c = search needs
 
 set-row-requires : tie.Need-set-row-requires
 set-row-requires c κs = search needs
+
+mul-known : tie.Need-mul-known
+mul-known c = search needs
+
+slice-write-known : tie.Need-slice-write-known
+slice-write-known c = search needs
 
 add-if1 : tie.Need-add-if1
 add-if1 c = search needs
@@ -28,17 +36,32 @@ set-row-requires-2 c κs = search needs
 same-length : tie.Need-same-length
 same-length c = search needs
 
+same-length-2 : tie.Need-same-length-2
+same-length-2 c = search needs
+
 returns : tie.Need-returns
 returns c =
     let second = c .before .before in
     let test = second .before .before in
-    hollows-long (test .before .before .before .set-row .ensures .0) (second .set-row2 .ensures .0) (test .if1 .taken)
+    let first = test .before .before .before in
+    let a = first .before .before .before .before in (
+      hollows-long (a .args .known .now) (first .set-row .ensures .0) refl (omega arith) (second .set-row2 .ensures .0) (test .if1 .taken),
+      behind-set (a .args .known .now) _ refl,
+    )
 
-same-length-2 : tie.Need-same-length-2
-same-length-2 c = search needs
+same-length-3 : tie.Need-same-length-3
+same-length-3 c = search needs
+
+same-length-4 : tie.Need-same-length-4
+same-length-4 c = search needs
 
 returns-2 : tie.Need-returns-2
-returns-2 c = hollows-short (c .before .before .before .set-row .ensures .0) (c .if1 .left)
+returns-2 c =
+    let first = c .before .before .before in
+    let a = first .before .before .before .before in (
+      hollows-short (a .args .known .now) (first .set-row .ensures .0) refl (omega arith) (c .if1 .left),
+      behind-set (a .args .known .now) _ refl,
+    )
 
 pub hollow-spec : {M : Type 1} → statement M
 hollow-spec =
@@ -46,12 +69,16 @@ hollow-spec =
     (tie.spec
     sub-set-row
     set-row-requires
+    mul-known
+    slice-write-known
     add-if1
     add-set-row
     sub-set-row-2
     sub-set-row-3
     set-row-requires-2
     same-length
-    returns
     same-length-2
+    returns
+    same-length-3
+    same-length-4
     returns-2)

@@ -5,44 +5,42 @@ use native.Mathlib.Omega.{arith}
 use lib.ListN.{length}
 use Rattle.rows.specs.Layouts.{rows-in, total}
 use Rattle.rows.proofs.Layouts.{length-rows-in}
-use Rattle.blocks.proofs.Blocks.{room-as}
 use Rattle.tidying.specs.Inner.Operators.{Tidies}
-use Rattle.tidying.proofs.TidyRows.{back-none, back-ready, back-more, back-end}
-use Rattle.blocks.proofs.Sift.{tables-as}
+use Rattle.tidying.proofs.TidyEach.{back-none, back-ready, back-more, back-end}
+use Rattle.tidying.proofs.InPlace.{in-place-as, tables-as}
 use borrow.Author.Needs.{needs}
 use Rattle.tidying.proofs.operator.tidy_each.Statement.{statement}
 use Rattle.tidying.proofs.operator.tidy_each.Tie as tie
 
 abbrev Inv-loop : tie.InvT-loop
-Inv-loop b₀ s heads₀ links₀ members₀ r₀ b heads links members r =
-    (s .variables ≤ r) × (r ≤ total s) × Tidies (rows-in s b₀) (rows-in s b) r (total s) × (length b ≡ length b₀) × (length heads ≡ length heads₀) ×
-    (length links ≡ length links₀) × (length members ≡ length members₀)
+Inv-loop b₀ s heads₀ links₀ members₀ known₀ r₀ b heads links members known r =
+    (s .variables ≤ r) × (r ≤ total s) × Tidies (rows-in s b₀) (rows-in s b) known r (total s) × (length b ≡ length b₀) × (length heads ≡ length heads₀) ×
+    (length links ≡ length links₀) × (length members ≡ length members₀) × (length known ≡ length known₀)
 
 abbrev μ-loop : tie.MeasureT-loop
-μ-loop b₀ s heads₀ links₀ members₀ r₀ b heads links members r = r
+μ-loop b₀ s heads₀ links₀ members₀ known₀ r₀ b heads links members known r = r
 
 add-r : tie.Need-add-r Inv-loop μ-loop
 add-r c = search needs
 
 loop-holds : tie.Need-loop-holds Inv-loop μ-loop
 loop-holds c =
-    let a = c .before .before .before .before .before in
-    (omega arith, omega arith, back-none _ _ (length-rows-in (a .args .b .now) (a .pre .0)), refl, refl, refl, refl)
+    let a = c .before .before .before .before .before .before in
+    (omega arith, omega arith, back-none _ _ _ (length-rows-in (a .args .b .now) (a .pre .0 .room)), refl, refl, refl, refl, refl)
 
 sub-r : tie.Need-sub-r Inv-loop μ-loop
 sub-r c = omega arith
 
 combine-requires : tie.Need-combine-requires Inv-loop μ-loop
 combine-requires c κs =
-    let l = c .before .before .before .before in
+    let l = c .before .before .before .before .before in
     let i = l .before .before .loop .inv in
-    let a = l .before .before .before .before .before .before .before .before in
-    let counted = length-rows-in (a .args .b .now) (a .pre .0) in
+    let a = l .before .before .before .before .before .before .before .before .before in
+    let counted = length-rows-in (a .args .b .now) (a .pre .0 .room) in
     let rows = rows-in (a .args .s) (a .args .b .now) in (
-      room-as (i .3) (a .pre .0),
-      a .pre .1,
-      tables-as (i .4) (i .5) (i .6) (a .pre .2),
-      record { before = _; first = _; blocks = _; trees = _; ready = back-ready rows counted (a .pre .3) (l .if1 .taken) (i .1) (i .2) },
+      in-place-as (i .3) (i .7) (a .pre .0),
+      tables-as (i .4) (i .5) (i .6) (a .pre .1),
+      record { before = _; first = _; blocks = _; trees = _; ready = back-ready rows counted (a .pre .2) (l .if1 .taken) (i .1) (i .2) },
     )
 
 loop-less : tie.Need-loop-less Inv-loop μ-loop
@@ -50,20 +48,21 @@ loop-less c = omega arith
 
 loop-again : tie.Need-loop-again Inv-loop μ-loop
 loop-again c =
-    let combined = c .before .before .before .before .before .before .before .before in
-    let l = combined .before .before .before .before .before in
+    let combined = c .before .before .before .before .before .before .before .before .before .before in
+    let l = combined .before .before .before .before .before .before in
     let i = l .before .before .loop .inv in
-    let a = l .before .before .before .before .before .before .before .before in
-    let counted = length-rows-in (a .args .b .now) (a .pre .0) in
+    let a = l .before .before .before .before .before .before .before .before .before in
+    let counted = length-rows-in (a .args .b .now) (a .pre .0 .room) in
     let rows = rows-in (a .args .s) (a .args .b .now) in
     let kept = combined .combine .kept in (
       omega (arith, l .if1 .taken),
       omega (arith, i .1),
-      back-more rows counted (a .pre .3) (l .if1 .taken) (i .1) (i .2) (combined .combine .ensures),
+      back-more rows counted (a .pre .2) (l .if1 .taken) (i .1) (i .2) (combined .combine .ensures),
       kept .0 ∙ i .3,
-      kept .1 .1 .1 .0 ∙ i .4,
-      kept .1 .1 .1 .1 .0 ∙ i .5,
-      kept .1 .1 .1 .1 .1 .0 ∙ i .6,
+      kept .1 .1 .0 ∙ i .4,
+      kept .1 .1 .1 .0 ∙ i .5,
+      kept .1 .1 .1 .1 .0 ∙ i .6,
+      kept .1 .1 .1 .1 .1 .0 ∙ i .7,
     )
 
 same-length : tie.Need-same-length Inv-loop μ-loop
@@ -77,6 +76,9 @@ same-length-3 c = c .before .before .loop .inv .5
 
 same-length-4 : tie.Need-same-length-4 Inv-loop μ-loop
 same-length-4 c = c .before .before .loop .inv .6
+
+same-length-5 : tie.Need-same-length-5 Inv-loop μ-loop
+same-length-5 c = c .before .before .loop .inv .7
 
 returns : tie.Need-returns Inv-loop μ-loop
 returns c =
@@ -99,4 +101,5 @@ tidy-each-spec =
     same-length-2
     same-length-3
     same-length-4
+    same-length-5
     returns)

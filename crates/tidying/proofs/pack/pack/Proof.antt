@@ -6,44 +6,44 @@ use lib.ListN.{length}
 use Rattle.rows.specs.Layouts.{total, rows-in}
 use Rattle.rows.proofs.Layouts.{length-rows-in}
 use Rattle.blocks.proofs.Blocks.{room-as}
-use Rattle.tidying.proofs.Packed.{Pack, pack-none, pack-standing, pack-safe, pack-more, pack-end}
+use Rattle.tidying.proofs.InPlace.{in-place-as}
+use Rattle.tidying.proofs.Packed.{Pack, pack-none, pack-told, pack-safe, pack-more, pack-end}
 use borrow.Author.Needs.{needs}
 use Rattle.tidying.proofs.pack.pack.Statement.{statement}
 use Rattle.tidying.proofs.pack.pack.Tie as tie
 
 abbrev Inv-loop : tie.InvT-loop
-Inv-loop b₀ s at₀ to₀ b at to = Pack (rows-in s b₀) (rows-in s b) (s .variables) (total s) at to × (length b ≡ length b₀)
+Inv-loop b₀ s known at₀ to₀ b at to = Pack (rows-in s b₀) (rows-in s b) known (s .variables) (total s) at to × (length b ≡ length b₀)
 
 abbrev μ-loop : tie.MeasureT-loop
-μ-loop b₀ s at₀ to₀ b at to = total s - at
+μ-loop b₀ s known at₀ to₀ b at to = total s - at
 
 loop-holds : tie.Need-loop-holds Inv-loop μ-loop
-loop-holds c = (pack-none (c .before .pre .2), refl)
+loop-holds c = (pack-none (c .before .before .pre .1), refl)
 
 add-if1 : tie.Need-add-if1 Inv-loop μ-loop
 add-if1 c = search needs
 
 -- the rows at a turn are as many as at first
 counted : (c : tie.Then1 Inv-loop μ-loop)
-    → total (c .before .before .before .before .args .s) ≤ length (rows-in (c .before .before .before .before .args .s) (c .before .before .loop .b))
+    → total (c .before .before .before .before .before .args .s) ≤ length (rows-in (c .before .before .before .before .before .args .s) (c .before .before .loop .b))
 counted c =
     let l = c .before .before in
-    omega (arith, length-rows-in (l .loop .b) (room-as (l .loop .inv .1) (l .before .before .pre .0)))
+    omega (arith, length-rows-in (l .loop .b) (room-as (l .loop .inv .1) (l .before .before .before .pre .0 .room)))
 
 stride-at-requires : tie.Need-stride-at-requires Inv-loop μ-loop
 stride-at-requires c κs =
     let l = c .before .before .before in
-    (room-as (l .loop .inv .1) (l .before .before .pre .0), c .before .if1 .taken)
+    (room-as (l .loop .inv .1) (l .before .before .before .pre .0 .room), c .before .if1 .taken)
 
 put-live-requires : tie.Need-put-live-requires Inv-loop μ-loop
 put-live-requires c κs =
     let t = c .before .before .before in
     let l = t .before .before in
     let i = l .loop .inv in
-    let a = l .before .before in (
-      room-as (i .1) (a .pre .0),
-      a .pre .1,
-      pack-standing (i .0) (a .pre .2) (t .if1 .taken) (counted t),
+    let a = l .before .before .before in (
+      in-place-as (i .1) refl (a .pre .0),
+      pack-told (i .0) (t .if1 .taken) (counted t) (a .pre .1),
       i .0 .behind,
     )
 
@@ -57,7 +57,7 @@ loop-less c =
     let stepped = c .before .before .before .before in
     let t = stepped .before .before in
     let l = t .before .before in
-    let safe = pack-safe (l .loop .inv .0) (l .before .before .pre .2) (t .if1 .taken) (counted t) in
+    let safe = pack-safe (l .loop .inv .0) (t .if1 .taken) (counted t) (l .before .before .before .pre .1) in
     omega (arith, t .if1 .taken, stepped .stride-at .ensures .0, safe .0)
 
 loop-again : tie.Need-loop-again Inv-loop μ-loop
@@ -67,7 +67,7 @@ loop-again c =
     let t = stepped .before .before in
     let l = t .before .before in
     let i = l .loop .inv in (
-      pack-more (i .0) (l .before .before .pre .2) (t .if1 .taken) (counted t) (stepped .stride-at .ensures .0) (put .put-live .ensures),
+      pack-more (i .0) (t .if1 .taken) (counted t) (l .before .before .before .pre .1) (stepped .stride-at .ensures .0) (put .put-live .ensures),
       put .put-live .kept .0 ∙ i .1,
     )
 

@@ -12,48 +12,50 @@ use Rattle.tidying.proofs.pack.put_live.Tie as tie
 
 kind-at-requires : tie.Need-kind-at-requires
 kind-at-requires c κs =
-    let a = c .before .before in
-    (a .pre .0, omega (arith, stands-within (a .pre .2 .stands), length-rows-in (a .args .b .now) (a .pre .0)))
+    let a = c .before .before .before in
+    (a .pre .0 .room, omega (arith, stands-within (a .pre .1 .stands), length-rows-in (a .args .b .now) (a .pre .0 .room)))
 
 same-length : tie.Need-same-length
 same-length c = search needs
 
 returns : tie.Need-returns
 returns c =
-    λ before x after h. put-dead x (sym (c .before .kind-at .ensures ∙ ap (λ (r : Row). r .kind) (stands-row h)) ∙ c .if1 .taken)
+    λ before x after h t. put-dead x (sym (c .before .kind-at .ensures ∙ ap (λ (r : Row). r .kind) (stands-row h)) ∙ c .if1 .taken)
 
-argument-of-requires : tie.Need-argument-of-requires
-argument-of-requires c κs = search needs
+argument-told-requires : tie.Need-argument-told-requires
+argument-told-requires c κs =
+    let a = c .before .before .before .before .before .before in
+    (a .pre .0, omega (arith, stands-within (a .pre .1 .stands), length-rows-in (a .args .b .now) (a .pre .0 .room)))
 
 set-row-requires : tie.Need-set-row-requires
 set-row-requires c κs =
-    let a = c .before .before .before .before .before .before .before in
-    let g = a .pre .2 in
+    let a = c .before .before .before .before .before .before .before .before in
+    let g = a .pre .1 in
     let h = g .stands in
-    let counted = length-rows-in (a .args .b .now) (a .pre .0) in
+    let counted = length-rows-in (a .args .b .now) (a .pre .0 .room) in
     let within = stands-within h in
-    let bytes = all-bytes (a .args .b .now) (λ i. omega (arith, c .before .before .before .before .before .before .slice-known .given i)) in
-    let fits = argument-fits (a .args .b .now) (a .pre .0) bytes (a .args .at) (omega (arith, within, counted)) in (
-      a .pre .0,
-      omega (arith, within, counted, a .pre .3),
+    let bytes = all-bytes (a .args .b .now) (λ i. omega (arith, c .before .before .before .before .before .before .before .slice-known .given i)) in
+    let fits = argument-fits (a .args .b .now) (a .pre .0 .room) bytes (a .args .at) (omega (arith, within, counted)) in (
+      a .pre .0 .room,
+      omega (arith, within, counted, a .pre .2),
       put-fits (g .block) _ (λ e. c .before .before .before .if1 .left (c .before .before .before .before .kind-at .ensures ∙ ap (λ (r : Row). r .kind) (stands-row h) ∙ e)) h (rw (stands-row h) at fits)
-          (omega (arith, counted, a .pre .1)) (c .before .argument-of .ensures _ _ _ h),
+          (omega (arith, counted, a .pre .0 .counted)) (c .before .argument-told .ensures _ _ _ h (g .told)),
     )
 
 add-result : tie.Need-add-result
 add-result c =
-    let a = c .before .before .before .before .before .before .before .before .before .before in
-    omega (arith, stands-within (a .pre .2 .stands), length-rows-in (a .args .b .now) (a .pre .0), a .pre .3)
+    let a = c .before .before .before .before .before .before .before .before .before .before .before in
+    omega (arith, stands-within (a .pre .1 .stands), length-rows-in (a .args .b .now) (a .pre .0 .room), a .pre .2)
 
 same-length-2 : tie.Need-same-length-2
 same-length-2 c = search needs
 
 returns-2 : tie.Need-returns-2
 returns-2 c =
-    let a = c .before .before .before .before .before .before .before .before .before .before in
-    λ before x after h.
-    put-row x _ _ (c .before .before .set-row .ensures .0) (a .pre .3) (omega (arith, stands-within h)) (c .before .before .before .before .before .before .if1 .left)
-    (c .before .before .before .before .before .before .before .kind-at .ensures ∙ ap (λ (r : Row). r .kind) (stands-row h)) (c .before .before .before .before .argument-of .ensures _ _ _ h)
+    let a = c .before .before .before .before .before .before .before .before .before .before .before in
+    λ before x after h t.
+    put-row x _ _ (c .before .before .set-row .ensures .0) (a .pre .2) (omega (arith, stands-within h)) (c .before .before .before .before .before .before .if1 .left)
+    (c .before .before .before .before .before .before .before .kind-at .ensures ∙ ap (λ (r : Row). r .kind) (stands-row h)) (c .before .before .before .before .argument-told .ensures _ _ _ h t)
 
 pub put-live-spec : {M : Type 1} → statement M
 put-live-spec =
@@ -62,7 +64,7 @@ put-live-spec =
     kind-at-requires
     same-length
     returns
-    argument-of-requires
+    argument-told-requires
     set-row-requires
     add-result
     same-length-2

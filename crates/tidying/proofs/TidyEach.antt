@@ -4,22 +4,21 @@ use mathlib.Core.Path.{_≡_, refl, sym, ap, _∙_, subst}
 use mathlib.Core.List.{List, [], _∷_, _++_, append-nil}
 use Prim.Native.Nat.{ℕ, zero, suc, _+_, _-_, _≤_, _<_}
 use native.Mathlib.Omega.{arith}
-use lib.ListN.{length, take, drop, replicate, drop-of-length-le, length-replicate}
+use lib.ListN.{length, take, drop, drop-of-length-le}
 use lib.Seq.{take-all, take-suc, drop-cons, drop-drop, append-snoc, length-take-le}
 use Rattle.formula.specs.Tidy.{tidy-all}
 use Rattle.sheet.specs.Format.{Row, row}
 use Rattle.sheet.specs.Sheet.{trees}
 use Rattle.blocks.specs.Blocks.{none, block-rows, live}
-use Rattle.rows.specs.declared.Layout.{Layout}
+use Rattle.blocks.specs.Known.{AllTold}
 use Rattle.blocks.specs.Walks.{at-row}
-use Rattle.blocks.specs.Rules.{Tables}
-use Rattle.tidying.specs.Limits.{Few}
+use Rattle.blocks.proofs.Told.{told-at}
 use Rattle.tidying.specs.Inner.Operators.{Ready, Preorder, Combines, Tidies}
 use Rattle.tidying.proofs.Conclude.{replaced-as}
 
-pub back-none : (R₀ : List Row) (n : ℕ) → length R₀ ≡ n → Tidies R₀ R₀ n n
-unfolding block-rows live trees tidy-all
-back-none R₀ n e =
+pub back-none : (R₀ : List Row) (K : List ℕ) (n : ℕ) → length R₀ ≡ n → Tidies R₀ R₀ K n n
+unfolding block-rows live trees tidy-all AllTold
+back-none R₀ K n e =
     record {
       blocks = none;
       laid =
@@ -28,6 +27,7 @@ back-none R₀ n e =
             starts = length-take-le n R₀ (omega (arith, e));
             ends = omega arith;
           };
+      told = tt;
       reads = ap (λ rs. tidy-all (trees rs)) (sym (drop-of-length-le R₀ {i = n} (omega (arith, e))));
     }
 
@@ -57,9 +57,9 @@ module _ (R₀ : List Row) {v r n : ℕ} (counted : length R₀ ≡ n) (p : Preo
       down : v + (r - 1 - v) ≡ r - 1
       down = omega arith
 
-  pub back-ready : {R : List Row} (b : Tidies R₀ R r n) → Ready R (r - 1) n (take (r - 1) R₀) there (b .blocks) (trees (drop r R₀))
+  pub back-ready : {R : List Row} {K : List ℕ} (b : Tidies R₀ R K r n) → Ready R K (r - 1) n (take (r - 1) R₀) there (b .blocks) (trees (drop r R₀))
   unfolding Preorder
-  back-ready b =
+  back-ready {K = K} b =
       record {
         headed =
             record {
@@ -67,26 +67,15 @@ module _ (R₀ : List Row) {v r n : ℕ} (counted : length R₀ ≡ n) (p : Preo
               starts = length-take-le (r - 1) R₀ (omega (arith, counted));
               ends = omega (arith, b .laid .ends);
             };
+        told = told-at K (b .blocks) (omega arith) (b .told);
         reads = b .reads;
         node = nodes .0;
         enough = nodes .1;
       }
 
-  pub back-more : {R R′ : List Row} → Tidies R₀ R r n → Combines R R′ (r - 1) n → Tidies R₀ R′ (r - 1) n
+  pub back-more : {R R′ : List Row} {K K′ : List ℕ} → Tidies R₀ R K r n → Combines R R′ K K′ (r - 1) n → Tidies R₀ R′ K′ (r - 1) n
   unfolding trees
   back-more b f = replaced-as refl (ap (λ rs. tidy-all (trees rs)) (sym rows-from)) (f _ _ _ _ (back-ready b))
 
-pub back-end : (R₀ : List Row) {R : List Row} {v r n : ℕ} → v ≤ r → r ≤ v → Tidies R₀ R r n → Tidies R₀ R v n
-back-end R₀ {R} {v} {r} {n} l u b = subst (λ m. Tidies R₀ R m n) (omega arith) b
-
-pub blank-tables : (s : Layout) → Few s → Tables s (replicate 1024 0) (replicate 9216 0) (replicate 9216 0)
-blank-tables s f =
-    record {
-      all-heads = blank 1024;
-      links-fit = omega (arith, blank 9216);
-      members-fit = omega (arith, blank 9216);
-      countable = omega arith;
-    }
-  where
-    blank : (n : ℕ) → length {A = ℕ} (replicate n 0) ≡ n
-    blank n = length-replicate {A = ℕ} n 0
+pub back-end : (R₀ : List Row) {R : List Row} {K : List ℕ} {v r n : ℕ} → v ≤ r → r ≤ v → Tidies R₀ R K r n → Tidies R₀ R K v n
+back-end R₀ {R} {K} {v} {r} {n} l u b = subst (λ m. Tidies R₀ R K m n) (omega arith) b

@@ -1,0 +1,118 @@
+-- Members: how many there are, their prints mixed, and the row of a lone one.
+-- Assumes nothing.
+use mathlib.Core.Path.{_≡_, refl, sym, ap, _∙_}
+use mathlib.Core.List.{List, [], _∷_, _++_}
+use Prim.Native.Nat.{ℕ, suc, _+_, _*_, _/_, _%_, _<_}
+use native.Mathlib.Numerals.{add-one}
+use native.Mathlib.Omega.{arith}
+use lib.ListN.{length, getD, take}
+use lib.Seq.{take-suc}
+use Rattle.formula.specs.Tree.{Op, and, or, Tree, lit, node, Forest, ∅, _▸_, count}
+use Rattle.sheet.specs.Sheet.{operator-kind}
+use Rattle.buckets.specs.Prints.{mix, print, print-on}
+use Rattle.buckets.proofs.Prints.{print-few}
+use Rattle.blocks.specs.Blocks.{gone, literal, operator, Blocks, none, _◂_, _⊕_, block-rows, size, grown, live}
+use Rattle.blocks.specs.Rules.{note, notes}
+use Rattle.blocks.proofs.Blocks.{length-◂}
+use Rattle.tidying.specs.Inner.Operators.{mixes}
+
+pub count-none : (ts : Forest) → count ts ≡ 0 → ts ≡ ∅
+unfolding count
+count-none ∅ e = refl
+count-none (t ▸ ts) e = absurd (omega arith)
+
+pub notes-count : (r : ℕ) (bs : Blocks) → length (notes r bs) ≡ count (live bs)
+unfolding notes note live grown count
+notes-count r none = refl
+notes-count r (gone rs ◂ bs) = notes-count (r + size (gone rs)) bs
+notes-count r (literal s v ◂ bs) = ap suc (notes-count (r + size (literal s v)) bs)
+notes-count r (operator o ks ◂ bs) = ap suc (notes-count (r + size (operator o ks)) bs)
+
+-- print_on
+
+pub mixes-snoc : (h : ℕ) (ms : List ℕ) (m : ℕ) → mixes h (ms ++ (m ∷ [])) ≡ mix (mixes h ms) (m % 65536)
+unfolding mixes
+mixes-snoc h [] m = refl
+mixes-snoc h (x ∷ ms) m = mixes-snoc (mix h (x % 65536)) ms m
+
+pub mixes-more : (M : List ℕ) (h i : ℕ) → i < length M → mix (mixes h (take i M)) (getD M i 0 % 65536) ≡ mixes h (take (i + 1) M)
+mixes-more M h i l =
+    sym (ap (λ n. mixes h (take n M)) (add-one i) ∙ ap (mixes h) (take-suc M i 0 l) ∙ mixes-snoc h (take i M) (getD M i 0))
+
+-- the low half of a member
+low : (r p : ℕ) → p < 65536 → (r * 65536 + p) % 65536 ≡ p
+low r p l = omega arith
+
+mixes-notes : (h r : ℕ) (bs : Blocks) → mixes h (notes r bs) ≡ print-on h (live bs)
+unfolding notes note live grown mixes print-on print
+mixes-notes h r none = refl
+mixes-notes h r (gone rs ◂ bs) = mixes-notes h (r + size (gone rs)) bs
+mixes-notes h r (literal s v ◂ bs) =
+    ap (λ p. mixes (mix h p) (notes (r + size (literal s v)) bs)) (low r (print (lit s v)) (print-few (lit s v))) ∙
+    mixes-notes (mix h (print (lit s v))) (r + size (literal s v)) bs
+mixes-notes h r (operator o ks ◂ bs) =
+    ap (λ p. mixes (mix h p) (notes (r + size (operator o ks)) bs)) (low r (print (node o (live ks))) (print-few (node o (live ks)))) ∙
+    mixes-notes (mix h (print (node o (live ks)))) (r + size (operator o ks)) bs
+
+-- those of an operator's children mixed into its kind
+pub mixes-print : (o : Op) (r : ℕ) (bs : Blocks) → mixes (operator-kind o) (notes r bs) ≡ print (node o (live bs))
+unfolding print
+mixes-print and r bs = mixes-notes 5 r bs
+mixes-print or r bs = mixes-notes 6 r bs
+
+-- a lone member: the block of its row holds the only tree
+pub record Lone (from p : ℕ) (bs : Blocks) : Type 0 where
+  pub done : Blocks
+  pub rest : Blocks
+  pub is : bs ≡ done ⊕ rest
+  pub place : from + length (block-rows done) ≡ p
+  pub tree : Tree
+  pub reads : live bs ≡ tree ▸ ∅
+  pub holds : live rest ≡ tree ▸ ∅
+
+high : (r p : ℕ) → p < 65536 → r ≡ (r * 65536 + p) / 65536
+high r p l = omega arith
+
+no-notes : (r : ℕ) (bs : Blocks) → notes r bs ≡ [] → live bs ≡ ∅
+no-notes r bs e = count-none (live bs) (sym (notes-count r bs) ∙ ap length e)
+
+pub lone : (from m : ℕ) (bs : Blocks) → notes from bs ≡ m ∷ [] → Lone from (m / 65536) bs
+unfolding notes note live grown _⊕_ block-rows print
+lone from m none e = let z : _≡_ {A = ℕ} 0 1 = ap length e in absurd (omega arith)
+lone from m (gone rs ◂ bs) e =
+    let l = lone (from + size (gone rs)) m bs e in
+    record {
+      done = gone rs ◂ l .done;
+      rest = l .rest;
+      is = ap (λ cs. gone rs ◂ cs) (l .is);
+      place = omega (arith, length-◂ (gone rs) (l .done), l .place);
+      tree = l .tree;
+      reads = l .reads;
+      holds = l .holds;
+    }
+lone from m (literal s v ◂ bs) e =
+    let one : from * 65536 + print (lit s v) ≡ m = cc in
+    let others : notes (from + size (literal s v)) bs ≡ [] = cc in
+    let is : live (literal s v ◂ bs) ≡ lit s v ▸ ∅ = ap (λ ts. lit s v ▸ ts) (no-notes (from + size (literal s v)) bs others) in
+    record {
+      done = none;
+      rest = literal s v ◂ bs;
+      is = refl;
+      place = omega (arith, high from (print (lit s v)) (print-few (lit s v)), ap (λ w. w / 65536) one);
+      tree = lit s v;
+      reads = is;
+      holds = is;
+    }
+lone from m (operator o ks ◂ bs) e =
+    let one : from * 65536 + print (node o (live ks)) ≡ m = cc in
+    let others : notes (from + size (operator o ks)) bs ≡ [] = cc in
+    let is : live (operator o ks ◂ bs) ≡ node o (live ks) ▸ ∅ = ap (λ ts. node o (live ks) ▸ ts) (no-notes (from + size (operator o ks)) bs others) in
+    record {
+      done = none;
+      rest = operator o ks ◂ bs;
+      is = refl;
+      place = omega (arith, high from (print (node o (live ks))) (print-few (node o (live ks))), ap (λ w. w / 65536) one);
+      tree = node o (live ks);
+      reads = is;
+      holds = is;
+    }
