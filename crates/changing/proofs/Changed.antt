@@ -102,7 +102,7 @@ chosen-of-operator t and n = refl
 chosen-of-operator t or n = refl
 
 -- an operator's row stays
-pub operator-kept : (t : List ℕ) (o : Op) (n : ℕ) → changed-row t (row (operator-kind o) n) ≡ row (operator-kind o) n
+operator-kept : (t : List ℕ) (o : Op) (n : ℕ) → changed-row t (row (operator-kind o) n) ≡ row (operator-kind o) n
 operator-kept t o n = row-kept t (row (operator-kind o) n) (chosen-of-operator t o n)
 
 -- became and changed are one row
@@ -160,18 +160,15 @@ module _ (t : List ℕ) where
   mutual
     unfolding replace has changed
 
-    pub replace-kept : (u : Tree) → has (chosen t) u ≡ false → replace (changed t) u ≡ u
+    replace-kept : (u : Tree) → has (chosen t) u ≡ false → replace (changed t) u ≡ u
     replace-kept (lit s v) h = rw h
     replace-kept (node o us) h = ap (node o) (replace-kept-all us h)
 
-    pub replace-kept-all : (us : Forest) → has-any (chosen t) us ≡ false → replace-all (changed t) us ≡ us
+    replace-kept-all : (us : Forest) → has-any (chosen t) us ≡ false → replace-all (changed t) us ≡ us
     replace-kept-all ∅ h = refl
     replace-kept-all (u ▸ us) h =
         let parts = or-parts (has (chosen t) u) (has-any (chosen t) us) h in
         ap₂ _▸_ (replace-kept u (parts .0)) (replace-kept-all us (parts .1))
-
-  pub rows-kept : (u : Tree) → has (chosen t) u ≡ false → map (changed-row t) (tree-rows u) ≡ tree-rows u
-  rows-kept u h = rows-changed u ∙ ap tree-rows (replace-kept u h)
 
   pub rows-kept-all : (us : Forest) → has-any (chosen t) us ≡ false → map (changed-row t) (forest-rows us) ≡ forest-rows us
   rows-kept-all us h = rows-changed-all us ∙ ap forest-rows (replace-kept-all us h)

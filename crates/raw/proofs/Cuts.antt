@@ -2,8 +2,8 @@
 -- Assumes nothing.
 use mathlib.Core.Path.{_≡_, refl, sym, ap, ap₂, _∙_}
 use mathlib.Core.Bool.{Bool, true, false, not, _||_, cond, Bool·beq, false≢true}
-use mathlib.Core.List.{List, [], _∷_, _++_, append-assoc, append-nil, map}
-use Prim.Native.Nat.{ℕ, zero, suc, _+_, _≤_, _<_}
+use mathlib.Core.List.{List, [], _∷_, _++_, append-assoc, map}
+use Prim.Native.Nat.{ℕ, _+_, _≤_}
 use native.Mathlib.Omega.{arith}
 use lib.ListN.{length, getD, take, drop, length-append, length-drop}
 use lib.Seq.{slice, slice-empty, take-add, take-at, drop-at, drop-append-le, drop-drop, length-take-le}
@@ -15,7 +15,7 @@ use Rattle.sheet.specs.Sheet.{tree-rows, forest-rows}
 use Rattle.sheet.proofs.Preorder.{length-tree-rows, length-forest-rows}
 use Rattle.relevance.specs.Cuts.{turns, cuts, every-other}
 use Rattle.changing.specs.Changes.{chosen, changed-row}
-use Rattle.changing.proofs.Changed.{map-append, rows-kept, rows-kept-all}
+use Rattle.changing.proofs.Changed.{rows-kept-all}
 use Rattle.raw.specs.Expansions.{Climbs}
 
 -- slice
@@ -190,23 +190,6 @@ module _ (L : Literals) where
 -- rows outside the runs that hold chosen literals stay, by the table that chooses
 
 module _ (t : List ℕ) (N : List Row) where
-  lead-kept : (ts : Forest) (from i : ℕ) → from ≤ i → Stands N i ts → map (changed-row t) (slice from i N) ≡ slice from i N
-      → map (changed-row t) (slice from (first-cut (chosen t) N i ts) N) ≡ slice from (first-cut (chosen t) N i ts) N
-  unfolding turns
-  lead-kept ∅ from i l s e = e
-  lead-kept (u ▸ ts) from i l s e = by (has (chosen t) u) refl (lead-kept ts from (i + rows u) (omega arith) (stands-next s))
-    where
-      by : (m : Bool) → has (chosen t) u ≡ m
-          → (map (changed-row t) (slice from (i + rows u) N) ≡ slice from (i + rows u) N
-          → map (changed-row t) (slice from (first-cut (chosen t) N (i + rows u) ts) N) ≡ slice from (first-cut (chosen t) N (i + rows u) ts) N)
-          → let c = getD (cond (Bool·beq m false) (turns (chosen t) false (i + rows u) ts) (i ∷ turns (chosen t) true (i + rows u) ts)) 0 0 in
-          map (changed-row t) (slice from c N) ≡ slice from c N
-      by true k rest = e
-      by false k rest =
-          rest
-          (ap (map (changed-row t)) (slice-tree s from l) ∙ map-append (changed-row t) (slice from i N) (tree-rows u) ∙
-          ap₂ _++_ e (rows-kept t u k) ∙ sym (slice-tree s from l))
-
   others-kept : (ts : Forest) (i : ℕ) → Stands N i ts
       → map (changed-row t) (every-other (later-cuts (chosen t) N i ts) N) ≡ every-other (later-cuts (chosen t) N i ts) N
   unfolding turns every-other
@@ -228,7 +211,6 @@ pub record Parted (t : List ℕ) (N : List Row) (i : ℕ) (ts : Forest) (cs : Li
   pub begins : getD cs 0 0 ≡ i
   pub climbs : Climbs 0 cs (length N)
   pub holding : every-other (drop 1 cs) N ≡ forest-rows (relevant (chosen t) ts)
-  pub lead : map (changed-row t) (slice (getD cs 0 0) (getD cs 1 0) N) ≡ slice (getD cs 0 0) (getD cs 1 0) N
   pub others : map (changed-row t) (every-other (drop 2 cs) N) ≡ every-other (drop 2 cs) N
   pub placed : (new : Tree) → has-any (chosen t) ts ≡ true
       → forest-rows (at-first (chosen t) new ts) ≡
@@ -251,7 +233,6 @@ parted t N i ts s e = rw e (known)
           begins = refl;
           climbs = (omega arith, climbs-turns L ts false i (length N) within);
           holding = picked-later L N ts true i s ∙ ap forest-rows (pick-relevant L ts);
-          lead = lead-kept t N ts i i (omega arith) s (ap (map (changed-row t)) (slice-empty i N) ∙ sym (slice-empty i N));
           others = others-kept t N ts i s;
           placed = λ new h. ap (λ l. l ++ forest-rows (at-first L new ts)) (sym (slice-empty i N)) ∙ spot L N new ts i i (omega arith) s h;
         }

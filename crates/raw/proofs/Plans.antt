@@ -2,7 +2,7 @@
 -- Assumes nothing.
 use mathlib.Core.Path.{_≡_, refl, sym, ap, ap₂, _∙_, subst, subst₂}
 use mathlib.Core.Bool.{true, false, cond}
-use mathlib.Core.List.{List, [], _∷_, _++_, map}
+use mathlib.Core.List.{List, _∷_, _++_, map}
 use Prim.Native.Nat.{ℕ, suc, _+_, _-_, _^_, _≤_, _<_}
 use native.Mathlib.Nat.{lt-of-lt-of-le, pow-le-pow-right}
 use native.Mathlib.Omega.{arith}
@@ -22,13 +22,12 @@ use Rattle.subtrees.proofs.Forest.{rows-kids}
 use Rattle.relevance.specs.declared.Relevant.{Relevant}
 use Rattle.changing.specs.Changes.{changed-row, copied}
 use Rattle.changing.specs.Output.{Ready}
-use Rattle.changing.proofs.Changed.{replace-kept}
 use Rattle.raw.specs.Formulas.{without-row, first-table, second-table, chosen-by, operator-of, copying-by, expanded-raw}
-use Rattle.raw.specs.Expansions.{Climbs, runs-in, joined, Copyable, Expandable, Located, part-in, cuts-in, new-rows, new-at, joined-in, joined-at, raw-matrix}
+use Rattle.raw.specs.Expansions.{Climbs, runs-in, joined, Copyable, Expandable, Located, part-in, cuts-in, new-rows, new-at, joined-in, raw-matrix}
 use Rattle.raw.specs.declared.expand.Expansion.{Expansion}
 use Rattle.raw.proofs.Around.{own-part}
 use Rattle.raw.proofs.Cuts.{climbs-from, Parted, parted}
-use Rattle.raw.proofs.Source.{nodes-copied, matrix-copied}
+use Rattle.raw.proofs.Source.{nodes-part, matrix-part}
 use Rattle.raw.proofs.Copies.{relevant-few, whole-rows, some-rows}
 use Rattle.raw.proofs.Turn.{climbs-most}
 use Rattle.raw.proofs.Raws.{room-on, rows-raw, rows-absent}
@@ -156,7 +155,7 @@ pub record Some (s : Layout) (b : Bytes) (tables cs : List ℕ) (e : Expansion) 
       (1 + ((getD cs 1 0 - getD cs 0 0) + (length (joined-in s b tables cs e) + length (runs-in s b (drop 2 cs))))) ≤
       total (e .layout)
   pub written : row ((top (part-in s b e)) .kind) (count (kids (part-in s b e)) - e .part .children + 1) ∷
-      (copied (second-table tables) (s .variables + getD cs 0 0) (s .variables + getD cs 1 0) (rows-in s b) ++
+      (slice (s .variables + getD cs 0 0) (s .variables + getD cs 1 0) (rows-in s b) ++
       (joined-in s b tables cs e ++ map (changed-row (second-table tables)) (runs-in s b (drop 2 cs)))) ≡
       new-rows s b tables e
 
@@ -188,7 +187,7 @@ some {s} {b} {tables} {cs} {e} x l h c =
           );
       written =
           ap₂ (λ m n. head ∷ (m ++ (joined-in s b tables cs e ++ n)))
-          (nodes-copied s b (x .readable) second (getD cs 0 0) (getD cs 1 0) ∙ p .lead) (p .others) ∙ sym parts;
+          (nodes-part s b (x .readable) (getD cs 0 0) (getD cs 1 0)) (p .others) ∙ sym parts;
     }
   where
     site : Sited s b tables e
@@ -279,34 +278,21 @@ pub some-parts : (s : Layout) (b : Bytes) (tables cs : List ℕ) (e : Expansion)
     → k ≡ (top (part-in s b e)) .kind → n ≡ count (kids (part-in s b e))
     → let t = take (length tables - 1025) (drop 1025 tables) in
     row k (n - e .part .children + 1) ∷
-    (copied t (s .variables + getD cs 0 0) (s .variables + getD cs 1 0) (rows-in s b) ++
+    (slice (s .variables + getD cs 0 0) (s .variables + getD cs 1 0) (rows-in s b) ++
     (joined-in s b tables cs e ++ map (changed-row t) (runs-in s b (take (length cs - 2) (drop 2 cs))))) ≡
     new-rows s b tables e
 some-parts s b tables cs e p {k} {n} is-kind is-count =
     ap₂
     (λ t l. row k (n - e .part .children + 1) ∷
-    (copied t (s .variables + getD cs 0 0) (s .variables + getD cs 1 0) (rows-in s b) ++
+    (slice (s .variables + getD cs 0 0) (s .variables + getD cs 1 0) (rows-in s b) ++
     (joined-in s b tables cs e ++ map (changed-row t) (runs-in s b l))))
     (rest-of 1025 tables) (rest-of 2 cs) ∙
     ap₂
     (λ k n. row k (n - e .part .children + 1) ∷
-    (copied (second-table tables) (s .variables + getD cs 0 0) (s .variables + getD cs 1 0) (rows-in s b) ++
+    (slice (s .variables + getD cs 0 0) (s .variables + getD cs 1 0) (rows-in s b) ++
     (joined-in s b tables cs e ++ map (changed-row (second-table tables)) (runs-in s b (drop 2 cs)))))
     is-kind is-count ∙
     p .written
-
--- the rows before the subtree, what replaces it, and the rows behind it
-pub expanded-parts : {s : Layout} {b : Bytes} {tables : List ℕ} {e : Expansion} → Sited s b tables e
-    → let t = take (length tables - 1025) (drop 1025 tables) in
-    copied t (s .variables) (s .variables + e .part .operator) (rows-in s b) ++
-    (new-rows s b tables e ++ copied t (s .variables + e .end) (total s) (rows-in s b)) ≡
-    raw-matrix s b tables e
-expanded-parts {s} {b} {tables} {e} site =
-    ap
-    (λ t. copied t (s .variables) (s .variables + e .part .operator) (rows-in s b) ++
-    (new-rows s b tables e ++ copied t (s .variables + e .end) (total s) (rows-in s b)))
-    (rest-of 1025 tables) ∙
-    sym (site .raw)
 
 module _ {s : Layout} {b : Bytes} {tables : List ℕ} {e : Expansion} {out : Bytes} (x : Copyable s b tables e out) where
   -- as many rows as the layout has nodes
@@ -314,19 +300,16 @@ module _ {s : Layout} {b : Bytes} {tables : List ℕ} {e : Expansion} {out : Byt
   matrix-rows =
       length-tree-rows (raw-tree (copying-by tables (e .joint)) (matrix-in s b)) ∙ rows-raw tables (e .joint) (matrix-in s b) ∙ sym (x .nodes-are)
 
-  -- with no literal chosen, the matrix as it is by the table that chooses
+  -- with no literal chosen, the matrix as it is
   module _ (absent : has (chosen-by tables) (matrix-in s b) ≡ false) where
     pub absent-nodes : e .layout .nodes ≡ s .nodes
     absent-nodes = x .nodes-are ∙ rows-absent s b (x .readable) tables absent
 
-    pub absent-parts : copied (take (length tables - 1025) (drop 1025 tables)) (s .variables) (total s) (rows-in s b) ≡ raw-matrix s b tables e
+    pub absent-parts : slice (s .variables) (total s) (rows-in s b) ≡ raw-matrix s b tables e
     unfolding raw-tree
     absent-parts =
-        ap (λ t. copied t (s .variables) (total s) (rows-in s b)) (rest-of 1025 tables) ∙
-        matrix-copied s b (x .readable) (second-table tables) ∙
-        ap tree-rows
-        (replace-kept (second-table tables) (matrix-in s b) absent ∙
-        sym (ap (λ m. cond m (expand-tree (copying-by tables (e .joint)) (matrix-in s b)) (matrix-in s b)) absent))
+        matrix-part s b (x .readable) ∙
+        ap tree-rows (sym (ap (λ m. cond m (expand-tree (copying-by tables (e .joint)) (matrix-in s b)) (matrix-in s b)) absent))
 
 -- the prefix and the matrix
 pub expanded-rows : (s : Layout) (b : Bytes) (tables : List ℕ) (e : Expansion)

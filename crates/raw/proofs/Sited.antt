@@ -1,34 +1,32 @@
 -- The subtree that an expansion replaces, in the rows of the sheet.
 -- Assumes nothing.
 use mathlib.Core.Path.{_≡_, refl, sym, ap, ap₂, _∙_, subst}
-use mathlib.Core.Bool.{true, false}
-use mathlib.Core.List.{List, [], _∷_, _++_, map}
+use mathlib.Core.List.{List, _++_, map}
 use Prim.Native.Nat.{ℕ, suc, _+_, _-_, _≤_, _<_}
 use native.Mathlib.Nat.{add-zero, zero-add}
 use native.Mathlib.Omega.{arith}
-use lib.ListN.{length, getD, take, drop, length-append, length-map}
-use lib.Seq.{slice, take-all, take-at, drop-at, drop-drop, length-slice}
-use Rattle.formula.specs.Tree.{Tree, lit, node, Literals, rows, count}
+use lib.ListN.{length, take, drop, length-append}
+use lib.Seq.{slice, take-all, take-at, drop-at, drop-drop}
+use Rattle.formula.specs.Tree.{Tree, lit, node, Literals, rows}
 use Rattle.formula.specs.Expand.{Copying, expand-tree, raw-tree}
-use Rattle.sheet.specs.Format.{Bytes, Row, row}
+use Rattle.sheet.specs.Format.{Bytes, Row}
 use Rattle.sheet.specs.Sheet.{trees, root, tree-rows, forest-rows}
 use Rattle.sheet.proofs.Preorder.{length-tree-rows, rows-positive, trees-tree}
 use Rattle.rows.specs.Layouts.{total, rows-in}
 use Rattle.rows.specs.Formulas.{node-rows-in, matrix-in}
 use Rattle.rows.specs.declared.Layout.{Layout}
 use Rattle.rows.proofs.Formulas.{length-nodes, one-tree}
-use Rattle.subtrees.specs.Subtrees.{top, kids, forest-in, subtree-in}
+use Rattle.subtrees.specs.Subtrees.{kids, forest-in, subtree-in}
 use Rattle.subtrees.proofs.Forest.{tree-rows-top}
 use Rattle.relevance.specs.Parts.{operator-part, relevant-part}
 use Rattle.relevance.specs.declared.Relevant.{Relevant}
-use Rattle.changing.specs.Changes.{changed, changed-row, copied}
-use Rattle.raw.specs.Formulas.{first-table, second-table, chosen-by, operator-of, copying-by, raw-layout}
-use Rattle.raw.specs.Expansions.{runs-in, Copyable, Located, part-in, cuts-in, new-rows, new-at, joined-in, joined-at}
+use Rattle.changing.specs.Changes.{changed-row, copied}
+use Rattle.raw.specs.Formulas.{second-table, chosen-by, copying-by}
+use Rattle.raw.specs.Expansions.{Copyable, Located, part-in, new-rows}
 use Rattle.raw.specs.declared.expand.Expansion.{Expansion}
-use Rattle.raw.proofs.Cuts.{slice-take, Stands, Parted, parted}
+use Rattle.raw.proofs.Cuts.{slice-take, Stands}
 use Rattle.raw.proofs.Around.{Deepest, own-part, Around, around}
-use Rattle.raw.proofs.Source.{nodes-copied}
-use Rattle.raw.proofs.Copies.{relevant-few, whole-rows, some-rows}
+use Rattle.raw.proofs.Source.{nodes-part, nodes-copied}
 use Rattle.raw.proofs.Raws.{rows-raw}
 
 own-operator : (L : Literals) (i : ℕ) (u : Tree) → (own-part L i u) .operator ≡ i
@@ -64,8 +62,8 @@ pub record Sited (s : Layout) (b : Bytes) (tables : List ℕ) (e : Expansion) : 
   pub here : (t : List ℕ)
       → copied t (s .variables + e .part .operator) (s .variables + e .end) (rows-in s b) ≡ map (changed-row t) (tree-rows (part-in s b e))
   pub raw : tree-rows (raw-tree (copying-by tables (e .joint)) (matrix-in s b)) ≡
-      copied (second-table tables) (s .variables) (s .variables + e .part .operator) (rows-in s b) ++
-      (new-rows s b tables e ++ copied (second-table tables) (s .variables + e .end) (total s) (rows-in s b))
+      slice (s .variables) (s .variables + e .part .operator) (rows-in s b) ++
+      (new-rows s b tables e ++ slice (s .variables + e .end) (total s) (rows-in s b))
   pub measured : e .part .operator + (length (new-rows s b tables e) + (s .nodes - e .end)) ≡ e .layout .nodes
 
 module _ (s : Layout) (b : Bytes) (tables : List ℕ) (e : Expansion) {out : Bytes} (x : Copyable s b tables e out)
@@ -85,9 +83,8 @@ module _ (s : Layout) (b : Bytes) (tables : List ℕ) (e : Expansion) {out : Byt
   abbrev second : List ℕ
   second = second-table tables
 
-  A : Around second c 0 (relevant-part L 0 (matrix-in s b)) (tree-rows (matrix-in s b))
-      (tree-rows (expand-tree c (matrix-in s b)))
-  A = around second (operator-of (e .joint)) (changed (first-table tables)) (changed second) (matrix-in s b) 0 (l .present)
+  A : Around c 0 (relevant-part L 0 (matrix-in s b)) (tree-rows (matrix-in s b)) (tree-rows (expand-tree c (matrix-in s b)))
+  A = around c (matrix-in s b) 0 (l .present)
 
   in-N : N ≡ A .front ++ (tree-rows (A .tree) ++ A .back)
   in-N = sym (one-tree b (x .readable)) ∙ A .in-rows
@@ -114,24 +111,20 @@ module _ (s : Layout) (b : Bytes) (tables : List ℕ) (e : Expansion) {out : Byt
   total-N : s .nodes ≡ op + (rows u + length (A .back))
   total-N = sym (length-nodes b (x .readable)) ∙ whole N (A .front) (tree-rows u) (A .back) rows-N (sym op-is) (length-tree-rows u)
 
-  front-is : copied second (s .variables) (s .variables + op) (rows-in s b) ≡ A .front
+  front-is : slice (s .variables) (s .variables + op) (rows-in s b) ≡ A .front
   front-is =
-      ap (λ k. copied second k (s .variables + op) (rows-in s b)) (sym (add-zero (s .variables))) ∙
-      nodes-copied s b (x .readable) second 0 op ∙
-      ap (map (changed-row second)) (first-part N (A .front) (tree-rows u) (A .back) rows-N (sym op-is) (length-tree-rows u)) ∙
-      A .front-kept
+      ap (λ k. slice k (s .variables + op) (rows-in s b)) (sym (add-zero (s .variables))) ∙ nodes-part s b (x .readable) 0 op ∙
+      first-part N (A .front) (tree-rows u) (A .back) rows-N (sym op-is) (length-tree-rows u)
 
-  back-is : copied second (s .variables + e .end) (total s) (rows-in s b) ≡ A .back
+  back-is : slice (s .variables + e .end) (total s) (rows-in s b) ≡ A .back
   back-is =
-      nodes-copied s b (x .readable) second (e .end) (s .nodes) ∙
-      ap (map (changed-row second))
-      (ap₂ (λ i k. slice i k N) (l .end-is) (sym (length-nodes b (x .readable))) ∙
-      last-part N (A .front) (tree-rows u) (A .back) rows-N (sym op-is) (length-tree-rows u)) ∙
-      A .back-kept
+      nodes-part s b (x .readable) (e .end) (s .nodes) ∙
+      ap₂ (λ i k. slice i k N) (l .end-is) (sym (length-nodes b (x .readable))) ∙
+      last-part N (A .front) (tree-rows u) (A .back) rows-N (sym op-is) (length-tree-rows u)
 
   raw-is : tree-rows (raw-tree c (matrix-in s b)) ≡
-      copied second (s .variables) (s .variables + op) (rows-in s b) ++
-      (new-rows s b tables e ++ copied second (s .variables + e .end) (total s) (rows-in s b))
+      slice (s .variables) (s .variables + op) (rows-in s b) ++
+      (new-rows s b tables e ++ slice (s .variables + e .end) (total s) (rows-in s b))
   unfolding raw-tree
   raw-is =
       rw (l .present)

@@ -84,6 +84,16 @@ module _ (s : Layout) (b : Bytes) (ok : Readable s b) where
       ap₂ (λ k l. map binding-row (drop k l)) (add-one i) (take-all (s .variables) p (omega (arith, length-prefix b ok)))) ∙
       sym (map-append binding-row (take i p) (drop (suc i) p))
 
+  -- a part of the matrix, and the whole of it
+  pub nodes-part : (from to : ℕ) → slice (s .variables + from) (s .variables + to) R ≡ slice from to (node-rows-in s b)
+  unfolding node-rows-in
+  nodes-part from to = slice-behind (s .variables) from to R (omega (arith, length-R))
+
+  pub matrix-part : slice (s .variables) (total s) R ≡ tree-rows (matrix-in s b)
+  matrix-part =
+      ap (λ k. slice k (total s) R) (sym (add-zero (s .variables))) ∙ nodes-part 0 (s .nodes) ∙
+      take-all (s .nodes) (node-rows-in s b) (omega (arith, length-nodes b ok)) ∙ sym (one-tree b ok)
+
 module _ (s : Layout) (b : Bytes) (ok : Readable s b) (t : List ℕ) where
   -- a part of the prefix, by a table
   pub copied-prefix : (from to : ℕ) → to ≤ s .variables
@@ -92,15 +102,12 @@ module _ (s : Layout) (b : Bytes) (ok : Readable s b) (t : List ℕ) where
   copied-prefix from to h =
       ap (map (changed-row t)) (prefix-part s b ok from to h) ∙ prefix-kept t (drop from (take to (prefix-in s b)))
 
-  -- a part of the matrix
+  -- a part of the matrix, and the whole of it
   pub nodes-copied : (from to : ℕ)
       → copied t (s .variables + from) (s .variables + to) (rows-in s b) ≡ map (changed-row t) (slice from to (node-rows-in s b))
-  unfolding copied node-rows-in
-  nodes-copied from to = ap (map (changed-row t)) (slice-behind (s .variables) from to (rows-in s b) (omega (arith, length-R s b ok)))
+  unfolding copied
+  nodes-copied from to = ap (map (changed-row t)) (nodes-part s b ok from to)
 
-  -- the whole of it
   pub matrix-copied : copied t (s .variables) (total s) (rows-in s b) ≡ tree-rows (replace (changed t) (matrix-in s b))
-  matrix-copied =
-      ap (λ k. copied t k (total s) (rows-in s b)) (sym (add-zero (s .variables))) ∙ nodes-copied 0 (s .nodes) ∙
-      ap (map (changed-row t)) (take-all (s .nodes) (node-rows-in s b) (omega (arith, length-nodes b ok)) ∙ sym (one-tree b ok)) ∙
-      rows-changed t (matrix-in s b)
+  unfolding copied
+  matrix-copied = ap (map (changed-row t)) (matrix-part s b ok) ∙ rows-changed t (matrix-in s b)

@@ -1,5 +1,5 @@
 // The raw sheet of Expand: the relevant subtree gives way to two copies, each literal of which becomes what that copy's table says.
-// Rows outside the copies hold no chosen literal, so that the second table, which chooses, leaves them as they are.
+// Rows outside the copies stay as they are: the runs of the other children too, by the second table, which chooses none of their literals.
 use crate::runs::Head;
 use crate::runs::write_below;
 use crate::runs::write_runs;
@@ -8,6 +8,7 @@ use changing::Span;
 use changing::Target;
 use changing::write::write_copy;
 use changing::write::write_row;
+use changing::write::write_rows;
 use relevance::Relevant;
 use rows::Layout;
 use rows::NUMBERS;
@@ -119,7 +120,7 @@ fn write_some(
     };
     let at = write_row(out, start, kind, children - e.part.children + 1);
     let below = Target { layout: t, at: at };
-    write_copy(b, s, &tables[NUMBERS..], before, out, below);
+    write_rows(b, s, before, out, below);
     let end = write_copies(b, s, tables, cuts, e, out);
     let rest = Target { layout: t, at: end };
     write_runs(b, s, &tables[NUMBERS..], &cuts[2..], out, rest)
@@ -168,10 +169,10 @@ fn write_expanded(
         layout: t,
         at: t.variables,
     };
-    write_copy(b, s, &tables[NUMBERS..], above, out, front);
+    write_rows(b, s, above, out, front);
     let end = write_subtree(b, s, tables, cuts, e, out);
     let back = Target { layout: t, at: end };
-    write_copy(b, s, &tables[NUMBERS..], behind, out, back)
+    write_rows(b, s, behind, out, back)
 }
 
 // Writes the matrix of the raw sheet behind the prefix, of as many rows as the layout says; with no literal chosen it stays.
@@ -198,7 +199,7 @@ pub fn write_matrix(
         layout: t,
         at: t.variables,
     };
-    write_copy(b, s, &tables[NUMBERS..], matrix, out, front)
+    write_rows(b, s, matrix, out, front)
 }
 
 // Writes the raw sheet of an expansion: the prefix without the row that goes, and the matrix.

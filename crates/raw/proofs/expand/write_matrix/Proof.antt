@@ -25,24 +25,15 @@ same-length c = search needs
 returns : tie.Need-returns
 returns c = search needs
 
-add-write-copy : tie.Need-add-write-copy
-add-write-copy c = search needs
+add-t13 : tie.Need-add-t13
+add-t13 c = search needs
 
-sub-write-copy : tie.Need-sub-write-copy
-sub-write-copy c = search needs
-
-part-write-copy-start : tie.Need-part-write-copy-start
-part-write-copy-start c = search needs
-
-part-write-copy-end : tie.Need-part-write-copy-end
-part-write-copy-end c = search needs
-
-write-copy-requires : tie.Need-write-copy-requires
-write-copy-requires c κs =
-    let a = c .before .before .before .before .before .before .before .before .before in (
+write-rows-requires : tie.Need-write-rows-requires
+write-rows-requires c κs =
+    let a = c .before .before .before .before .before .before .before .before in (
       ready-raw (a .pre .0),
       record { ordered = omega arith; inside = omega arith },
-      omega (arith, absent-nodes (a .pre .0) (absent (c .before .before .before .before))),
+      omega (arith, absent-nodes (a .pre .0) (absent (c .before .before .before))),
     )
 
 same-length-2 : tie.Need-same-length-2
@@ -50,9 +41,9 @@ same-length-2 c = search needs
 
 returns-2 : tie.Need-returns-2
 returns-2 c =
-    let a = c .before .before .before .before .before .before .before .before .before .before .before .before in
-    subst (Laid (a .args .e .layout) (a .args .out .now) _ (a .args .e .layout .variables) _) (absent-parts (a .pre .0) (absent (c .before .before .before .before .before .before .before)))
-    (c .before .before .write-copy .ensures .0)
+    let a = c .before .before .before .before .before .before .before .before .before .before .before in
+    subst (Laid (a .args .e .layout) (a .args .out .now) _ (a .args .e .layout .variables) _) (absent-parts (a .pre .0) (absent (c .before .before .before .before .before .before)))
+    (c .before .before .write-rows .ensures .0)
 
 pub write-matrix-spec : {M : Type 1} → statement M
 write-matrix-spec =
@@ -61,10 +52,7 @@ write-matrix-spec =
     write-expanded-requires
     same-length
     returns
-    add-write-copy
-    sub-write-copy
-    part-write-copy-start
-    part-write-copy-end
-    write-copy-requires
+    add-t13
+    write-rows-requires
     same-length-2
     returns-2)

@@ -75,20 +75,11 @@ write-row-requires c κs =
     let p = some (a .pre .0) (a .pre .1) (a .pre .2) (a .pre .3) in
     (a .pre .0 .room, omega (arith, p .room), omega (arith, p .fits-children, c .before .before .before .before .before .before .before .children-at .ensures .0))
 
-sub-write-copy : tie.Need-sub-write-copy
-sub-write-copy c = search needs
-
-part-write-copy-start : tie.Need-part-write-copy-start
-part-write-copy-start c = search needs
-
-part-write-copy-end : tie.Need-part-write-copy-end
-part-write-copy-end c = search needs
-
-write-copy-requires : tie.Need-write-copy-requires
-write-copy-requires c κs =
-    let a = c .before .before .before .before .before .before .before .before .before .before .before .before .before .before .before .before .before .before .before in
+write-rows-requires : tie.Need-write-rows-requires
+write-rows-requires c κs =
+    let a = c .before .before .before .before .before .before .before .before .before .before .before .before .before .before .before .before .before .before in
     let p = some (a .pre .0) (a .pre .1) (a .pre .2) (a .pre .3) in
-    let first = c .before .before .before .before in (
+    let first = c .before .before .before in (
       ready-on (ready-raw (a .pre .0)) (first .write-row .kept .0),
       record { ordered = omega (arith, p .ordered); inside = omega (arith, p .within) },
       omega (arith, p .room, first .write-row .ensures .next-row),
@@ -96,17 +87,17 @@ write-copy-requires c κs =
 
 write-copies-requires : tie.Need-write-copies-requires
 write-copies-requires c κs =
-    let a = c .before .before .before .before .before .before .before .before .before .before .before .before .before .before .before .before .before .before .before .before .before .before .before in
-    (copyable-on (a .pre .0) (c .before .before .before .write-copy .kept .1 .1 .1 .1 .0 ∙ c .before .before .before .before .before .before .before .before .write-row .kept .0), a .pre .1, a .pre .2, a .pre .3)
+    let a = c .before .before .before .before .before .before .before .before .before .before .before .before .before .before .before .before .before .before .before .before .before .before in
+    (copyable-on (a .pre .0) (c .before .before .before .write-rows .kept .1 .1 .1 .0 ∙ c .before .before .before .before .before .before .before .write-row .kept .0), a .pre .1, a .pre .2, a .pre .3)
 
 sub-write-runs : tie.Need-sub-write-runs
 sub-write-runs c =
-    let a = c .before .before .before .before .before .before .before .before .before .before .before .before .before .before .before .before .before .before .before .before .before .before .before .before .before .before in
+    let a = c .before .before .before .before .before .before .before .before .before .before .before .before .before .before .before .before .before .before .before .before .before .before .before .before .before in
     omega (arith, a .pre .0 .two-tables)
 
 part-write-runs-start : tie.Need-part-write-runs-start
 part-write-runs-start c =
-    let a = c .before .before .before .before .before .before .before .before .before .before .before .before .before .before .before .before .before .before .before .before .before .before .before .before .before .before in
+    let a = c .before .before .before .before .before .before .before .before .before .before .before .before .before .before .before .before .before .before .before .before .before .before .before .before .before in
     omega (arith, a .pre .0 .two-tables)
 
 part-write-runs-end : tie.Need-part-write-runs-end
@@ -114,12 +105,12 @@ part-write-runs-end c = search needs
 
 sub-write-runs-2 : tie.Need-sub-write-runs-2
 sub-write-runs-2 c =
-    let a = c .before .before .before .before .before .before .before .before .before .before .before .before .before .before .before .before .before .before .before .before .before .before .before .before .before .before .before in
+    let a = c .before .before .before .before .before .before .before .before .before .before .before .before .before .before .before .before .before .before .before .before .before .before .before .before .before .before in
     omega (arith, some (a .pre .0) (a .pre .1) (a .pre .2) (a .pre .3) .two)
 
 part-write-runs-start-2 : tie.Need-part-write-runs-start-2
 part-write-runs-start-2 c =
-    let a = c .before .before .before .before .before .before .before .before .before .before .before .before .before .before .before .before .before .before .before .before .before .before .before .before .before .before .before in
+    let a = c .before .before .before .before .before .before .before .before .before .before .before .before .before .before .before .before .before .before .before .before .before .before .before .before .before .before in
     omega (arith, some (a .pre .0) (a .pre .1) (a .pre .2) (a .pre .3) .two)
 
 part-write-runs-end-2 : tie.Need-part-write-runs-end-2
@@ -127,12 +118,12 @@ part-write-runs-end-2 c = search needs
 
 write-runs-requires : tie.Need-write-runs-requires
 write-runs-requires c κs =
-    let a = c .before .before .before .before .before .before .before .before .before .before .before .before .before .before .before .before .before .before .before .before .before .before .before .before .before .before .before .before .before in
+    let a = c .before .before .before .before .before .before .before .before .before .before .before .before .before .before .before .before .before .before .before .before .before .before .before .before .before .before .before .before in
     let p = some (a .pre .0) (a .pre .1) (a .pre .2) (a .pre .3) in
     let copies = c .before .before .before .before .before in
     record {
       readable = a .pre .0 .readable;
-      ready = ready-on (ready-raw (a .pre .0)) (copies .write-copies .kept .1 .1 .1 .1 .1 .0 ∙ c .before .before .before .before .before .before .before .before .before .write-copy .kept .1 .1 .1 .1 .0 ∙ c .before .before .before .before .before .before .before .before .before .before .before .before .before .before .write-row .kept .0);
+      ready = ready-on (ready-raw (a .pre .0)) (copies .write-copies .kept .1 .1 .1 .1 .1 .0 ∙ c .before .before .before .before .before .before .before .before .before .write-rows .kept .1 .1 .1 .0 ∙ c .before .before .before .before .before .before .before .before .before .before .before .before .before .write-row .kept .0);
       climbs = subst (λ l. Climbs 0 l (a .args .s .nodes)) (sym (rest-of 2 (a .args .cuts .now))) (p .climbs-others);
       room = omega (
         arith,
@@ -149,17 +140,17 @@ same-length c = search needs
 
 returns : tie.Need-returns
 returns c =
-    let a = c .before .before .before .before .before .before .before .before .before .before .before .before .before .before .before .before .before .before .before .before .before .before .before .before .before .before .before .before .before .before .before .before in
+    let a = c .before .before .before .before .before .before .before .before .before .before .before .before .before .before .before .before .before .before .before .before .before .before .before .before .before .before .before .before .before .before .before in
     let p = some (a .pre .0) (a .pre .1) (a .pre .2) (a .pre .3) in
-    let first = c .before .before .before .before .before .before .before .before .before .before .before .before .before .before .before .before .before in
+    let first = c .before .before .before .before .before .before .before .before .before .before .before .before .before .before .before .before in
     let lead = c .before .before .before .before .before .before .before .before .before .before .before .before in
-    let at : lead .write-copy .result ≡ joined-at (a .args .e) (a .args .cuts .now)
-    = omega (arith, first .write-row .ensures .next-row, lead .write-copy .ensures .1, p .begins, p .ordered) in
+    let at : lead .write-rows .result ≡ joined-at (a .args .e) (a .args .cuts .now)
+    = omega (arith, first .write-row .ensures .next-row, lead .write-rows .ensures .1, p .begins, p .ordered) in
     subst (Laid (a .args .e .layout) (a .args .out .now) _ (new-at (a .args .e)) _)
-    (some-parts (a .args .s) (a .args .b .now) (a .args .tables .now) (a .args .cuts .now) (a .args .e) p (c .before .before .before .before .before .before .before .before .before .before .before .before .before .before .before .before .before .before .before .before .before .before .before .before .before .before .kind-at .ensures)
-    (c .before .before .before .before .before .before .before .before .before .before .before .before .before .before .before .before .before .before .before .before .before .before .before .before .before .children-at .ensures .0))
+    (some-parts (a .args .s) (a .args .b .now) (a .args .tables .now) (a .args .cuts .now) (a .args .e) p (c .before .before .before .before .before .before .before .before .before .before .before .before .before .before .before .before .before .before .before .before .before .before .before .before .before .kind-at .ensures)
+    (c .before .before .before .before .before .before .before .before .before .before .before .before .before .before .before .before .before .before .before .before .before .before .before .before .children-at .ensures .0))
     (laid-on (first .write-row .ensures)
-    (laid-on (laid-to at (lead .write-copy .ensures .0))
+    (laid-on (laid-to at (lead .write-rows .ensures .0))
     (laid-on (c .before .before .before .before .before .before .before .before .write-copies .ensures) (c .before .before .write-runs .ensures))))
 
 pub write-some-spec : {M : Type 1} → statement M
@@ -178,10 +169,7 @@ write-some-spec =
     sub-write-row
     add-write-row-3
     write-row-requires
-    sub-write-copy
-    part-write-copy-start
-    part-write-copy-end
-    write-copy-requires
+    write-rows-requires
     write-copies-requires
     sub-write-runs
     part-write-runs-start
