@@ -11,7 +11,7 @@ use lib.ListN.{length, getD, take, drop, set, length-append, length-set, drop-of
 use lib.Seq.{take-at, drop-at, append-snoc, drop-cons, drop-length, set-at, getD-append-add, getD-set-same, getD-set-other}
 use borrow.Author.Tests.{eq-eqb, ne-eqb, eqb-true, eqb-false, leb-true, leb-false}
 use Rattle.formula.specs.Tree.{lit, constant, of, assigned}
-use Rattle.changing.specs.Changes.{entry, put-entry, numbers, putting, chosen, became, changed}
+use Rattle.changing.specs.Changes.{entry, put-entry, numbers, putting-in, putting, chosen, became, changed}
 
 -- numbers
 
@@ -103,27 +103,27 @@ numbers-change n = fun-ext λ s. fun-ext λ v. rw (none-chosen n s v)
 pub length-putting : (x : ℕ) (c : Bool) → length (putting x c) ≡ 1025
 length-putting x c = length-set (numbers 1025) x (put-entry c) ∙ length-numbers 1025
 
-module _ (x : ℕ) (small : x ≤ 1024) (c : Bool) where
-  put-at : entry (putting x c) x ≡ put-entry c
-  put-at = getD-set-same (numbers 1025) x (put-entry c) x (omega (arith, length-numbers 1025))
+module _ (n x : ℕ) (inside : x < n) (small : x ≤ 1024) (c : Bool) where
+  put-at : entry (putting-in n x c) x ≡ put-entry c
+  put-at = getD-set-same (numbers n) x (put-entry c) x (omega (arith, length-numbers n))
 
-  put-other : (v : ℕ) → (v ≡ x → ⊥) → entry (putting x c) v ≡ v
-  put-other v h = getD-set-other (numbers 1025) x v (put-entry c) v h ∙ numbers-at 1025 v
+  put-other : (v : ℕ) → (v ≡ x → ⊥) → entry (putting-in n x c) v ≡ v
+  put-other v h = getD-set-other (numbers n) x v (put-entry c) v h ∙ numbers-at n v
 
   high : (c : Bool) → 1024 < put-entry c
   high true = omega arith
   high false = omega arith
 
-  chosen-put-at : (s : Bool) (v : ℕ) → chosen (putting x c) s v ≡ of x s v
+  chosen-put-at : (s : Bool) (v : ℕ) → chosen (putting-in n x c) s v ≡ of x s v
   unfolding chosen
   chosen-put-at s v = by (eqb v x) refl
     where
-      by : (m : Bool) → eqb v x ≡ m → not (eqb (entry (putting x c) v) v) ≡ m
+      by : (m : Bool) → eqb v x ≡ m → not (eqb (entry (putting-in n x c) v) v) ≡ m
       by true e =
           let same = eqb-true v x e in
           ap not
-          (ne-eqb (entry (putting x c) v) v (λ f. omega (arith, high c, f, ap (λ w. entry (putting x c) w) same, put-at, same)))
-      by false e = ap not (eq-eqb (entry (putting x c) v) v (put-other v (eqb-false v x e)))
+          (ne-eqb (entry (putting-in n x c) v) v (λ f. omega (arith, high c, f, ap (λ w. entry (putting-in n x c) w) same, put-at, same)))
+      by false e = ap not (eq-eqb (entry (putting-in n x c) v) v (put-other v (eqb-false v x e)))
 
   became-put : (s : Bool) → became s (put-entry c) ≡ constant (Bool·beq s c)
   unfolding became
@@ -134,18 +134,24 @@ module _ (x : ℕ) (small : x ≤ 1024) (c : Bool) where
       by true = refl
       by false = refl
 
-  changed-put-at : (s : Bool) (v : ℕ) → changed (putting x c) s v ≡ assigned x c s v
+  changed-put-at : (s : Bool) (v : ℕ) → changed (putting-in n x c) s v ≡ assigned x c s v
   unfolding changed
   changed-put-at s v = rw (chosen-put-at s v) (by (eqb v x) refl)
     where
       by : (m : Bool) → eqb v x ≡ m
-          → cond m (became s (entry (putting x c) v)) (lit s v) ≡ cond m (constant (Bool·beq s c)) (lit s v)
-      by true e = ap (became s) (ap (entry (putting x c)) (eqb-true v x e) ∙ put-at) ∙ became-put s
+          → cond m (became s (entry (putting-in n x c) v)) (lit s v) ≡ cond m (constant (Bool·beq s c)) (lit s v)
+      by true e = ap (became s) (ap (entry (putting-in n x c)) (eqb-true v x e) ∙ put-at) ∙ became-put s
       by false e = refl
 
   -- the literals of x are chosen, and become what assigning makes of them
-  pub chosen-putting : chosen (putting x c) ≡ of x
-  chosen-putting = fun-ext λ s. fun-ext λ v. chosen-put-at s v
+  pub chosen-putting-in : chosen (putting-in n x c) ≡ of x
+  chosen-putting-in = fun-ext λ s. fun-ext λ v. chosen-put-at s v
 
-  pub changed-putting : changed (putting x c) ≡ assigned x c
-  changed-putting = fun-ext λ s. fun-ext λ v. changed-put-at s v
+  pub changed-putting-in : changed (putting-in n x c) ≡ assigned x c
+  changed-putting-in = fun-ext λ s. fun-ext λ v. changed-put-at s v
+
+pub chosen-putting : (x : ℕ) → x ≤ 1024 → (c : Bool) → chosen (putting x c) ≡ of x
+chosen-putting x h c = chosen-putting-in 1025 x (omega arith) h c
+
+pub changed-putting : (x : ℕ) → x ≤ 1024 → (c : Bool) → changed (putting x c) ≡ assigned x c
+changed-putting x h c = changed-putting-in 1025 x (omega arith) h c

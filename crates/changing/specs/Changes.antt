@@ -19,13 +19,16 @@ entry t v = getD t v v
 abbrev pub put-entry : Bool → ℕ
 put-entry c = cond c 1026 1025
 
--- the table that changes nothing, and the one that puts x = c in
+-- the table of n entries that changes nothing, the one that puts x = c in, and that of every number of the wider format
 unfoldable pub numbers : ℕ → List ℕ
 numbers zero = []
 numbers (suc n) = numbers n ++ (n ∷ [])
 
+abbrev pub putting-in : ℕ → ℕ → Bool → List ℕ
+putting-in n x c = set (numbers n) x (put-entry c)
+
 abbrev pub putting : ℕ → Bool → List ℕ
-putting x c = set (numbers 1025) x (put-entry c)
+putting x c = putting-in 1025 x c
 
 -- the literals that don't stay
 unfoldable pub chosen : List ℕ → Literals

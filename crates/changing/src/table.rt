@@ -7,7 +7,7 @@ ghost use mathlib.Core.Bool.{true, false};
 ghost use mathlib.Core.List.{_++_};
 ghost use Prim.Native.Nat.{_≤_, _<_};
 ghost use lib.ListN.{length, set};
-ghost use Rattle.changing.specs.Changes.{entry, put-entry, numbers, putting};
+ghost use Rattle.changing.specs.Changes.{entry, put-entry, numbers, putting-in, putting};
 
 // Makes every variable stay.
 pub fn keep_all(table: &mut [u16])
@@ -35,8 +35,8 @@ pub fn put(table: &mut [u16], x: usize, value: bool)
 
 // Makes the table that puts a value in for `x` alone.
 pub fn fill(table: &mut [u16], x: usize, value: bool)
-    requires { ⌜ (length (now table) ≡ 1025) × (x ≤ 1024) ⌝ }
-    ensures { λ _. ⌜ now (table .exit) ≡ putting x value ⌝ }
+    requires { ⌜ (x < length (now table)) × (length (now table) ≤ 65536) ⌝ }
+    ensures { λ _. ⌜ now (table .exit) ≡ putting-in (length (now (table .entry))) x value ⌝ }
 {
     keep_all(table);
     put(table, x, value);

@@ -3,7 +3,7 @@
 use mathlib.Core.Path.{_≡_, sym, ap, ap₂, _∙_}
 use mathlib.Core.Bool.{Bool, true}
 use mathlib.Core.List.{List, _++_}
-use Prim.Native.Nat.{ℕ, suc, _-_, _≤_}
+use Prim.Native.Nat.{ℕ, suc, _-_, _≤_, _<_}
 use native.Mathlib.Omega.{arith}
 use lib.ListN.{length, take, drop}
 use borrow.Author.Tests.{lt-ltb}
@@ -19,8 +19,8 @@ use Rattle.rows.specs.declared.Layout.{Layout}
 use Rattle.rows.proofs.Formulas.{length-prefix}
 use Rattle.prefixes.specs.Places.{place}
 use Rattle.prefixes.proofs.Places.{binds-place, without-place}
-use Rattle.changing.specs.Changes.{changed, putting}
-use Rattle.changing.proofs.Tables.{changed-putting}
+use Rattle.changing.specs.Changes.{changed, putting-in}
+use Rattle.changing.proofs.Tables.{changed-putting-in}
 use Rattle.raw.specs.Formulas.{without-row, settled-raw, raw-layout, Raw}
 use Rattle.tidying.specs.Limits as tidying
 use Rattle.tidying.proofs.Raw.{few-rows, raw-rows, raw-output, raw-length}
@@ -67,10 +67,10 @@ module _ {F : Format} {s : Layout} {b : Bytes} (st : Steppable F s b) where
       written-length h = raw-length F (raw-layout s n) new g (w .all-rows) one-less h
 
     -- the raw formula of settling
-    pub put-formula : (c : Bool) {table : List ℕ} → table ≡ putting x c
+    pub put-formula : (c : Bool) {n : ℕ} → x < n → {table : List ℕ} → table ≡ putting-in n x c
         → settled-raw i table (formula-in s b) ≡ record { prefix = without x (prefix-in s b); matrix = assign x c (matrix-in s b) }
     unfolding settled-raw formula-in assign
-    put-formula c {table} is =
+    put-formula c {n} h is =
         ap₂ (λ (p : Prefix) (t : Tree). record { prefix = p; matrix = t }) prefix-without
         (ap (λ (t : List ℕ). replace (changed t) (matrix-in s b)) is ∙
-        ap (λ (h : Bool → ℕ → Tree). replace h (matrix-in s b)) (changed-putting x (nm .few) c))
+        ap (λ (h : Bool → ℕ → Tree). replace h (matrix-in s b)) (changed-putting-in n x h (nm .few) c))

@@ -20,15 +20,18 @@ pub struct Put {
     pub value: bool,
 }
 
-// Writes the settled sheet to the front of `out`, with zeros behind it, and returns its length.
+// Writes the settled sheet to the front of `out`, with zeros behind it, and returns its length. The table has no more entries than the
+// variable needs, as it is filled anew in every step.
 pub fn settle_into(b: &[u8], f: Format, s: Layout, p: Put, out: &mut [u8]) -> usize
     requires { ⌜ Puts (format-of f) s (now b) p (length (now out)) ⌝ }
     ensures { λ _. ⌜ now (out .exit) ≡ padded (length (now (out .entry))) (sheet (format-of f) (settled-by p (formula-in s (now (b .entry))))) ⌝ }
     ensures { λ r. ⌜ r ≡ length (sheet (format-of f) (settled-by p (formula-in s (now (b .entry))))) ⌝ }
 {
     let mut table = [0u16; NUMBERS];
-    fill(&mut table, p.variable, p.value);
-    write_settled(b, s, &table, p.row, out);
+    let entries = p.variable + 1;
+    let changes = &mut table[..entries];
+    fill(changes, p.variable, p.value);
+    write_settled(b, s, changes, p.row, out);
     let t = Layout {
         width: s.width,
         variables: s.variables - 1,

@@ -1,7 +1,7 @@
 -- `changing::table::fill` meets its contract. Assumes nothing.
 use mathlib.Core.Path.{ap, _∙_}
 use lib.ListN.{set}
-use Rattle.changing.specs.Changes.{put-entry, numbers}
+use Rattle.changing.specs.Changes.{put-entry}
 use borrow.Author.Needs.{needs}
 use Rattle.changing.proofs.table.fill.Statement.{statement}
 use Rattle.changing.proofs.table.fill.Tie as tie
@@ -19,7 +19,7 @@ returns : tie.Need-returns
 returns c =
     let a = c .before .before .before .before .before .before .before .before .before in
     c .before .before .put .ensures ∙
-    ap (λ l. set l (a .args .x) (put-entry (a .args .value))) (c .before .before .before .before .before .before .keep-all .ensures ∙ ap numbers (a .pre .0))
+    ap (λ l. set l (a .args .x) (put-entry (a .args .value))) (c .before .before .before .before .before .before .keep-all .ensures)
 
 pub fill-spec : {M : Type 1} → statement M
 fill-spec = tie.close (tie.spec keep-all-requires put-requires same-length returns)

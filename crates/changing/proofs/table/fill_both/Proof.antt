@@ -1,10 +1,11 @@
 -- `changing::table::fill_both` meets its contract. Assumes nothing.
 use mathlib.Core.Path.{sym, ap, ap₂, _∙_}
-use mathlib.Core.Bool.{false}
+use mathlib.Core.Bool.{true, false}
 use mathlib.Core.List.{_++_}
 use native.Mathlib.Omega.{arith}
 use lib.ListN.{length, drop}
 use lib.Seq.{length-take-le}
+use Rattle.changing.specs.Changes.{putting-in}
 use Rattle.changing.proofs.Tables.{length-putting, both-parts}
 use borrow.Author.Needs.{needs}
 use Rattle.changing.proofs.table.fill_both.Statement.{statement}
@@ -21,7 +22,8 @@ slice-aggregate-fill c =
 fill-requires : tie.Need-fill-requires
 fill-requires c κs =
     let a = c .before .before in
-    (length-take-le 1025 (a .args .tables .now) (omega (arith, a .pre .0)), a .pre .1)
+    let part = length-take-le 1025 (a .args .tables .now) (omega (arith, a .pre .0)) in
+    (omega (arith, part, a .pre .1), omega (arith, part))
 
 sub-fill : tie.Need-sub-fill
 sub-fill c = search needs
@@ -40,10 +42,13 @@ same-length c = search needs
 
 returns : tie.Need-returns
 returns c =
-    let a = c .before .before .before .before .before .before .before .before .before in
-    let first = c .before .before .before .before .before .before .fill .ensures in
-    both-parts (c .before .before .before .before .before .before .fill .last .0) (c .before .before .fill2 .last .0) (drop 1025 (a .args .tables .now)) 1025 (ap length first ∙ length-putting (a .args .x) false) ∙
-    ap₂ _++_ first (c .before .before .fill2 .ensures)
+    let one = c .before .before .before .before .before .before in
+    let two = c .before .before in
+    let a = one .before .before .before in
+    let x = a .args .x in
+    let first = one .fill .ensures ∙ ap (λ n. putting-in n x false) (length-take-le 1025 (a .args .tables .now) (omega (arith, a .pre .0))) in
+    both-parts (one .fill .last .0) (two .fill2 .last .0) (drop 1025 (a .args .tables .now)) 1025 (ap length first ∙ length-putting x false) ∙
+    ap₂ _++_ first (two .fill2 .ensures ∙ ap (λ n. putting-in n x true) (omega (arith, a .pre .0)))
 
 pub fill-both-spec : {M : Type 1} → statement M
 fill-both-spec =

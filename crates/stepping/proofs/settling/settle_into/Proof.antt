@@ -1,8 +1,10 @@
 -- `stepping::settling::settle_into` meets its contract. Assumes nothing.
-use mathlib.Core.Path.{ap, _∙_}
+use mathlib.Core.Path.{_≡_, sym, ap, _∙_}
+use Prim.Native.Nat.{ℕ, _+_, _≤_}
 use borrow.Author.Needs.{needs}
 use native.Mathlib.Omega.{arith}
-use lib.ListN.{length}
+use lib.ListN.{length, take, replicate, length-replicate}
+use lib.Seq.{length-take-le}
 use Rattle.formula.specs.Tree.{Formula}
 use Rattle.formula.specs.Tidy.{tidied}
 use Rattle.formula.specs.Settle.{settled}
@@ -15,29 +17,42 @@ use Rattle.stepping.proofs.RawSheets.{raw-room, prefix-without, put-for
 use Rattle.stepping.proofs.settling.settle_into.Statement.{statement}
 use Rattle.stepping.proofs.settling.settle_into.Tie as tie
 
-slice-aggregate-fill : tie.Need-slice-aggregate-fill
-slice-aggregate-fill c = search needs
+-- the lent part has an entry for x
+entries : {x : ℕ} → x ≤ 1024 → length (take (x + 1) (replicate {A = ℕ} 1025 0)) ≡ x + 1
+entries {x} h =
+    let none : ℕ = 0 in
+    length-take-le (x + 1) (replicate 1025 none) (omega (arith, length-replicate 1025 none))
+
+add-entries : tie.Need-add-entries
+add-entries c = search needs
+
+array-borrow-prefix-table : tie.Need-array-borrow-prefix-table
+array-borrow-prefix-table c = search needs
+
+slice-aggregate-changes : tie.Need-slice-aggregate-changes
+slice-aggregate-changes c =
+    let a = c .before .before .before .before in
+    sym (entries (a .pre .named .few))
 
 fill-requires : tie.Need-fill-requires
-fill-requires c κs = search needs
-
-slice-aggregate-write-settled : tie.Need-slice-aggregate-write-settled
-slice-aggregate-write-settled c = search needs
+fill-requires c κs =
+    let few = c .before .before .before .before .before .pre .named .few in
+    (omega (arith, entries few), omega (arith, entries few, few))
 
 write-settled-requires : tie.Need-write-settled-requires
 write-settled-requires c κs =
-    let a = c .before .before .before .before .before .before .before in
+    let a = c .before .before .before .before .before .before .before .before .before .before in
     let st = a .pre .from in
     (st .readable, omega (arith, st .width-is, st .countable .two-bytes), a .pre .named .inside, raw-room st (a .args .s .nodes) (a .pre .room))
 
-sub-t15 : tie.Need-sub-t15
-sub-t15 c = search needs
+sub-t18 : tie.Need-sub-t18
+sub-t18 c = search needs
 
 tidy-in-place-requires : tie.Need-tidy-in-place-requires
 unfolding settled-raw formula-in
 tidy-in-place-requires c κs =
-    let wrote = c .before .before .before .before in
-    let a = wrote .before .before .before .before .before .before .before .before in
+    let wrote = c .before .before .before .before .before in
+    let a = wrote .before .before .before .before .before .before .before .before .before .before .before in
     let st = a .pre .from in
     written-raw st (a .pre .named) (settled-raw (a .args .p .row) _ (formula-in (a .args .s) (a .args .b .now))) (prefix-without st (a .pre .named))
     (st .few-nodes) (wrote .write-settled .kept .1 .1 .1 .1 .0) (a .pre .room) (wrote .write-settled .ensures)
@@ -49,14 +64,14 @@ returns : tie.Need-returns
 unfolding settled-raw formula-in tidied settled
 returns c =
     let tidied-it = c .before .before in
-    let wrote = tidied-it .before .before .before .before .before in
-    let table = wrote .before .before .before .before in
-    let a = table .before .before .before .before in
+    let wrote = tidied-it .before .before .before .before .before .before in
+    let filled = wrote .before .before .before .before .before in
+    let a = filled .before .before .before .before .before .before in
     let F = format-of (a .args .f) in
     let st = a .pre .from in
     let f = formula-in (a .args .s) (a .args .b .now) in
-    let g = settled-raw (a .args .p .row) (table .fill .last .0) f in
-    let is = put-formula st (a .pre .named) (a .args .p .value) (table .fill .ensures) in (
+    let g = settled-raw (a .args .p .row) (filled .fill .last .0) f in
+    let is = put-formula st (a .pre .named) (a .args .p .value) (omega (arith, entries (a .pre .named .few))) (filled .fill .ensures) in (
       written-sheet st (a .pre .named) g (prefix-without st (a .pre .named)) (st .few-nodes) (wrote .write-settled .kept .1 .1 .1 .1 .0) (a .pre .room)
           (wrote .write-settled .ensures) (tidied-it .tidy-in-place .ensures .0) ∙
           ap (λ (h : Formula). padded (length (a .args .out .now)) (sheet F (tidied h))) is,
@@ -69,11 +84,12 @@ pub settle-into-spec : {M : Type 1} → statement M
 settle-into-spec =
     tie.close
     (tie.spec
-    slice-aggregate-fill
+    add-entries
+    array-borrow-prefix-table
+    slice-aggregate-changes
     fill-requires
-    slice-aggregate-write-settled
     write-settled-requires
-    sub-t15
+    sub-t18
     tidy-in-place-requires
     same-length
     returns)
