@@ -1,6 +1,8 @@
 // The variable that Solve settles next: the lowest-numbered one that may be settled.
 use prefixes::variable_at;
 use rows::Layout;
+use signs::table::FEW_NUMBERS;
+use signs::table::FEW_SIGNS;
 use signs::table::SIGNS;
 use signs::table::fill_signs;
 use signs::value::Settling;
@@ -9,6 +11,7 @@ ghost use mathlib.Core.Path.{_≡_};
 ghost use Prim.Native.Nat.{suc, _<_};
 ghost use Rattle.rows.specs.Formulas.{Readable};
 ghost use Rattle.signs.specs.Table.{Signed};
+ghost use Rattle.signs.specs.Value.{NumberedTo};
 ghost use Rattle.choice.specs.Choosing.{Bound};
 ghost use Rattle.choice.specs.Settling.{ToSettle, SettlesBefore, is-lower};
 
@@ -59,11 +62,16 @@ fn choose_by(b: &[u8], s: Layout, signs: &[bool]) -> SettleChoice
     best
 }
 
-// The lowest-numbered variable that may be settled.
-pub fn choose_settle(b: &[u8], s: Layout) -> SettleChoice
-    requires { ⌜ Readable s (now b) × Bound s (now b) ⌝ }
+// The lowest-numbered variable that may be settled, where no number is above `most`: where it is low, the smaller table of signs is enough.
+pub fn choose_settle(b: &[u8], s: Layout, most: usize) -> SettleChoice
+    requires { ⌜ Readable s (now b) × Bound s (now b) × NumberedTo most s (now b) ⌝ }
     ensures { λ r. ⌜ ToSettle s (now (b .entry)) r ⌝ }
 {
+    if most < FEW_NUMBERS {
+        let mut few = [false; FEW_SIGNS];
+        fill_signs(b, s, &mut few);
+        return choose_by(b, s, &few);
+    }
     let mut signs = [false; SIGNS];
     fill_signs(b, s, &mut signs);
     choose_by(b, s, &signs)

@@ -8,7 +8,7 @@ use native.Mathlib.Nat.{add-zero, add-suc}
 use native.Mathlib.Omega.{arith}
 use lib.Dec.{eqb}
 use mir.Val.{boolByte}
-use lib.ListN.{length, getD, set, drop, replicate, length-set, length-drop, length-replicate}
+use lib.ListN.{length, getD, set, drop, replicate, length-set, length-drop}
 use lib.Seq.{drop-length, getD-set-same, getD-set-other}
 use borrow.Author.Tests.{eqb-true, eqb-false, ne-eqb}
 use Rattle.formula.specs.Tree.{and, or, Tree, lit, node, Forest, ∅, _▸_, Literals, of-sign, has, has-any, some-child, count, _⧺_}
@@ -24,7 +24,8 @@ use Rattle.subtrees.specs.Subtrees.{top, kids, forest-in, subtree-in, Beside}
 use Rattle.subtrees.proofs.Forest.{rest, has-⧺, sound-at, stepped-at}
 use Rattle.subtrees.proofs.Matrix.{trees-nodes, sound-nodes}
 use Rattle.subtrees.proofs.Siblings.{subtree-root, below-row}
-use Rattle.signs.specs.Table.{entry-of, last-entry, entries, no-signs, Marked, Signed}
+use Rattle.signs.specs.Table.{entry-of, last-entry, Unmarked, Marked, Covers, Signed}
+use Rattle.signs.specs.Value.{NumberedTo}
 
 -- entry-of
 
@@ -302,21 +303,23 @@ module _ {s : Layout} (b : Bytes) (ok : Readable s b) where
 
 -- the whole table
 
-no-sign : (n e : ℕ) → getD (replicate n false) e false ≡ false
-no-sign zero e = refl
-no-sign (suc n) zero = refl
-no-sign (suc n) (suc e) = no-sign n e
+pub unmarked : (n : ℕ) → Unmarked (replicate n false)
+unmarked zero e = refl
+unmarked (suc n) zero = refl
+unmarked (suc n) (suc e) = unmarked n e
 
-pub signs-filled : {s : Layout} {b : Bytes} {before after : List Bool} → before ≡ no-signs → Marked before after (all-signs s b) → Signed s b after
-signs-filled {s} {b} {before} {after} none m =
+pub numbered-covers : {s : Layout} {b : Bytes} {most n : ℕ} → NumberedTo most s b → last-entry most < n → Covers s b n
+numbered-covers numbers h i l = omega (arith, numbers .few-numbers i l, h)
+
+pub signs-filled : {s : Layout} {b : Bytes} {before after : List Bool} → Unmarked before → Covers s b (length before)
+    → Marked before after (all-signs s b) → Signed s b after
+signs-filled {s} {b} none covers m =
     record {
-      size = m .same-length ∙ size;
-      anywhere = λ p x h. m .added false p x (omega (arith, h, size)) ∙ ap (λ c. c || has (of-sign p x) (matrix-in s b)) (empty (entry-of false p x));
-      units = λ p x h. m .added true p x (omega (arith, h, size)) ∙ ap (λ c. c || at-root (of-sign p x) (matrix-in s b)) (empty (entry-of true p x));
+      covers = λ i h. omega (arith, m .same-length, covers i h);
+      anywhere =
+          λ p x h. m .added false p x (omega (arith, h, m .same-length)) ∙
+          ap (λ c. c || has (of-sign p x) (matrix-in s b)) (none (entry-of false p x));
+      units =
+          λ p x h. m .added true p x (omega (arith, h, m .same-length)) ∙
+          ap (λ c. c || at-root (of-sign p x) (matrix-in s b)) (none (entry-of true p x));
     }
-  where
-    size : length before ≡ entries
-    size = ap length none ∙ length-replicate entries false
-
-    empty : (e : ℕ) → getD before e false ≡ false
-    empty e = ap (λ l. getD l e false) none ∙ no-sign entries e

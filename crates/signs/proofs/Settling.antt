@@ -4,16 +4,16 @@ use mathlib.Core.Path.{_≡_, refl, sym, ap, ap₂, _∙_}
 use mathlib.Core.Bool.{Bool, true, false, not, _||_, or-false, true≢false}
 use mathlib.Core.List.{List, [], _∷_}
 use mathlib.Core.Option.{none, some}
-use Prim.Native.Nat.{ℕ, zero, suc, _≤_, _<_}
+use Prim.Native.Nat.{ℕ, zero, suc, _<_}
 use native.Mathlib.Omega.{arith}
 use lib.Dec.{eqb}
-use lib.ListN.{getD}
+use lib.ListN.{length, getD}
 use Rattle.formula.specs.Tree.{and, or, Quantifier, exists, for-all, same-op, Tree, lit, node, Forest, ∅, _▸_, of, of-sign, has, has-any}
 use Rattle.formula.specs.Settle.{may-take, value, settling}
 use Rattle.sheet.specs.Format.{Bytes}
 use Rattle.rows.specs.Formulas.{matrix-in}
 use Rattle.rows.specs.declared.Layout.{Layout}
-use Rattle.signs.specs.Table.{entry-of, Signed}
+use Rattle.signs.specs.Table.{entry-of, last-entry, Signed}
 use Rattle.signs.specs.Value.{quantifier-at, sign-at, signs-of, signs-in, settling-by}
 use Rattle.signs.specs.declared.value.Signs.{Signs}
 
@@ -94,12 +94,12 @@ pub signs-read : (signs : List Bool) (x : ℕ) {p n pu nu : ℕ} → p ≡ entry
 signs-read signs x e₁ e₂ e₃ e₄ = rw (e₁, e₂, e₃, e₄)
 
 -- the table of a sheet has each variable's signs
-pub signed : {s : Layout} {b : Bytes} (signs : List Bool) (x : ℕ) → x ≤ 1024 → Signed s b signs → signs-in signs x ≡ signs-of x (matrix-in s b)
+pub signed : {s : Layout} {b : Bytes} (signs : List Bool) (x : ℕ) → last-entry x < length signs → Signed s b signs → signs-in signs x ≡ signs-of x (matrix-in s b)
 signed signs x h t =
     rw (t .anywhere true x h, t .anywhere false x h, t .units true x h, t .units false x h)
 
 -- by the quantifier and the number of a row, read, and the entries of the number
 pub value-signed : {q z : Quantifier} {x y : ℕ} {g : Signs} {s : Layout} {b : Bytes} {signs : List Bool} → q ≡ z → g ≡ signs-in signs x → x ≡ y
-    → x ≤ 1024 → Signed s b signs → settling-by q g ≡ settling z y (matrix-in s b)
+    → last-entry x < length signs → Signed s b signs → settling-by q g ≡ settling z y (matrix-in s b)
 value-signed {q} {z} {x} {y} {g} {s} {b} {signs} same read is h t =
     ap₂ settling-by same (read ∙ signed signs x h t) ∙ sym (settling-signs z x (matrix-in s b)) ∙ ap (λ v. settling z v (matrix-in s b)) is

@@ -17,9 +17,13 @@ use Rattle.signs.specs.declared.value.Settling.{Settling}
 use Rattle.signs.specs.declared.value.Settling.the-variants.{Take, Not}
 use Rattle.signs.specs.declared.value.Signs.{Signs}
 
--- the prefix has no number above 1,024, the wider format's most
-pub record Numbered (s : Layout) (b : Bytes) : Type 0 where
-  pub few-numbers : (i : ℕ) → i < s .variables → (binding-in s b i) .variable ≤ 1024
+-- the prefix has no number above `most`
+pub record NumberedTo (most : ℕ) (s : Layout) (b : Bytes) : Type 0 where
+  pub few-numbers : (i : ℕ) → i < s .variables → (binding-in s b i) .variable ≤ most
+
+-- nor above 1,024, the wider format's most
+abbrev pub Numbered : Layout → Bytes → Type 0
+Numbered s b = NumberedTo 1024 s b
 
 -- the table of values: exists, for all; positive, negative
 abbrev pub quantifier-at : ℕ → Quantifier

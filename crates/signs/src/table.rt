@@ -8,18 +8,23 @@ use subtrees::nodes::kind_at;
 ghost use mathlib.Core.Path.{_≡_};
 ghost use mathlib.Core.Bool.{not, _&&_, _||_};
 ghost use Prim.Native.Nat.{_+_, _-_, _^_, _≤_, _<_};
+ghost use lib.ListN.{length};
 ghost use Rattle.formula.specs.Tree.{of-sign, count};
 ghost use Rattle.formula.specs.Settle.{is-lit};
 ghost use Rattle.rows.specs.Formulas.{Readable};
 ghost use Rattle.subtrees.specs.Subtrees.{kids, subtree-in};
-ghost use Rattle.signs.specs.Table.{entry-of, last-entry, no-signs, Marked, Signed};
+ghost use Rattle.signs.specs.Table.{entry-of, last-entry, Unmarked, Marked, Covers, Signed};
 
-// Entries of the table.
+// Entries of the table for all numbers, and of a smaller one, sooner made: for numbers up to 256, the narrow format's most.
 pub const SIGNS: usize = 4 * NUMBERS;
+
+pub const FEW_NUMBERS: usize = 257;
+
+pub const FEW_SIGNS: usize = 4 * FEW_NUMBERS;
 
 // The entry of the variable `x` for its literals of one sign: for unit literals, or for literals anywhere.
 pub fn entry(x: usize, unit: bool, positive: bool) -> usize
-    requires { ⌜ x < 2 ^ 32 ⌝ }
+    requires { ⌜ last-entry x < 2 ^ 64 ⌝ }
     ensures { λ r. ⌜ (r ≡ entry-of unit positive x) × (r ≤ last-entry x) ⌝ }
 {
     let negative = !positive;
@@ -67,7 +72,7 @@ fn left_behind(left: usize, children: usize) -> usize
 // Fills the table, where no sign is marked before. One pass is enough: in preorder a child of the root begins where no tree is left of the
 // one before, so a literal there is a unit literal, and so is the root.
 pub fn fill_signs(b: &[u8], s: Layout, signs: &mut [bool])
-    requires { ⌜ Readable s (now b) × (now signs ≡ no-signs) ⌝ }
+    requires { ⌜ Readable s (now b) × Unmarked (now signs) × Covers s (now b) (length (now signs)) ⌝ }
     ensures { λ _. ⌜ Signed s (now (b .entry)) (now (signs .exit)) ⌝ }
 {
     let n = s.nodes;

@@ -4,13 +4,13 @@ use prefixes::is_existential;
 use prefixes::variable_at;
 use rows::Layout;
 ghost use mathlib.Core.Path.{_≡_};
-ghost use Prim.Native.Nat.{_≤_, _<_};
+ghost use Prim.Native.Nat.{_<_};
 ghost use lib.ListN.{length};
 ghost use Rattle.formula.specs.Settle.{value};
 ghost use Rattle.rows.specs.Formulas.{Readable};
 ghost use Rattle.prefixes.specs.Places.{binding-in};
-ghost use Rattle.signs.specs.Table.{entries, Signed};
-ghost use Rattle.signs.specs.Value.{Numbered, quantifier-at, sign-at, value-of, signs-in, settling-by, settling-in};
+ghost use Rattle.signs.specs.Table.{last-entry, Signed};
+ghost use Rattle.signs.specs.Value.{quantifier-at, sign-at, value-of, signs-in, settling-by, settling-in};
 
 // The value put in, by quantifier (exists, for all) and sign (positive, negative).
 const VALUE: [[u8; 2]; 2] = [[1, 0], [0, 1]];
@@ -54,9 +54,9 @@ pub fn settling_by(quantifier: usize, signs: Signs) -> Settling
     Settling::Not
 }
 
-// The signs of the variable `x`.
+// The signs of the variable `x`, which the table has.
 fn signs_at(signs: &[bool], x: usize) -> Signs
-    requires { ⌜ (length (now signs) ≡ entries) × (x ≤ 1024) ⌝ }
+    requires { ⌜ last-entry x < length (now signs) ⌝ }
     ensures { λ r. ⌜ r ≡ signs-in (now (signs .entry)) x ⌝ }
 {
     Signs {
@@ -80,7 +80,7 @@ fn quantifier_index(b: &[u8], s: Layout, i: usize) -> usize
 
 // The value for the variable of prefix row `i`, if it may be settled.
 pub fn value_at(b: &[u8], s: Layout, i: usize, signs: &[bool]) -> Settling
-    requires { ⌜ Readable s (now b) × Numbered s (now b) × (i < s .variables) × Signed s (now b) (now signs) ⌝ }
+    requires { ⌜ Readable s (now b) × (i < s .variables) × Signed s (now b) (now signs) ⌝ }
     ensures { λ r. ⌜ value-of r ≡ settling-in s (now (b .entry)) i ⌝ }
 {
     let x = variable_at(b, s, i);

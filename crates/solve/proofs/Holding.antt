@@ -22,6 +22,7 @@ use Rattle.rows.proofs.Layouts.{rows-in-++}
 use Rattle.rows.proofs.Formulas.{formula-read, accepted-readable}
 use Rattle.checking.specs.Limits.{Countable}
 use Rattle.prefixes.specs.Places.{binding-at}
+use Rattle.signs.specs.Value.{NumberedTo}
 use Rattle.choice.specs.Choosing.{Bound}
 use Rattle.stepping.specs.Steps.{Steppable}
 use Rattle.solve.specs.Inner.Running.{layout-for, Held}
@@ -121,18 +122,17 @@ module _ {F : Format} (k : Countable F) {most : ℕ} {s : Layout} {b : Bytes} (h
         few-nodes = omega (arith, nodes-are, h .within .few-nodes);
       }
 
-  pub bound : Bound s b
+  pub numbered-to : NumberedTo (F .most-variables) s b
   unfolding formula-in binding-at
+  numbered-to =
+      record {
+        few-numbers = λ i l. numbered-at F ((formula-in s b) .prefix) i (binding (row 0 0)) (h .within .is-numbered) (omega (arith, variables-are, l));
+      }
+
+  pub bound : Bound s b
+  unfolding formula-in
   bound =
       record {
         is-distinct = h .within .is-distinct;
-        numbered =
-            record {
-              few-numbers = λ i l.
-                  omega (
-                    arith,
-                    k .manageable .few-variables,
-                    numbered-at F ((formula-in s b) .prefix) i (binding (row 0 0)) (h .within .is-numbered) (omega (arith, variables-are, l)),
-                  );
-            };
+        numbered = record { few-numbers = λ i l. omega (arith, k .manageable .few-variables, numbered-to .few-numbers i l) };
       }

@@ -144,7 +144,7 @@ fn open_step(
     ensures { λ r. ⌜ Stepped (format-of f) room s (now (first .entry)) (now (second .entry)) (now (first .exit)) (now (second .exit)) r ⌝ }
 {
     let t = s.sheet;
-    let c = choose_settle(first, t);
+    let c = choose_settle(first, t, f.most_variables);
     match c {
         SettleChoice::Settle(i, x, value) => {
             let p = Put {

@@ -1,7 +1,10 @@
 -- `settle::plan::plan_admitted` meets its contract: 12 and 13 in this order. Assumes nothing.
 use borrow.Author.Needs.{needs}
+use mathlib.Core.Bool.{false}
 use native.Mathlib.Omega.{arith}
+use lib.ListN.{length-replicate}
 use Rattle.checking.proofs.CheckedSheets.{sheet-readable}
+use Rattle.signs.proofs.Marks.{unmarked, numbered-covers}
 use Rattle.stepping.proofs.Admitting.{sheet-numbered}
 use Rattle.settle.proofs.Deciding.{not-settled, no-room, planned}
 use Rattle.settle.proofs.plan.plan_admitted.Statement.{statement}
@@ -11,7 +14,11 @@ slice-aggregate-fill-signs : tie.Need-slice-aggregate-fill-signs
 slice-aggregate-fill-signs c = search needs
 
 fill-signs-requires : tie.Need-fill-signs-requires
-fill-signs-requires c κs = search needs
+fill-signs-requires c κs =
+    let a = c .before .before in
+    let k = a .pre .0 .manageable in
+    let sheet = a .pre .1 .1 .sheet in
+    (sheet-readable sheet k, unmarked 4100, numbered-covers (sheet-numbered sheet k) (omega (arith, length-replicate 4100 false)))
 
 slice-aggregate-value-at : tie.Need-slice-aggregate-value-at
 slice-aggregate-value-at c = search needs
@@ -19,12 +26,7 @@ slice-aggregate-value-at c = search needs
 value-at-requires : tie.Need-value-at-requires
 value-at-requires c κs =
     let a = c .before .before .before .before .before in
-    let k = a .pre .0 .manageable in (
-      sheet-readable (a .pre .1 .1 .sheet) k,
-      sheet-numbered (a .pre .1 .1 .sheet) k,
-      a .pre .1 .1 .named .inside,
-      c .before .before .fill-signs .ensures,
-    )
+    (sheet-readable (a .pre .1 .1 .sheet) (a .pre .0 .manageable), a .pre .1 .1 .named .inside, c .before .before .fill-signs .ensures)
 
 enum-known-v : tie.Need-enum-known-v
 enum-known-v c = search needs

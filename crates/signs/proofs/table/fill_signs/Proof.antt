@@ -71,7 +71,7 @@ returns c =
     let head = c .before in
     let a = start head in
     let b = a .args .b .now in
-    signs-filled (a .pre .1)
+    signs-filled (a .pre .1) (a .pre .2)
     (marked-both (head .before .before .before .mark-row .ensures .0)
     (marking-done (head .loop .inv .2)
     (signs-end b (a .pre .0) (head .loop .i) (head .loop .left) (omega (arith, head .loop .inv .0, c .loop-test .left))))

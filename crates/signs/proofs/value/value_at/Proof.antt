@@ -1,8 +1,10 @@
 -- `signs::value::value_at` meets its contract: by the variable's four entries. Assumes nothing.
 use borrow.Author.Needs.{needs}
 use mathlib.Core.Path.{_∙_}
-use Prim.Native.Nat.{_≤_}
+use Prim.Native.Nat.{_<_}
 use native.Mathlib.Omega.{arith}
+use lib.ListN.{length}
+use Rattle.signs.specs.Table.{last-entry}
 use Rattle.signs.proofs.Settling.{value-signed}
 use Rattle.signs.proofs.value.value_at.Statement.{statement}
 use Rattle.signs.proofs.value.value_at.Tie as tie
@@ -16,11 +18,12 @@ quantifier-index-requires c κs = search needs
 abbrev start : tie.After-variable-at → tie.Start
 start c = c .before .before .before
 
-low : (c : tie.After-variable-at) → c .variable-at .result ≤ 1024
-low c = let a = start c in omega (arith, c .variable-at .ensures .0, a .pre .1 .few-numbers (a .args .i) (a .pre .2))
+-- the table has the number
+held : (c : tie.After-variable-at) → last-entry (c .variable-at .result) < length (start c .args .signs .now)
+held c = let a = start c in omega (arith, c .variable-at .ensures .0, a .pre .2 .covers (a .args .i) (a .pre .1))
 
 signs-at-requires : tie.Need-signs-at-requires
-signs-at-requires c κs = (start (c .before) .pre .3 .size, low (c .before))
+signs-at-requires c κs = held (c .before)
 
 settling-by-requires : tie.Need-settling-by-requires
 settling-by-requires c κs = search needs
@@ -31,7 +34,7 @@ returns c =
     let read = index .before in
     let a = start read in
     c .settling-by .ensures ∙
-    value-signed (index .quantifier-index .ensures .1) (c .before .signs-at .ensures) (read .variable-at .ensures .0) (low read) (a .pre .3)
+    value-signed (index .quantifier-index .ensures .1) (c .before .signs-at .ensures) (read .variable-at .ensures .0) (held read) (a .pre .2)
 
 pub value-at-spec : {M : Type 1} → statement M
 value-at-spec =

@@ -3,7 +3,7 @@ use mathlib.Core.Path.{subst}
 use borrow.Author.Needs.{needs}
 use native.Mathlib.Omega.{arith}
 use Rattle.choice.specs.Settling.{ToSettle}
-use Rattle.solve.proofs.Holding.{readable, bound}
+use Rattle.solve.proofs.Holding.{readable, numbered-to, bound}
 use Rattle.solve.proofs.step.open_step.Statement.{statement}
 use Rattle.solve.proofs.step.open_step.Tie as tie
 
@@ -13,7 +13,7 @@ start c = c .before .before .before .before .before .before
 choose-settle-requires : tie.Need-choose-settle-requires
 choose-settle-requires c κs =
     let r = c .before .before .before .before .before .pre .0 in
-    (readable (r .countable) (r .held), bound (r .countable) (r .held))
+    (readable (r .countable) (r .held), bound (r .countable) (r .held), numbered-to (r .countable) (r .held))
 
 enum-known-c : tie.Need-enum-known-c
 enum-known-c c = search needs
