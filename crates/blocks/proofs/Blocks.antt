@@ -95,16 +95,6 @@ module _ {R : List Row} {from at to : ℕ} {before after : List Row} {done rest 
   pub rest-laid : Laid R at to (before ++ block-rows done) rest after
   rest-laid = record { whole = split-there; starts = length-done; ends = h .ends }
 
-  pub all-laid : Laid R from to before (done ⊕ rest) after
-  all-laid =
-      record {
-        whole =
-            h .whole ∙
-            ap (λ l. before ++ l) (sym (append-assoc (block-rows done) (block-rows rest) after) ∙ ap (λ l. l ++ after) (sym (rows-⊕ done rest)));
-        starts = h .starts;
-        ends = omega (arith, length-⊕ done rest, h .place, h .ends);
-      }
-
   walk-end : length R ≡ to + length after
   walk-end =
       ap length split-there ∙ length-append (before ++ block-rows done) (block-rows rest ++ after) ∙
@@ -202,20 +192,7 @@ pub stands-within : {R : List Row} {at : ℕ} {before after : List Row} {x : Blo
 stands-within {before = before} {after = after} {x = x} h =
     omega (arith, ap length (h .whole), length-append before (head x ∷ (inner x ++ after)), length-append (inner x) after, h .starts)
 
--- some blocks of the rest, and the walk past them
-pub part-here : {R : List Row} {from at to : ℕ} {before after : List Row} {done : Blocks} (bs others : Blocks)
-    → Here R from at to before done (bs ⊕ others) after
-    → Here R from at (at + length (block-rows bs)) before done bs (block-rows others ++ after)
-part-here {before = before} {after = after} {done = done} bs others h =
-    record {
-      whole =
-          h .whole ∙
-          ap (λ l. before ++ (block-rows done ++ l)) (ap (λ l. l ++ after) (rows-⊕ bs others) ∙ append-assoc (block-rows bs) (block-rows others) after);
-      starts = h .starts;
-      place = h .place;
-      ends = refl;
-    }
-
+-- a walk over blocks and past them, and one seen from an earlier row
 pub part-done : {R : List Row} {from at end : ℕ} {before after : List Row} {done bs : Blocks} (others : Blocks)
     → Here R from at end before done bs (block-rows others ++ after)
     → Here R from end (end + length (block-rows others)) before (done ⊕ bs) others after
@@ -229,36 +206,6 @@ part-done {before = before} {after = after} {done = done} {bs = bs} others h =
       starts = h .starts;
       place = omega (arith, length-⊕ done bs, h .place, h .ends);
       ends = refl;
-    }
-
--- the blocks behind some of those done, and a walk over them seen from the first
-pub behind-laid : {R : List Row} {from run at to : ℕ} {before after : List Row} (early bs : Blocks) {rest : Blocks}
-    → Here R from at to before (early ⊕ bs) rest after → from + length (block-rows early) ≡ run
-    → Laid R run at (before ++ block-rows early) bs (block-rows rest ++ after)
-behind-laid {before = before} {after = after} early bs {rest} h place =
-    record {
-      whole =
-          h .whole ∙
-          ap (λ (l : List Row). before ++ l)
-          (ap (λ (l : List Row). l ++ (block-rows rest ++ after)) (rows-⊕ early bs) ∙
-          append-assoc (block-rows early) (block-rows bs) (block-rows rest ++ after)) ∙
-          sym (append-assoc before (block-rows early) (block-rows bs ++ (block-rows rest ++ after)));
-      starts = length-append before (block-rows early) ∙ omega (arith, h .starts, place);
-      ends = omega (arith, length-⊕ early bs, h .place, place);
-    }
-
-pub behind-here : {R : List Row} {from at p to : ℕ} {before after : List Row} {earlier done rest : Blocks}
-    → Here R at p to (before ++ block-rows earlier) done rest after → length before ≡ from → from + length (block-rows earlier) ≡ at
-    → Here R from at to before earlier (done ⊕ rest) after
-behind-here {before = before} {after = after} {earlier = earlier} {done = done} {rest = rest} h starts place =
-    record {
-      whole =
-          h .whole ∙ append-assoc before (block-rows earlier) _ ∙
-          ap (λ rs. before ++ (block-rows earlier ++ rs))
-          (sym (append-assoc (block-rows done) (block-rows rest) after) ∙ ap (λ rs. rs ++ after) (sym (rows-⊕ done rest)));
-      starts = starts;
-      place = place;
-      ends = omega (arith, h .place, h .ends, length-⊕ done rest);
     }
 
 pub past-here : {R : List Row} {from at p to : ℕ} {before after : List Row} (earlier : Blocks) {done rest : Blocks}

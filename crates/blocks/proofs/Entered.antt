@@ -1,26 +1,25 @@
 -- A block's own row and what comes behind it when it is entered; blocks compared row by row.
 -- Assumes nothing.
 use mathlib.Core.Path.{_≡_, refl, sym, ap, ap₂, _∙_, subst}
-use mathlib.Core.Bool.{Bool, true, false, _&&_, true≢false, false≢true}
+use mathlib.Core.Bool.{Bool, true, false, _&&_, false≢true}
 use mathlib.Core.List.{List, [], _∷_, _++_, append-assoc, append-nil}
-use Prim.Native.Nat.{ℕ, suc, _+_, _-_, _≤_, _<_}
+use Prim.Native.Nat.{ℕ, _+_, _-_, _≤_, _<_}
 use native.Mathlib.Omega.{arith}
 use lib.Dec.{eqb, leb}
 use lib.ListN.{length, length-append}
 use lib.Seq.{append-snoc}
 use borrow.Author.Tests.{eq-eqb, ne-eqb, eqb-true, leb-true, leb-false}
-use Rattle.formula.specs.Tree.{Op, and, or, Tree, lit, node, Forest, ∅, _▸_, _⧺_, count}
+use Rattle.formula.specs.Tree.{and, or, Tree, ∅, _▸_, _⧺_, count}
 use Rattle.formula.specs.Tidy.{same-tree}
 use Rattle.formula.proofs.Booleans.{and-parts}
 use Rattle.sheet.specs.Format.{Row, row}
-use Rattle.sheet.specs.Sheet.{literal-kind, operator-kind, tree-rows, forest-rows}
+use Rattle.sheet.specs.Sheet.{operator-kind, tree-rows, forest-rows}
 use Rattle.sheet.proofs.Preorder.{forest-rows-⧺}
 use Rattle.sheet.proofs.Same.{same-rows}
-use Rattle.blocks.specs.Blocks.{Block, gone, literal, operator, Blocks, none, _◂_, _⊕_, head, inner, block-rows, size, grown, live, Laid, Here, Region, Stands, Standing}
-use Rattle.blocks.specs.Walks.{at-row, extent, Counts, FirstLive, Finds}
-use Rattle.blocks.specs.Entered.{packed, entered, ArgumentOf, ArgumentAt, LiveAt, Same, same-row, SameRow}
-use Rattle.blocks.proofs.Blocks.{rows-⊕, live-⊕, length-◂, length-one, length-⊕, stands-row, stands, extent-head, start, next, no-rows, rest-laid, laid-within}
-use Rattle.blocks.proofs.Walks.{dead-holds}
+use Rattle.blocks.specs.Blocks.{Block, gone, literal, operator, Blocks, none, _◂_, _⊕_, head, inner, block-rows, grown, live, Laid, Region, Stands, Standing}
+use Rattle.blocks.specs.Walks.{at-row, extent, Counts, Finds}
+use Rattle.blocks.specs.Entered.{packed, entered, ArgumentOf, LiveAt, Same, same-row, SameRow}
+use Rattle.blocks.proofs.Blocks.{rows-⊕, live-⊕, length-one, stands-row, stands, extent-head, start, next, no-rows, rest-laid}
 use Rattle.blocks.proofs.Judge.{inner-laid, live-kind}
 
 -- a block is its row, if it is live, and those that come next

@@ -11,7 +11,7 @@ use Rattle.formula.specs.Tidy.{same-tree}
 use Rattle.formula.proofs.Tidy.Same.{same-tree-same}
 use Rattle.sheet.specs.Format.{Row}
 use Rattle.buckets.specs.Chains.{last, Linked, Passed}
-use Rattle.buckets.specs.Prints.{print}
+use Rattle.buckets.proofs.Prints.{prints-differ}
 use Rattle.buckets.proofs.Chains.{passed-none, passed-more, link-down}
 use Rattle.blocks.specs.Walks.{at-row}
 use Rattle.blocks.specs.Entered.{LiveAt, Same}
@@ -71,7 +71,10 @@ seek-end R x w l = seek-last w l
 
 pub twins-apart : {R : List Row} {t m : ℕ} → (t % 65536 ≡ m % 65536 → ⊥) → Twins R t m false
 twins-apart d =
-    inr (refl, (λ w f. d (f .member .printed ∙ ap print (same-tree-same _ _ (f .same)) ∙ sym (w .printed))))
+    inr (
+      refl,
+      (λ w f. prints-differ (f .member .lives .tree) (w .lives .tree) (λ e. d (f .member .printed ∙ e ∙ sym (w .printed))) (same-tree-same _ _ (f .same))),
+    )
 
 pub twins-same : {R : List Row} {t m : ℕ} (d : Bool) → Same R (place t) (place m) d → Twins R t m d
 twins-same true s = inl (refl, s)

@@ -1,10 +1,10 @@
 -- A walk over an operator's children, of which the number is known and not where they end: rules 1 to 5.
 -- Assumes nothing.
 use mathlib.Core.Path.{_≡_, refl, sym, ap, ap₂, _∙_, subst}
-use mathlib.Core.Bool.{Bool, true, false, _||_, or-false, true≢false, false≢true}
-use mathlib.Core.List.{List, [], _∷_, _++_, append-nil}
+use mathlib.Core.Bool.{true, false, _||_, or-false, true≢false}
+use mathlib.Core.List.{List, [], _∷_, append-nil}
 use mathlib.Core.Logic.{⊎-elim}
-use Prim.Native.Nat.{ℕ, zero, suc, _+_, _*_, _-_, _/_, _≤_, _<_}
+use Prim.Native.Nat.{ℕ, zero, suc, _+_, _-_, _/_, _≤_, _<_}
 use native.Mathlib.Omega.{arith}
 use lib.Dec.{eqb}
 use lib.ListN.{length, getD, set, take}
@@ -19,19 +19,19 @@ use Rattle.rows.specs.Layouts.{rows-in, Room}
 use Rattle.rows.specs.declared.Layout.{Layout}
 use Rattle.buckets.specs.Chains.{Linked}
 use Rattle.buckets.specs.Chains as chains
-use Rattle.buckets.specs.Prints.{print}
 use Rattle.buckets.proofs.Prints.{print-few}
 use Rattle.blocks.specs.Blocks.{Block, gone, literal, operator, Blocks, none, _◂_, _⊕_, head, inner, block-rows, size, grown, live, Laid, Here, Owed}
 use Rattle.blocks.specs.Walks.{extent, at-row, Hops, JoinsAt}
 use Rattle.blocks.specs.Known.{Says, Told, AllTold}
-use Rattle.blocks.specs.Rules.{decisive, new, Unopposed, notes, Noted, Behind, Kept, Judged, Judges}
+use Rattle.blocks.specs.Rules.{decisive, new, Unopposed, notes, Behind, Kept, Judged, Judges}
 use Rattle.blocks.specs.Gather.{Flat, SplicesAt, ChildrenAt, Gathered, Gathers}
-use Rattle.blocks.proofs.Blocks.{⊕-assoc, stands, stands-row, live-⊕, live-◂, length-◂, length-⊕, extent-head, start, done-laid, rest-laid, onward, next, store, past-here}
+use Rattle.blocks.proofs.Blocks.{⊕-assoc, stands, stands-row, live-⊕, live-◂, length-⊕, extent-head, start, done-laid, rest-laid, onward, next, store, past-here}
 use Rattle.blocks.proofs.Walks.{Turn, turn-at, dead-holds, count-rows}
 use Rattle.blocks.proofs.Hop.{live-one, not-end}
 use Rattle.blocks.proofs.Told.{told-at, told-join, told-one, told-gone, told-says}
-use Rattle.blocks.proofs.Grouped.{decides-⧺, decides-before, firsts-⧺, decisive-firsts, new-firsts, Single, single, firsts-single}
-use Rattle.blocks.proofs.Join.{Advanced, advanced}
+use Rattle.blocks.proofs.Grouped.{decides-⧺, decides-before, firsts-⧺, decisive-firsts, new-firsts, single, firsts-single}
+use Rattle.blocks.proofs.Judge.{first-of}
+use Rattle.blocks.proofs.Join.{advanced}
 
 -- tables that are as long
 pub tables-as : {H L M : List ℕ} {H₀ L₀ M₀ : List ℕ} {n : ℕ} → length H ≡ length H₀ → length L ≡ length L₀ → length M ≡ length M₀
@@ -212,9 +212,6 @@ gather-none {owed = owed} M before bs after l t e o k f =
     }
 
 -- rule 1 at the next block
-
-first-of : {t u : Tree} {ts us : Forest} → t ▸ ts ≡ u ▸ us → t ≡ u
-first-of e = cc
 
 other-kind : (o : Op) (x : Block) {t : Tree} → ((head x) .kind ≡ operator-kind o → ⊥) → live (x ◂ none) ≡ t ▸ ∅ → is-op o t ≡ false
 unfolding head live grown is-op

@@ -11,7 +11,7 @@ use Rattle.formula.specs.Tree.{∅, _⧺_}
 use Rattle.formula.proofs.Tidy.Children.{⧺-none}
 use Rattle.sheet.specs.Format.{Row, row}
 use Rattle.blocks.specs.Blocks.{Block, gone, Blocks, none, _◂_, _⊕_, head, inner, block-rows, size, grown, live, Here}
-use Rattle.blocks.specs.Walks.{JoinsAt, at-row}
+use Rattle.blocks.specs.Walks.{JoinsAt}
 use Rattle.blocks.specs.Known.{Told, AllTold}
 use Rattle.blocks.specs.Rules.{note, notes}
 use Rattle.blocks.proofs.Blocks.{rows-⊕, live-⊕, live-snoc, length-⊕, onward, part-done, stands, stands-row}

@@ -8,8 +8,8 @@ use native.Mathlib.Omega.{arith}
 use lib.Dec.{eqb, leb, ltb}
 use lib.ListN.{length, getD, set, take, length-append}
 use lib.Seq.{append-snoc, set-getD, take-suc-set}
-use borrow.Author.Tests.{eq-eqb, ne-eqb, eqb-true, leb-true, lt-ltb, le-ltb}
-use Rattle.formula.specs.Tree.{Op, and, or, dual, same-op, Tree, lit, node, Forest, ∅, _▸_, _⧺_, some-child, keep, count}
+use borrow.Author.Tests.{ne-eqb, eqb-true, leb-true, lt-ltb, le-ltb}
+use Rattle.formula.specs.Tree.{Op, and, or, dual, same-op, Tree, lit, node, Forest, ∅, _▸_, some-child, keep, count}
 use Rattle.formula.specs.Tidy.{is-empty, opposite, same-tree, childless}
 use Rattle.formula.proofs.Booleans.{and-parts}
 use Rattle.formula.proofs.Tidy.Children.{keep-all, some-child-same}
@@ -18,14 +18,13 @@ use Rattle.sheet.specs.Sheet.{literal-kind, operator-kind}
 use Rattle.buckets.specs.Chains.{bucket, Passed}
 use Rattle.buckets.specs.Prints.{literal-mix, sign, print}
 use Rattle.buckets.proofs.Prints.{print-few}
-use Rattle.blocks.specs.Blocks.{Block, gone, literal, operator, Blocks, none, _◂_, head, inner, block-rows, size, grown, live, Laid, Here, Stands, Region}
+use Rattle.blocks.specs.Blocks.{Block, gone, literal, operator, Blocks, none, _◂_, head, inner, block-rows, size, grown, live, Laid, Stands, Region}
 use Rattle.blocks.specs.Known.{Says}
 use Rattle.blocks.specs.Rules.{decisive, repeated, new, Unopposed, place, note, notes, literal-test, Test, Member, Twin, Noted, LiteralRow, Kept, Judged}
-use Rattle.blocks.specs.Walks.{at-row, FirstLive}
+use Rattle.blocks.specs.Walks.{at-row}
 use Rattle.blocks.specs.Entered.{LiveAt, Same}
-use Rattle.blocks.proofs.Blocks.{stands, live-◂, stands-row, start}
+use Rattle.blocks.proofs.Blocks.{stands, stands-row, start}
 use Rattle.blocks.proofs.Walks.{like, dead-holds}
-use Rattle.blocks.proofs.Hop.{live-one}
 use Rattle.blocks.proofs.Told.{told-gone}
 use Rattle.blocks.proofs.Notes.{noted-count, noted-at, notes-places, unseen, seen, unseen-twin, seen-twin, member-lives, place-of, print-of, bucket-of}
 use Rattle.blocks.proofs.Grouped.{Unknown, unknown, repeated-indecisive}
@@ -49,11 +48,6 @@ no-operator o ks (node k ts ▸ us) = no-operator o ks us
 pub none-dead : (P : Tree → Bool) (x : Block) → (head x) .kind ≡ 0 → some-child P (live (x ◂ none)) ≡ false
 unfolding some-child
 none-dead P x e = ap (some-child P) (dead-holds x e)
-
-decisive-literal : (o : Op) (us : Forest) (s : Bool) (v : ℕ)
-    → some-child (decisive o us) (live (literal s v ◂ none)) ≡ some-child (like (not s) v) us
-unfolding some-child decisive live grown is-empty
-decisive-literal o us s v = or-false _ ∙ some-child-same (opposite-like s v) us
 
 decisive-operator : (o : Op) (us : Forest) (k : Op) (ks : Blocks)
     → some-child (decisive o us) (live (operator k ks ◂ none)) ≡ is-empty (dual o) (node k (live ks))
@@ -108,18 +102,6 @@ inner-region-head (operator o ks) l h = record { before = _; blocks = ks; after 
 pub inner-region : {R : List Row} {at a : ℕ} {before after : List Row} (x : Block) → 4 < (head x) .kind → a ≡ (head x) .argument
     → Stands R at before x after → Region R (at + 1) (at + a)
 inner-region {R} {at} x l e h = subst (λ m. Region R (at + 1) (at + m)) (sym e) (inner-region-head x l h)
-
-pub first-live-none : {R : List Row} {from at to : ℕ} {before after : List Row} {bs : Blocks} → FirstLive R from at to before bs after
-    → eqb at to ≡ childless (live bs)
-unfolding block-rows live childless _⧺_
-first-live-none {R} {from} {at} {to} {before} {after} {bs} f = rw (f .others) (go (f .rest) (f .here))
-  where
-    go : (rest : Blocks) → Here R from at to before (f .done) rest after → eqb at to ≡ childless (live rest)
-    go none h = eq-eqb at to (omega (arith, h .ends))
-    go (y ◂ ys) h =
-        let more : at < to = omega (arith, h .ends) in
-        let t = live-one y (λ e. f .found more (ap (λ (r : Row). r .kind) (stands-row (stands h)) ∙ e)) in
-        ne-eqb at to (λ e. omega arith) ∙ sym (ap childless (live-◂ y ys ∙ ap (λ ts. ts ⧺ live ys) (t .is)))
 
 -- an operator has no children where the table says so
 childless-told : (w : ℕ) (o : Op) (ts : Forest) → w ≡ count ts * 65536 + print (node o ts) → ltb w 65536 ≡ childless ts
@@ -350,7 +332,7 @@ module _ {R : List Row} {at kind v : ℕ} (row-is : LiteralRow R at kind) (v-is 
         other : (at-row R (place (getD M j 0))) .kind ≡ literal-kind (not (b .sign-of))
         other = opposite-kind (b .sign-of) _ above below (λ e. k (e ∙ sym kind-sign))
 
-first-of : {t u : Tree} {ts us : Forest} → t ▸ ts ≡ u ▸ us → t ≡ u
+pub first-of : {t u : Tree} {ts us : Forest} → t ▸ ts ≡ u ▸ us → t ≡ u
 first-of e = cc
 
 dropped-one : (us : Forest) (t : Tree) → some-child (λ w. same-tree w t) us ≡ true → new us (t ▸ ∅) ≡ ∅

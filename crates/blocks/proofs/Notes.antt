@@ -1,25 +1,25 @@
 -- Members and the literals that they name.
 -- Assumes nothing.
 use mathlib.Core.Path.{_≡_, refl, sym, ap, _∙_, subst}
-use mathlib.Core.Bool.{Bool, true, false, _&&_, _||_}
-use mathlib.Core.List.{List, [], _∷_, _++_, append-assoc, append-nil}
+use mathlib.Core.Bool.{Bool, true, false, _||_}
+use mathlib.Core.List.{List, [], _++_, append-assoc, append-nil}
 use Prim.Native.Nat.{ℕ, zero, suc, _+_, _*_, _/_, _%_, _≤_, _<_}
 use native.Mathlib.Nat.{add-zero}
 use native.Mathlib.Omega.{arith}
 use lib.Dec.{eqb}
-use lib.ListN.{length, getD, take, length-append}
+use lib.ListN.{length, getD}
 use lib.Seq.{getD-take, length-take-le}
 use borrow.Author.Tests.{eq-eqb, eqb-true, le-leb, lt-leb}
 use Rattle.formula.specs.Tree.{Op, and, or, Tree, lit, node, ∅, _▸_, some-child}
 use Rattle.formula.specs.Tidy.{same-tree, same-variable}
 use Rattle.formula.proofs.Tidy.Same.{same-tree-same}
-use Rattle.formula.proofs.Booleans.{and-parts, or-none, or-later}
+use Rattle.formula.proofs.Booleans.{or-none, or-later}
 use Rattle.sheet.specs.Format.{Row, row}
 use Rattle.sheet.specs.Sheet.{literal-kind}
 use Rattle.buckets.specs.Chains.{bucket}
 use Rattle.buckets.specs.Prints.{literal-mix, sign, print}
 use Rattle.buckets.proofs.Prints.{print-few}
-use Rattle.blocks.specs.Blocks.{Block, gone, literal, operator, Blocks, none, _◂_, _⊕_, head, inner, block-rows, size, grown, live, Here, Stands}
+use Rattle.blocks.specs.Blocks.{Block, gone, literal, operator, Blocks, none, _◂_, _⊕_, head, block-rows, size, grown, live, Here, Stands}
 use Rattle.blocks.specs.Walks.{at-row}
 use Rattle.blocks.specs.Rules.{place, note, notes, Noted, literal-test, Member, Twin}
 use Rattle.blocks.specs.Entered.{LiveAt, Same}

@@ -15,9 +15,9 @@ use Rattle.sheet.specs.Format.{Bytes, Row}
 use Rattle.rows.specs.Layouts.{rows-in, Room, total}
 use Rattle.rows.specs.declared.Layout.{Layout}
 use Rattle.rows.proofs.Layouts.{length-rows-in}
-use Rattle.blocks.specs.Blocks.{Block, gone, literal, operator, Blocks, none, _◂_, _⊕_, head, block-rows, grown, live, Laid, Here, Region, Stands, Standing}
+use Rattle.blocks.specs.Blocks.{Block, gone, literal, operator, Blocks, none, _◂_, _⊕_, head, block-rows, grown, live, Laid, Here, Region}
 use Rattle.blocks.specs.Walks.{extent, Alive, Finds, at-row}
-use Rattle.blocks.proofs.Blocks.{stands, live-snoc, ⧺-◂, length-◂, extent-head, within, start, next, onward, no-rows}
+use Rattle.blocks.proofs.Blocks.{live-snoc, ⧺-◂, length-◂, extent-head, within, start, next, onward, no-rows}
 
 pub record Walked (R : List Row) (from at to : ℕ) (before : List Row) (bs : Blocks) (after : List Row) (Q : Forest → Type 0) : Type 0 where
   pub done : Blocks

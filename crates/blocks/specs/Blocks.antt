@@ -89,14 +89,6 @@ pub record Region (R : List Row) (from to : ℕ) : Type 0 where
   pub after : List Row
   pub laid : Laid R from to before blocks after
 
--- and so are those from there up to a third
-pub record Regions (R : List Row) (from at to : ℕ) : Type 0 where
-  pub before : List Row
-  pub done : Blocks
-  pub rest : Blocks
-  pub after : List Row
-  pub here : Here R from at to before done rest after
-
 -- 5 or 6
 pub record OperatorKind (kind : ℕ) : Type 0 where
   pub op : Op

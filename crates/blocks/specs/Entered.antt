@@ -1,16 +1,15 @@
 -- A block's own row, as a sheet has it, and the blocks that come next when it is entered.
 -- Assumes nothing.
 use mathlib.Core.Path.{_≡_}
-use mathlib.Core.Bool.{Bool, true, false, _&&_}
+use mathlib.Core.Bool.{Bool, _&&_}
 use mathlib.Core.List.{List, [], _∷_}
-use Prim.Native.Nat.{ℕ, _<_}
+use Prim.Native.Nat.{ℕ}
 use lib.Dec.{eqb}
 use Rattle.formula.specs.Tree.{Tree, ∅, _▸_, count}
 use Rattle.formula.specs.Tidy.{same-tree}
 use Rattle.sheet.specs.Format.{Row, row}
 use Rattle.sheet.specs.Sheet.{literal-kind, operator-kind}
 use Rattle.blocks.specs.Blocks.{Block, gone, literal, operator, Blocks, none, _◂_, _⊕_, head, live, Stands}
-use Rattle.blocks.specs.Walks.{at-row}
 
 unfoldable pub packed : Block → List Row
 packed (gone rs) = []

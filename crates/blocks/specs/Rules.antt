@@ -1,19 +1,19 @@
 -- Rules 2 to 5 at an operator's children ("Tidy sheets"), one child after another.
 -- Assumes nothing.
 use mathlib.Core.Path.{_≡_}
-use mathlib.Core.Bool.{Bool, true, false, not, _&&_, _||_, cond}
+use mathlib.Core.Bool.{Bool, true, false, not, _&&_, _||_}
 use mathlib.Core.List.{List, [], _∷_, _++_}
 use mathlib.Core.Logic.{_⊎_}
 use Prim.Native.Nat.{ℕ, _+_, _*_, _-_, _/_, _%_, _≤_, _<_}
 use lib.Dec.{eqb, leb}
 use lib.ListN.{length, getD, set, take}
-use Rattle.formula.specs.Tree.{Op, dual, Tree, node, Forest, ∅, _▸_, some-child, some-two, keep}
+use Rattle.formula.specs.Tree.{Op, dual, Tree, node, Forest, some-child, some-two, keep}
 use Rattle.formula.specs.Tidy.{is-empty, opposite, same-tree}
-use Rattle.sheet.specs.Format.{Row, row}
+use Rattle.sheet.specs.Format.{Row}
 use Rattle.sheet.specs.Sheet.{operator-kind}
 use Rattle.rows.specs.Layouts.{total}
 use Rattle.rows.specs.declared.Layout.{Layout}
-use Rattle.buckets.specs.Chains.{bucket, last, Linked, Passed}
+use Rattle.buckets.specs.Chains.{last, Linked, Passed}
 use Rattle.buckets.specs.Chains as chains
 use Rattle.buckets.specs.Prints.{literal-mix, sign, print}
 use Rattle.blocks.specs.Blocks.{Block, gone, literal, operator, Blocks, none, _◂_, head, inner, size, live, Laid, Stands, Standing}

@@ -1,16 +1,15 @@
 -- What the walks over blocks find, and what joining dead ones leaves.
 -- Assumes nothing.
 use mathlib.Core.Path.{_≡_}
-use mathlib.Core.Bool.{Bool, _&&_, _||_, cond}
+use mathlib.Core.Bool.{_||_, cond}
 use mathlib.Core.List.{List}
 use mathlib.Core.Logic.{_⊎_}
 use Prim.Native.Nat.{ℕ, _-_, _≤_, _<_}
 use lib.Dec.{eqb}
 use lib.ListN.{getD, set}
-use Rattle.formula.specs.Tree.{lit, Forest, ∅, some-child, count}
-use Rattle.formula.specs.Tidy.{equal}
+use Rattle.formula.specs.Tree.{∅, count}
 use Rattle.sheet.specs.Format.{Row, row}
-use Rattle.sheet.specs.Sheet.{literal-kind, front, behind}
+use Rattle.sheet.specs.Sheet.{front, behind}
 use Rattle.blocks.specs.Blocks.{Blocks, _⊕_, live, Laid, Here}
 
 -- a row by its number

@@ -57,15 +57,14 @@ pub fn splice_at(b: &mut [u8], s: Layout, c: Child, owed: usize) -> usize
     requires { ⌜ Room s (length (now b)) × (total s < 256 ^ s .width) × (c .at < total s) × (0 < owed) × (owed < 65536) × (c .known < 2 ^ 32) ⌝ }
     ensures { λ left. ⌜ SplicesAt (rows-in s (now (b .entry))) (rows-in s (now (b .exit))) (c .at) (c .kind) (c .known) owed left ⌝ }
 {
-    let at = c.at;
-    let k = kind_at(b, s, at);
+    let k = kind_at(b, s, c.at);
     if k == GONE {
         return owed;
     }
     if k != c.kind {
         return owed - 1;
     }
-    set_row(b, s, at, GONE, 1);
+    set_row(b, s, c.at, GONE, 1);
     owed - 1 + c.known / 65536
 }
 

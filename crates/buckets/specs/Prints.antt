@@ -28,25 +28,3 @@ unfoldable mutual
   pub print-on : ℕ → Forest → ℕ
   print-on h ∅ = h
   print-on h (t ▸ ts) = print-on (mix h (print t)) ts
-
--- A flat outline: of a tree and its children alone, so that it can be mixed from their rows; of an operator among the children the kind
--- counts. An outline goes one level deeper.
-abbrev pub tip : Tree → ℕ
-tip (lit s v) = literal-mix (sign s) v
-tip (node o ts) = operator-mix o
-
-unfoldable pub flat-on : ℕ → Forest → ℕ
-flat-on h ∅ = h
-flat-on h (t ▸ ts) = flat-on (mix h (tip t)) ts
-
-unfoldable pub flat : Tree → ℕ
-flat (lit s v) = literal-mix (sign s) v
-flat (node o ts) = flat-on (operator-mix o) ts
-
-unfoldable pub outline-on : ℕ → Forest → ℕ
-outline-on h ∅ = h
-outline-on h (t ▸ ts) = outline-on (mix h (flat t)) ts
-
-unfoldable pub outline : Tree → ℕ
-outline (lit s v) = literal-mix (sign s) v
-outline (node o ts) = outline-on (operator-mix o) ts

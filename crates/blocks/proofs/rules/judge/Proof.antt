@@ -1,13 +1,11 @@
 -- `blocks::rules::judge` meets its contract. Assumes nothing.
 use mathlib.Core.Path.{_≡_, refl, sym, ap, _∙_, subst}
-use Prim.Native.Nat.{_+_, _-_, _<_}
+use Prim.Native.Nat.{_+_, _-_}
 use native.Mathlib.Omega.{arith}
 use Rattle.sheet.specs.Format.{Row}
-use Rattle.rows.specs.Layouts.{total}
 use Rattle.rows.proofs.Layouts.{length-rows-in}
 use Rattle.buckets.specs.Chains.{Linked}
-use Rattle.buckets.proofs.Chains.{linked-none}
-use Rattle.blocks.specs.Blocks.{head, live}
+use Rattle.blocks.specs.Blocks.{live}
 use Rattle.blocks.specs.Rules.{decisive, repeated}
 use Rattle.blocks.proofs.Blocks.{stands-row, stands-within}
 use Rattle.blocks.proofs.Notes.{note-dead}

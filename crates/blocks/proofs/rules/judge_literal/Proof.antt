@@ -1,9 +1,8 @@
 -- `blocks::rules::judge_literal` meets its contract. Assumes nothing.
 use mathlib.Core.Path.{_≡_, refl, sym, ap, _∙_, subst}
 use mathlib.Core.List.{List}
-use Prim.Native.Nat.{ℕ, _+_, _-_, _/_, _<_}
+use Prim.Native.Nat.{_+_, _-_, _/_, _<_}
 use native.Mathlib.Omega.{arith}
-use lib.ListN.{length, getD}
 use Rattle.sheet.specs.Format.{Row}
 use Rattle.rows.specs.Layouts.{total, rows-in}
 use Rattle.rows.proofs.Layouts.{length-rows-in}
@@ -11,7 +10,7 @@ use Rattle.buckets.specs.Chains.{bucket, last, Linked}
 use Rattle.buckets.specs.Prints.{literal-mix}
 use Rattle.buckets.proofs.Chains.{linked-none}
 use Rattle.blocks.specs.Walks.{at-row}
-use Rattle.blocks.specs.Rules.{Chain, Test}
+use Rattle.blocks.specs.Rules.{Test}
 use Rattle.blocks.proofs.Blocks.{stands-within}
 use Rattle.blocks.proofs.Find.{Found, found, unfound}
 use Rattle.blocks.proofs.Judge.{members-within, judged-new, judged-again, judged-opposite}

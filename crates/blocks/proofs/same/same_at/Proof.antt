@@ -1,11 +1,10 @@
 -- `blocks::same::same_at` meets its contract: what is left of both is the same if all is. Assumes nothing.
-use mathlib.Core.Path.{_≡_, sym, ap, _∙_}
-use Prim.Native.Nat.{_-_, _≤_}
+use Prim.Native.Nat.{_-_}
 use native.Mathlib.Omega.{arith}
 use borrow.Author.Tests.{not-true, not-false}
-use Rattle.rows.specs.Layouts.{rows-in, total}
+use Rattle.rows.specs.Layouts.{rows-in}
 use Rattle.rows.proofs.Layouts.{length-rows-in}
-use Rattle.blocks.proofs.Blocks.{stands-within, stands-row, extent-head, laid-within}
+use Rattle.blocks.proofs.Blocks.{stands-within, laid-within}
 use Rattle.blocks.proofs.Entered.{Compare, compare-none, compare-standing, compare-left, compare-right, compare-more, compare-differ, compare-short, compare-end, finds-within}
 use Rattle.blocks.proofs.same.same_at.Statement.{statement}
 use Rattle.blocks.proofs.same.same_at.Tie as tie
