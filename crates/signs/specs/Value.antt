@@ -21,7 +21,7 @@ use Rattle.signs.specs.declared.value.Signs.{Signs}
 pub record NumberedTo (most : ℕ) (s : Layout) (b : Bytes) : Type 0 where
   pub few-numbers : (i : ℕ) → i < s .variables → (binding-in s b i) .variable ≤ most
 
--- nor above 1,024, the wider format's most
+-- none above 1,024, the wider format's most
 abbrev pub Numbered : Layout → Bytes → Type 0
 Numbered s b = NumberedTo 1024 s b
 
