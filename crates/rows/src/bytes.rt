@@ -1,7 +1,7 @@
 // Bytes of a sheet: a number put, a part moved, the rest cleared.
 ghost use mathlib.Core.Path.{_≡_};
 ghost use mathlib.Core.List.{_++_};
-ghost use Prim.Native.Nat.{_+_, _-_, _*_, _≤_};
+ghost use Prim.Native.Nat.{_+_, _-_, _≤_};
 ghost use lib.ListN.{length, take, drop, replicate};
 ghost use Rattle.sheet.specs.Format.{digits};
 
@@ -49,14 +49,6 @@ pub fn put_number(b: &mut [u8], at: usize, width: usize, value: usize)
         return;
     }
     put_by_bytes(b, at, width, value);
-}
-
-// Writes the number `i` of those that stand one behind the other from the first byte on.
-pub fn put_nth(b: &mut [u8], i: usize, width: usize, value: usize)
-    requires { ⌜ width * i + width ≤ length (now b) ⌝ }
-    ensures { λ _. ⌜ now (b .exit) ≡ take (width * i) (now (b .entry)) ++ digits width value ++ drop (width * i + width) (now (b .entry)) ⌝ }
-{
-    put_number(b, width * i, width, value);
 }
 
 // Copies `count` bytes from `from` down to `to`.
