@@ -1,8 +1,10 @@
 // Tidy. The rows of a raw sheet are worked on in place, from the last to the first, packed, and made a sheet again.
 use crate::tables::FEW;
+use crate::tables::MANY;
 use crate::tables::SOME;
 use crate::tables::tidy_few;
 use crate::tables::tidy_many;
+use crate::tables::tidy_most;
 use crate::tables::tidy_some;
 use checking::Checked;
 use checking::Written;
@@ -39,7 +41,10 @@ pub fn tidy_in_place(b: &mut [u8], f: Format, s: Layout) -> usize
     if rows <= SOME {
         return tidy_some(b, s);
     }
-    tidy_many(b, s)
+    if rows <= MANY {
+        return tidy_many(b, s);
+    }
+    tidy_most(b, s)
 }
 
 // Copies a sheet to the front of an output.

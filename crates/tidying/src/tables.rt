@@ -11,12 +11,14 @@ ghost use Rattle.rows.specs.Layouts.{total};
 ghost use Rattle.blocks.specs.Rules.{Tables};
 ghost use Rattle.tidying.specs.Inner.Tables.{RawRows, Leaves};
 
-// Rows at most: few, more, and as many as the largest sheet has.
+// Rows at most: two sizes for small sheets, and as many as the largest narrow sheet and the largest wide one have.
 pub const FEW: usize = 256;
 
-pub const SOME: usize = 1280;
+pub const SOME: usize = 1024;
 
-pub const MANY: usize = 9216;
+pub const MANY: usize = 4352;
+
+pub const MOST: usize = 9216;
 
 // Tidies the formula whose rows stand in `b`, and returns the tidied sheet's length. The tables may hold anything.
 pub fn tidy_by(
@@ -47,7 +49,7 @@ pub fn tidy_few(b: &mut [u8], s: Layout) -> usize
 }
 
 pub fn tidy_some(b: &mut [u8], s: Layout) -> usize
-    requires { ⌜ RawRows s (now b) × (total s ≤ 1280) ⌝ }
+    requires { ⌜ RawRows s (now b) × (total s ≤ 1024) ⌝ }
     ensures { λ end. ⌜ Leaves s (now (b .entry)) (now (b .exit)) end ⌝ }
 {
     let mut heads = [0u16; HEADS];
@@ -58,12 +60,23 @@ pub fn tidy_some(b: &mut [u8], s: Layout) -> usize
 }
 
 pub fn tidy_many(b: &mut [u8], s: Layout) -> usize
-    requires { ⌜ RawRows s (now b) × (total s ≤ 9216) ⌝ }
+    requires { ⌜ RawRows s (now b) × (total s ≤ 4352) ⌝ }
     ensures { λ end. ⌜ Leaves s (now (b .entry)) (now (b .exit)) end ⌝ }
 {
     let mut heads = [0u16; HEADS];
     let mut links = [0u16; MANY];
     let mut members = [0u32; MANY];
     let mut known = [0u32; MANY];
+    tidy_by(b, s, &mut heads, &mut links, &mut members, &mut known)
+}
+
+pub fn tidy_most(b: &mut [u8], s: Layout) -> usize
+    requires { ⌜ RawRows s (now b) × (total s ≤ 9216) ⌝ }
+    ensures { λ end. ⌜ Leaves s (now (b .entry)) (now (b .exit)) end ⌝ }
+{
+    let mut heads = [0u16; HEADS];
+    let mut links = [0u16; MOST];
+    let mut members = [0u32; MOST];
+    let mut known = [0u32; MOST];
     tidy_by(b, s, &mut heads, &mut links, &mut members, &mut known)
 }

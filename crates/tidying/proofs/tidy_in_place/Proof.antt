@@ -36,8 +36,19 @@ same-length-3 c = search needs
 
 returns-3 : tie.Need-returns-3
 returns-3 c =
-    let a = c .before .before .before .before .before .before .before .before in
+    let a = c .before .before .before .before .before .before .before .before .before in
     c .before .before .tidy-many .ensures _ (a .pre .width-is)
+
+tidy-most-requires : tie.Need-tidy-most-requires
+tidy-most-requires c κs = search needs
+
+same-length-4 : tie.Need-same-length-4
+same-length-4 c = search needs
+
+returns-4 : tie.Need-returns-4
+returns-4 c =
+    let a = c .before .before .before .before .before .before .before .before .before in
+    c .before .before .tidy-most .ensures _ (a .pre .width-is)
 
 pub tidy-in-place-spec : {M : Type 1} → statement M
 tidy-in-place-spec =
@@ -52,4 +63,7 @@ tidy-in-place-spec =
     returns-2
     tidy-many-requires
     same-length-3
-    returns-3)
+    returns-3
+    tidy-most-requires
+    same-length-4
+    returns-4)

@@ -20,7 +20,7 @@ slice-aggregate-tidy-by-4 c = search needs
 tidy-by-requires : tie.Need-tidy-by-requires
 tidy-by-requires c κs =
     let a = c .before .before .before .before .before .before in
-    (a .pre .0, blank-tables (a .args .s) 1280 (a .pre .1) (omega arith), blank-known (a .args .s) 1280 (a .pre .1))
+    (a .pre .0, blank-tables (a .args .s) 1024 (a .pre .1) (omega arith), blank-known (a .args .s) 1024 (a .pre .1))
 
 same-length : tie.Need-same-length
 same-length c = search needs
