@@ -37,6 +37,7 @@ pub fn tidy_by(
     seal(b, s, rows)
 }
 
+// The same of few rows, with tables of zeros.
 pub fn tidy_few(b: &mut [u8], s: Layout) -> usize
     requires { ⌜ RawRows s (now b) × (total s ≤ 256) ⌝ }
     ensures { λ end. ⌜ Leaves s (now (b .entry)) (now (b .exit)) end ⌝ }
@@ -48,6 +49,7 @@ pub fn tidy_few(b: &mut [u8], s: Layout) -> usize
     tidy_by(b, s, &mut heads, &mut links, &mut members, &mut known)
 }
 
+// The same of more rows.
 pub fn tidy_some(b: &mut [u8], s: Layout) -> usize
     requires { ⌜ RawRows s (now b) × (total s ≤ 1024) ⌝ }
     ensures { λ end. ⌜ Leaves s (now (b .entry)) (now (b .exit)) end ⌝ }
@@ -59,6 +61,7 @@ pub fn tidy_some(b: &mut [u8], s: Layout) -> usize
     tidy_by(b, s, &mut heads, &mut links, &mut members, &mut known)
 }
 
+// The same of as many rows as a narrow sheet has at most.
 pub fn tidy_many(b: &mut [u8], s: Layout) -> usize
     requires { ⌜ RawRows s (now b) × (total s ≤ 4352) ⌝ }
     ensures { λ end. ⌜ Leaves s (now (b .entry)) (now (b .exit)) end ⌝ }
@@ -70,6 +73,7 @@ pub fn tidy_many(b: &mut [u8], s: Layout) -> usize
     tidy_by(b, s, &mut heads, &mut links, &mut members, &mut known)
 }
 
+// The same of as many rows as a wide sheet has at most.
 pub fn tidy_most(b: &mut [u8], s: Layout) -> usize
     requires { ⌜ RawRows s (now b) × (total s ≤ 9216) ⌝ }
     ensures { λ end. ⌜ Leaves s (now (b .entry)) (now (b .exit)) end ⌝ }
