@@ -4,8 +4,10 @@ use raw::settle::write_settled;
 use rows::Format;
 use rows::Layout;
 use rows::NUMBERS;
+use signs::table::FEW_NUMBERS;
 use tidying::tidy_in_place;
 ghost use mathlib.Core.Path.{_≡_};
+ghost use Prim.Native.Nat.{_≤_, _<_};
 ghost use lib.ListN.{length};
 ghost use Rattle.sheet.specs.Sheet.{sheet};
 ghost use Rattle.sheet.specs.Operations.{padded};
@@ -20,15 +22,26 @@ pub struct Put {
     pub value: bool,
 }
 
-// Writes the settled sheet to the front of `out`, with zeros behind it, and returns its length. The table has no more entries than the
-// variable needs, as it is filled anew in every step.
+// Entries of the table for a variable: for all numbers of a narrow sheet, as it is filled anew in every step, or of a wide one. So whether
+// a number is in the table is the same for nearly all rows, and the processor need not guess.
+fn entries_for(x: usize) -> usize
+    requires { ⌜ x ≤ 1024 ⌝ }
+    ensures { λ r. ⌜ (x < r) × (r ≤ 1025) ⌝ }
+{
+    if x < FEW_NUMBERS {
+        return FEW_NUMBERS;
+    }
+    NUMBERS
+}
+
+// Writes the settled sheet to the front of `out`, with zeros behind it, and returns its length.
 pub fn settle_into(b: &[u8], f: Format, s: Layout, p: Put, out: &mut [u8]) -> usize
     requires { ⌜ Puts (format-of f) s (now b) p (length (now out)) ⌝ }
     ensures { λ _. ⌜ now (out .exit) ≡ padded (length (now (out .entry))) (sheet (format-of f) (settled-by p (formula-in s (now (b .entry))))) ⌝ }
     ensures { λ r. ⌜ r ≡ length (sheet (format-of f) (settled-by p (formula-in s (now (b .entry))))) ⌝ }
 {
     let mut table = [0u16; NUMBERS];
-    let entries = p.variable + 1;
+    let entries = entries_for(p.variable);
     let changes = &mut table[..entries];
     fill(changes, p.variable, p.value);
     write_settled(b, s, changes, p.row, out);

@@ -1,6 +1,6 @@
 -- `stepping::settling::settle_into` meets its contract. Assumes nothing.
 use mathlib.Core.Path.{_≡_, sym, ap, _∙_}
-use Prim.Native.Nat.{ℕ, _+_, _≤_}
+use Prim.Native.Nat.{ℕ, _≤_}
 use borrow.Author.Needs.{needs}
 use native.Mathlib.Omega.{arith}
 use lib.ListN.{length, take, replicate, length-replicate}
@@ -17,27 +17,26 @@ use Rattle.stepping.proofs.RawSheets.{raw-room, prefix-without, put-for
 use Rattle.stepping.proofs.settling.settle_into.Statement.{statement}
 use Rattle.stepping.proofs.settling.settle_into.Tie as tie
 
--- the lent part has an entry for x
-entries : {x : ℕ} → x ≤ 1024 → length (take (x + 1) (replicate {A = ℕ} 1025 0)) ≡ x + 1
-entries {x} h =
+-- the lent part has so many entries
+entries : {n : ℕ} → n ≤ 1025 → length (take n (replicate {A = ℕ} 1025 0)) ≡ n
+entries {n} h =
     let none : ℕ = 0 in
-    length-take-le (x + 1) (replicate 1025 none) (omega (arith, length-replicate 1025 none))
+    length-take-le n (replicate 1025 none) (omega (arith, length-replicate 1025 none))
 
-add-entries : tie.Need-add-entries
-add-entries c = search needs
+entries-for-requires : tie.Need-entries-for-requires
+entries-for-requires c κs = search needs
 
 array-borrow-prefix-table : tie.Need-array-borrow-prefix-table
 array-borrow-prefix-table c = search needs
 
 slice-aggregate-changes : tie.Need-slice-aggregate-changes
 slice-aggregate-changes c =
-    let a = c .before .before .before .before in
-    sym (entries (a .pre .named .few))
+    sym (entries (c .before .entries-for .ensures .1))
 
 fill-requires : tie.Need-fill-requires
 fill-requires c κs =
-    let few = c .before .before .before .before .before .pre .named .few in
-    (omega (arith, entries few), omega (arith, entries few, few))
+    let found = c .before .before .entries-for .ensures in
+    (omega (arith, entries (found .1), found .0), omega (arith, entries (found .1), found .1))
 
 write-settled-requires : tie.Need-write-settled-requires
 write-settled-requires c κs =
@@ -71,7 +70,8 @@ returns c =
     let st = a .pre .from in
     let f = formula-in (a .args .s) (a .args .b .now) in
     let g = settled-raw (a .args .p .row) (filled .fill .last .0) f in
-    let is = put-formula st (a .pre .named) (a .args .p .value) (omega (arith, entries (a .pre .named .few))) (filled .fill .ensures) in (
+    let found = filled .before .before .before .entries-for .ensures in
+    let is = put-formula st (a .pre .named) (a .args .p .value) (omega (arith, entries (found .1), found .0)) (filled .fill .ensures) in (
       written-sheet st (a .pre .named) g (prefix-without st (a .pre .named)) (st .few-nodes) (wrote .write-settled .kept .1 .1 .1 .1 .0) (a .pre .room)
           (wrote .write-settled .ensures) (tidied-it .tidy-in-place .ensures .0) ∙
           ap (λ (h : Formula). padded (length (a .args .out .now)) (sheet F (tidied h))) is,
@@ -84,7 +84,7 @@ pub settle-into-spec : {M : Type 1} → statement M
 settle-into-spec =
     tie.close
     (tie.spec
-    add-entries
+    entries-for-requires
     array-borrow-prefix-table
     slice-aggregate-changes
     fill-requires
