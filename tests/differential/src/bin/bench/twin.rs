@@ -1,7 +1,7 @@
 //! Solve through the static library beside the tuned twin and the reading on
 //! trees, side by side on the same sheets, with the geometric means of the
 //! ratios for each family and for all. Narrow sheets first, and then the same
-//! formulas as wide ones.
+//! formulas as wide ones, in buffers with room for as many rows.
 
 use crate::{ratio, time_of};
 use differential::{Library, LIBRARIES, NARROW};
@@ -39,7 +39,8 @@ fn means(ratios: &[Ratios]) -> Ratios {
 
 /// The library beside the two others on one sheet.
 fn compare(library: &Library, twin: &mut Twin, family: Family, sheet: &[u8]) -> Ratios {
-    let room = library.reading.format.longest_sheet();
+    let Format { most_variables, most_nodes, .. } = NARROW.reading.format;
+    let room = library.reading.format.sheet_length(most_variables, most_nodes);
     let (mut first, mut second) = (vec![0; room], vec![0; room]);
     let answer = library.solve(sheet, &mut first, &mut second);
     let same = twin.solve(sheet, room) == answer;
