@@ -61,9 +61,10 @@ struct Point {
 
 impl Point {
     /// How the time grows when the rows double, from an earlier point to this one.
-    fn growth_from(&self, earlier: &Point) -> f64 {
+    fn growth_from(&self, earlier: &Point) -> Option<f64> {
         let doublings = (self.rows as f64 / earlier.rows as f64).log2();
-        ratio(self.step, earlier.step).powf(1.0 / doublings)
+        // Of sheets that are about as large nothing can be said.
+        (doublings > 0.25).then(|| ratio(self.step, earlier.step).powf(1.0 / doublings))
     }
 }
 
@@ -89,7 +90,8 @@ fn row(family: Family, formula: &Formula, before: Option<Point>) -> Point {
     };
     let steps = answer.counts().map_or(0, |(settled, expanded)| settled + expanded);
     let point = Point { rows: formula.matrix.rows(), step: library / (1 + steps as u32) };
-    let growth = before.map_or("-".into(), |before| format!("{:.2}", point.growth_from(&before)));
+    let growth = before.and_then(|before| point.growth_from(&before));
+    let growth = growth.map_or("-".into(), |growth| format!("{growth:.2}"));
     let (mine, others) = (program.as_ref().map(|run| run.0), outside.map(|run| run.0));
     let processes =
         mine.zip(others).map_or("-".into(), |(mine, others)| format!("{:.2}", ratio(mine, others)));
