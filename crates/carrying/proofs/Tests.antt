@@ -21,6 +21,7 @@ use Rattle.rows.specs.Layouts.{rows-in}
 use Rattle.rows.specs.Formulas.{formula-in}
 use Rattle.rows.specs.declared.Layout.{Layout}
 use Rattle.rows.proofs.Layouts.{all-rows-in}
+use Rattle.rows.proofs.Widths.{two-wide, four-wide}
 use Rattle.checking.specs.Limits.{Sheet}
 use Rattle.checking.proofs.CheckedSheets.{RightSizes, narrow-manageable, wide-manageable, sheet-right, sheet-readable, sheet-formula-in}
 use Rattle.carrying.specs.Inner.Rows.{Carriable, Ready, room-call}
@@ -110,7 +111,7 @@ module _ {F G : Format} (b : Bytes) {s : Layout} (h : Sheet F b s) where
         (record {
           manageable = narrow-manageable;
           accepted = narrow-sheet;
-          few-bytes = omega arith;
+          few-bytes = four-wide;
           sound = wide-sound;
           within = widen-within b (narrow-sheet .tests-pass);
         })
@@ -138,7 +139,7 @@ module _ {F G : Format} (b : Bytes) {s : Layout} (h : Sheet F b s) where
         (record {
           manageable = wide-manageable;
           accepted = wide-sheet;
-          few-bytes = omega arith;
+          few-bytes = two-wide;
           sound = narrow-sound;
           within = within-passed wide narrow b (wide-sheet .tests-pass) (told e);
         })

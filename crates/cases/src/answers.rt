@@ -15,6 +15,7 @@ use printing::print_number;
 use rows::Format;
 use solve::Solved;
 use trial::Tried;
+ghost use Rattle.rows.specs.Formats.{Width};
 
 // Longer than any output: no sheet is written.
 const NO_SHEET: usize = 65536;
@@ -88,7 +89,9 @@ pub fn print_quoted(answer: Quoted) {
     }
 }
 
-pub fn print_solved(answer: Solved, f: Format, first: &[u8], second: &[u8]) {
+pub fn print_solved(answer: Solved, f: Format, first: &[u8], second: &[u8])
+    requires { ⌜ Width (f .width) ⌝ }
+{
     io::write_all(1, b" ");
     printing::print_line(solve::line::line_for(answer));
     print_sum(first);

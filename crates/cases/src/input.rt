@@ -17,9 +17,9 @@ fn read_call() -> Call {
     io::read_full(0, &mut head);
     Call {
         operation: head[0],
-        number: rows::number_at(&head, 1, 4),
-        room: rows::number_at(&head, 5, 4),
-        list_length: rows::number_at(&head, 9, 4),
+        number: rows::quad_at(&head, 1),
+        room: rows::quad_at(&head, 5),
+        list_length: rows::quad_at(&head, 9),
     }
 }
 
@@ -71,8 +71,8 @@ fn next_case(space: &mut [u8]) -> bool {
     if got < 8 {
         return false;
     }
-    let length = rows::number_at(&head, 0, 4);
-    let calls = rows::number_at(&head, 4, 4);
+    let length = rows::quad_at(&head, 0);
+    let calls = rows::quad_at(&head, 4);
     if space.len() < length {
         return false;
     }

@@ -66,7 +66,7 @@ fn run_execute(sheet: &[u8], x: usize, list: &[u8], out: &mut [u8]) {
     if list.len() < 4 {
         return;
     }
-    let ceiling = rows::number_at(list, 0, 4);
+    let ceiling = rows::quad_at(list, 0);
     io::write_all(1, b"execute");
     print_number(x);
     print_number(ceiling);
@@ -190,7 +190,7 @@ fn run_guards(sheet: &[u8], list: &[u8], out: &mut [u8], length: usize) {
     if list.len() < 4 {
         return;
     }
-    let room = rows::number_at(list, 0, 4);
+    let room = rows::quad_at(list, 0);
     if ROOM < room {
         return;
     }

@@ -1,6 +1,11 @@
 // Outputs: what they are filled with before a call, and what a line tells of them after it.
 use printing::print_number;
 use rows::Format;
+use rows::fit::sheet_length;
+use rows::places::header;
+use rows::read::nodes_at;
+use rows::read::variables_at;
+ghost use Rattle.rows.specs.Formats.{Width};
 
 const FILLING: u8 = 165;
 
@@ -52,15 +57,13 @@ pub fn print_short(out: &[u8], length: usize) {
 }
 
 // Writes the sheet at the front of Solve's first buffer if it is short; the filling that a refused call leaves has no small sizes.
-pub fn print_reached(first: &[u8], f: Format) {
-    let width = f.width;
-    if 4 < width {
+pub fn print_reached(first: &[u8], f: Format)
+    requires { ⌜ Width (f .width) ⌝ }
+{
+    if first.len() < header(f) {
         return;
     }
-    if first.len() < 2 * width {
-        return;
-    }
-    let variables = rows::number_at(first, 0, width);
-    let nodes = rows::number_at(first, width, width);
-    print_short(first, rows::fit::sheet_length(f, variables, nodes));
+    let variables = variables_at(first, f);
+    let nodes = nodes_at(first, f);
+    print_short(first, sheet_length(f, variables, nodes));
 }

@@ -13,6 +13,7 @@ use Rattle.sheet.proofs.CheckTests.{passed, passed-sizes}
 use Rattle.rows.specs.Formulas.{formula-in, Readable, layout-of}
 use Rattle.rows.specs.declared.Layout.{Layout}
 use Rattle.rows.proofs.Formulas.{formula-read, accepted-readable}
+use Rattle.rows.proofs.Widths.{two-wide, four-wide}
 use Rattle.checking.specs.declared.Checked.{Checked}
 use Rattle.checking.specs.declared.Checked.the-variants.{Accepted, Refused}
 use Rattle.checking.specs.Answers.{checked-answer}
@@ -21,16 +22,16 @@ use Rattle.checking.specs.Inner.Stages.{Sized, sizes, size-answer}
 use Rattle.checking.proofs.Tests.{never-both}
 
 pub narrow-manageable : Manageable narrow
-narrow-manageable = record { few-bytes = omega arith; few-variables = omega arith; few-nodes = omega arith }
+narrow-manageable = record { few-bytes = two-wide; few-variables = omega arith; few-nodes = omega arith }
 
 pub narrow-countable : Countable narrow
-narrow-countable = record { manageable = narrow-manageable; two-bytes = omega arith; few-rows = omega arith }
+narrow-countable = record { manageable = narrow-manageable; few-rows = omega arith }
 
 pub wide-manageable : Manageable wide
-wide-manageable = record { few-bytes = omega arith; few-variables = omega arith; few-nodes = omega arith }
+wide-manageable = record { few-bytes = four-wide; few-variables = omega arith; few-nodes = omega arith }
 
 pub wide-countable : Countable wide
-wide-countable = record { manageable = wide-manageable; two-bytes = omega arith; few-rows = omega arith }
+wide-countable = record { manageable = wide-manageable; few-rows = omega arith }
 
 -- the layout of a format's sheet with these sizes
 abbrev pub layout-with : Format → ℕ → ℕ → Layout

@@ -26,6 +26,7 @@ use Rattle.rows.specs.Layouts.{total, size, rows-in, Room}
 use Rattle.rows.specs.Formulas.{prefix-in, matrix-in, formula-in, Readable}
 use Rattle.rows.specs.declared.Layout.{Layout}
 use Rattle.rows.proofs.Formulas.{length-prefix, formula-written}
+use Rattle.rows.proofs.Widths.{at-least-two}
 use Rattle.checking.proofs.CheckedSheets.{sheet-right, sheet-readable, sheet-formula-in}
 use Rattle.prefixes.specs.Places.{binding-at}
 use Rattle.raw.specs.Formulas.{Raw}
@@ -67,7 +68,7 @@ module _ {F : Format} {s : Layout} {b vs : Bytes} {len : ℕ} (j : Judgeable F s
   width-is = ap (λ (t : Layout). t .width) (j .checked .layout-is)
 
   pub two-bytes : 2 ≤ s .width
-  two-bytes = omega (arith, width-is, j .countable .two-bytes)
+  two-bytes = omega (arith, width-is, at-least-two (j .countable .manageable .few-bytes))
 
   pub numbered : Numbered s b
   unfolding binding-at formula-in

@@ -23,6 +23,7 @@ use Rattle.sheet.proofs.Guards.{within-fewer}
 use Rattle.rows.specs.Formulas.{prefix-in, node-rows-in, matrix-in, formula-in, Readable}
 use Rattle.rows.specs.declared.Layout.{Layout}
 use Rattle.rows.proofs.Formulas.{length-nodes, one-tree}
+use Rattle.rows.proofs.Widths.{at-least-two}
 use Rattle.checking.proofs.CheckedSheets.{sheet-readable, sheet-formula-in, sheet-right}
 use Rattle.subtrees.specs.Subtrees.{kids, forest-in, subtree-in, siblings-in, Beside}
 use Rattle.subtrees.specs.Ends.{Indexed}
@@ -146,7 +147,7 @@ module _ (F : Format) (s : Layout) (b : Bytes) (most : ℕ) where
         let rows-are = nothing-behind ends (starts table g) ∙ i .kept-are in
         record {
           chosen =
-              chosen s b ends (starts table g) (s .nodes) (i .kept) rows-are ok (rw width-is (h .countable .two-bytes)) holds
+              chosen s b ends (starts table g) (s .nodes) (i .kept) rows-are ok (rw width-is (at-least-two (h .countable .manageable .few-bytes))) holds
               (placed-to ends 0 (starts table g) (g .at) (s .nodes) (i .placed) (i .at-most)) (omega arith) (i .counted) (i .long)
               (omega (arith, i .below, i .at-most)) (fit (kept-few i));
           those-are =
@@ -235,7 +236,7 @@ module _ (F : Format) (s : Layout) (b : Bytes) (most : ℕ) where
             countable = h .countable;
             width-is = width-is;
             chosen =
-                chosen s b ends K end (i .kept ⧺ rest) tried-are ok (rw width-is (h .countable .two-bytes)) (ix .holds)
+                chosen s b ends K end (i .kept ⧺ rest) tried-are ok (rw width-is (at-least-two (h .countable .manageable .few-bytes))) (ix .holds)
                 (placed-to ends 0 K (g .at) end (i .placed) (omega (arith, walked .next))) (walked .next-within) counted long no-more
                 (fit (omega (arith, counted, long, no-more, count-rows (i .kept ⧺ rest))));
             within = rw tried-read (within-fewer F (prefix-in s b) tried-fewer whole-within);

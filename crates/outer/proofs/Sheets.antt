@@ -28,6 +28,7 @@ use Rattle.rows.specs.Layouts.{total, Room}
 use Rattle.rows.specs.Formulas.{prefix-in, matrix-in, formula-in}
 use Rattle.rows.specs.declared.Layout.{Layout}
 use Rattle.rows.proofs.Formulas.{length-prefix}
+use Rattle.rows.proofs.Widths.{at-least-two}
 use Rattle.prefixes.specs.Places.{place}
 use Rattle.prefixes.proofs.Places.{binds-place}
 use Rattle.changing.specs.Output.{Laid}
@@ -252,7 +253,7 @@ module _ {F : Format} {b : Bytes} {tables table : List ℕ} {w : Copying} {len :
   unfolding sheet-length
   room-here =
       record {
-        few-bytes = omega (arith, width-is, d .from .countable .manageable .few-bytes);
+        few-bytes = rw width-is (d .from .countable .manageable .few-bytes);
         holds = rw width-is (fit .1);
       }
 
@@ -262,7 +263,7 @@ module _ {F : Format} {b : Bytes} {tables table : List ℕ} {w : Copying} {len :
         copyable =
             record {
               readable = d .from .readable;
-              two-bytes = omega (arith, d .from .width-is, d .from .countable .two-bytes);
+              two-bytes = omega (arith, d .from .width-is, at-least-two (d .from .countable .manageable .few-bytes));
               two-tables = two-tables (numbers d) (d .tables-are);
               joins = rw (d .surveyed .placed .joint-is) refl;
               same-width = d .surveyed .placed .width-is;

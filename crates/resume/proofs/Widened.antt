@@ -15,6 +15,7 @@ use Rattle.sheet.proofs.Limits.{wide-sound}
 use Rattle.rows.specs.Formulas.{formula-in, Readable}
 use Rattle.rows.specs.declared.Layout.{Layout}
 use Rattle.rows.proofs.Formulas.{length-prefix, rows-nodes}
+use Rattle.rows.proofs.Widths.{four-wide}
 use Rattle.checking.proofs.CheckedSheets.{wide-countable}
 use Rattle.carrying.specs.Inner.Rows.{Carriable}
 use Rattle.tidying.proofs.Raw.{few-rows}
@@ -35,7 +36,7 @@ module _ {G : Format} (is : G ≡ wide) {s : Layout} {b first second : Bytes} (o
       subst (λ (E : Format). Carriable s b E (length first)) (sym is)
       (record {
         readable = ok .placed .readable;
-        few-bytes = omega arith;
+        few-bytes = four-wide;
         sound = wide-sound;
         within = ok .placed .within;
         has-room = omega (arith, ok .has-room);

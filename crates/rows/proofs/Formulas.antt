@@ -14,6 +14,7 @@ use Rattle.sheet.specs.Check.{passes, check-tests}
 use Rattle.sheet.proofs.Preorder.{length-tree-rows, root-trees}
 use Rattle.sheet.proofs.CheckTests.{passed, passed-sizes, map-binding-row}
 use Rattle.sheet.proofs.Accepted.{accepted-length, formula-rows-formula}
+use Rattle.rows.specs.Formats.{Width}
 use Rattle.rows.specs.Layouts.{rows-in, Room}
 use Rattle.rows.specs.Formulas.{prefix-in, node-rows-in, matrix-in, formula-in, Readable, layout-of}
 use Rattle.rows.specs.declared.Layout.{Layout}
@@ -91,7 +92,7 @@ module _ (s : Layout) (b : Bytes) (g : Formula) (is : rows-in s b ≡ formula-ro
 
 -- a sheet that Check accepts is readable
 module _ (F : Format) (b : Bytes) (h : passes (check-tests F b) ≡ true) where
-  pub accepted-readable : F .width ≤ 4 → F .most-variables ≤ 1024 → F .most-nodes ≤ 8192 → Readable (layout-of F b) b
+  pub accepted-readable : Width (F .width) → F .most-variables ≤ 1024 → F .most-nodes ≤ 8192 → Readable (layout-of F b) b
   unfolding sheet-length
   accepted-readable narrow few-variables few-nodes =
       let sizes = passed-sizes F b (passed F b h .sizes) in

@@ -18,7 +18,7 @@ all-rows-in F b = flat.all-rows-in F b
 
 -- the room of as many rows
 pub room-of : {s : Layout} {len : ℕ} → Room s len → rows.Room (s .width) (total s) len
-room-of r = record { few-bytes = r .few-bytes; holds = r .holds }
+room-of r = record { few-bytes = r .few-bytes .0; holds = r .holds }
 
 module _ {s : Layout} (b : Bytes) (room : Room s (length b)) where
   pub length-rows-in : length (rows-in s b) ≡ total s

@@ -1,3 +1,4 @@
+pub mod Widths
 pub mod Flat
 pub mod Rows
 mod Turn

@@ -70,33 +70,6 @@ module _ (d : Bytes) (at width value : ℕ) (inside : at + width ≤ length d) w
       s .so-far ∙ ap (paste d at (digits width value)) last ∙
       ap (λ l. take at d ++ l ++ drop (at + width) d) (take-all width (digits width value) (omega (arith, length-digits width value)))
 
--- no bytes
-pub stored-nothing : (d : Bytes) (at value : ℕ) {width : ℕ} → width ≡ 0 → d ≡ take at d ++ digits width value ++ drop (at + width) d
-unfolding digits
-stored-nothing d at value none = rw none (paste-zero d at [])
-
--- the bytes behind the first stand, and the first is put before them
-pub stored-first : (d : Bytes) (at width value : ℕ) → at + width ≤ length d → 0 < width → {mid : Bytes}
-    → mid ≡ take (at + 1) d ++ digits (width - 1) (value / 256) ++ drop (at + 1 + (width - 1)) d
-    → set mid at (value % 256) ≡ take at d ++ digits width value ++ drop (at + width) d
-unfolding digits
-stored-first d at width value inside some {mid} e =
-    ap (λ l. set l at (value % 256)) (e ∙ append-assoc (take (at + 1) d) rest (drop (at + 1 + (width - 1)) d) ∙
-    ap₂ (λ l n. l ++ (rest ++ drop n d)) (ap (λ n. take n d) (add-one at) ∙ take-suc d at 0 (omega arith)) behind ∙
-    append-assoc (take at d) (getD d at 0 ∷ []) (rest ++ drop (at + width) d)) ∙
-    set-at (take at d) (getD d at 0) (rest ++ drop (at + width) d) (value % 256) at (length-take-le at d (omega arith)) ∙
-    sym (append-assoc (take at d) (value % 256 ∷ rest) (drop (at + width) d)) ∙
-    ap (λ w. take at d ++ digits w value ++ drop (at + width) d) back
-  where
-    rest : Bytes
-    rest = digits (width - 1) (value / 256)
-
-    behind : at + 1 + (width - 1) ≡ at + width
-    behind = omega arith
-
-    back : suc (width - 1) ≡ width
-    back = omega arith
-
 -- two bytes, written at once
 pub stored-pair : (d : Bytes) (at value : ℕ) → at + 2 ≤ length d
     → set (set d at (value % 256)) (at + 1) (value / 256 % 256) ≡ take at d ++ digits 2 value ++ drop (at + 2) d

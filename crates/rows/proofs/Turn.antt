@@ -9,10 +9,6 @@ use lib.ListN.{length, getD, take, drop, length-drop}
 use lib.Seq.{length-take-le, drop-cons, getD-take, getD-drop, drop-length}
 use Rattle.sheet.specs.Format.{Bytes, number}
 
--- k bytes hold less than m bytes do
-pub few-bytes : (m : ℕ) {k value : ℕ} → k ≤ m → value < 256 ^ k → value < 256 ^ m
-few-bytes m k≤m h = lt-of-lt-of-le h (pow-le-pow-right (omega arith) k≤m)
-
 module _ (b : Bytes) (at width : ℕ) (inside : at + width ≤ length b) where
   abbrev part : Bytes
   part = take width (drop at b)
@@ -29,31 +25,6 @@ module _ (b : Bytes) (at width : ℕ) (inside : at + width ≤ length b) where
         getD-take width (drop at b) j 0 h,
         getD-drop at b j 0,
       )
-
--- no bytes
-pub number-none : (b : Bytes) (at : ℕ) {width : ℕ} → width ≡ 0 → (0 ≡ number (take width (drop at b))) × (0 < 256 ^ width)
-unfolding number
-number-none b at none = rw none (refl, omega arith)
-
--- one byte more
-pub more-bytes : (width : ℕ) → 0 < width → {low rest : ℕ} → low < 256 → rest < 256 ^ (width - 1) → low + 256 * rest < 256 ^ width
-more-bytes width some small h = rw (back) (omega (arith, pow-suc 256 (width - 1)))
-  where
-    back : width ≡ suc (width - 1)
-    back = omega arith
-
--- the first byte, and the number of those behind it
-pub number-first : (b : Bytes) (at width : ℕ) → at + width ≤ length b → 0 < width → {low rest : ℕ} → low ≡ getD b at 0
-    → rest ≡ number (take (width - 1) (drop (at + 1) b)) → low + 256 * rest ≡ number (take width (drop at b))
-unfolding number
-number-first b at width inside some {low} {rest} el er =
-    omega (arith, opened, el, er, ap (λ n. number (take (width - 1) (drop n b))) (add-one at)) ∙ ap (λ n. number (take n (drop at b))) back
-  where
-    back : suc (width - 1) ≡ width
-    back = omega arith
-
-    opened : number (take (suc (width - 1)) (drop at b)) ≡ getD b at 0 + 256 * number (take (width - 1) (drop (suc at) b))
-    opened = rw (drop-cons b at 0 (omega arith))
 
 -- two bytes, read at once
 pub two-bytes : (b : Bytes) (at : ℕ) → at + 2 ≤ length b → {low high : ℕ} → low ≡ getD b at 0 → high ≡ getD b (at + 1) 0

@@ -6,6 +6,7 @@ use Prim.Native.Nat.{ℕ, _+_, _*_, _-_, _≤_}
 use lib.ListN.{length, take, drop, replicate}
 use Rattle.sheet.specs.Format.{Bytes, Row, digits, zip-rows}
 use Rattle.sheet.specs.Sheet.{row-kinds, row-arguments}
+use Rattle.rows.specs.Formats.{Width}
 use Rattle.rows.specs.declared.Layout.{Layout}
 
 -- all rows, and the bytes that sizes and rows take
@@ -25,9 +26,9 @@ argument-place s r = 2 * s .width + total s + s .width * r
 unfoldable pub rows-in : Layout → Bytes → List Row
 rows-in s b = zip-rows (s .width) (take (total s) (drop (2 * s .width) b)) (drop (2 * s .width + total s) b)
 
--- the rows have their place in len bytes, and a number fits 32 bits
+-- the rows have their place in len bytes, and code reads and writes numbers of their width
 pub record Room (s : Layout) (len : ℕ) : Type 0 where
-  pub few-bytes : s .width ≤ 4
+  pub few-bytes : Width (s .width)
   pub holds : size s ≤ len
 
 -- the bytes before the rows and those behind them stay

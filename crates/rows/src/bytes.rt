@@ -4,6 +4,7 @@ ghost use mathlib.Core.List.{_++_};
 ghost use Prim.Native.Nat.{_+_, _-_, _≤_};
 ghost use lib.ListN.{length, take, drop, replicate};
 ghost use Rattle.sheet.specs.Format.{digits};
+ghost use Rattle.rows.specs.Formats.{Width};
 
 // Writes a number to the two bytes at `at`, low byte first.
 fn put_pair(b: &mut [u8], at: usize, value: usize)
@@ -23,32 +24,16 @@ fn put_quad(b: &mut [u8], at: usize, value: usize)
     put_pair(b, at + 2, value / 65536);
 }
 
-// Writes a number to the `width` bytes at `at`, byte by byte. It calls itself, so that no loop that writes numbers has it inside.
-fn put_by_bytes(b: &mut [u8], at: usize, width: usize, value: usize)
-    requires { ⌜ at + width ≤ length (now b) ⌝ }
-    ensures { λ _. ⌜ now (b .exit) ≡ take at (now (b .entry)) ++ digits width value ++ drop (at + width) (now (b .entry)) ⌝ }
-{
-    if width == 0 {
-        return;
-    }
-    put_by_bytes(b, at + 1, width - 1, value / 256);
-    b[at] = (value % 256) as u8;
-}
-
-// Writes a number to the `width` bytes at `at`, low byte first; two bytes or four at once.
+// Writes a number to the `width` bytes at `at`, low byte first: two bytes or four.
 pub fn put_number(b: &mut [u8], at: usize, width: usize, value: usize)
-    requires { ⌜ at + width ≤ length (now b) ⌝ }
+    requires { ⌜ (at + width ≤ length (now b)) × Width width ⌝ }
     ensures { λ _. ⌜ now (b .exit) ≡ take at (now (b .entry)) ++ digits width value ++ drop (at + width) (now (b .entry)) ⌝ }
 {
     if width == 2 {
         put_pair(b, at, value);
         return;
     }
-    if width == 4 {
-        put_quad(b, at, value);
-        return;
-    }
-    put_by_bytes(b, at, width, value);
+    put_quad(b, at, value);
 }
 
 // Copies `count` bytes from `from` down to `to`.

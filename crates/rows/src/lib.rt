@@ -3,7 +3,7 @@ ghost use mathlib.Core.Path.{_≡_};
 ghost use Prim.Native.Nat.{_+_, _^_, _≤_, _<_};
 ghost use lib.ListN.{length, take, drop};
 ghost use Rattle.sheet.specs.Format.{number, narrow, wide};
-ghost use Rattle.rows.specs.Formats.{format-of};
+ghost use Rattle.rows.specs.Formats.{format-of, Width};
 
 pub mod bytes;
 pub mod fit;
@@ -81,7 +81,7 @@ fn pair_at(b: &[u8], at: usize) -> usize
 }
 
 // The number of four bytes that stands at `at`, low byte first.
-fn quad_at(b: &[u8], at: usize) -> usize
+pub fn quad_at(b: &[u8], at: usize) -> usize
     requires { ⌜ at + 4 ≤ length (now b) ⌝ }
     ensures { λ r. ⌜ (r ≡ number (take 4 (drop at (now (b .entry))))) × (r < 2 ^ 32) ⌝ }
 {
@@ -90,28 +90,13 @@ fn quad_at(b: &[u8], at: usize) -> usize
     low + 65536 * high
 }
 
-// The number of `width` bytes that stands at `at`, byte by byte. It calls itself, so that no loop that reads numbers has it inside.
-fn number_by_bytes(b: &[u8], at: usize, width: usize) -> usize
-    requires { ⌜ (at + width ≤ length (now b)) × (width ≤ 4) ⌝ }
-    ensures { λ r. ⌜ (r ≡ number (take width (drop at (now (b .entry))))) × (r < 256 ^ width) ⌝ }
-{
-    if width == 0 {
-        return 0;
-    }
-    let rest = number_by_bytes(b, at + 1, width - 1);
-    wide(b[at]) + 256 * rest
-}
-
-// The number of `width` bytes that stands at `at`, low byte first. The widths of the two formats, two bytes and four, are read at once.
+// The number of `width` bytes that stands at `at`, low byte first: two bytes or four, read at once.
 pub fn number_at(b: &[u8], at: usize, width: usize) -> usize
-    requires { ⌜ (at + width ≤ length (now b)) × (width ≤ 4) ⌝ }
+    requires { ⌜ (at + width ≤ length (now b)) × Width width ⌝ }
     ensures { λ r. ⌜ (r ≡ number (take width (drop at (now (b .entry))))) × (r < 2 ^ 32) ⌝ }
 {
     if width == 2 {
         return pair_at(b, at);
     }
-    if width == 4 {
-        return quad_at(b, at);
-    }
-    number_by_bytes(b, at, width)
+    quad_at(b, at)
 }

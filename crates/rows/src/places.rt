@@ -4,12 +4,12 @@ use crate::Layout;
 ghost use mathlib.Core.Path.{_≡_};
 ghost use Prim.Native.Nat.{_^_, _≤_, _<_};
 ghost use Rattle.sheet.specs.Format.{header};
-ghost use Rattle.rows.specs.Formats.{format-of};
+ghost use Rattle.rows.specs.Formats.{format-of, Width};
 ghost use Rattle.rows.specs.Layouts.{kind-place, argument-place};
 
 // The bytes of the two sizes.
 pub fn header(f: Format) -> usize
-    requires { ⌜ f .width ≤ 4 ⌝ }
+    requires { ⌜ Width (f .width) ⌝ }
     ensures { λ r. ⌜ r ≡ header (format-of f) ⌝ }
 {
     2 * f.width
@@ -23,13 +23,13 @@ pub fn kind_place(s: Layout, r: usize) -> usize
     2 * s.width + r
 }
 
-// The first byte of the argument of row `r`. The narrow format's width stands by itself, so that the compiler has it as a number.
+// The first byte of the argument of row `r`. Each width stands by itself, so that the compiler has it as a number.
 pub fn argument_place(s: Layout, r: usize) -> usize
-    requires { ⌜ argument-place s r < 2 ^ 63 ⌝ }
+    requires { ⌜ (argument-place s r < 2 ^ 63) × Width (s .width) ⌝ }
     ensures { λ p. ⌜ p ≡ argument-place s r ⌝ }
 {
     if s.width == 2 {
         return 4 + (s.variables + s.nodes) + 2 * r;
     }
-    2 * s.width + (s.variables + s.nodes) + s.width * r
+    8 + (s.variables + s.nodes) + 4 * r
 }

@@ -9,12 +9,12 @@ ghost use mathlib.Core.Path.{_≡_};
 ghost use Prim.Native.Nat.{_^_, _≤_, _<_};
 ghost use lib.ListN.{length, getD};
 ghost use Rattle.sheet.specs.Format.{header, variables, nodes, row, children};
-ghost use Rattle.rows.specs.Formats.{format-of};
+ghost use Rattle.rows.specs.Formats.{format-of, Width};
 ghost use Rattle.rows.specs.Layouts.{total, rows-in, Room};
 
 // V, as a sheet's first bytes say it.
 pub fn variables_at(b: &[u8], f: Format) -> usize
-    requires { ⌜ (header (format-of f) ≤ length (now b)) × (f .width ≤ 4) ⌝ }
+    requires { ⌜ (header (format-of f) ≤ length (now b)) × Width (f .width) ⌝ }
     ensures { λ r. ⌜ (r ≡ variables (format-of f) (now (b .entry))) × (r < 2 ^ 32) ⌝ }
 {
     number_at(b, 0, f.width)
@@ -22,7 +22,7 @@ pub fn variables_at(b: &[u8], f: Format) -> usize
 
 // N, as the bytes behind V say it.
 pub fn nodes_at(b: &[u8], f: Format) -> usize
-    requires { ⌜ (header (format-of f) ≤ length (now b)) × (f .width ≤ 4) ⌝ }
+    requires { ⌜ (header (format-of f) ≤ length (now b)) × Width (f .width) ⌝ }
     ensures { λ r. ⌜ (r ≡ nodes (format-of f) (now (b .entry))) × (r < 2 ^ 32) ⌝ }
 {
     number_at(b, f.width, f.width)

@@ -27,6 +27,7 @@ use Rattle.sheet.specs.Operations.{padded}
 use Rattle.sheet.specs.Limits.{Within}
 use Rattle.sheet.proofs.RoundTrip.{length-sheet}
 use Rattle.sheet.proofs.Limits.{binds-numbered}
+use Rattle.rows.specs.Formats.{Width}
 use Rattle.rows.specs.Formulas.{matrix-in, formula-in}
 use Rattle.rows.specs.declared.Layout.{Layout}
 use Rattle.checking.specs.Limits.{Countable}
@@ -108,7 +109,7 @@ module _ {F : Format} {most : ℕ} {s : State} {first second : Bytes} (r : Ready
   sheet-room = omega (arith, r .held .has-room, length-sheet F f ∙ ap₂ (sheet-length F) (sym (variables-are k (r .held))) (sym (nodes-are k (r .held))))
 
   -- its sizes are small enough to compute with
-  pub few-rows : (F .width ≤ 4) × (t .variables < 2 ^ 32) × (t .nodes < 2 ^ 32)
+  pub few-rows : Width (F .width) × (t .variables < 2 ^ 32) × (t .nodes < 2 ^ 32)
   few-rows = (k .manageable .few-bytes, omega (arith, r .few), omega (arith, readable k (r .held) .few-nodes))
 
   -- the sheet held, and behind it only zeros

@@ -19,6 +19,7 @@ use Rattle.sheet.specs.Operations.{padded}
 use Rattle.rows.specs.Layouts.{Room}
 use Rattle.rows.specs.Formulas.{prefix-in, matrix-in, formula-in}
 use Rattle.rows.specs.declared.Layout.{Layout}
+use Rattle.rows.proofs.Widths.{at-least-two}
 use Rattle.subtrees.specs.Subtrees.{kids, subtree-in}
 use Rattle.changing.specs.Changes.{putting, chosen, changed}
 use Rattle.changing.proofs.Tables.{length-putting, chosen-putting, changed-putting}
@@ -94,7 +95,7 @@ module _ {F : Format} {s : Layout} {b : Bytes} {table : List ℕ} {w : Expanding
       let joint = k .prepared .joint-is in
       record {
         readable = k .from .readable;
-        two-bytes = omega (arith, k .from .width-is, k .from .countable .two-bytes);
+        two-bytes = omega (arith, k .from .width-is, at-least-two (k .from .countable .manageable .few-bytes));
         two-tables = two-tables (k .named .few) is;
         in-prefix = k .named .inside;
         joins = joint ∙ ap operator-kind (sym (ap operator-of joint ∙ operator-back q));

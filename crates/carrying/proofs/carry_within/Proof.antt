@@ -10,7 +10,7 @@ sheet-length-requires : tie.Need-sheet-length-requires
 sheet-length-requires c κs =
     let ok = c .before .before .pre in
     let right = sheet-right (ok .accepted) in (
-      omega (arith, ok .few-bytes, ok .manageable .few-bytes),
+      ok .few-bytes,
       omega (arith, right .few-variables, ok .manageable .few-variables),
       omega (arith, right .few-nodes, ok .manageable .few-nodes),
     )

@@ -9,6 +9,7 @@ use Rattle.sheet.specs.Sheet.{formula}
 use Rattle.sheet.specs.Operations.{Written, write}
 use Rattle.sheet.specs.Carrying.{carried, carried-room-test}
 use Rattle.sheet.specs.Limits.{Sound, Within}
+use Rattle.rows.specs.Formats.{Width}
 use Rattle.rows.specs.Layouts.{total, rows-in, Room}
 use Rattle.rows.specs.Formulas.{formula-in, Readable}
 use Rattle.rows.specs.declared.Layout.{Layout}
@@ -25,7 +26,7 @@ pub record RowsFit (s : Layout) (b : Bytes) (t : Layout) (len : ℕ) : Type 0 wh
 -- the formula whose rows stand in b is within the limits of the format G, and its sheet has its place in len bytes
 pub record Carriable (s : Layout) (b : Bytes) (G : Format) (len : ℕ) : Type 0 where
   pub readable : Readable s b
-  pub few-bytes : G .width ≤ 4
+  pub few-bytes : Width (G .width)
   pub sound : Sound G
   pub within : Within G (formula-in s b)
   pub has-room : sheet-length G (s .variables) (s .nodes) ≤ len
@@ -34,7 +35,7 @@ pub record Carriable (s : Layout) (b : Bytes) (G : Format) (len : ℕ) : Type 0 
 pub record Ready (F G : Format) (b : Bytes) (s : Layout) : Type 0 where
   pub manageable : Manageable F
   pub accepted : Sheet F b s
-  pub few-bytes : G .width ≤ 4
+  pub few-bytes : Width (G .width)
   pub sound : Sound G
   pub within : Within G (formula F b)
 

@@ -4,6 +4,7 @@ use borrow.Author.Needs.{needs}
 use borrow.Author.Tests.{not-true, not-false, eqb-true}
 use native.Mathlib.Omega.{arith}
 use Rattle.sheet.specs.Format.{Format, sheet-length}
+use Rattle.rows.proofs.Widths.{four-wide}
 use Rattle.resume.proofs.Counted.{addable}
 use Rattle.resume.proofs.Answered.{leaves, uncounted, short, ran}
 use Rattle.resume.proofs.resume_checked.Statement.{statement}
@@ -26,7 +27,7 @@ wider-requires c κs = search needs
 sheet-length-requires : tie.Need-sheet-length-requires
 sheet-length-requires c κs =
     let ok = c .before .before .before .before .before .before .pre .readable in (
-      omega (arith, ap (λ (F : Format). F .width) (c .wider .ensures)),
+      rw (ap (λ (F : Format). F .width) (c .wider .ensures)) four-wide,
       omega (arith, ok .few-variables),
       omega (arith, ok .few-nodes),
     )

@@ -14,6 +14,7 @@ use Rattle.sheet.specs.Sheet.{sheet}
 use Rattle.sheet.specs.Operations.{padded, Solved, solved}
 use Rattle.sheet.specs.Limits.{Within}
 use Rattle.sheet.specs.Trace.{room}
+use Rattle.rows.specs.Formats.{Width}
 use Rattle.rows.specs.Layouts.{size}
 use Rattle.rows.specs.Formulas.{matrix-in, formula-in}
 use Rattle.rows.specs.declared.Layout.{Layout}
@@ -60,7 +61,7 @@ Settles s b p = SettleHere (s .sheet) b (lowest (formula-in (s .sheet) b)) (p .r
 
 -- a sheet of so many bytes at the front of the second buffer has its place in the first
 pub record Fetchable (F : Format) (bytes : ℕ) (first second : Bytes) : Type 0 where
-  pub few-bytes : F .width ≤ 4
+  pub few-bytes : Width (F .width)
   pub header : 2 * F .width ≤ bytes
   pub in-first : bytes ≤ length first
   pub in-second : bytes ≤ length second

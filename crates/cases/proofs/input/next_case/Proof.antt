@@ -16,17 +16,17 @@ read-full-requires c κs = search needs
 returns : tie.Need-returns
 returns c = search needs
 
-slice-aggregate-number-at : tie.Need-slice-aggregate-number-at
-slice-aggregate-number-at c = search needs
+slice-aggregate-quad-at : tie.Need-slice-aggregate-quad-at
+slice-aggregate-quad-at c = search needs
 
-number-at-requires : tie.Need-number-at-requires
-number-at-requires c κs = search needs
+quad-at-requires : tie.Need-quad-at-requires
+quad-at-requires c κs = search needs
 
-slice-aggregate-number-at-2 : tie.Need-slice-aggregate-number-at-2
-slice-aggregate-number-at-2 c = search needs
+slice-aggregate-quad-at-2 : tie.Need-slice-aggregate-quad-at-2
+slice-aggregate-quad-at-2 c = search needs
 
-number-at-requires-2 : tie.Need-number-at-requires-2
-number-at-requires-2 c κs = search needs
+quad-at-requires-2 : tie.Need-quad-at-requires-2
+quad-at-requires-2 c κs = search needs
 
 returns-2 : tie.Need-returns-2
 returns-2 c = search needs
@@ -56,10 +56,10 @@ next-case-spec =
     slice-aggregate-read-full
     read-full-requires
     returns
-    slice-aggregate-number-at
-    number-at-requires
-    slice-aggregate-number-at-2
-    number-at-requires-2
+    slice-aggregate-quad-at
+    quad-at-requires
+    slice-aggregate-quad-at-2
+    quad-at-requires-2
     returns-2
     slice-relend-prefix-sheet
     slice-aggregate-sheet

@@ -10,8 +10,8 @@ use Rattle.cases.proofs.wide.run_guards.Tie as tie
 returns : tie.Need-returns
 returns c = search needs
 
-number-at-requires : tie.Need-number-at-requires
-number-at-requires c κs = search needs
+quad-at-requires : tie.Need-quad-at-requires
+quad-at-requires c κs = search needs
 
 returns-2 : tie.Need-returns-2
 returns-2 c = search needs
@@ -36,7 +36,7 @@ run-guards-spec =
     tie.close
     (tie.spec
     returns
-    number-at-requires
+    quad-at-requires
     returns-2
     array-borrow-prefix-space
     slice-aggregate-first

@@ -21,8 +21,10 @@ kind-place-requires c κs = search needs
 
 argument-place-requires : tie.Need-argument-place-requires
 argument-place-requires c κs =
-    let a = c .before .before .before .before .before in
-    omega (arith, arguments-room (a .pre .0) (a .args .to .at) (extent (a .args .span)) (a .pre .2), a .good)
+    let a = c .before .before .before .before .before in (
+      omega (arith, arguments-room (a .pre .0) (a .args .to .at) (extent (a .args .span)) (a .pre .2), a .good),
+      a .pre .0 .room .few-bytes,
+    )
 
 kind-place-requires-2 : tie.Need-kind-place-requires-2
 kind-place-requires-2 c κs = search needs
@@ -38,8 +40,10 @@ write-bytes-requires c κs =
 
 argument-place-requires-2 : tie.Need-argument-place-requires-2
 argument-place-requires-2 c κs =
-    let a = c .before .before .before .before .before .before .before .before .before .before .before in
-    omega (arith, arguments-within (a .args .s) (a .args .b .now) (a .pre .0 .source) (a .args .span) (a .pre .1), a .good)
+    let a = c .before .before .before .before .before .before .before .before .before .before .before in (
+      omega (arith, arguments-within (a .args .s) (a .args .b .now) (a .pre .0 .source) (a .args .span) (a .pre .1), a .good),
+      a .pre .0 .source .few-bytes,
+    )
 
 mul-write-bytes : tie.Need-mul-write-bytes
 mul-write-bytes c =

@@ -16,6 +16,7 @@ use Rattle.qdimacs.specs.Inner.Body.{laid}
 use Rattle.qdimacs.proofs.Whole.{two-bytes-enough}
 use Rattle.rows.specs.Formats.{format-of}
 use Rattle.rows.specs.Layouts.{total, Room}
+use Rattle.rows.proofs.Widths.{at-least-two}
 use Rattle.sheet.specs.Format.{sheet-length}
 use Rattle.qdimacs.specs.Inner.Cursor.{tokens-at}
 use Rattle.qdimacs.specs.Inner.Marks.{bindings-in, frees}
@@ -85,7 +86,7 @@ write-sheet-requires c κs =
       variables-are = ap₂ _+_ (c .before .before .before .before .before .before .before .before .before .before .count-free .ensures .0) (c .before .before .before .before .before .before .before .before .before .before .before .before .before .before .bind .ensures .count-is);
       nodes-are = add-one (a .args .k .words);
       room = record { few-bytes = a .pre .0 .manageable .few-bytes; holds = omega (arith, c .before .before .if3 .left, c .before .before .before .sheet-length .ensures) };
-      numbers-fit = two-bytes-enough (a .args .f .width) (a .pre .0 .two-bytes);
+      numbers-fit = two-bytes-enough (a .args .f .width) (at-least-two (a .pre .0 .manageable .few-bytes));
       nodes-fit = omega (arith, a .pre .0 .few-rows, c .before .before .before .before .before .before .if2 .left);
       few-rows =
           omega (

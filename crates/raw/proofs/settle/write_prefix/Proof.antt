@@ -1,6 +1,6 @@
 -- `raw::settle::write_prefix` meets its contract. Assumes nothing.
 use Rattle.changing.specs.Output.{Laid}
-use Rattle.changing.proofs.Splice.{laid-on}
+use Rattle.changing.proofs.Splice.{laid-on, ready-on}
 use Rattle.raw.proofs.Source.{prefix-without}
 use mathlib.Core.Path.{subst}
 use native.Mathlib.Omega.{arith}
@@ -15,7 +15,13 @@ write-rows-requires : tie.Need-write-rows-requires
 write-rows-requires c κs = search needs
 
 write-rows-requires-2 : tie.Need-write-rows-requires-2
-write-rows-requires-2 c κs = search needs
+write-rows-requires-2 c κs =
+    let first = c .before .before .before in
+    let a = first .before .before .before .before in (
+      ready-on (a .pre .1) (first .write-rows .kept .1 .1 .1 .0),
+      record { ordered = omega (arith, a .pre .2); inside = omega arith },
+      omega (arith, first .write-rows .ensures .1, a .pre),
+    )
 
 same-length : tie.Need-same-length
 same-length c = search needs

@@ -1,6 +1,7 @@
 -- `raw::settle::write_settled` meets its contract. Assumes nothing.
 use Rattle.changing.proofs.Splice.{laid-on}
-use Rattle.raw.proofs.Raws.{raw-laid, settled-rows}
+use Rattle.raw.proofs.Raws.{room-on, raw-laid, settled-rows}
+use mathlib.Core.Path.{refl}
 use native.Mathlib.Omega.{arith}
 use borrow.Author.Needs.{needs}
 use Rattle.raw.proofs.settle.write_settled.Statement.{statement}
@@ -16,7 +17,18 @@ write-prefix-requires : tie.Need-write-prefix-requires
 write-prefix-requires c κs = search needs
 
 write-copy-requires : tie.Need-write-copy-requires
-write-copy-requires c κs = search needs
+write-copy-requires c κs =
+    let first = c .before .before .before in
+    let a = first .before .before .before .before .before .before .before in (
+      record {
+        source = a .pre .0 .room;
+        room = room-on (a .pre .3) (first .write-prefix .kept .1 .1 .1 .0);
+        same-width = refl;
+        two-bytes = a .pre .1;
+      },
+      record { ordered = omega arith; inside = omega arith },
+      omega (arith, first .write-prefix .ensures .1, a .pre .2),
+    )
 
 same-length : tie.Need-same-length
 same-length c = search needs

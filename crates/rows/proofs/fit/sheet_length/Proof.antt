@@ -19,12 +19,12 @@ add-result-2 c = search needs
 mul-result-2 : tie.Need-mul-result-2
 mul-result-2 c =
     let a = c .before .before in
-    omega (arith, length-fits (a .args .f .width) (a .args .v) (a .args .n) (a .pre .0) (a .pre .1) (a .pre .2))
+    omega (arith, length-fits (a .args .f .width) (a .args .v) (a .args .n) (a .pre .0 .0) (a .pre .1) (a .pre .2))
 
 add-result-3 : tie.Need-add-result-3
 add-result-3 c =
     let a = c .before .before in
-    omega (arith, length-fits (a .args .f .width) (a .args .v) (a .args .n) (a .pre .0) (a .pre .1) (a .pre .2))
+    omega (arith, length-fits (a .args .f .width) (a .args .v) (a .args .n) (a .pre .0 .0) (a .pre .1) (a .pre .2))
 
 returns : tie.Need-returns
 unfolding sheet-length

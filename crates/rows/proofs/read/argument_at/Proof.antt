@@ -10,7 +10,7 @@ use Rattle.rows.proofs.read.argument_at.Tie as tie
 argument-place-requires : tie.Need-argument-place-requires
 argument-place-requires c κs =
     let a = c .before in
-    omega (arith, argument-within (a .args .b .now) (a .pre .0) (a .args .r) (a .pre .1), a .good)
+    (omega (arith, argument-within (a .args .b .now) (a .pre .0) (a .args .r) (a .pre .1), a .good), a .pre .0 .few-bytes)
 
 number-at-requires : tie.Need-number-at-requires
 number-at-requires c κs =

@@ -22,12 +22,14 @@ slice-write-b c = search needs
 argument-place-requires : tie.Need-argument-place-requires
 argument-place-requires c κs =
     let a = c .before .before .before in
-    omega (arith, argument-within (a .args .b .now) (a .pre .0) (a .args .r) (a .pre .1), a .good)
+    (omega (arith, argument-within (a .args .b .now) (a .pre .0) (a .args .r) (a .pre .1), a .good), a .pre .0 .few-bytes)
 
 put-number-requires : tie.Need-put-number-requires
 put-number-requires c κs =
-    let a = c .before .before .before .before in
-    simp length-set (omega (arith, argument-within (a .args .b .now) (a .pre .0) (a .args .r) (a .pre .1), c .argument-place .ensures))
+    let a = c .before .before .before .before in (
+      simp length-set (omega (arith, argument-within (a .args .b .now) (a .pre .0) (a .args .r) (a .pre .1), c .argument-place .ensures)),
+      a .pre .0 .few-bytes,
+    )
 
 same-length : tie.Need-same-length
 same-length c = c .before .before .put-number .kept .0 ∙ simp length-set

@@ -12,6 +12,7 @@ use Rattle.sheet.specs.Sheet.{sheet}
 use Rattle.sheet.specs.Operations.{padded}
 use Rattle.rows.specs.Formats.{format-of}
 use Rattle.rows.specs.Formulas.{formula-in}
+use Rattle.rows.proofs.Widths.{at-least-two}
 use Rattle.raw.specs.Formulas.{settled-raw}
 use Rattle.stepping.proofs.RawSheets.{raw-room, prefix-without, put-formula, written-raw, written-sheet, written-length}
 use Rattle.stepping.proofs.settling.settle_into.Statement.{statement}
@@ -42,7 +43,7 @@ write-settled-requires : tie.Need-write-settled-requires
 write-settled-requires c κs =
     let a = c .before .before .before .before .before .before .before .before .before .before in
     let st = a .pre .from in
-    (st .readable, omega (arith, st .width-is, st .countable .two-bytes), a .pre .named .inside, raw-room st (a .args .s .nodes) (a .pre .room))
+    (st .readable, omega (arith, st .width-is, at-least-two (st .countable .manageable .few-bytes)), a .pre .named .inside, raw-room st (a .args .s .nodes) (a .pre .room))
 
 sub-t18 : tie.Need-sub-t18
 sub-t18 c = search needs

@@ -1,6 +1,7 @@
 -- `tidying::operator::hollow` meets its contract. Assumes nothing.
 use mathlib.Core.Path.{refl}
 use native.Mathlib.Omega.{arith}
+use Rattle.blocks.proofs.Blocks.{room-as}
 use Rattle.tidying.proofs.Conclude.{behind-set, hollows-short, hollows-long}
 use borrow.Author.Needs.{needs}
 use Rattle.tidying.proofs.operator.hollow.Statement.{statement}
@@ -31,7 +32,10 @@ sub-set-row-3 : tie.Need-sub-set-row-3
 sub-set-row-3 c = search needs
 
 set-row-requires-2 : tie.Need-set-row-requires-2
-set-row-requires-2 c κs = search needs
+set-row-requires-2 c κs =
+    let first = c .before .before .before .before in
+    let a = first .before .before .before .before in
+    (room-as (first .set-row .kept .0) (a .pre .0 .room), omega arith, omega arith)
 
 same-length : tie.Need-same-length
 same-length c = search needs
