@@ -2,12 +2,12 @@
 -- Assumes nothing.
 use mathlib.Core.Path.{_≡_, refl, sym, ap, ap₂, _∙_, subst}
 use mathlib.Core.Bool.{true, false, _||_, or-false, true≢false}
-use mathlib.Core.List.{List, [], _∷_, append-nil}
+use mathlib.Core.List.{List, [], _∷_, _++_, append-nil}
 use mathlib.Core.Logic.{⊎-elim}
 use Prim.Native.Nat.{ℕ, zero, suc, _+_, _-_, _/_, _≤_, _<_}
 use native.Mathlib.Omega.{arith}
 use lib.Dec.{eqb}
-use lib.ListN.{length, getD, set, take}
+use lib.ListN.{length, getD, set, take, drop}
 use borrow.Author.Tests.{eq-eqb, ne-eqb}
 use Rattle.formula.specs.Tree.{Op, and, or, dual, same-op, Tree, lit, node, Forest, ∅, _▸_, _⧺_, some-child, some-two, count}
 use Rattle.formula.specs.Tidy.{is-op, is-empty, opposite, same-tree, spliced, splice, decides, firsts}
@@ -23,12 +23,13 @@ use Rattle.buckets.proofs.Prints.{print-few}
 use Rattle.blocks.specs.Blocks.{Block, gone, literal, operator, Blocks, none, _◂_, _⊕_, head, inner, block-rows, size, grown, live, Laid, Here, Owed}
 use Rattle.blocks.specs.Walks.{extent, at-row, Hops, JoinsAt}
 use Rattle.blocks.specs.Known.{Says, Told, AllTold}
-use Rattle.blocks.specs.Rules.{decisive, new, Unopposed, notes, Behind, Kept, Judged, Judges}
+use Rattle.blocks.specs.Rules.{decisive, new, Unopposed, note, notes, mixes, Behind, Kept, Judged, Judges}
 use Rattle.blocks.specs.Gather.{Flat, SplicesAt, ChildrenAt, Gathered, Gathers}
 use Rattle.blocks.proofs.Blocks.{⊕-assoc, stands, stands-row, live-⊕, live-◂, length-⊕, extent-head, start, done-laid, rest-laid, onward, next, store, past-here}
 use Rattle.blocks.proofs.Walks.{Turn, turn-at, dead-holds, count-rows}
 use Rattle.blocks.proofs.Hop.{live-one, not-end}
 use Rattle.blocks.proofs.Told.{told-at, told-join, told-one, told-gone, told-says}
+use Rattle.blocks.proofs.Mixes.{mixes-behind}
 use Rattle.blocks.proofs.Grouped.{decides-⧺, decides-before, firsts-⧺, decisive-firsts, new-firsts, single, firsts-single}
 use Rattle.blocks.proofs.Judge.{first-of}
 use Rattle.blocks.proofs.Join.{advanced}
@@ -438,6 +439,10 @@ module _ {R R₁ : List Row} {K M M′ : List ℕ} {from run at to n left kind k
       ap₂ _⧺_ (g .done .stays) (judged .holds z ∙ ap (λ vs. new vs one) (g .done .stays) ∙ new-firsts (g .trees) one) ∙
       ap (λ vs. firsts same-tree (g .trees) ⧺ new (g .trees) vs) (sym (firsts-single (single (g .block)))) ∙ sym (firsts-⧺ (g .trees) one)
 
+  -- the print of the members before it, with its own
+  printed : {h p : ℕ} → (more ≡ 0 → ⊥) → h ≡ mixes kind (take n M) → p ≡ mixes h (drop n (take (more - 1) M′)) → p ≡ mixes kind (take (more - 1) M′)
+  printed z e f = f ∙ mixes-behind kind M (note at kept) fit (judged .noted z ∙ ap (λ ms. ms ++ note at kept) (sym (g .done .noted))) e
+
   kept-here : Here R₁ from at to before passed (kept ◂ g .others) after
   kept-here = changed-here (g .here) (judged .kept)
 
@@ -508,6 +513,12 @@ pub gather-more : {R₀ R R₁ R₂ : List Row} {K M M′ : List ℕ} {from run 
     → (more ≡ 0 → ⊥) → s ≡ extent (at-row R at) → JoinsAt R₁ R₂ run at (at + s) run′
     → Gather R₀ R₂ K M′ from run′ (at + s) to (more - 1) owed left kind
 gather-more w i fit j z e f before bs after laid t l o k d = gathered-more (w before bs after laid t l o k d) k i fit j z e f
+
+pub gather-printed : {R₀ R R₁ : List Row} {K M M′ : List ℕ} {from run at to n owed left kind known more h p : ℕ}
+    → Face R₀ R K M from run at to n owed left kind → ChildrenAt R₀ K from to owed kind → known ≡ getD K at 0 → n ≤ length M
+    → Judges R R₁ at kind known n M M′ more → (more ≡ 0 → ⊥) → h ≡ mixes kind (take n M) → p ≡ mixes h (drop n (take (more - 1) M′))
+    → p ≡ mixes kind (take (more - 1) M′)
+gather-printed w c i fit j z e f = printed (facing w c) (c .is) i fit j z e f
 
 pub gather-owed : {R₀ R R₁ : List Row} {K M M′ : List ℕ} {from run at to n owed left kind known more s : ℕ}
     → Face R₀ R K M from run at to n owed left kind → ChildrenAt R₀ K from to owed kind → known ≡ getD K at 0 → n ≤ length M

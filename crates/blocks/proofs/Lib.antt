@@ -4,6 +4,7 @@ pub mod Walks
 pub mod Hop
 pub mod Told
 pub mod Notes
+pub mod Mixes
 pub mod Grouped
 pub mod Find
 pub mod Judge

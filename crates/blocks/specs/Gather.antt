@@ -4,17 +4,19 @@ use mathlib.Core.Path.{_≡_}
 use mathlib.Core.Bool.{true, false}
 use mathlib.Core.List.{List}
 use mathlib.Core.Logic.{_⊎_}
-use Prim.Native.Nat.{ℕ, _+_, _-_, _/_, _≤_}
+use Prim.Native.Nat.{ℕ, _+_, _-_, _/_, _^_, _≤_, _<_}
 use lib.Dec.{eqb}
-use lib.ListN.{set, take}
+use lib.ListN.{length, set, take}
 use Rattle.formula.specs.Tree.{Op, same-op, lit, node, Forest, ∅, _▸_, some-child, count}
 use Rattle.formula.specs.Tidy.{is-op, same-tree, splice, decides, firsts}
-use Rattle.sheet.specs.Format.{Row, row}
+use Rattle.sheet.specs.Format.{Bytes, Row, row}
 use Rattle.sheet.specs.Sheet.{operator-kind, front, behind}
+use Rattle.rows.specs.Layouts.{total, rows-in, Room}
+use Rattle.blocks.specs.declared.rules.Children.{Children}
 use Rattle.blocks.specs.Blocks.{Blocks, _⊕_, live, Laid, Here}
 use Rattle.blocks.specs.Walks.{at-row}
 use Rattle.blocks.specs.Known.{AllTold}
-use Rattle.blocks.specs.Rules.{notes}
+use Rattle.blocks.specs.Rules.{notes, Tables}
 
 -- children of this kind have none of it among their own, as tidied ones have not
 unfoldable pub Flat : Op → Forest → Type 0
@@ -42,6 +44,15 @@ pub record ChildrenAt (R : List Row) (K : List ℕ) (from to owed kind : ℕ) : 
   pub is : kind ≡ operator-kind op
   pub flat : Flat op (front owed (live blocks))
 
+-- children that can be gathered: the rows have their place and can be counted in a number, and there are tables for members, and one that
+-- tells of each row
+pub record ToGather (w : Children) (b : Bytes) (H L M K : List ℕ) : Type 0 where
+  pub room : Room (w .sheet) (length b)
+  pub counted : total (w .sheet) < 256 ^ w .sheet .width
+  pub tables : Tables (w .sheet) H L M
+  pub known-fit : total (w .sheet) ≤ length K
+  pub there : ChildrenAt (rows-in (w .sheet) b) K (w .from) (total (w .sheet)) (w .owed) (w .kind)
+
 -- the first trees, ts, have become what the rules leave of them, up to a row, and the others, us, are as they were: 0 if ts decide the
 -- operator, else one more than there are left, which are the members
 pub record Gathered (R : List Row) (K M : List ℕ) (from end to : ℕ) (before after : List Row) (o : Op) (ts us : Forest) (left : ℕ) : Type 0 where
@@ -59,3 +70,8 @@ Gathers R R′ K M from end to owed kind left =
     (before : List Row) (bs : Blocks) (after : List Row) → Laid R from to before bs after → AllTold K from bs → owed ≤ count (live bs)
     → (o : Op) → kind ≡ operator-kind o → Flat o (front owed (live bs))
     → Gathered R′ K M from end to before after o (front owed (live bs)) (behind owed (live bs)) left
+
+-- the same in the bytes of a sheet
+abbrev pub GathersIn : Children → Bytes → Bytes → List ℕ → List ℕ → ℕ → ℕ → Type 0
+GathersIn w b b′ K M end left =
+    Gathers (rows-in (w .sheet) b) (rows-in (w .sheet) b′) K M (w .from) end (total (w .sheet)) (w .owed) (w .kind) left

@@ -4,18 +4,19 @@ use mathlib.Core.Path.{_≡_}
 use mathlib.Core.Bool.{Bool, true, false, not, _&&_, _||_}
 use mathlib.Core.List.{List, [], _∷_, _++_}
 use mathlib.Core.Logic.{_⊎_}
-use Prim.Native.Nat.{ℕ, _+_, _*_, _-_, _/_, _%_, _≤_, _<_}
+use Prim.Native.Nat.{ℕ, _+_, _*_, _-_, _/_, _%_, _^_, _≤_, _<_}
 use lib.Dec.{eqb, leb}
 use lib.ListN.{length, getD, set, take}
 use Rattle.formula.specs.Tree.{Op, dual, Tree, node, Forest, some-child, some-two, keep}
 use Rattle.formula.specs.Tidy.{is-empty, opposite, same-tree}
-use Rattle.sheet.specs.Format.{Row}
+use Rattle.sheet.specs.Format.{Bytes, Row}
 use Rattle.sheet.specs.Sheet.{operator-kind}
-use Rattle.rows.specs.Layouts.{total}
+use Rattle.rows.specs.Layouts.{total, rows-in, Room}
 use Rattle.rows.specs.declared.Layout.{Layout}
 use Rattle.buckets.specs.Chains.{last, Linked, Passed}
 use Rattle.buckets.specs.Chains as chains
-use Rattle.buckets.specs.Prints.{literal-mix, sign, print}
+use Rattle.buckets.specs.Prints.{literal-mix, sign, mix, print}
+use Rattle.blocks.specs.declared.rules.Child.{Child}
 use Rattle.blocks.specs.Blocks.{Block, gone, literal, operator, Blocks, none, _◂_, head, inner, size, live, Laid, Stands, Standing}
 use Rattle.blocks.specs.Walks.{at-row}
 use Rattle.blocks.specs.Entered.{LiveAt, Same}
@@ -58,6 +59,11 @@ notes r (x ◂ bs) = note r x ++ notes (r + size x) bs
 pub record Noted (M : List ℕ) (n from : ℕ) (bs : Blocks) : Type 0 where
   pub fit : n ≤ length M
   pub are : take n M ≡ notes from bs
+
+-- the prints of members, which are their low halves, mixed into a number one by one
+unfoldable pub mixes : ℕ → List ℕ → ℕ
+mixes h [] = h
+mixes h (m ∷ ms) = mixes (mix h (m % 65536)) ms
 
 -- tables for as many members as there are rows
 abbrev pub Tables : Layout → List ℕ → List ℕ → List ℕ → Type 0
@@ -124,6 +130,14 @@ pub record Behind (R : List Row) (at known : ℕ) (H L M : List ℕ) (n : ℕ) :
   pub noted : Noted M n from done
   pub few : n ≤ at
   pub linked : Linked H L M n
+
+-- a child that can be judged: the rows have their place and can be counted in a number, and it stands behind members, for which there are
+-- tables
+pub record ToJudge (s : Layout) (b : Bytes) (c : Child) (H L M : List ℕ) : Type 0 where
+  pub room : Room s (length b)
+  pub counted : total s < 256 ^ s .width
+  pub tables : Tables s H L M
+  pub behind : Behind (rows-in s b) (c .at) (c .known) H L M (c .before)
 
 -- a literal's row
 pub record LiteralRow (R : List Row) (at kind : ℕ) : Type 0 where

@@ -12,6 +12,7 @@ use buckets::first;
 use buckets::large;
 use buckets::member;
 use buckets::print::literal_print;
+use buckets::print::mixed;
 use rows::Layout;
 use rows::NEGATIVE;
 use rows::read::argument_at;
@@ -20,13 +21,13 @@ use rows::wide;
 use rows::write::set_row;
 ghost use mathlib.Core.Path.{_≡_};
 ghost use Prim.Native.Nat.{_-_, _+_, _^_, _≤_, _<_};
-ghost use lib.ListN.{length};
+ghost use lib.ListN.{length, take, drop};
 ghost use Rattle.rows.specs.Layouts.{total, rows-in, Room};
 ghost use Rattle.buckets.specs.Chains.{Linked};
 ghost use Rattle.blocks.specs.Walks.{at-row};
 ghost use Rattle.blocks.specs.Entered.{LiveAt};
-ghost use Rattle.blocks.specs.Gather.{SplicesAt, ChildrenAt, Gathers};
-ghost use Rattle.blocks.specs.Rules.{Decides, literal-test, Chain, Finds, place, Member, Twins, FindsTwin, LiveChain, Tables, Behind, LiteralRow, JudgesAs, Judges};
+ghost use Rattle.blocks.specs.Gather.{SplicesAt, ToGather, GathersIn};
+ghost use Rattle.blocks.specs.Rules.{Decides, mixes, literal-test, Chain, Finds, place, Member, Twins, FindsTwin, LiveChain, ToJudge, LiteralRow, JudgesAs, Judges};
 
 // The child at row `at` of an operator of this kind, with what the table tells of it, behind `before` members; or a literal of this
 // kind there.
@@ -45,10 +46,12 @@ pub struct Children {
     pub kind: u8,
 }
 
-// The row behind the children, and one more than the members that are left of them; 0 if they decide their operator.
+// The row behind the children, one more than the members that are left of them, and the operator's print over these; the last two are 0 if
+// the children decide it.
 pub struct Gathered {
     pub end: usize,
     pub left: usize,
+    pub print: usize,
 }
 
 // Rule 1 at the child, the first of `owed` trees: of the parent's own kind, it leaves its children in its place. How many trees are owed
@@ -105,7 +108,7 @@ pub fn judge_literal(
     links: &mut [u16],
     members: &mut [u32],
 ) -> usize
-    requires { ⌜ Room s (length (now b)) × (total s < 256 ^ s .width) × Tables s (now heads) (now links) (now members) × Behind (rows-in s (now b)) (c .at) (c .known) (now heads) (now links) (now members) (c .before) × LiteralRow (rows-in s (now b)) (c .at) (c .kind) ⌝ }
+    requires { ⌜ ToJudge s (now b) c (now heads) (now links) (now members) × LiteralRow (rows-in s (now b)) (c .at) (c .kind) ⌝ }
     ensures { λ left. ⌜ JudgesAs (rows-in s (now (b .entry))) (rows-in s (now (b .exit))) (c .at) (c .known) (c .before) (now (members .entry)) (now (members .exit)) left ⌝ }
     ensures { λ left. ⌜ Linked (now (heads .exit)) (now (links .exit)) (now (members .exit)) (left - 1) × (left ≤ c .before + 2) ⌝ }
 {
@@ -181,7 +184,7 @@ pub fn judge_operator(
     links: &mut [u16],
     members: &mut [u32],
 ) -> usize
-    requires { ⌜ Room s (length (now b)) × (total s < 256 ^ s .width) × Tables s (now heads) (now links) (now members) × Behind (rows-in s (now b)) (c .at) (c .known) (now heads) (now links) (now members) (c .before) × (4 < (at-row (rows-in s (now b)) (c .at)) .kind) ⌝ }
+    requires { ⌜ ToJudge s (now b) c (now heads) (now links) (now members) × (4 < (at-row (rows-in s (now b)) (c .at)) .kind) ⌝ }
     ensures { λ left. ⌜ Judges (rows-in s (now (b .entry))) (rows-in s (now (b .exit))) (c .at) (c .kind) (c .known) (c .before) (now (members .entry)) (now (members .exit)) left ⌝ }
     ensures { λ left. ⌜ Linked (now (heads .exit)) (now (links .exit)) (now (members .exit)) (left - 1) × (left ≤ c .before + 2) ⌝ }
 {
@@ -211,7 +214,7 @@ pub fn judge(
     links: &mut [u16],
     members: &mut [u32],
 ) -> usize
-    requires { ⌜ Room s (length (now b)) × (total s < 256 ^ s .width) × Tables s (now heads) (now links) (now members) × Behind (rows-in s (now b)) (c .at) (c .known) (now heads) (now links) (now members) (c .before) ⌝ }
+    requires { ⌜ ToJudge s (now b) c (now heads) (now links) (now members) ⌝ }
     ensures { λ left. ⌜ Judges (rows-in s (now (b .entry))) (rows-in s (now (b .exit))) (c .at) (c .kind) (c .known) (c .before) (now (members .entry)) (now (members .exit)) left ⌝ }
     ensures { λ left. ⌜ Linked (now (heads .exit)) (now (links .exit)) (now (members .exit)) (left - 1) × (left ≤ c .before + 2) ⌝ }
 {
@@ -232,9 +235,20 @@ pub fn judge(
     judge_operator(b, s, c, heads, links, members)
 }
 
+// The print of an operator over its first `n` members, `h`, with that of member `n`, if it has come: `left` is one more than the members.
+pub fn print_with(h: usize, members: &[u32], n: usize, left: usize) -> usize
+    requires { ⌜ (h < 65536) × (n < length (now members)) × (left ≤ n + 2) ⌝ }
+    ensures { λ p. ⌜ (p ≡ mixes h (drop n (take (left - 1) (now (members .entry))))) × (p < 65536) ⌝ }
+{
+    if n + 1 < left {
+        return mixed(h, member(members, n) % 65536);
+    }
+    h
+}
+
 // Rules 1 to 5 at the children. If they don't decide their operator, they are now what the rules leave of them, and rows that have gone are
 // joined, so that a later walk passes them in one step. A child of the parent's own kind is entered: its children, which are tidied, have
-// none of that kind among them. The tables of members may hold anything.
+// none of that kind among them. The print is mixed as members come, which spares a walk over them. The tables of members may hold anything.
 pub fn gather(
     b: &mut [u8],
     w: Children,
@@ -243,14 +257,16 @@ pub fn gather(
     members: &mut [u32],
     known: &[u32],
 ) -> Gathered
-    requires { ⌜ Room (w .sheet) (length (now b)) × (total (w .sheet) < 256 ^ w .sheet .width) × Tables (w .sheet) (now heads) (now links) (now members) × (total (w .sheet) ≤ length (now known)) × ChildrenAt (rows-in (w .sheet) (now b)) (now known) (w .from) (total (w .sheet)) (w .owed) (w .kind) ⌝ }
-    ensures { λ r. ⌜ Gathers (rows-in (w .sheet) (now (b .entry))) (rows-in (w .sheet) (now (b .exit))) (now (known .entry)) (now (members .exit)) (w .from) (r .end) (total (w .sheet)) (w .owed) (w .kind) (r .left) ⌝ }
+    requires { ⌜ ToGather w (now b) (now heads) (now links) (now members) (now known) ⌝ }
+    ensures { λ r. ⌜ GathersIn w (now (b .entry)) (now (b .exit)) (now (known .entry)) (now (members .exit)) (r .end) (r .left) ⌝ }
     ensures { λ r. ⌜ r .left ≤ total (w .sheet) + 1 ⌝ }
+    ensures { λ r. ⌜ ((r .left ≡ 0 → ⊥) → r .print ≡ mixes (w .kind) (take (r .left - 1) (now (members .exit)))) × (r .print < 65536) ⌝ }
 {
     let s = w.sheet;
     let mut at = w.from;
     let mut run = w.from;
     let mut n: usize = 0;
+    let mut print = wide(w.kind);
     let mut left = w.owed;
     while 0 < left {
         let c = Child {
@@ -266,8 +282,10 @@ pub fn gather(
             return Gathered {
                 end: hop(b, s, next, left),
                 left: 0,
+                print: 0,
             };
         }
+        print = print_with(print, members, n, more);
         n = more - 1;
         run = join_at(b, s, run, at, next);
         at = next;
@@ -275,5 +293,6 @@ pub fn gather(
     Gathered {
         end: at,
         left: n + 1,
+        print: print,
     }
 }

@@ -12,10 +12,11 @@ use Rattle.sheet.specs.Format.{Row, row}
 use Rattle.sheet.specs.Sheet.{operator-kind}
 use Rattle.buckets.specs.Prints.{print}
 use Rattle.blocks.specs.Blocks.{gone, operator, Blocks, none, _◂_, head, inner, block-rows, grown, live, Laid}
+use Rattle.blocks.specs.Rules.{mixes}
 use Rattle.blocks.specs.Known.{Says, Told, AllTold}
 use Rattle.blocks.proofs.Blocks.{rows-⊕, length-⊕, no-rows}
 use Rattle.blocks.proofs.Told.{told-at, told-last, told-keeps}
-use Rattle.tidying.specs.Inner.Operators.{Headed, Replaced, KeptBehind, Hollows, mixes, Left, Concludes}
+use Rattle.tidying.specs.Inner.Operators.{Headed, Replaced, KeptBehind, Hollows, Left, Concludes}
 use Rattle.tidying.proofs.Members.{count-none, notes-count, mixes-print, Lone, lone}
 
 module _ {R : List Row} {r end : ℕ} {before after : List Row} {x : Row} {bs : Blocks} (l : Headed R r end before x bs after) where
@@ -186,12 +187,12 @@ module _ {R R₁ : List Row} {K M : List ℕ} {r end kind left : ℕ} (fit : lef
       let f = left-lone l fit e is in
       replaced-as stored (f .reads ∙ ap (λ ts. unwrap o ts ▸ ∅) (sym (f .reads))) (lone-put (l .headed) K (l .told) f)
 
-  pub concludes-many : {K₁ : List ℕ} {h p : ℕ} → 2 < left → r < length K → R₁ ≡ set R r (row kind (end - r)) → h ≡ kind
-      → p ≡ mixes h (take (left - 1) M) → K₁ ≡ set K r ((left - 1) * 65536 + p) → Concludes R R₁ K K₁ M r end kind left
-  concludes-many {K₁} {h} {p} m u stored h-is p-is entry before x bs after l o k =
+  pub concludes-many : {K₁ : List ℕ} {p : ℕ} → 2 < left → r < length K → R₁ ≡ set R r (row kind (end - r)) → p ≡ mixes kind (take (left - 1) M)
+      → K₁ ≡ set K r ((left - 1) * 65536 + p) → Concludes R R₁ K K₁ M r end kind left
+  concludes-many {K₁} {p} m u stored p-is entry before x bs after l o k =
       let c = left-count l fit in
       let w = (left - 1) * 65536 + p in
       replaced-as stored (unwrap-many o (live bs) (omega (arith, c, m)))
       (operator-put (l .headed) K₁ kind o k
-      (entry-set K entry u ∙ ap₂ (λ n q. n * 65536 + q) (sym c) (p-is ∙ ap₂ mixes (h-is ∙ k) (l .noted) ∙ mixes-print o (r + 1) bs))
+      (entry-set K entry u ∙ ap₂ (λ n q. n * 65536 + q) (sym c) (p-is ∙ ap₂ mixes k (l .noted) ∙ mixes-print o (r + 1) bs))
       (told-keeps K K₁ (r + 1) bs (λ j q. behind-set K w entry j (omega (arith, q))) (l .told)))

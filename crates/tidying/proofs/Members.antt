@@ -1,20 +1,17 @@
 -- Members: how many there are, their prints mixed, and the row of a lone one.
 -- Assumes nothing.
 use mathlib.Core.Path.{_≡_, refl, sym, ap, _∙_}
-use mathlib.Core.List.{List, [], _∷_, _++_}
+use mathlib.Core.List.{[], _∷_}
 use Prim.Native.Nat.{ℕ, suc, _+_, _*_, _/_, _%_, _<_}
-use native.Mathlib.Numerals.{add-one}
 use native.Mathlib.Omega.{arith}
-use lib.ListN.{length, getD, take}
-use lib.Seq.{take-suc}
+use lib.ListN.{length}
 use Rattle.formula.specs.Tree.{Op, and, or, Tree, lit, node, Forest, ∅, _▸_, count}
 use Rattle.sheet.specs.Sheet.{operator-kind}
 use Rattle.buckets.specs.Prints.{mix, print, print-on}
 use Rattle.buckets.proofs.Prints.{print-few}
 use Rattle.blocks.specs.Blocks.{gone, literal, operator, Blocks, none, _◂_, _⊕_, block-rows, size, grown, live}
-use Rattle.blocks.specs.Rules.{note, notes}
+use Rattle.blocks.specs.Rules.{note, notes, mixes}
 use Rattle.blocks.proofs.Blocks.{length-◂}
-use Rattle.tidying.specs.Inner.Operators.{mixes}
 
 pub count-none : (ts : Forest) → count ts ≡ 0 → ts ≡ ∅
 unfolding count
@@ -27,17 +24,6 @@ notes-count r none = refl
 notes-count r (gone rs ◂ bs) = notes-count (r + size (gone rs)) bs
 notes-count r (literal s v ◂ bs) = ap suc (notes-count (r + size (literal s v)) bs)
 notes-count r (operator o ks ◂ bs) = ap suc (notes-count (r + size (operator o ks)) bs)
-
--- print_on
-
-pub mixes-snoc : (h : ℕ) (ms : List ℕ) (m : ℕ) → mixes h (ms ++ (m ∷ [])) ≡ mix (mixes h ms) (m % 65536)
-unfolding mixes
-mixes-snoc h [] m = refl
-mixes-snoc h (x ∷ ms) m = mixes-snoc (mix h (x % 65536)) ms m
-
-pub mixes-more : (M : List ℕ) (h i : ℕ) → i < length M → mix (mixes h (take i M)) (getD M i 0 % 65536) ≡ mixes h (take (i + 1) M)
-mixes-more M h i l =
-    sym (ap (λ n. mixes h (take n M)) (add-one i) ∙ ap (mixes h) (take-suc M i 0 l) ∙ mixes-snoc h (take i M) (getD M i 0))
 
 -- the low half of a member
 low : (r p : ℕ) → p < 65536 → (r * 65536 + p) % 65536 ≡ p

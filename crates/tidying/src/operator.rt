@@ -4,21 +4,18 @@ use blocks::GONE;
 use blocks::rules::Children;
 use blocks::rules::gather;
 use buckets::member;
-use buckets::print::mixed;
 use rows::AND;
 use rows::Layout;
 use rows::NEGATIVE;
 use rows::OR;
 use rows::read::argument_at;
 use rows::read::kind_at;
-use rows::wide;
 use rows::write::set_row;
-ghost use mathlib.Core.Path.{_≡_};
-ghost use Prim.Native.Nat.{_+_, _≤_, _<_};
-ghost use lib.ListN.{length, take, drop};
+ghost use Prim.Native.Nat.{_≤_, _<_};
+ghost use lib.ListN.{drop};
 ghost use Rattle.rows.specs.Layouts.{total, rows-in};
 ghost use Rattle.blocks.specs.Rules.{Tables};
-ghost use Rattle.tidying.specs.Inner.Operators.{KeptBehind, Hollows, mixes, LeftAt, Concludes, ReadyAt, Combines, Preorder, Tidies};
+ghost use Rattle.tidying.specs.Inner.Operators.{KeptBehind, Hollows, ToConclude, ConcludesIn, ReadyAt, Combines, Preorder, Tidies};
 ghost use Rattle.tidying.specs.Inner.Tables.{InPlace};
 
 // A row of a sheet.
@@ -27,13 +24,15 @@ pub struct Place {
     pub row: usize,
 }
 
-// The operator of this kind at a row. Its children end before row `end`, and `left` is one more than there are left of them.
+// The operator of this kind at a row. Its children end before row `end`, `left` is one more than there are left of them, and `print` is the
+// operator's over these.
 pub struct Node {
     pub sheet: Layout,
     pub row: usize,
     pub kind: u8,
     pub end: usize,
     pub left: usize,
+    pub print: usize,
 }
 
 // Makes the rows from `r` to `end` an empty operator of this kind.
@@ -49,24 +48,10 @@ pub fn hollow(b: &mut [u8], s: Layout, r: usize, kind: u8, end: usize, known: &m
     }
 }
 
-// The print of an operator so far, `h`, with those of the first `n` members.
-pub fn print_on(h: usize, members: &[u32], n: usize) -> usize
-    requires { ⌜ (h < 65536) × (n ≤ length (now members)) ⌝ }
-    ensures { λ p. ⌜ (p ≡ mixes h (take n (now (members .entry)))) × (p < 65536) ⌝ }
-{
-    let mut p = h;
-    let mut i: usize = 0;
-    while i < n {
-        p = mixed(p, member(members, i) % 65536);
-        i += 1;
-    }
-    p
-}
-
 // Rule 6 at an operator's row, once the other rules have left members of its children: a lone child replaces the node.
 pub fn conclude(b: &mut [u8], n: Node, members: &[u32], known: &mut [u32])
-    requires { ⌜ InPlace (n .sheet) (now b) (now known) × (n .end ≤ total (n .sheet)) × LeftAt (rows-in (n .sheet) (now b)) (now known) (now members) (n .row) (n .end) (n .kind) (n .left) ⌝ }
-    ensures { λ _. ⌜ Concludes (rows-in (n .sheet) (now (b .entry))) (rows-in (n .sheet) (now (b .exit))) (now (known .entry)) (now (known .exit)) (now (members .entry)) (n .row) (n .end) (n .kind) (n .left) ⌝ }
+    requires { ⌜ ToConclude n (now b) (now known) (now members) ⌝ }
+    ensures { λ _. ⌜ ConcludesIn n (now (b .entry)) (now (b .exit)) (now (known .entry)) (now (known .exit)) (now (members .entry)) ⌝ }
     ensures { λ _. ⌜ KeptBehind (now (known .entry)) (now (known .exit)) (n .row) ⌝ }
 {
     let s = n.sheet;
@@ -84,8 +69,7 @@ pub fn conclude(b: &mut [u8], n: Node, members: &[u32], known: &mut [u32])
         return;
     }
     set_row(b, s, r, kind, end - r);
-    let count = left - 1;
-    known[r] = (count * 65536 + print_on(wide(kind), members, count)) as u32;
+    known[r] = ((left - 1) * 65536 + n.print) as u32;
 }
 
 // All six rules at a row, the trees behind it being tidied.
@@ -123,6 +107,7 @@ pub fn combine(
         kind: kind,
         end: g.end,
         left: g.left,
+        print: g.print,
     };
     conclude(b, n, members, known);
 }

@@ -2,16 +2,18 @@
 -- Assumes nothing.
 use mathlib.Core.Path.{_≡_}
 use mathlib.Core.List.{List, [], _∷_, _++_}
-use Prim.Native.Nat.{ℕ, _+_, _-_, _%_, _≤_, _<_}
+use Prim.Native.Nat.{ℕ, _+_, _-_, _≤_, _<_}
 use lib.ListN.{length, getD, take, drop}
 use Rattle.formula.specs.Tree.{Op, node, Forest, ∅, _▸_, count}
 use Rattle.formula.specs.Tidy.{unwrap, tidy-all}
-use Rattle.sheet.specs.Format.{Row, children}
+use Rattle.sheet.specs.Format.{Bytes, Row, children}
 use Rattle.sheet.specs.Sheet.{operator-kind, grow, trees}
-use Rattle.buckets.specs.Prints.{mix}
+use Rattle.rows.specs.Layouts.{total, rows-in}
 use Rattle.blocks.specs.Blocks.{Blocks, block-rows, live, Laid}
-use Rattle.blocks.specs.Rules.{notes}
+use Rattle.blocks.specs.Rules.{notes, mixes}
 use Rattle.blocks.specs.Known.{AllTold}
+use Rattle.tidying.specs.declared.operator.Node.{Node}
+use Rattle.tidying.specs.Inner.Tables.{InPlace}
 
 -- a row, and behind it blocks
 pub record Headed (R : List Row) (r to : ℕ) (before : List Row) (x : Row) (bs : Blocks) (after : List Row) : Type 0 where
@@ -36,11 +38,6 @@ Hollows R R′ K′ r end kind =
     (before : List Row) (x : Row) (bs : Blocks) (after : List Row) → Headed R r end before x bs after
     → (o : Op) → kind ≡ operator-kind o → Replaced R′ K′ r end before after (node o ∅ ▸ ∅)
 
--- the prints of members, which are their low halves, mixed into a number one by one
-unfoldable pub mixes : ℕ → List ℕ → ℕ
-mixes h [] = h
-mixes h (m ∷ ms) = mixes (mix h (m % 65536)) ms
-
 -- an operator's row, and behind it what the other rules have left of its children, which are the members; left is one more than there are
 pub record Left (R : List Row) (K M : List ℕ) (r end left : ℕ) (before : List Row) (x : Row) (bs : Blocks) (after : List Row) : Type 0 where
   pub headed : Headed R r end before x bs after
@@ -59,11 +56,23 @@ pub record LeftAt (R : List Row) (K M : List ℕ) (r end kind left : ℕ) : Type
   pub members-fit : left ≤ length M + 1
   pub countable : left ≤ 65536
 
+-- an operator that can be concluded: what is left of its children stands behind it, and its print is mixed from theirs
+pub record ToConclude (n : Node) (b : Bytes) (K M : List ℕ) : Type 0 where
+  pub in-place : InPlace (n .sheet) b K
+  pub within : n .end ≤ total (n .sheet)
+  pub there : LeftAt (rows-in (n .sheet) b) K M (n .row) (n .end) (n .kind) (n .left)
+  pub printed : n .print ≡ mixes (n .kind) (take (n .left - 1) M)
+  pub print-few : n .print < 65536
+
 -- rule 6: a lone child replaces the node
 abbrev pub Concludes : List Row → List Row → List ℕ → List ℕ → List ℕ → ℕ → ℕ → ℕ → ℕ → Type 0
 Concludes R R′ K K′ M r end kind left =
     (before : List Row) (x : Row) (bs : Blocks) (after : List Row) → Left R K M r end left before x bs after
     → (o : Op) → kind ≡ operator-kind o → Replaced R′ K′ r end before after (unwrap o (live bs) ▸ ∅)
+
+-- the same in the bytes of a sheet
+abbrev pub ConcludesIn : Node → Bytes → Bytes → List ℕ → List ℕ → List ℕ → Type 0
+ConcludesIn n b b′ K K′ M = Concludes (rows-in (n .sheet) b) (rows-in (n .sheet) b′) K K′ M (n .row) (n .end) (n .kind) (n .left)
 
 -- a node row before blocks that hold the tidied trees behind it, of which there are as many as it has children
 pub record Ready (R : List Row) (K : List ℕ) (r n : ℕ) (before : List Row) (x : Row) (bs : Blocks) (ts : Forest) : Type 0 where

@@ -1,29 +1,31 @@
 -- `blocks::rules::gather` meets its contract. Assumes nothing.
-use mathlib.Core.Path.{_≡_, refl, _∙_}
-use Prim.Native.Nat.{_+_, _-_, _≤_}
+use mathlib.Core.Path.{_≡_, refl, ap, _∙_}
+use Prim.Native.Nat.{_+_, _-_, _≤_, _<_}
 use native.Mathlib.Omega.{arith}
-use lib.ListN.{length, getD}
+use lib.ListN.{length, getD, take}
 use Rattle.rows.specs.Layouts.{rows-in, total, Room}
 use Rattle.buckets.specs.Chains.{Linked}
 use Rattle.buckets.proofs.Chains.{linked-none}
+use Rattle.blocks.specs.Rules.{mixes}
 use Rattle.blocks.proofs.Blocks.{room-as}
 use Rattle.blocks.proofs.Walks.{Turn}
-use Rattle.blocks.proofs.Gather.{Gather, Face, tables-as, gather-none, gather-turn, gather-few, gather-face, face-turn, face-ordered, face-behind, gather-more, gather-owed, gather-found, gather-end}
+use Rattle.blocks.proofs.Gather.{Gather, Face, tables-as, gather-none, gather-turn, gather-few, gather-face, face-turn, face-ordered, face-behind, gather-more, gather-printed, gather-owed, gather-found, gather-end}
 use borrow.Author.Needs.{needs}
 use Rattle.blocks.proofs.rules.gather.Statement.{statement}
 use Rattle.blocks.proofs.rules.gather.Tie as tie
 
 abbrev Inv-loop : tie.InvT-loop
-Inv-loop b₀ w heads₀ links₀ members₀ known s at₀ run₀ n₀ left₀ b heads links members at run n left =
+Inv-loop b₀ w heads₀ links₀ members₀ known s at₀ run₀ n₀ print₀ left₀ b heads links members at run n print left =
     Gather (rows-in (w .sheet) b₀) (rows-in (w .sheet) b) known members (w .from) run at (total (w .sheet)) n (w .owed) left (w .kind) ×
     Linked heads links members n × (n + w .from ≤ at) ×
-    (length b ≡ length b₀) × (length heads ≡ length heads₀) × (length links ≡ length links₀) × (length members ≡ length members₀)
+    (length b ≡ length b₀) × (length heads ≡ length heads₀) × (length links ≡ length links₀) × (length members ≡ length members₀) ×
+    (print ≡ mixes (w .kind) (take n members)) × (print < 65536)
 
 abbrev μ-loop : tie.MeasureT-loop
-μ-loop b₀ w heads₀ links₀ members₀ known s at₀ run₀ n₀ left₀ b heads links members at run n left = total (w .sheet) - at
+μ-loop b₀ w heads₀ links₀ members₀ known s at₀ run₀ n₀ print₀ left₀ b heads links members at run n print left = total (w .sheet) - at
 
 abbrev start-of : tie.At-loop Inv-loop μ-loop → tie.Start Inv-loop μ-loop
-start-of i = i .before .before .before .before .before .before .before
+start-of i = i .before .before .before .before .before .before .before .before
 
 abbrev test-of : tie.After-splice-at Inv-loop μ-loop → tie.In-loop Inv-loop μ-loop
 test-of p = p .before .before .before .before
@@ -32,10 +34,10 @@ abbrev spliced-of : tie.After-judge Inv-loop μ-loop → tie.After-splice-at Inv
 spliced-of j = j .before .before .before .before .before .before .before .before .before
 
 room : (i : tie.At-loop Inv-loop μ-loop) → Room (start-of i .args .w .sheet) (length (i .loop .b))
-room i = room-as (i .loop .inv .3) (start-of i .pre .0)
+room i = room-as (i .loop .inv .3) (start-of i .pre .room)
 
 turn : (l : tie.In-loop Inv-loop μ-loop) → Turn (start-of (l .before) .args .w .sheet) (l .before .loop .b) (l .before .loop .at) (total (start-of (l .before) .args .w .sheet))
-turn l = gather-turn (l .before .loop .b) (room (l .before)) (l .before .loop .inv .0) (start-of (l .before) .pre .4) (l .loop-test .taken)
+turn l = gather-turn (l .before .loop .b) (room (l .before)) (l .before .loop .inv .0) (start-of (l .before) .pre .there) (l .loop-test .taken)
 
 known-is : (p : tie.After-splice-at Inv-loop μ-loop)
     → p .before .before .large .result ≡ getD (start-of (test-of p .before) .args .known .now) (test-of p .before .loop .at) 0
@@ -44,7 +46,7 @@ known-is p = p .before .before .large .ensures .0
 fit : (l : tie.In-loop Inv-loop μ-loop) → l .before .loop .n ≤ length (l .before .loop .members)
 fit l =
     let v = l .before .loop .inv in
-    omega (arith, v .2, v .6, turn l .row-within, start-of (l .before) .pre .2 .members-fit)
+    omega (arith, v .2, v .6, turn l .row-within, start-of (l .before) .pre .tables .members-fit)
 
 -- at a child, once it is spliced
 faced : (p : tie.After-splice-at Inv-loop μ-loop)
@@ -56,22 +58,28 @@ faced : (p : tie.After-splice-at Inv-loop μ-loop)
 faced p = gather-face (test-of p .before .loop .inv .0) (test-of p .loop-test .taken) (known-is p) (p .splice-at .ensures)
 
 room-there : (p : tie.After-splice-at Inv-loop μ-loop) → Room (start-of (test-of p .before) .args .w .sheet) (length (p .splice-at .last .0))
-room-there p = room-as (p .splice-at .kept .0 ∙ test-of p .before .loop .inv .3) (start-of (test-of p .before) .pre .0)
+room-there p = room-as (p .splice-at .kept .0 ∙ test-of p .before .loop .inv .3) (start-of (test-of p .before) .pre .room)
 
 turn-there : (p : tie.After-splice-at Inv-loop μ-loop)
     → Turn (start-of (test-of p .before) .args .w .sheet) (p .splice-at .last .0) (test-of p .before .loop .at) (total (start-of (test-of p .before) .args .w .sheet))
-turn-there p = face-turn (p .splice-at .last .0) (room-there p) (faced p) (start-of (test-of p .before) .pre .4)
+turn-there p = face-turn (p .splice-at .last .0) (room-there p) (faced p) (start-of (test-of p .before) .pre .there)
+
+wide-requires : tie.Need-wide-requires Inv-loop μ-loop
+wide-requires c κs = search needs
 
 loop-holds : tie.Need-loop-holds Inv-loop μ-loop
-loop-holds c = (gather-none _, linked-none _ _ _, omega arith, refl, refl, refl, refl)
+unfolding mixes
+loop-holds c =
+    let k = c .wide .ensures in
+    (gather-none _, linked-none _ _ _, omega arith, refl, refl, refl, refl, k .0, omega (arith, k .1))
 
 mul-large : tie.Need-mul-large Inv-loop μ-loop
-mul-large c = omega (arith, turn c .row-within, start-of (c .before) .pre .2 .countable)
+mul-large c = omega (arith, turn c .row-within, start-of (c .before) .pre .tables .countable)
 
 shared-slice-read-large : tie.Need-shared-slice-read-large Inv-loop μ-loop
 shared-slice-read-large c =
     let l = c .before in
-    omega (arith, turn l .row-within, start-of (l .before) .pre .3)
+    omega (arith, turn l .row-within, start-of (l .before) .pre .known-fit)
 
 large-requires : tie.Need-large-requires Inv-loop μ-loop
 large-requires c κs = search needs
@@ -81,8 +89,8 @@ splice-at-requires c κs =
     let l = c .before .before .before in
     let i = l .before in
     let a = start-of i in
-    let few = gather-few (i .loop .inv .0) (a .pre .4) in
-    (room i, a .pre .1, turn l .row-within, l .loop-test .taken, omega (arith, few .1, a .pre .2 .countable), c .before .large .ensures .1)
+    let few = gather-few (i .loop .inv .0) (a .pre .there) in
+    (room i, a .pre .counted, turn l .row-within, l .loop-test .taken, omega (arith, few .1, a .pre .tables .countable), c .before .large .ensures .1)
 
 extent-at-requires : tie.Need-extent-at-requires Inv-loop μ-loop
 extent-at-requires c κs =
@@ -92,19 +100,20 @@ extent-at-requires c κs =
 add-next : tie.Need-add-next Inv-loop μ-loop
 add-next c =
     let p = c .before .before .before .before in
-    omega (arith, c .extent-at .ensures .1, turn-there p .row-within, start-of (test-of p .before) .pre .2 .countable)
+    omega (arith, c .extent-at .ensures .1, turn-there p .row-within, start-of (test-of p .before) .pre .tables .countable)
 
 judge-requires : tie.Need-judge-requires Inv-loop μ-loop
 judge-requires c κs =
     let p = c .before .before .before .before .before .before .before .before in
     let l = test-of p in
     let v = l .before .loop .inv in
-    let a = start-of (l .before) in (
-      room-there p,
-      a .pre .1,
-      tables-as (v .4) (v .5) (v .6) (a .pre .2),
-      face-behind (faced p) (a .pre .4) (known-is p) (fit l) (omega (arith, v .2)) (v .1),
-    )
+    let a = start-of (l .before) in
+    record {
+      room = room-there p;
+      counted = a .pre .counted;
+      tables = tables-as (v .4) (v .5) (v .6) (a .pre .tables);
+      behind = face-behind (faced p) (a .pre .there) (known-is p) (fit l) (omega (arith, v .2)) (v .1);
+    }
 
 hop-requires : tie.Need-hop-requires Inv-loop μ-loop
 hop-requires c κs =
@@ -112,8 +121,8 @@ hop-requires c κs =
     let p = spliced-of j in
     let l = test-of p in
     let a = start-of (l .before) in (
-      room-as (j .judge .kept .0 ∙ p .splice-at .kept .0 ∙ l .before .loop .inv .3) (a .pre .0),
-      gather-owed (faced p) (a .pre .4) (known-is p) (fit l) (j .judge .ensures .0)
+      room-as (j .judge .kept .0 ∙ p .splice-at .kept .0 ∙ l .before .loop .inv .3) (a .pre .room),
+      gather-owed (faced p) (a .pre .there) (known-is p) (fit l) (j .judge .ensures .0)
           (j .before .before .before .before .before .extent-at .ensures .0),
     )
 
@@ -147,38 +156,54 @@ returns c =
     let p = spliced-of j in (
       gather-found (faced p) (known-is p) (fit (test-of p)) (j .judge .ensures .0) (c .before .before .if1 .taken)
           (j .before .before .before .before .before .extent-at .ensures .0) (c .hop .ensures),
-      omega arith,
+      (omega arith, ((λ some. absurd (some refl)), omega arith)),
     )
 
+-- a child that does not decide
+abbrev undecided-of : tie.After-print-with Inv-loop μ-loop → tie.Else1 Inv-loop μ-loop
+undecided-of p = p .before .before
+
+abbrev passed : tie.Else1 Inv-loop μ-loop → tie.After-judge Inv-loop μ-loop
+passed e = e .before .before .before .before .before .before .before .before .before
+
+print-with-requires : tie.Need-print-with-requires Inv-loop μ-loop
+print-with-requires c κs =
+    let j = passed (c .before) in
+    let l = test-of (spliced-of j) in
+    let v = l .before .loop .inv in
+    let t = start-of (l .before) .pre .tables in
+    (v .8, omega (arith, v .2, v .6, j .judge .kept .1 .1 .1 .1 .1 .0, turn l .row-within, t .members-fit), j .judge .ensures .1 .1)
+
 sub-n : tie.Need-sub-n Inv-loop μ-loop
-sub-n c = omega (arith, c .if1 .left)
+sub-n c = omega (arith, undecided-of c .if1 .left)
 
 join-at-requires : tie.Need-join-at-requires Inv-loop μ-loop
 join-at-requires c κs =
-    let j = c .before .before .before .before .before .before .before .before .before .before in
+    let j = passed (undecided-of (c .before)) in
     let p = spliced-of j in
     let l = test-of p in
     let a = start-of (l .before) in
     let t = turn-there p in
     let s = j .before .before .before .before .before .extent-at .ensures .0 in (
-      room-as (j .judge .kept .0 ∙ p .splice-at .kept .0 ∙ l .before .loop .inv .3) (a .pre .0),
-      a .pre .1,
-      face-ordered (faced p) (a .pre .4),
+      room-as (j .judge .kept .0 ∙ p .splice-at .kept .0 ∙ l .before .loop .inv .3) (a .pre .room),
+      a .pre .counted,
+      face-ordered (faced p) (a .pre .there),
       omega (arith, s, t .some-rows),
       omega (arith, s, t .inside),
     )
 
 loop-less : tie.Need-loop-less Inv-loop μ-loop
 loop-less c =
-    let j = c .before .before .before .before .before .before .before .before .before .before .before .before .before in
+    let j = passed (undecided-of (c .before .before .before .before)) in
     let t = turn-there (spliced-of j) in
     omega (arith, t .some-rows, t .inside, j .before .before .before .before .before .extent-at .ensures .0)
 
 loop-again : tie.Need-loop-again Inv-loop μ-loop
 loop-again c =
     let d = c .before .before in
-    let f = d .before .before in
-    let j = f .before .before .before .before .before .before .before .before .before in
+    let q = d .before .before in
+    let f = undecided-of q in
+    let j = passed f in
     let p = spliced-of j in
     let l = test-of p in
     let v = l .before .loop .inv in
@@ -191,13 +216,15 @@ loop-again c =
       j .judge .kept .1 .1 .1 .0 ∙ v .4,
       j .judge .kept .1 .1 .1 .1 .0 ∙ v .5,
       j .judge .kept .1 .1 .1 .1 .1 .0 ∙ v .6,
+      gather-printed (faced p) (start-of (l .before) .pre .there) (known-is p) (fit l) (g .0) (f .if1 .left) (v .7) (q .print-with .ensures .0),
+      q .print-with .ensures .1,
     )
 
-add-t37 : tie.Need-add-t37 Inv-loop μ-loop
-add-t37 c =
+add-t40 : tie.Need-add-t40 Inv-loop μ-loop
+add-t40 c =
     let i = c .before in
     let a = start-of i in
-    omega (arith, i .loop .inv .2, gather-few (i .loop .inv .0) (a .pre .4) .0, a .pre .2 .countable)
+    omega (arith, i .loop .inv .2, gather-few (i .loop .inv .0) (a .pre .there) .0, a .pre .tables .countable)
 
 same-length-5 : tie.Need-same-length-5 Inv-loop μ-loop
 same-length-5 c = c .before .loop .inv .3
@@ -214,7 +241,15 @@ same-length-8 c = c .before .loop .inv .6
 returns-2 : tie.Need-returns-2 Inv-loop μ-loop
 returns-2 c =
     let v = c .before .loop .inv in
-    (gather-end (v .0) (c .loop-test .left), omega (arith, v .2, gather-few (v .0) (start-of (c .before) .pre .4) .0))
+    let n = c .before .loop .n in
+    let a = start-of (c .before) in
+    let same : n ≡ n + 1 - 1 = omega arith in (
+      gather-end (v .0) (c .loop-test .left),
+      (
+        omega (arith, v .2, gather-few (v .0) (a .pre .there) .0),
+        ((λ _. v .7 ∙ ap (λ m. mixes (a .args .w .kind) (take m (c .before .loop .members))) same), v .8),
+      ),
+    )
 
 pub gather-spec : {M : Type 1} → statement M
 gather-spec =
@@ -222,6 +257,7 @@ gather-spec =
     (tie.spec
     Inv-loop
     μ-loop
+    wide-requires
     loop-holds
     mul-large
     shared-slice-read-large
@@ -236,11 +272,12 @@ gather-spec =
     same-length-3
     same-length-4
     returns
+    print-with-requires
     sub-n
     join-at-requires
     loop-less
     loop-again
-    add-t37
+    add-t40
     same-length-5
     same-length-6
     same-length-7

@@ -20,7 +20,7 @@ start-of c = c .before .before .before .before .before .before
 kind-at-requires : tie.Need-kind-at-requires
 kind-at-requires c κs =
     let a = c .before .before .before .before .before in
-    (a .pre .0, omega (arith, stands-within (a .pre .3 .standing .stands), length-rows-in (a .args .b .now) (a .pre .0)))
+    (a .pre .room, omega (arith, stands-within (a .pre .behind .standing .stands), length-rows-in (a .args .b .now) (a .pre .room)))
 
 add-result : tie.Need-add-result
 add-result c = search needs
@@ -37,7 +37,7 @@ returns c =
       (λ o _ from before done after laid noted two front x back h _.
           let dead = sym (k .kind-at .ensures ∙ ap (λ (r : Row). r .kind) (stands-row h)) ∙ c .before .if1 .taken in
           judged-passed h (none-dead (decisive o (live done)) x dead) (none-dead (repeated (live done)) x dead) (note-dead _ x dead) noted refl),
-      (subst (Linked _ _ _) same (a .pre .3 .linked), omega arith),
+      (subst (Linked _ _ _) same (a .pre .behind .linked), omega arith),
     )
 
 judge-literal-requires : tie.Need-judge-literal-requires
@@ -45,12 +45,9 @@ judge-literal-requires c κs =
     let t = c .before .before .before .before in
     let k = t .before .before in
     let a = start-of k in
-    let g = a .pre .3 .standing in
+    let g = a .pre .behind .standing in
     let same = k .kind-at .ensures ∙ ap (λ (r : Row). r .kind) (stands-row (g .stands)) in (
-      a .pre .0,
-      a .pre .1,
-      a .pre .2,
-      a .pre .3,
+      record { room = a .pre .room; counted = a .pre .counted; tables = a .pre .tables; behind = a .pre .behind },
       record {
         is = k .kind-at .ensures;
         above = omega (arith, same, live-above (g .block) (λ z. t .before .if1 .left (same ∙ z)));

@@ -25,7 +25,7 @@ abbrev printed : tie.After-find → tie.After-literal-print
 printed c = c .before .before .before .before .before .before .before .before
 
 inside : (a : tie.Start) → a .args .c .at < total (a .args .s)
-inside a = omega (arith, stands-within (a .pre .3 .standing .stands), length-rows-in (a .args .b .now) (a .pre .0))
+inside a = omega (arith, stands-within (a .pre .0 .behind .standing .stands), length-rows-in (a .args .b .now) (a .pre .0 .room))
 
 abbrev rows-of : tie.Start → List Row
 rows-of a = rows-in (a .args .s) (a .args .b .now)
@@ -48,10 +48,10 @@ found-there : (e : tie.Else1)
     (e .before .find .result)
 found-there e =
     let f = e .before in
-    found (bucket (printed f .literal-print .result)) (f .find .ensures) (start-of (printed f) .pre .3 .linked) (start-is f) (e .if1 .left)
+    found (bucket (printed f .literal-print .result)) (f .find .ensures) (start-of (printed f) .pre .0 .behind .linked) (start-is f) (e .if1 .left)
 
 argument-at-requires : tie.Need-argument-at-requires
-argument-at-requires c κs = (c .before .before .before .before .before .pre .0, inside (c .before .before .before .before .before))
+argument-at-requires c κs = (c .before .before .before .before .before .pre .0 .room, inside (c .before .before .before .before .before))
 
 sub-wide : tie.Need-sub-wide
 sub-wide c = search needs
@@ -69,42 +69,42 @@ first-requires : tie.Need-first-requires
 first-requires c κs =
     let a = start-of (c .before .before .before) in
     let k = c .bucket-of in
-    (omega (arith, k .ensures .1, a .pre .2 .all-heads), omega (arith, inside a, a .pre .2 .members-fit, a .pre .3 .few), a .pre .3 .linked .heads (k .result) (k .ensures .1))
+    (omega (arith, k .ensures .1, a .pre .0 .tables .all-heads), omega (arith, inside a, a .pre .0 .tables .members-fit, a .pre .0 .behind .few), a .pre .0 .behind .linked .heads (k .result) (k .ensures .1))
 
 find-requires : tie.Need-find-requires
 find-requires c κs =
     let f = c .before .before .before in
     let a = start-of (f .before .before .before .before) in (
-      a .pre .0,
+      a .pre .0 .room,
       record {
         heads = _;
         count = a .args .c .before;
         bucket-of = f .before .bucket-of .result;
-        linked = a .pre .3 .linked;
+        linked = a .pre .0 .behind .linked;
         starts = f .first .ensures;
-        links-fit = omega (arith, inside a, a .pre .2 .links-fit, a .pre .3 .few);
-        members-fit = omega (arith, inside a, a .pre .2 .members-fit, a .pre .3 .few);
-        places = λ j l. omega (arith, members-within (a .pre .3 .laid) (a .pre .3 .noted) j l, inside a);
+        links-fit = omega (arith, inside a, a .pre .0 .tables .links-fit, a .pre .0 .behind .few);
+        members-fit = omega (arith, inside a, a .pre .0 .tables .members-fit, a .pre .0 .behind .few);
+        places = λ j l. omega (arith, members-within (a .pre .0 .behind .laid) (a .pre .0 .behind .noted) j l, inside a);
       },
     )
 
 mul-add : tie.Need-mul-add
 mul-add c =
     let a = start-of (printed (c .before .before .before .before)) in
-    omega (arith, inside a, a .pre .2 .countable)
+    omega (arith, inside a, a .pre .0 .tables .countable)
 
 add-add : tie.Need-add-add
 add-add c =
     let g = printed (c .before .before .before .before) in
     let a = start-of g in
-    omega (arith, inside a, a .pre .2 .countable, g .literal-print .ensures .1)
+    omega (arith, inside a, a .pre .0 .tables .countable, g .literal-print .ensures .1)
 
 add-requires : tie.Need-add-requires
 add-requires c κs =
     let g = printed (c .before .before .before .before) in
     let a = start-of g in
-    let t = a .pre .2 in
-    let few = a .pre .3 .few in (
+    let t = a .pre .0 .tables in
+    let few = a .pre .0 .behind .few in (
       record {
         all-heads = t .all-heads;
         links-fit = omega (arith, inside a, t .links-fit, few);
@@ -112,13 +112,13 @@ add-requires c κs =
         countable = omega (arith, inside a, t .countable, few);
       },
       omega (arith, inside a, t .countable, g .literal-print .ensures .1),
-      a .pre .3 .linked,
+      a .pre .0 .behind .linked,
     )
 
 add-result : tie.Need-add-result
 add-result c =
     let a = start-of (printed (c .before .before .before .before .before .before .before .before .before .before .before)) in
-    omega (arith, inside a, a .pre .2 .countable, a .pre .3 .few)
+    omega (arith, inside a, a .pre .0 .tables .countable, a .pre .0 .behind .few)
 
 same-length : tie.Need-same-length
 same-length c = search needs
@@ -141,9 +141,9 @@ returns c =
     let n = a .args .c .before in
     let same : n + 1 ≡ n + 2 - 1 = omega arith in (
       (λ o from before done after laid noted two front x back h _.
-          judged-new (a .pre .4) (g .before .before .before .argument-at .ensures .0) laid noted h o (print-is g)
-          (unfound (bucket (g .literal-print .result)) (f .find .ensures) (a .pre .3 .linked) (start-is f) (d .before .before .before .before .if1 .taken))
-          (d .add .ensures .0) (omega (arith, inside a, a .pre .2 .members-fit, a .pre .3 .few)) refl),
+          judged-new (a .pre .1) (g .before .before .before .argument-at .ensures .0) laid noted h o (print-is g)
+          (unfound (bucket (g .literal-print .result)) (f .find .ensures) (a .pre .0 .behind .linked) (start-is f) (d .before .before .before .before .if1 .taken))
+          (d .add .ensures .0) (omega (arith, inside a, a .pre .0 .tables .members-fit, a .pre .0 .behind .few)) refl),
       (subst (Linked _ _ _) same (d .add .ensures .1), omega arith),
     )
 
@@ -154,14 +154,14 @@ member-requires : tie.Need-member-requires
 member-requires c κs =
     let f = c .before .before in
     let a = start-of (printed f) in
-    omega (arith, found-there (c .before) .within, inside a, a .pre .2 .members-fit, a .pre .3 .few)
+    omega (arith, found-there (c .before) .within, inside a, a .pre .0 .tables .members-fit, a .pre .0 .behind .few)
 
 kind-at-requires : tie.Need-kind-at-requires
 kind-at-requires c κs =
     let e = c .before .before .before in
     let a = start-of (printed (e .before)) in
     let i = found-there e in
-    (a .pre .0, omega (arith, ap (λ m. m / 65536) (c .before .member .ensures .0), inside a, members-within (a .pre .3 .laid) (a .pre .3 .noted) (e .before .find .result - 1) (omega (arith, i .some, i .within))))
+    (a .pre .0 .room, omega (arith, ap (λ m. m / 65536) (c .before .member .ensures .0), inside a, members-within (a .pre .0 .behind .laid) (a .pre .0 .behind .noted) (e .before .find .result - 1) (omega (arith, i .some, i .within))))
 
 same-length-5 : tie.Need-same-length-5
 same-length-5 c = search needs
@@ -184,7 +184,7 @@ returns-2 c =
     let a = start-of g in
     let i = found-there e in (
       (λ o from before done after laid noted two front x back h _.
-          judged-opposite (a .pre .4) (g .before .before .before .argument-at .ensures .0) laid noted h o (omega (arith, i .some, i .within)) (i .passes)
+          judged-opposite (a .pre .1) (g .before .before .before .argument-at .ensures .0) laid noted h o (omega (arith, i .some, i .within)) (i .passes)
           (λ z. c .if2 .taken (k .kind-at .ensures ∙ ap (λ p. (at-row (rows-in (a .args .s) (a .args .b .now)) (p / 65536)) .kind) (m .member .ensures .0) ∙ z))),
       (linked-none _ _ _, omega arith),
     )
@@ -193,13 +193,13 @@ set-row-requires : tie.Need-set-row-requires
 set-row-requires c κs =
     let e = c .before .before .before .before .before .before .before in
     let a = start-of (printed (e .before)) in
-    (a .pre .0, inside a, omega (arith, inside a, a .pre .1))
+    (a .pre .0 .room, inside a, omega (arith, inside a, a .pre .0 .counted))
 
 add-result-2 : tie.Need-add-result-2
 add-result-2 c =
     let e = c .before .before .before .before .before .before .before .before .before .before in
     let a = start-of (printed (e .before)) in
-    omega (arith, inside a, a .pre .2 .countable, a .pre .3 .few)
+    omega (arith, inside a, a .pre .0 .tables .countable, a .pre .0 .behind .few)
 
 same-length-9 : tie.Need-same-length-9
 same-length-9 c = search needs
@@ -226,10 +226,10 @@ returns-3 c =
     let same : n ≡ n + 1 - 1 = omega arith in
     let i = found-there e in (
       (λ o from before done after laid noted two front x back h _.
-          judged-again (a .pre .4) (g .before .before .before .argument-at .ensures .0) laid noted h o (omega (arith, i .some, i .within)) (i .passes)
+          judged-again (a .pre .1) (g .before .before .before .argument-at .ensures .0) laid noted h o (omega (arith, i .some, i .within)) (i .passes)
           (sym (k .kind-at .ensures ∙ ap (λ p. (at-row (rows-in (a .args .s) (a .args .b .now)) (p / 65536)) .kind) (m .member .ensures .0)) ∙ t .if2 .left)
           (w .set-row .ensures .0) two refl),
-      (subst (Linked _ _ _) same (a .pre .3 .linked), omega arith),
+      (subst (Linked _ _ _) same (a .pre .0 .behind .linked), omega arith),
     )
 
 pub judge-literal-spec : {M : Type 1} → statement M

@@ -26,7 +26,7 @@ abbrev undecided : tie.After-find-twin → tie.Else1
 undecided f = f .before .before .before .before .before .before .before .before .before
 
 inside : (a : tie.Start) → a .args .c .at < total (a .args .s)
-inside a = omega (arith, stands-within (a .pre .3 .standing .stands), length-rows-in (a .args .b .now) (a .pre .0))
+inside a = omega (arith, stands-within (a .pre .0 .behind .standing .stands), length-rows-in (a .args .b .now) (a .pre .0 .room))
 
 abbrev rows-of : tie.Start → List Row
 rows-of a = rows-in (a .args .s) (a .args .b .now)
@@ -35,16 +35,16 @@ abbrev member-of : tie.Start → ℕ
 member-of a = a .args .c .at * 65536 + a .args .c .known % 65536
 
 above : (a : tie.Start) {front back : List Row} (x : Block) → Stands (rows-of a) (a .args .c .at) front x back → 4 < (head x) .kind
-above a x h = omega (arith, a .pre .4, ap (λ (q : Row). q .kind) (stands-row h))
+above a x h = omega (arith, a .pre .1, ap (λ (q : Row). q .kind) (stands-row h))
 
 one : (a : tie.Start) {front back : List Row} (x : Block) → Stands (rows-of a) (a .args .c .at) front x back → One (live (x ◂ none))
 one a x h = live-one x (λ z. omega (arith, above a x h))
 
 own : (a : tie.Start) → Member (rows-of a) (member-of a)
 own a =
-    let g = a .pre .3 .standing in
+    let g = a .pre .0 .behind .standing in
     let u = one a (g .block) (g .stands) in
-    said-member (a .args .c .known) (g .block) (u .tree) (g .stands) (above a (g .block) (g .stands)) (a .pre .3 .says) (u .is)
+    said-member (a .args .c .known) (g .block) (u .tree) (g .stands) (above a (g .block) (g .stands)) (a .pre .0 .behind .says) (u .is)
 
 start-is : (f : tie.After-find-twin)
     → f .before .before .before .before .first .result ≡ last (start-of f .args .members .now) (bucket (member-of (start-of f))) (start-of f .args .c .before)
@@ -55,7 +55,7 @@ start-is f =
 decides-at-requires : tie.Need-decides-at-requires
 decides-at-requires c κs =
     let a = c .before .before .before .before .before in
-    (a .pre .0, inside a, a .pre .4)
+    (a .pre .0 .room, inside a, a .pre .1)
 
 same-length : tie.Need-same-length
 same-length c = search needs
@@ -71,12 +71,12 @@ returns c =
 mul-m : tie.Need-mul-m
 mul-m c =
     let a = c .before .before .before .before .before .before .before in
-    omega (arith, inside a, a .pre .2 .countable)
+    omega (arith, inside a, a .pre .0 .tables .countable)
 
 add-m : tie.Need-add-m
 add-m c =
     let a = c .before .before .before .before .before .before .before .before in
-    omega (arith, inside a, a .pre .2 .countable)
+    omega (arith, inside a, a .pre .0 .tables .countable)
 
 bucket-of-requires : tie.Need-bucket-of-requires
 bucket-of-requires c κs = search needs
@@ -85,26 +85,26 @@ first-requires : tie.Need-first-requires
 first-requires c κs =
     let a = c .before .before .before .before .before .before .before .before .before .before .before in
     let k = c .bucket-of in
-    (omega (arith, k .ensures .1, a .pre .2 .all-heads), omega (arith, inside a, a .pre .2 .members-fit, a .pre .3 .few), a .pre .3 .linked .heads (k .result) (k .ensures .1))
+    (omega (arith, k .ensures .1, a .pre .0 .tables .all-heads), omega (arith, inside a, a .pre .0 .tables .members-fit, a .pre .0 .behind .few), a .pre .0 .behind .linked .heads (k .result) (k .ensures .1))
 
 find-twin-requires : tie.Need-find-twin-requires
 find-twin-requires c κs =
     let f = c .before .before .before in
     let a = c .before .before .before .before .before .before .before .before .before .before .before .before .before .before .before in (
-      a .pre .0,
+      a .pre .0 .room,
       record {
         chain =
             record {
               heads = _;
               count = a .args .c .before;
               bucket-of = f .before .bucket-of .result;
-              linked = a .pre .3 .linked;
+              linked = a .pre .0 .behind .linked;
               starts = f .first .ensures;
-              links-fit = omega (arith, inside a, a .pre .2 .links-fit, a .pre .3 .few);
-              members-fit = omega (arith, inside a, a .pre .2 .members-fit, a .pre .3 .few);
-              places = λ j l. omega (arith, members-within (a .pre .3 .laid) (a .pre .3 .noted) j l, inside a);
+              links-fit = omega (arith, inside a, a .pre .0 .tables .links-fit, a .pre .0 .behind .few);
+              members-fit = omega (arith, inside a, a .pre .0 .tables .members-fit, a .pre .0 .behind .few);
+              places = λ j l. omega (arith, members-within (a .pre .0 .behind .laid) (a .pre .0 .behind .noted) j l, inside a);
             };
-        lives = λ j l. member-at (a .pre .3 .laid) (a .pre .3 .noted) j l;
+        lives = λ j l. member-at (a .pre .0 .behind .laid) (a .pre .0 .behind .noted) j l;
       },
       own a,
     )
@@ -112,8 +112,8 @@ find-twin-requires c κs =
 add-requires : tie.Need-add-requires
 add-requires c κs =
     let a = start-of (c .before .before .before .before) in
-    let t = a .pre .2 in
-    let few = a .pre .3 .few in (
+    let t = a .pre .0 .tables in
+    let few = a .pre .0 .behind .few in (
       record {
         all-heads = t .all-heads;
         links-fit = omega (arith, inside a, t .links-fit, few);
@@ -121,13 +121,13 @@ add-requires c κs =
         countable = omega (arith, inside a, t .countable, few);
       },
       omega (arith, inside a, t .countable),
-      a .pre .3 .linked,
+      a .pre .0 .behind .linked,
     )
 
 add-result : tie.Need-add-result
 add-result c =
     let a = start-of (c .before .before .before .before .before .before .before .before .before .before .before) in
-    omega (arith, inside a, a .pre .2 .countable, a .pre .3 .few)
+    omega (arith, inside a, a .pre .0 .tables .countable, a .pre .0 .behind .few)
 
 same-length-2 : tie.Need-same-length-2
 same-length-2 c = search needs
@@ -154,29 +154,29 @@ returns-2 c =
           let l = above a x h in
           operator-new laid noted h (u .is) o (sym (t .before .decides-at .ensures (live done) front x back h w o e) ∙ t .if1 .left)
           (ap (λ p. a .args .c .at * 65536 + p) (said-print (a .args .c .known) x l w (u .is)))
-          (unfound (bucket (member-of a)) (f .find-twin .ensures (said-member (a .args .c .known) x (u .tree) h l w (u .is))) (a .pre .3 .linked) (start-is f)
+          (unfound (bucket (member-of a)) (f .find-twin .ensures (said-member (a .args .c .known) x (u .tree) h l w (u .is))) (a .pre .0 .behind .linked) (start-is f)
           (d .before .before .before .before .if2 .taken))
-          (d .add .ensures .0) (omega (arith, inside a, a .pre .2 .members-fit, a .pre .3 .few)) refl),
+          (d .add .ensures .0) (omega (arith, inside a, a .pre .0 .tables .members-fit, a .pre .0 .behind .few)) refl),
       (subst (Linked _ _ _) same (d .add .ensures .1), omega arith),
     )
 
 argument-at-requires : tie.Need-argument-at-requires
 argument-at-requires c κs =
     let a = start-of (c .before .before) in
-    (a .pre .0, inside a)
+    (a .pre .0 .room, inside a)
 
 set-row-requires : tie.Need-set-row-requires
 set-row-requires c κs =
     let v = c .before in
     let a = start-of (v .before .before .before) in
-    let g = a .pre .3 .standing in
+    let g = a .pre .0 .behind .standing in
     let r = stands-row (g .stands) in
-    (a .pre .0, inside a, omega (arith, v .argument-at .ensures .0, ap (λ (q : Row). q .argument) r, operator-size (g .block) (above a (g .block) (g .stands)), stands-within (g .stands), length-rows-in (a .args .b .now) (a .pre .0), a .pre .1))
+    (a .pre .0 .room, inside a, omega (arith, v .argument-at .ensures .0, ap (λ (q : Row). q .argument) r, operator-size (g .block) (above a (g .block) (g .stands)), stands-within (g .stands), length-rows-in (a .args .b .now) (a .pre .0 .room), a .pre .0 .counted))
 
 add-result-2 : tie.Need-add-result-2
 add-result-2 c =
     let a = start-of (c .before .before .before .before .before .before .before) in
-    omega (arith, inside a, a .pre .2 .countable, a .pre .3 .few)
+    omega (arith, inside a, a .pre .0 .tables .countable, a .pre .0 .behind .few)
 
 same-length-6 : tie.Need-same-length-6
 same-length-6 c = search needs
@@ -203,13 +203,13 @@ returns-3 c =
       (λ o k from before done after laid noted two front x back h says.
           let u = one a x h in
           let l = above a x h in
-          let i = found (bucket (member-of a)) (f .find-twin .ensures (said-member (a .args .c .known) x (u .tree) h l says (u .is))) (a .pre .3 .linked) (start-is f) (e .if2 .left) in
+          let i = found (bucket (member-of a)) (f .find-twin .ensures (said-member (a .args .c .known) x (u .tree) h l says (u .is))) (a .pre .0 .behind .linked) (start-is f) (e .if2 .left) in
           operator-again laid noted h (u .is) o (sym (t .before .decides-at .ensures (live done) front x back h says o k) ∙ t .if1 .left)
           (omega (arith, i .some, i .within)) (place-said (a .args .c .at) (a .args .c .known)) (i .passes)
           (w .set-row .ensures .0 ∙
           ap (λ m. set (rows-of a) (a .args .c .at) (row 0 m))
           (v .argument-at .ensures .0 ∙ ap (λ (q : Row). q .argument) (stands-row h) ∙ operator-size x l)) refl),
-      (subst (Linked _ _ _) same (a .pre .3 .linked), omega arith),
+      (subst (Linked _ _ _) same (a .pre .0 .behind .linked), omega arith),
     )
 
 pub judge-operator-spec : {M : Type 1} → statement M

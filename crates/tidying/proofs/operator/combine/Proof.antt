@@ -43,13 +43,14 @@ gather-requires : tie.Need-gather-requires
 gather-requires c κs =
     let argued = c .before .before .before .before .before in
     let test = test-of argued in
-    let a = start-of test in (
-      a .pre .0 .room,
-      a .pre .0 .counted,
-      a .pre .1,
-      a .pre .0 .known-fit,
-      ready-children (test .before .kind-at .ensures) (argued .argument-at .ensures .0) (test .if1 .left) (a .pre .2 .ready),
-    )
+    let a = start-of test in
+    record {
+      room = a .pre .0 .room;
+      counted = a .pre .0 .counted;
+      tables = a .pre .1;
+      known-fit = a .pre .0 .known-fit;
+      there = ready-children (test .before .kind-at .ensures) (argued .argument-at .ensures .0) (test .if1 .left) (a .pre .2 .ready);
+    }
 
 add-hollow : tie.Need-add-hollow
 add-hollow c = search needs
@@ -114,13 +115,17 @@ conclude-requires c κs =
     let a = start-of test in
     let r = a .pre .2 .ready in
     let f = g .gather .ensures in
-    let t = a .pre .1 in (
-      in-place-as (g .gather .kept .0) refl (a .pre .0),
-      ready-within k n (test .if1 .left) r (f .0) .1,
-      ready-left k n (test .if1 .left) r (f .0) (decision .if2 .left)
-          (omega (arith, f .1, t .members-fit, g .gather .kept .1 .1 .1 .1 .0))
-          (omega (arith, f .1, t .countable)),
-    )
+    let t = a .pre .1 in
+    record {
+      in-place = in-place-as (g .gather .kept .0) refl (a .pre .0);
+      within = ready-within k n (test .if1 .left) r (f .0) .1;
+      there =
+          ready-left k n (test .if1 .left) r (f .0) (decision .if2 .left)
+          (omega (arith, f .1 .0, t .members-fit, g .gather .kept .1 .1 .1 .1 .0))
+          (omega (arith, f .1 .0, t .countable));
+      printed = f .1 .1 .0 (decision .if2 .left);
+      print-few = f .1 .1 .1;
+    }
 
 same-length-7 : tie.Need-same-length-7
 same-length-7 c = search needs
