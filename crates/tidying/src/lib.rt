@@ -1,11 +1,5 @@
 // Tidy. The rows of a raw sheet are worked on in place, from the last to the first, packed, and made a sheet again.
-use crate::tables::FEW;
-use crate::tables::MANY;
-use crate::tables::SOME;
-use crate::tables::tidy_few;
-use crate::tables::tidy_many;
-use crate::tables::tidy_most;
-use crate::tables::tidy_some;
+use crate::tables::tidy_rows;
 use checking::Checked;
 use checking::Written;
 use rows::Format;
@@ -34,17 +28,7 @@ pub fn tidy_in_place(b: &mut [u8], f: Format, s: Layout) -> usize
     ensures { λ _. ⌜ now (b .exit) ≡ padded (length (now (b .entry))) (sheet (format-of f) (tidied (formula-in s (now (b .entry))))) ⌝ }
     ensures { λ r. ⌜ r ≡ length (sheet (format-of f) (tidied (formula-in s (now (b .entry))))) ⌝ }
 {
-    let rows = s.variables + s.nodes;
-    if rows <= FEW {
-        return tidy_few(b, s);
-    }
-    if rows <= SOME {
-        return tidy_some(b, s);
-    }
-    if rows <= MANY {
-        return tidy_many(b, s);
-    }
-    tidy_most(b, s)
+    tidy_rows(b, s)
 }
 
 // Copies a sheet to the front of an output.

@@ -1,35 +1,26 @@
 // Rows tidied in place, with tables on the stack that are as long as there are rows, and not much longer: clearing them is what a small
-// sheet would pay for.
+// sheet pays for. The tables have one of eight lengths; the last two are the rows of the largest narrow sheet and of the largest wide one.
 use crate::operator::tidy_each;
 use crate::pack::pack;
 use buckets::HEADS;
 use rows::Layout;
 use rows::write::seal;
-ghost use Prim.Native.Nat.{_≤_};
+ghost use Prim.Native.Nat.{_≤_, _<_};
 ghost use lib.ListN.{length};
 ghost use Rattle.rows.specs.Layouts.{total};
-ghost use Rattle.blocks.specs.Rules.{Tables};
 ghost use Rattle.tidying.specs.Inner.Tables.{RawRows, Leaves};
-
-// Rows at most: two sizes for small sheets, and as many as the largest narrow sheet and the largest wide one have.
-pub const FEW: usize = 256;
-
-pub const SOME: usize = 1024;
-
-pub const MANY: usize = 4352;
-
-pub const MOST: usize = 9216;
 
 // Tidies the formula whose rows stand in `b`, and returns the tidied sheet's length. The tables may hold anything.
 pub fn tidy_by(
     b: &mut [u8],
     s: Layout,
-    heads: &mut [u16],
+    heads: &mut [u16; HEADS],
     links: &mut [u16],
     members: &mut [u32],
     known: &mut [u32],
 ) -> usize
-    requires { ⌜ RawRows s (now b) × Tables s (now heads) (now links) (now members) × (total s ≤ length (now known)) ⌝ }
+    requires { ⌜ RawRows s (now b) × (total s < 65536) ⌝ }
+    requires { ⌜ (total s ≤ length (now links)) × (total s ≤ length (now members)) × (total s ≤ length (now known)) ⌝ }
     ensures { λ end. ⌜ Leaves s (now (b .entry)) (now (b .exit)) end ⌝ }
 {
     tidy_each(b, s, heads, links, members, known);
@@ -37,50 +28,128 @@ pub fn tidy_by(
     seal(b, s, rows)
 }
 
-// The same of few rows, with tables of zeros.
-pub fn tidy_few(b: &mut [u8], s: Layout) -> usize
+// The same of 256 rows at most, with tables of zeros.
+fn tidy_256(b: &mut [u8], s: Layout) -> usize
     requires { ⌜ RawRows s (now b) × (total s ≤ 256) ⌝ }
     ensures { λ end. ⌜ Leaves s (now (b .entry)) (now (b .exit)) end ⌝ }
 {
     let mut heads = [0u16; HEADS];
-    let mut links = [0u16; FEW];
-    let mut members = [0u32; FEW];
-    let mut known = [0u32; FEW];
+    let mut links = [0u16; 256];
+    let mut members = [0u32; 256];
+    let mut known = [0u32; 256];
     tidy_by(b, s, &mut heads, &mut links, &mut members, &mut known)
 }
 
-// The same of more rows.
-pub fn tidy_some(b: &mut [u8], s: Layout) -> usize
+// The same of 512 rows at most.
+fn tidy_512(b: &mut [u8], s: Layout) -> usize
+    requires { ⌜ RawRows s (now b) × (total s ≤ 512) ⌝ }
+    ensures { λ end. ⌜ Leaves s (now (b .entry)) (now (b .exit)) end ⌝ }
+{
+    let mut heads = [0u16; HEADS];
+    let mut links = [0u16; 512];
+    let mut members = [0u32; 512];
+    let mut known = [0u32; 512];
+    tidy_by(b, s, &mut heads, &mut links, &mut members, &mut known)
+}
+
+// The same of 1,024 rows at most.
+fn tidy_1024(b: &mut [u8], s: Layout) -> usize
     requires { ⌜ RawRows s (now b) × (total s ≤ 1024) ⌝ }
     ensures { λ end. ⌜ Leaves s (now (b .entry)) (now (b .exit)) end ⌝ }
 {
     let mut heads = [0u16; HEADS];
-    let mut links = [0u16; SOME];
-    let mut members = [0u32; SOME];
-    let mut known = [0u32; SOME];
+    let mut links = [0u16; 1024];
+    let mut members = [0u32; 1024];
+    let mut known = [0u32; 1024];
     tidy_by(b, s, &mut heads, &mut links, &mut members, &mut known)
 }
 
-// The same of as many rows as a narrow sheet has at most.
-pub fn tidy_many(b: &mut [u8], s: Layout) -> usize
+// The same of 1,536 rows at most.
+fn tidy_1536(b: &mut [u8], s: Layout) -> usize
+    requires { ⌜ RawRows s (now b) × (total s ≤ 1536) ⌝ }
+    ensures { λ end. ⌜ Leaves s (now (b .entry)) (now (b .exit)) end ⌝ }
+{
+    let mut heads = [0u16; HEADS];
+    let mut links = [0u16; 1536];
+    let mut members = [0u32; 1536];
+    let mut known = [0u32; 1536];
+    tidy_by(b, s, &mut heads, &mut links, &mut members, &mut known)
+}
+
+// The same of 2,048 rows at most.
+fn tidy_2048(b: &mut [u8], s: Layout) -> usize
+    requires { ⌜ RawRows s (now b) × (total s ≤ 2048) ⌝ }
+    ensures { λ end. ⌜ Leaves s (now (b .entry)) (now (b .exit)) end ⌝ }
+{
+    let mut heads = [0u16; HEADS];
+    let mut links = [0u16; 2048];
+    let mut members = [0u32; 2048];
+    let mut known = [0u32; 2048];
+    tidy_by(b, s, &mut heads, &mut links, &mut members, &mut known)
+}
+
+// The same of 3,072 rows at most.
+fn tidy_3072(b: &mut [u8], s: Layout) -> usize
+    requires { ⌜ RawRows s (now b) × (total s ≤ 3072) ⌝ }
+    ensures { λ end. ⌜ Leaves s (now (b .entry)) (now (b .exit)) end ⌝ }
+{
+    let mut heads = [0u16; HEADS];
+    let mut links = [0u16; 3072];
+    let mut members = [0u32; 3072];
+    let mut known = [0u32; 3072];
+    tidy_by(b, s, &mut heads, &mut links, &mut members, &mut known)
+}
+
+// The same of 4,352 rows at most.
+fn tidy_4352(b: &mut [u8], s: Layout) -> usize
     requires { ⌜ RawRows s (now b) × (total s ≤ 4352) ⌝ }
     ensures { λ end. ⌜ Leaves s (now (b .entry)) (now (b .exit)) end ⌝ }
 {
     let mut heads = [0u16; HEADS];
-    let mut links = [0u16; MANY];
-    let mut members = [0u32; MANY];
-    let mut known = [0u32; MANY];
+    let mut links = [0u16; 4352];
+    let mut members = [0u32; 4352];
+    let mut known = [0u32; 4352];
     tidy_by(b, s, &mut heads, &mut links, &mut members, &mut known)
 }
 
-// The same of as many rows as a wide sheet has at most.
-pub fn tidy_most(b: &mut [u8], s: Layout) -> usize
+// The same of 9,216 rows at most.
+fn tidy_9216(b: &mut [u8], s: Layout) -> usize
     requires { ⌜ RawRows s (now b) × (total s ≤ 9216) ⌝ }
     ensures { λ end. ⌜ Leaves s (now (b .entry)) (now (b .exit)) end ⌝ }
 {
     let mut heads = [0u16; HEADS];
-    let mut links = [0u16; MOST];
-    let mut members = [0u32; MOST];
-    let mut known = [0u32; MOST];
+    let mut links = [0u16; 9216];
+    let mut members = [0u32; 9216];
+    let mut known = [0u32; 9216];
     tidy_by(b, s, &mut heads, &mut links, &mut members, &mut known)
+}
+
+// The same, with the shortest tables that have an entry for each row.
+pub fn tidy_rows(b: &mut [u8], s: Layout) -> usize
+    requires { ⌜ RawRows s (now b) × (total s ≤ 9216) ⌝ }
+    ensures { λ end. ⌜ Leaves s (now (b .entry)) (now (b .exit)) end ⌝ }
+{
+    let rows = s.variables + s.nodes;
+    if rows <= 256 {
+        return tidy_256(b, s);
+    }
+    if rows <= 512 {
+        return tidy_512(b, s);
+    }
+    if rows <= 1024 {
+        return tidy_1024(b, s);
+    }
+    if rows <= 1536 {
+        return tidy_1536(b, s);
+    }
+    if rows <= 2048 {
+        return tidy_2048(b, s);
+    }
+    if rows <= 3072 {
+        return tidy_3072(b, s);
+    }
+    if rows <= 4352 {
+        return tidy_4352(b, s);
+    }
+    tidy_9216(b, s)
 }

@@ -9,29 +9,29 @@ use Rattle.tidying.proofs.tables.tidy_by.Tie as tie
 
 -- the rows tidied, and the arguments
 abbrev tidied-of : tie.After-pack → tie.After-tidy-each
-tidied-of c = c .before .before .before .before .before .before .before .before .before .before .before .before .before
+tidied-of c = c .before .before .before .before .before .before .before .before .before .before .before
 
 abbrev start-of : tie.After-tidy-each → tie.Start
-start-of c = c .before .before .before .before .before .before .before .before .before .before .before
+start-of c = c .before .before .before .before .before .before .before .before .before .before
 
 tidy-each-requires : tie.Need-tidy-each-requires
 tidy-each-requires c κs =
-    let a = c .before .before .before .before .before .before .before .before .before .before in (
-      record { room = a .pre .0 .room; counted = a .pre .0 .counted; known-fit = a .pre .2 },
-      a .pre .1,
-      raw-preorder (a .args .b .now) (a .pre .0),
+    let a = c .before .before .before .before .before .before .before .before .before in (
+      record { room = a .pre .0 .0 .room; counted = a .pre .0 .0 .counted; known-fit = a .pre .1 .2 },
+      record { all-heads = search needs; links-fit = a .pre .1 .0; members-fit = a .pre .1 .1; countable = a .pre .0 .1 },
+      raw-preorder (a .args .b .now) (a .pre .0 .0),
     )
 
 pack-requires : tie.Need-pack-requires
 pack-requires c κs =
-    let tidied = c .before .before .before .before .before .before .before .before .before .before .before .before in
+    let tidied = c .before .before .before .before .before .before .before .before .before .before in
     let a = start-of tidied in
     let k = tidied .tidy-each .kept in
     let t = tidied .tidy-each .ensures in (
       record {
-        room = room-as (k .0) (a .pre .0 .room);
-        counted = a .pre .0 .counted;
-        known-fit = omega (arith, k .1 .1 .1 .1 .1 .0, a .pre .2);
+        room = room-as (k .0) (a .pre .0 .0 .room);
+        counted = a .pre .0 .0 .counted;
+        known-fit = omega (arith, k .1 .1 .1 .1 .1 .0, a .pre .1 .2);
       },
       record { before = _; blocks = t .blocks; after = _; laid = t .laid; told = t .told },
     )
@@ -43,9 +43,9 @@ seal-requires c κs =
     let a = start-of tidied in
     let same = packed .pack .kept .0 ∙ tidied .tidy-each .kept .0 in
     let p = packed .pack .ensures in (
-      room-as same (a .pre .0 .room),
+      room-as same (a .pre .0 .0 .room),
       p .0,
-      prefix-left (a .args .b .now) (a .pre .0) (packed .pack .last .0) (tidied .tidy-each .ensures) (p .1) (p .0) same,
+      prefix-left (a .args .b .now) (a .pre .0 .0) (packed .pack .last .0) (tidied .tidy-each .ensures) (p .1) (p .0) same,
     )
 
 same-length : tie.Need-same-length
@@ -60,9 +60,6 @@ same-length-3 c = search needs
 same-length-4 : tie.Need-same-length-4
 same-length-4 c = search needs
 
-same-length-5 : tie.Need-same-length-5
-same-length-5 c = search needs
-
 returns : tie.Need-returns
 returns c =
     let sealed = c .before .before in
@@ -71,7 +68,7 @@ returns c =
     let a = start-of tidied in
     let same = packed .pack .kept .0 ∙ tidied .tidy-each .kept .0 in
     let p = packed .pack .ensures in
-    leaves (a .args .b .now) (a .pre .0) (packed .pack .last .0) (tidied .tidy-each .ensures) (p .1) (p .0) same (sealed .seal .ensures .0) (sealed .seal .ensures .1)
+    leaves (a .args .b .now) (a .pre .0 .0) (packed .pack .last .0) (tidied .tidy-each .ensures) (p .1) (p .0) same (sealed .seal .ensures .0) (sealed .seal .ensures .1)
 
 pub tidy-by-spec : {M : Type 1} → statement M
 tidy-by-spec =
@@ -84,5 +81,4 @@ tidy-by-spec =
     same-length-2
     same-length-3
     same-length-4
-    same-length-5
     returns)
