@@ -5,7 +5,7 @@ use crate::pack::pack;
 use buckets::HEADS;
 use rows::Layout;
 use rows::write::seal;
-ghost use Prim.Native.Nat.{_≤_, _<_};
+ghost use Prim.Native.Nat.{_≤_};
 ghost use lib.ListN.{length};
 ghost use Rattle.rows.specs.Layouts.{total};
 ghost use Rattle.tidying.specs.Inner.Tables.{RawRows, Leaves};
@@ -19,8 +19,7 @@ pub fn tidy_by(
     members: &mut [u32],
     known: &mut [u32],
 ) -> usize
-    requires { ⌜ RawRows s (now b) × (total s < 65536) ⌝ }
-    requires { ⌜ (total s ≤ length (now links)) × (total s ≤ length (now members)) × (total s ≤ length (now known)) ⌝ }
+    requires { ⌜ RawRows s (now b) × (total s ≤ length (now links)) × (total s ≤ length (now members)) × (total s ≤ length (now known)) ⌝ }
     ensures { λ end. ⌜ Leaves s (now (b .entry)) (now (b .exit)) end ⌝ }
 {
     tidy_each(b, s, heads, links, members, known);

@@ -18,10 +18,11 @@ pub record InPlace (s : Layout) (b : Bytes) (K : List ℕ) : Type 0 where
   pub counted : total s < 256 ^ s .width
   pub known-fit : total s ≤ length K
 
--- the rows of a formula, which can be counted in a number
+-- the rows of a formula, which can be counted in a number of the sheet and in 16 bits
 pub record RawRows (s : Layout) (b : Bytes) : Type 0 where
   pub room : Room s (length b)
   pub counted : total s < 256 ^ s .width
+  pub few : total s < 65536
   pub is-formula : formula-rows (formula-in s b) ≡ rows-in s b
 
 -- the sheet of the formula tidied, in a format with numbers as wide

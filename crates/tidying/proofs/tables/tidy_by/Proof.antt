@@ -17,9 +17,9 @@ start-of c = c .before .before .before .before .before .before .before .before .
 tidy-each-requires : tie.Need-tidy-each-requires
 tidy-each-requires c κs =
     let a = c .before .before .before .before .before .before .before .before .before in (
-      record { room = a .pre .0 .0 .room; counted = a .pre .0 .0 .counted; known-fit = a .pre .1 .2 },
-      record { all-heads = search needs; links-fit = a .pre .1 .0; members-fit = a .pre .1 .1; countable = a .pre .0 .1 },
-      raw-preorder (a .args .b .now) (a .pre .0 .0),
+      record { room = a .pre .0 .room; counted = a .pre .0 .counted; known-fit = a .pre .3 },
+      record { all-heads = search needs; links-fit = a .pre .1; members-fit = a .pre .2; countable = a .pre .0 .few },
+      raw-preorder (a .args .b .now) (a .pre .0),
     )
 
 pack-requires : tie.Need-pack-requires
@@ -29,9 +29,9 @@ pack-requires c κs =
     let k = tidied .tidy-each .kept in
     let t = tidied .tidy-each .ensures in (
       record {
-        room = room-as (k .0) (a .pre .0 .0 .room);
-        counted = a .pre .0 .0 .counted;
-        known-fit = omega (arith, k .1 .1 .1 .1 .1 .0, a .pre .1 .2);
+        room = room-as (k .0) (a .pre .0 .room);
+        counted = a .pre .0 .counted;
+        known-fit = omega (arith, k .1 .1 .1 .1 .1 .0, a .pre .3);
       },
       record { before = _; blocks = t .blocks; after = _; laid = t .laid; told = t .told },
     )
@@ -43,9 +43,9 @@ seal-requires c κs =
     let a = start-of tidied in
     let same = packed .pack .kept .0 ∙ tidied .tidy-each .kept .0 in
     let p = packed .pack .ensures in (
-      room-as same (a .pre .0 .0 .room),
+      room-as same (a .pre .0 .room),
       p .0,
-      prefix-left (a .args .b .now) (a .pre .0 .0) (packed .pack .last .0) (tidied .tidy-each .ensures) (p .1) (p .0) same,
+      prefix-left (a .args .b .now) (a .pre .0) (packed .pack .last .0) (tidied .tidy-each .ensures) (p .1) (p .0) same,
     )
 
 same-length : tie.Need-same-length
@@ -68,7 +68,7 @@ returns c =
     let a = start-of tidied in
     let same = packed .pack .kept .0 ∙ tidied .tidy-each .kept .0 in
     let p = packed .pack .ensures in
-    leaves (a .args .b .now) (a .pre .0 .0) (packed .pack .last .0) (tidied .tidy-each .ensures) (p .1) (p .0) same (sealed .seal .ensures .0) (sealed .seal .ensures .1)
+    leaves (a .args .b .now) (a .pre .0) (packed .pack .last .0) (tidied .tidy-each .ensures) (p .1) (p .0) same (sealed .seal .ensures .0) (sealed .seal .ensures .1)
 
 pub tidy-by-spec : {M : Type 1} → statement M
 tidy-by-spec =
