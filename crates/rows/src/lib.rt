@@ -1,4 +1,4 @@
-// Rows of a sheet by their number, at any width: what all code above reads sheets through.
+// Rows of a sheet by their number, at either width: what all code above reads sheets through.
 ghost use mathlib.Core.Path.{_≡_};
 ghost use Prim.Native.Nat.{_+_, _^_, _≤_, _<_};
 ghost use lib.ListN.{length, take, drop};
