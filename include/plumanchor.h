@@ -21,6 +21,33 @@
 #define PLUMANCHOR_LOW(answer) ((unsigned)((answer) >> 16 & 0xffff))
 #define PLUMANCHOR_HIGH(answer) ((uint32_t)((answer) >> 32))
 
+/* Refusal numbers of documents 01 and 02. */
+#define PLUMANCHOR_TOO_SHORT 1        /* shorter than the two sizes */
+#define PLUMANCHOR_SIZE_OUTSIDE 2     /* a size outside its limits */
+#define PLUMANCHOR_WRONG_LENGTH 3     /* wrong length */
+#define PLUMANCHOR_BAD_KIND 4         /* a row's kind */
+#define PLUMANCHOR_BAD_NUMBER 5       /* a quantifier's number */
+#define PLUMANCHOR_BOUND_TWICE 6      /* a number bound twice */
+#define PLUMANCHOR_UNBOUND 7          /* a literal unbound */
+#define PLUMANCHOR_NOT_ONE_TREE 8     /* the rows are not one tree */
+#define PLUMANCHOR_NOT_TIDY 9         /* not tidy */
+#define PLUMANCHOR_NOT_IN_PREFIX 10   /* the variable is not in the prefix */
+#define PLUMANCHOR_WRONG_BLOCK 11     /* the variable is not in the innermost block, or not one block out */
+#define PLUMANCHOR_NOT_SETTLED 12     /* the variable may not be settled */
+#define PLUMANCHOR_NO_ROOM 13         /* no room for the sheet */
+#define PLUMANCHOR_TOO_MANY_TO_TRY 14 /* too many variables to try */
+#define PLUMANCHOR_BAD_HEADER 15      /* a text's header */
+#define PLUMANCHOR_BAD_LISTS 16       /* a text that is not lists of numbers ended by 0 */
+#define PLUMANCHOR_BEYOND_HEADER 17   /* a variable or a number of clauses that a text's header doesn't allow */
+#define PLUMANCHOR_NO_NUMBERS_LEFT 18 /* fewer unused numbers than variables to copy */
+#define PLUMANCHOR_ABOVE_CEILING 19   /* more raw rows than the ceiling */
+#define PLUMANCHOR_NO_CLAUSES 20      /* not of the clause profile */
+#define PLUMANCHOR_BAD_VALUE 21       /* a value other than 0 and 1 */
+#define PLUMANCHOR_TOO_MANY_VALUES 22 /* as many values as variables, or more */
+#define PLUMANCHOR_ROOT_NOT_AND 23    /* the root is not AND */
+#define PLUMANCHOR_NOT_NARROW 24      /* outside the limits of a narrow sheet */
+#define PLUMANCHOR_WRONG_COUNTS 25    /* counts that don't add up */
+
 /* Check. Accepted: V in LOW, N in HIGH. */
 uint64_t plumanchor_check(const uint8_t *sheet, size_t length);
 

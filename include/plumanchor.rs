@@ -1,6 +1,85 @@
 //! The entry points, as include/plumanchor.h declares them: one set for each
 //! format.
 
+/// Refusal numbers of documents 01 and 02.
+#[allow(dead_code)] // No caller needs all of them.
+pub mod refusals {
+    /// Shorter than the two sizes.
+    pub const TOO_SHORT: u8 = 1;
+
+    /// A size outside its limits.
+    pub const SIZE_OUTSIDE: u8 = 2;
+
+    /// Wrong length.
+    pub const WRONG_LENGTH: u8 = 3;
+
+    /// A row's kind.
+    pub const BAD_KIND: u8 = 4;
+
+    /// A quantifier's number.
+    pub const BAD_NUMBER: u8 = 5;
+
+    /// A number bound twice.
+    pub const BOUND_TWICE: u8 = 6;
+
+    /// A literal unbound.
+    pub const UNBOUND: u8 = 7;
+
+    /// The rows are not one tree.
+    pub const NOT_ONE_TREE: u8 = 8;
+
+    /// Not tidy.
+    pub const NOT_TIDY: u8 = 9;
+
+    /// The variable is not in the prefix.
+    pub const NOT_IN_PREFIX: u8 = 10;
+
+    /// The variable is not in the innermost block, or not one block out.
+    pub const WRONG_BLOCK: u8 = 11;
+
+    /// The variable may not be settled.
+    pub const NOT_SETTLED: u8 = 12;
+
+    /// No room for the sheet.
+    pub const NO_ROOM: u8 = 13;
+
+    /// Too many variables to try.
+    pub const TOO_MANY_TO_TRY: u8 = 14;
+
+    /// A text's header.
+    pub const BAD_HEADER: u8 = 15;
+
+    /// A text that is not lists of numbers ended by 0.
+    pub const BAD_LISTS: u8 = 16;
+
+    /// A variable or a number of clauses that a text's header doesn't allow.
+    pub const BEYOND_HEADER: u8 = 17;
+
+    /// Fewer unused numbers than variables to copy.
+    pub const NO_NUMBERS_LEFT: u8 = 18;
+
+    /// More raw rows than the ceiling.
+    pub const ABOVE_CEILING: u8 = 19;
+
+    /// Not of the clause profile.
+    pub const NO_CLAUSES: u8 = 20;
+
+    /// A value other than 0 and 1.
+    pub const BAD_VALUE: u8 = 21;
+
+    /// As many values as variables, or more.
+    pub const TOO_MANY_VALUES: u8 = 22;
+
+    /// The root is not AND.
+    pub const ROOT_NOT_AND: u8 = 23;
+
+    /// Outside the limits of a narrow sheet.
+    pub const NOT_NARROW: u8 = 24;
+
+    /// Counts that don't add up.
+    pub const WRONG_COUNTS: u8 = 25;
+}
+
 type Bytes = *const u8;
 type Output = *mut u8;
 type Reads = unsafe extern "C" fn(Bytes, usize) -> u64;

@@ -200,7 +200,7 @@ impl Sheet {
         let outer = self.format.entries.outer;
         let answer = unsafe { outer(bytes, length, x, output.as_mut_ptr(), room) };
         let Accepted { low, high, .. } = self.accepted(answer).map_err(|refusal| {
-            if refusal.number == 11 {
+            if refusal.number == foreign::refusals::WRONG_BLOCK {
                 refusal.with_evidence(self.behind(x))
             } else {
                 refusal

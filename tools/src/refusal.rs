@@ -1,6 +1,7 @@
 //! Refusals in words.
 
 use crate::formula::row_at;
+use crate::library::foreign::refusals;
 use crate::library::Sheet;
 use std::fmt::{self, Display, Formatter};
 
@@ -16,12 +17,12 @@ pub struct Refusal {
 impl Refusal {
     pub fn new(number: u8, place: usize, sheet: &Sheet) -> Refusal {
         let evidence = match number {
-            2 => sizes(sheet).map(|(v, n)| format!("V = {v}, N = {n}")),
-            3 => sizes(sheet).map(|(v, n)| {
+            refusals::SIZE_OUTSIDE => sizes(sheet).map(|(v, n)| format!("V = {v}, N = {n}")),
+            refusals::WRONG_LENGTH => sizes(sheet).map(|(v, n)| {
                 let (asked, length) = (sheet.format.length(v + n), sheet.bytes.len());
                 format!("V = {v} and N = {n} ask for {asked} bytes, and there are {length}")
             }),
-            4..=9 => row_at(sheet.format, &sheet.bytes, place)
+            refusals::BAD_KIND..=refusals::NOT_TIDY => row_at(sheet.format, &sheet.bytes, place)
                 .map(|row| format!("row {place}, counted from 0: {row}")),
             _ => None,
         };
@@ -36,35 +37,35 @@ impl Refusal {
     /// What the number means.
     fn meaning(&self) -> &'static str {
         match self.number {
-            1 => "the sheet is shorter than its two sizes",
-            2 if self.is_of_text => "the text has more nodes than a sheet",
-            2 => "a size is outside its limits",
-            3 => "the sheet's length is not that of its sizes",
-            4 => "the row's kind is none that may stand there",
-            5 => "the quantifier's number is outside its limits",
-            6 if self.is_of_text => "a variable is bound twice",
-            6 => "the row binds a number that is bound already",
-            7 => "the literal's variable is not bound",
-            8 if self.evidence.is_none() => "the rows end before the tree does",
-            8 => "the tree has ended before the row",
-            9 => "the operator in the row is not tidy",
-            10 => "the variable is not in the prefix",
-            11 if self.evidence.is_some() => "the variable is not universal and one block out",
-            11 => "the variable is not in the innermost block",
-            12 => "the variable may not be settled",
-            13 => "a buffer has too little room",
-            14 => "the sheet has more than 20 variables",
-            15 => "the text has no header of 'p cnf' and two numbers, the first within the sheet's limits",
-            16 => "the text is not lists of whole numbers ended by 0, quantified ones in front",
-            17 => "a variable is above the header's count, or the clauses are not as many as it says",
-            18 => "fewer unused numbers are left than variables to copy",
-            19 => "the raw rows are above the ceiling",
-            20 => "the tree is not AND of literals and of ORs of literals",
-            21 => "a value is neither 0 nor 1",
-            22 => "there are as many values as variables, or more",
-            23 => "the root is not AND",
-            24 => "a size or a variable's number is above the narrow limits",
-            25 => "settled, expanded and variables left don't add up to the starting count",
+            refusals::TOO_SHORT => "the sheet is shorter than its two sizes",
+            refusals::SIZE_OUTSIDE if self.is_of_text => "the text has more nodes than a sheet",
+            refusals::SIZE_OUTSIDE => "a size is outside its limits",
+            refusals::WRONG_LENGTH => "the sheet's length is not that of its sizes",
+            refusals::BAD_KIND => "the row's kind is none that may stand there",
+            refusals::BAD_NUMBER => "the quantifier's number is outside its limits",
+            refusals::BOUND_TWICE if self.is_of_text => "a variable is bound twice",
+            refusals::BOUND_TWICE => "the row binds a number that is bound already",
+            refusals::UNBOUND => "the literal's variable is not bound",
+            refusals::NOT_ONE_TREE if self.evidence.is_none() => "the rows end before the tree does",
+            refusals::NOT_ONE_TREE => "the tree has ended before the row",
+            refusals::NOT_TIDY => "the operator in the row is not tidy",
+            refusals::NOT_IN_PREFIX => "the variable is not in the prefix",
+            refusals::WRONG_BLOCK if self.evidence.is_some() => "the variable is not universal and one block out",
+            refusals::WRONG_BLOCK => "the variable is not in the innermost block",
+            refusals::NOT_SETTLED => "the variable may not be settled",
+            refusals::NO_ROOM => "a buffer has too little room",
+            refusals::TOO_MANY_TO_TRY => "the sheet has more than 20 variables",
+            refusals::BAD_HEADER => "the text has no header of 'p cnf' and two numbers, the first within the sheet's limits",
+            refusals::BAD_LISTS => "the text is not lists of whole numbers ended by 0, quantified ones in front",
+            refusals::BEYOND_HEADER => "a variable is above the header's count, or the clauses are not as many as it says",
+            refusals::NO_NUMBERS_LEFT => "fewer unused numbers are left than variables to copy",
+            refusals::ABOVE_CEILING => "the raw rows are above the ceiling",
+            refusals::NO_CLAUSES => "the tree is not AND of literals and of ORs of literals",
+            refusals::BAD_VALUE => "a value is neither 0 nor 1",
+            refusals::TOO_MANY_VALUES => "there are as many values as variables, or more",
+            refusals::ROOT_NOT_AND => "the root is not AND",
+            refusals::NOT_NARROW => "a size or a variable's number is above the narrow limits",
+            refusals::WRONG_COUNTS => "settled, expanded and variables left don't add up to the starting count",
             _ => "see documents 01 and 02",
         }
     }

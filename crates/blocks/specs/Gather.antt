@@ -4,14 +4,14 @@ use mathlib.Core.Path.{_≡_}
 use mathlib.Core.Bool.{true, false}
 use mathlib.Core.List.{List}
 use mathlib.Core.Logic.{_⊎_}
-use Prim.Native.Nat.{ℕ, _+_, _-_, _/_, _^_, _≤_, _<_}
+use Prim.Native.Nat.{ℕ, _+_, _-_, _/_, _≤_}
 use lib.Dec.{eqb}
 use lib.ListN.{length, set, take}
 use Rattle.formula.specs.Tree.{Op, same-op, lit, node, Forest, ∅, _▸_, some-child, count}
 use Rattle.formula.specs.Tidy.{is-op, same-tree, splice, decides, firsts}
 use Rattle.sheet.specs.Format.{Bytes, Row, row}
 use Rattle.sheet.specs.Sheet.{operator-kind, front, behind}
-use Rattle.rows.specs.Layouts.{total, rows-in, Room}
+use Rattle.rows.specs.Layouts.{Fits, total, rows-in, Room}
 use Rattle.blocks.specs.declared.rules.Children.{Children}
 use Rattle.blocks.specs.Blocks.{Blocks, _⊕_, live, Laid, Here}
 use Rattle.blocks.specs.Walks.{at-row}
@@ -48,7 +48,7 @@ pub record ChildrenAt (R : List Row) (K : List ℕ) (from to owed kind : ℕ) : 
 -- tells of each row
 pub record ToGather (w : Children) (b : Bytes) (H L M K : List ℕ) : Type 0 where
   pub room : Room (w .sheet) (length b)
-  pub counted : total (w .sheet) < 256 ^ w .sheet .width
+  pub counted : Fits (w .sheet) (total (w .sheet))
   pub tables : Tables (w .sheet) H L M
   pub known-fit : total (w .sheet) ≤ length K
   pub there : ChildrenAt (rows-in (w .sheet) b) K (w .from) (total (w .sheet)) (w .owed) (w .kind)

@@ -4,14 +4,14 @@ use mathlib.Core.Path.{_≡_}
 use mathlib.Core.Bool.{Bool, true, false, not, _&&_, _||_}
 use mathlib.Core.List.{List, [], _∷_, _++_}
 use mathlib.Core.Logic.{_⊎_}
-use Prim.Native.Nat.{ℕ, _+_, _*_, _-_, _/_, _%_, _^_, _≤_, _<_}
+use Prim.Native.Nat.{ℕ, _+_, _*_, _-_, _/_, _%_, _≤_, _<_}
 use lib.Dec.{eqb, leb}
 use lib.ListN.{length, getD, set, take}
 use Rattle.formula.specs.Tree.{Op, dual, Tree, node, Forest, some-child, some-two, keep}
 use Rattle.formula.specs.Tidy.{is-empty, opposite, same-tree}
 use Rattle.sheet.specs.Format.{Bytes, Row}
 use Rattle.sheet.specs.Sheet.{operator-kind}
-use Rattle.rows.specs.Layouts.{total, rows-in, Room}
+use Rattle.rows.specs.Layouts.{Fits, total, rows-in, Room}
 use Rattle.rows.specs.declared.Layout.{Layout}
 use Rattle.buckets.specs.Chains.{last, Linked, Passed}
 use Rattle.buckets.specs.Chains as chains
@@ -135,7 +135,7 @@ pub record Behind (R : List Row) (at known : ℕ) (H L M : List ℕ) (n : ℕ) :
 -- tables
 pub record ToJudge (s : Layout) (b : Bytes) (c : Child) (H L M : List ℕ) : Type 0 where
   pub room : Room s (length b)
-  pub counted : total s < 256 ^ s .width
+  pub counted : Fits s (total s)
   pub tables : Tables s H L M
   pub behind : Behind (rows-in s b) (c .at) (c .known) H L M (c .before)
 

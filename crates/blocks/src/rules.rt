@@ -15,14 +15,14 @@ use buckets::print::literal_print;
 use buckets::print::mixed;
 use rows::Layout;
 use rows::NEGATIVE;
+use rows::from_byte;
 use rows::read::argument_at;
 use rows::read::kind_at;
-use rows::wide;
 use rows::write::set_row;
 ghost use mathlib.Core.Path.{_≡_};
 ghost use Prim.Native.Nat.{_-_, _+_, _^_, _≤_, _<_};
 ghost use lib.ListN.{length, take, drop};
-ghost use Rattle.rows.specs.Layouts.{total, rows-in, Room};
+ghost use Rattle.rows.specs.Layouts.{Fits, total, rows-in, Room};
 ghost use Rattle.buckets.specs.Chains.{Linked};
 ghost use Rattle.blocks.specs.Walks.{at-row};
 ghost use Rattle.blocks.specs.Entered.{LiveAt};
@@ -57,7 +57,7 @@ pub struct Gathered {
 // Rule 1 at the child, the first of `owed` trees: of the parent's own kind, it leaves its children in its place. How many trees are owed
 // behind it then; a dead block is none of them.
 pub fn splice_at(b: &mut [u8], s: Layout, c: Child, owed: usize) -> usize
-    requires { ⌜ Room s (length (now b)) × (total s < 256 ^ s .width) × (c .at < total s) × (0 < owed) × (owed < 65536) × (c .known < 2 ^ 32) ⌝ }
+    requires { ⌜ Room s (length (now b)) × Fits s (total s) × (c .at < total s) × (0 < owed) × (owed < 65536) × (c .known < 2 ^ 32) ⌝ }
     ensures { λ left. ⌜ SplicesAt (rows-in s (now (b .entry))) (rows-in s (now (b .exit))) (c .at) (c .kind) (c .known) owed left ⌝ }
 {
     let k = kind_at(b, s, c.at);
@@ -115,7 +115,7 @@ pub fn judge_literal(
     let at = c.at;
     let n = c.before;
     let x = argument_at(b, s, at);
-    let p = literal_print(wide(NEGATIVE - c.kind), x);
+    let p = literal_print(from_byte(NEGATIVE - c.kind), x);
     let start = first(heads, members, n, bucket_of(p));
     let i = find(b, s, links, members, start, x);
     if i == 0 {
@@ -266,7 +266,7 @@ pub fn gather(
     let mut at = w.from;
     let mut run = w.from;
     let mut n: usize = 0;
-    let mut print = wide(w.kind);
+    let mut print = from_byte(w.kind);
     let mut left = w.owed;
     while 0 < left {
         let c = Child {

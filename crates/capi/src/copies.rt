@@ -1,25 +1,29 @@
-// The step one block out (N6), for callers in C and Rust.
+// The step one block out (N6): refusal number and place; or the new sheet's length, how many variables are copied and the lowest of their
+// old numbers.
 use packing::copies::pack_copied;
+use rows::Format;
 ghost use mathlib.Core.Path.{_≡_};
-ghost use lib.ListN.{length};
 ghost use Rattle.sheet.specs.Format.{narrow, wide};
-ghost use Rattle.sheet.specs.Outer.{outer-answer, outer-call};
-ghost use Rattle.packing.specs.Copies.{packed-copied};
+ghost use Rattle.rows.specs.Formats.{format-of};
+ghost use Rattle.outer.specs.Answers.{outer-written};
+ghost use Rattle.capi.specs.Returned.{output-left, packed-copying};
 
-// Outer: refusal number and place; or the new sheet's length, how many variables are copied and the lowest of their old numbers.
-#[no_mangle]
-pub extern "C" fn plumanchor_outer(sheet: &[u8], x: usize, out: &mut [u8]) -> u64
-    ensures { λ r. ⌜ r ≡ packed-copied (outer-answer narrow (now (sheet .entry)) x (length (now (out .entry)))) ⌝ }
-    ensures { λ _. ⌜ now (out .exit) ≡ (outer-call narrow (now (sheet .entry)) x (now (out .entry))) .output ⌝ }
+fn outer(sheet: &[u8], f: Format, x: usize, out: &mut [u8]) -> u64
+    ensures { λ r. ⌜ output-left r out ≡ packed-copying (outer-written (format-of f) (now (sheet .entry)) x (now (out .entry))) ⌝ }
 {
-    pack_copied(outer::outer(sheet, x, out))
+    pack_copied(outer::outer(sheet, f, x, out))
 }
 
-// The same on a wide sheet.
+#[no_mangle]
+pub extern "C" fn plumanchor_outer(sheet: &[u8], x: usize, out: &mut [u8]) -> u64
+    ensures { λ r. ⌜ output-left r out ≡ packed-copying (outer-written narrow (now (sheet .entry)) x (now (out .entry))) ⌝ }
+{
+    outer(sheet, Format::Narrow, x, out)
+}
+
 #[no_mangle]
 pub extern "C" fn plumanchor_outer_wide(sheet: &[u8], x: usize, out: &mut [u8]) -> u64
-    ensures { λ r. ⌜ r ≡ packed-copied (outer-answer wide (now (sheet .entry)) x (length (now (out .entry)))) ⌝ }
-    ensures { λ _. ⌜ now (out .exit) ≡ (outer-call wide (now (sheet .entry)) x (now (out .entry))) .output ⌝ }
+    ensures { λ r. ⌜ output-left r out ≡ packed-copying (outer-written wide (now (sheet .entry)) x (now (out .entry))) ⌝ }
 {
-    pack_copied(outer::outer_wide(sheet, x, out))
+    outer(sheet, Format::Wide, x, out)
 }

@@ -1,11 +1,19 @@
-// Force for callers in C and Rust (N9).
+// Force (N9), with a byte for each value given, in two work buffers: refusal number and place; or a word for the outcome, the turn and the
+// variable stopped at.
 use packing::panel::pack_forced;
+use rows::Format;
 ghost use mathlib.Core.Path.{_≡_};
 ghost use Rattle.sheet.specs.Format.{narrow, wide};
 ghost use Rattle.sheet.specs.Force.{force-call};
-ghost use Rattle.packing.specs.Panel.{packed-forced};
+ghost use Rattle.rows.specs.Formats.{format-of};
+ghost use Rattle.capi.specs.Returned.{buffers-left, packed-forcing};
 
-// Force on a sheet of document 01, with a byte for each value given, in two work buffers.
+fn force(sheet: &[u8], f: Format, values: &[u8], first: &mut [u8], second: &mut [u8]) -> u64
+    ensures { λ r. ⌜ buffers-left r first second ≡ packed-forcing (force-call (format-of f) (now (sheet .entry)) (now (values .entry)) (now (first .entry)) (now (second .entry))) ⌝ }
+{
+    pack_forced(force::force(sheet, f, values, first, second))
+}
+
 #[no_mangle]
 pub extern "C" fn plumanchor_force(
     sheet: &[u8],
@@ -13,14 +21,11 @@ pub extern "C" fn plumanchor_force(
     first: &mut [u8],
     second: &mut [u8],
 ) -> u64
-    ensures { λ r. ⌜ r ≡ packed-forced ((force-call narrow (now (sheet .entry)) (now (values .entry)) (now (first .entry)) (now (second .entry))) .answer) ⌝ }
-    ensures { λ _. ⌜ now (first .exit) ≡ (force-call narrow (now (sheet .entry)) (now (values .entry)) (now (first .entry)) (now (second .entry))) .first ⌝ }
-    ensures { λ _. ⌜ now (second .exit) ≡ (force-call narrow (now (sheet .entry)) (now (values .entry)) (now (first .entry)) (now (second .entry))) .second ⌝ }
+    ensures { λ r. ⌜ buffers-left r first second ≡ packed-forcing (force-call narrow (now (sheet .entry)) (now (values .entry)) (now (first .entry)) (now (second .entry))) ⌝ }
 {
-    pack_forced(force::force(sheet, values, first, second))
+    force(sheet, Format::Narrow, values, first, second)
 }
 
-// The same on a wide sheet.
 #[no_mangle]
 pub extern "C" fn plumanchor_force_wide(
     sheet: &[u8],
@@ -28,9 +33,7 @@ pub extern "C" fn plumanchor_force_wide(
     first: &mut [u8],
     second: &mut [u8],
 ) -> u64
-    ensures { λ r. ⌜ r ≡ packed-forced ((force-call wide (now (sheet .entry)) (now (values .entry)) (now (first .entry)) (now (second .entry))) .answer) ⌝ }
-    ensures { λ _. ⌜ now (first .exit) ≡ (force-call wide (now (sheet .entry)) (now (values .entry)) (now (first .entry)) (now (second .entry))) .first ⌝ }
-    ensures { λ _. ⌜ now (second .exit) ≡ (force-call wide (now (sheet .entry)) (now (values .entry)) (now (first .entry)) (now (second .entry))) .second ⌝ }
+    ensures { λ r. ⌜ buffers-left r first second ≡ packed-forcing (force-call wide (now (sheet .entry)) (now (values .entry)) (now (first .entry)) (now (second .entry))) ⌝ }
 {
-    pack_forced(force::force_wide(sheet, values, first, second))
+    force(sheet, Format::Wide, values, first, second)
 }

@@ -1,11 +1,23 @@
 // A stopped run carried over (N13), packed as Solve's answer is.
 use packing::pack_solved;
 use resume::Counts;
+use rows::Format;
 ghost use mathlib.Core.Path.{_≡_};
 ghost use mathlib.Core.Bool.{not};
 ghost use lib.Dec.{eqb};
 ghost use Rattle.sheet.specs.Resume.{resume-call};
-ghost use Rattle.packing.specs.Packed.{packed-solved};
+ghost use Rattle.resume.specs.Calls.{is-narrow};
+ghost use Rattle.capi.specs.Returned.{buffers-left, packed-solving};
+
+// Wide if `narrow` is 0.
+fn named_format(narrow: usize) -> Format
+    ensures { λ f. ⌜ is-narrow f ≡ not (eqb narrow 0) ⌝ }
+{
+    if narrow == 0 {
+        return Format::Wide;
+    }
+    Format::Narrow
+}
 
 // Resume in two work buffers, from a wide sheet if `narrow` is 0, else from a narrow one: refusal number and place; or a word, the counts
 // and the variable stopped at. Of a count the lower 16 bits come back.
@@ -19,14 +31,12 @@ pub extern "C" fn plumanchor_resume(
     first: &mut [u8],
     second: &mut [u8],
 ) -> u64
-    ensures { λ r. ⌜ r ≡ packed-solved ((resume-call started settled expanded (now (sheet .entry)) (not (eqb narrow 0)) (now (first .entry)) (now (second .entry))) .answer) ⌝ }
-    ensures { λ _. ⌜ now (first .exit) ≡ (resume-call started settled expanded (now (sheet .entry)) (not (eqb narrow 0)) (now (first .entry)) (now (second .entry))) .first ⌝ }
-    ensures { λ _. ⌜ now (second .exit) ≡ (resume-call started settled expanded (now (sheet .entry)) (not (eqb narrow 0)) (now (first .entry)) (now (second .entry))) .second ⌝ }
+    ensures { λ r. ⌜ buffers-left r first second ≡ packed-solving (resume-call started settled expanded (now (sheet .entry)) (not (eqb narrow 0)) (now (first .entry)) (now (second .entry))) ⌝ }
 {
     let counts = Counts {
         started,
         settled,
         expanded,
     };
-    pack_solved(resume::resume(sheet, narrow != 0, counts, first, second))
+    pack_solved(resume::resume(sheet, named_format(narrow), counts, first, second))
 }

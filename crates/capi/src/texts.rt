@@ -1,24 +1,28 @@
-// QDIMACS in (N1), for callers in C and Rust.
+// QDIMACS in (N1): refusal number and place, or the length of the sheet that a text says.
 use packing::pack_written;
+use rows::Format;
 ghost use mathlib.Core.Path.{_≡_};
 ghost use Rattle.sheet.specs.Format.{narrow, wide};
 ghost use Rattle.sheet.specs.Qdimacs.{qdimacs-call};
-ghost use Rattle.packing.specs.Packed.{packed-written};
+ghost use Rattle.rows.specs.Formats.{format-of};
+ghost use Rattle.capi.specs.Returned.{output-left, packed-writing};
 
-// The sheet that a text says: refusal number and place, or the sheet's length.
-#[no_mangle]
-pub extern "C" fn plumanchor_qdimacs(text: &[u8], out: &mut [u8]) -> u64
-    ensures { λ r. ⌜ r ≡ packed-written ((qdimacs-call narrow (now (text .entry)) (now (out .entry))) .answer) ⌝ }
-    ensures { λ _. ⌜ now (out .exit) ≡ (qdimacs-call narrow (now (text .entry)) (now (out .entry))) .output ⌝ }
+fn qdimacs(text: &[u8], f: Format, out: &mut [u8]) -> u64
+    ensures { λ r. ⌜ output-left r out ≡ packed-writing (qdimacs-call (format-of f) (now (text .entry)) (now (out .entry))) ⌝ }
 {
-    pack_written(reader::qdimacs(text, out))
+    pack_written(reader::qdimacs(text, f, out))
 }
 
-// The same as a wide sheet.
+#[no_mangle]
+pub extern "C" fn plumanchor_qdimacs(text: &[u8], out: &mut [u8]) -> u64
+    ensures { λ r. ⌜ output-left r out ≡ packed-writing (qdimacs-call narrow (now (text .entry)) (now (out .entry))) ⌝ }
+{
+    qdimacs(text, Format::Narrow, out)
+}
+
 #[no_mangle]
 pub extern "C" fn plumanchor_qdimacs_wide(text: &[u8], out: &mut [u8]) -> u64
-    ensures { λ r. ⌜ r ≡ packed-written ((qdimacs-call wide (now (text .entry)) (now (out .entry))) .answer) ⌝ }
-    ensures { λ _. ⌜ now (out .exit) ≡ (qdimacs-call wide (now (text .entry)) (now (out .entry))) .output ⌝ }
+    ensures { λ r. ⌜ output-left r out ≡ packed-writing (qdimacs-call wide (now (text .entry)) (now (out .entry))) ⌝ }
 {
-    pack_written(reader::qdimacs_wide(text, out))
+    qdimacs(text, Format::Wide, out)
 }

@@ -1,6 +1,6 @@
 -- The tests behind Check's, and the calls once they are decided.
 -- Assumes nothing.
-use mathlib.Core.Path.{_≡_, refl, sym, ap, ap₂, _∙_, subst, subst₂}
+use mathlib.Core.Path.{_≡_, refl, sym, ap, ap₂, _∙_}
 use mathlib.Core.Bool.{Bool, true, false, _||_}
 use mathlib.Core.List.{List, [], _∷_, _++_}
 use Prim.Native.Nat.{ℕ, _≤_, _<_}
@@ -8,55 +8,69 @@ use native.Mathlib.Omega.{arith}
 use lib.Dec.{ltb}
 use lib.ListN.{length, take}
 use borrow.Author.Tests.{lt-ltb, le-ltb}
-use Rattle.sheet.specs.Format.{Bytes, Format, narrow, wide, sheet-length, variables, nodes, prefix-rows}
-use Rattle.sheet.specs.Sheet.{sheet}
+use Rattle.sheet.specs.Format as sheet
+use Rattle.sheet.specs.Format.{Bytes, narrow, wide, sheet-length, variables, nodes, prefix-rows}
+use Rattle.sheet.specs.Sheet.{formula, sheet}
+use Rattle.sheet.specs.Refusals.{no-room, not-narrow}
 use Rattle.sheet.specs.Check.{Answer, refused, accepted, Test, test, answer, passes, check-tests}
-use Rattle.sheet.specs.Operations.{padded, output-after, write}
+use Rattle.sheet.specs.Operations.{Written, padded, output-after, write}
 use Rattle.sheet.specs.Carrying.{carried, above, beyond, carried-room-test, widen-tests, widen-call, bring-back-tests, bring-back-call}
 use Rattle.sheet.proofs.Tests.{answer-++}
-use Rattle.sheet.proofs.Writing.{write-refused, write-accepted}
-use Rattle.sheet.proofs.Limits.{narrow-sound, wide-sound}
+use Rattle.sheet.proofs.Writing.{write-refused, write-accepted, written}
+use Rattle.sheet.proofs.RoundTrip.{length-sheet}
+use Rattle.sheet.proofs.Accepted.{accepted-variables, accepted-nodes}
 use Rattle.sheet.proofs.Carrying.{above-prefix, within-passed, widen-within, bring-back-beyond}
-use Rattle.rows.specs.Layouts.{rows-in}
+use Rattle.rows.specs.Formats.{format-of}
+use Rattle.rows.specs.Layouts.{format-in, rows-in}
 use Rattle.rows.specs.Formulas.{formula-in}
+use Rattle.rows.specs.declared.Format.{Format}
+use Rattle.rows.specs.declared.Format.the-variants.{Narrow, Wide}
 use Rattle.rows.specs.declared.Layout.{Layout}
 use Rattle.rows.proofs.Layouts.{all-rows-in}
-use Rattle.rows.proofs.Widths.{two-wide, four-wide}
-use Rattle.checking.specs.Limits.{Sheet}
-use Rattle.checking.proofs.CheckedSheets.{RightSizes, narrow-manageable, wide-manageable, sheet-right, sheet-readable, sheet-formula-in}
+use Rattle.checking.specs.Sheets.{Sheet}
+use Rattle.checking.proofs.CheckedSheets.{RightSizes, sheet-format, sheet-own, sheet-right, sheet-readable, sheet-formula-in}
 use Rattle.carrying.specs.Inner.Rows.{Carriable, Ready, room-call}
 
 -- is_beyond
 
-module _ {F : Format} (G : Format) {b : Bytes} {s : Layout} (h : Sheet F b s) where
-  pub many-variables : G .most-variables < s .variables → true ≡ beyond F G b
+module _ (G : sheet.Format) {s : Layout} {b : Bytes} (h : Sheet (s .format) b s) where
+  pub many-variables : G .most-variables < s .variables → true ≡ beyond (format-in s) G b
   unfolding beyond
   many-variables l =
-      rw (lt-ltb (G .most-variables) (variables F b) (omega (arith, sheet-right h .variables-are)))
+      rw (lt-ltb (G .most-variables) (variables (format-in s) b) (omega (arith, sheet-right h .variables-are)))
 
-  pub many-nodes : G .most-nodes < s .nodes → true ≡ beyond F G b
+  pub many-nodes : G .most-nodes < s .nodes → true ≡ beyond (format-in s) G b
   unfolding beyond
   many-nodes l =
-      rw (lt-ltb (G .most-nodes) (nodes F b) (omega (arith, sheet-right h .nodes-are))) (second (ltb (G .most-variables) (variables F b)) _)
+      rw (lt-ltb (G .most-nodes) (nodes (format-in s) b) (omega (arith, sheet-right h .nodes-are)))
+      (second (ltb (G .most-variables) (variables (format-in s) b)) _)
     where
       second : (p q : Bool) → true ≡ (p || true || q)
       second true q = refl
       second false q = refl
 
   pub by-numbers : {a : Bool} → s .variables ≤ G .most-variables → s .nodes ≤ G .most-nodes
-      → a ≡ above (G .most-variables) (take (s .variables) (rows-in s b)) → a ≡ beyond F G b
+      → a ≡ above (G .most-variables) (take (s .variables) (rows-in s b)) → a ≡ beyond (format-in s) G b
   unfolding beyond prefix-rows
   by-numbers {a} lv ln e =
+      let F = format-in s in
       rw (
         le-ltb (G .most-variables) (variables F b) (omega (arith, sheet-right h .variables-are)),
         le-ltb (G .most-nodes) (nodes F b) (omega (arith, sheet-right h .nodes-are)),
       )
       (e ∙ ap (λ (t : Layout). above (G .most-variables) (take (t .variables) (rows-in t b))) (h .layout-is) ∙
-      ap (λ rs. above (G .most-variables) (take (variables F b) rs)) (sym (all-rows-in F b)) ∙ sym (above-prefix F G b (h .tests-pass)))
+      ap (λ rs. above (G .most-variables) (take (variables F b) rs)) (sym (all-rows-in (s .format) b)) ∙
+      sym (above-prefix F G b (h .tests-pass)))
 
 -- carry_within
 
-module _ {F G : Format} {b : Bytes} {s : Layout} (r : Ready F G b s) (out : Bytes) where
+module _ {s : Layout} {b : Bytes} {g : Format} (r : Ready s b g) (out : Bytes) where
+  abbrev F : sheet.Format
+  F = format-in s
+
+  abbrev G : sheet.Format
+  G = format-of g
+
   right : RightSizes F b (s .variables) (s .nodes)
   right = sheet-right (r .accepted)
 
@@ -64,32 +78,39 @@ module _ {F G : Format} {b : Bytes} {s : Layout} (r : Ready F G b s) (out : Byte
   same-length = ap₂ (sheet-length G) (right .variables-are) (right .nodes-are)
 
   pub short : length out < sheet-length G (s .variables) (s .nodes)
-      → (refused 13 0 ≡ (room-call F G b out) .answer) × (out ≡ (room-call F G b out) .output)
+      → record { answer = refused no-room 0; output = out } ≡ room-call F G b out
   unfolding answer
   short l =
-      write-refused (carried-room-test F G b (length out) ∷ []) (length (carried F G b)) (carried F G b) out
-      (rw (lt-ltb (length out) (sheet-length G (variables F b) (nodes F b)) (omega (arith, same-length))))
+      written
+      (write-refused (carried-room-test F G b (length out) ∷ []) (length (carried F G b)) (carried F G b) out
+      (rw (lt-ltb (length out) (sheet-length G (variables F b) (nodes F b)) (omega (arith, same-length)))))
 
-  pub carriable : sheet-length G (s .variables) (s .nodes) ≤ length out → Carriable s b G (length out)
+  pub carriable : sheet-length G (s .variables) (s .nodes) ≤ length out → Carriable s b g (length out)
   carriable l =
       record {
-        readable = sheet-readable (r .accepted) (r .manageable);
-        few-bytes = r .few-bytes;
-        sound = r .sound;
+        readable = sheet-readable (r .accepted);
         within = rw (sheet-formula-in (r .accepted)) (r .within);
         has-room = l;
       }
 
-  pub carried-call : {end : ℕ} {new : Bytes} → sheet-length G (s .variables) (s .nodes) ≤ length out → end ≡ length (sheet G (formula-in s b))
-      → new ≡ padded (length out) (sheet G (formula-in s b))
-      → (accepted end ≡ (room-call F G b out) .answer) × (new ≡ (room-call F G b out) .output)
+  new-length : sheet-length G (s .variables) (s .nodes) ≡ length (carried F G b)
+  unfolding carried
+  new-length =
+      same-length ∙
+      sym
+      (length-sheet G (formula F b) ∙
+      ap₂ (sheet-length G) (accepted-variables F b (r .accepted .tests-pass)) (accepted-nodes F b (r .accepted .tests-pass)))
+
+  pub carried-call : {end : ℕ} {new : Bytes} → sheet-length G (s .variables) (s .nodes) ≤ length out
+      → end ≡ sheet-length G (s .variables) (s .nodes) → new ≡ padded (length out) (sheet G (formula-in s b))
+      → record { answer = accepted end; output = new } ≡ room-call F G b out
   unfolding carried passes
   carried-call l e n =
-      let same = sheet-formula-in (r .accepted) in
       let w = write-accepted (carried-room-test F G b (length out) ∷ []) (carried F G b) out
-      (rw (le-ltb (length out) (sheet-length G (variables F b) (nodes F b)) (omega (arith, same-length)))) in (
-        ap accepted (e ∙ ap (λ f. length (sheet G f)) same) ∙ w .0,
-        n ∙ ap (λ f. padded (length out) (sheet G f)) same ∙ w .1,
+      (rw (le-ltb (length out) (sheet-length G (variables F b) (nodes F b)) (omega (arith, same-length)))) in
+      written (
+        ap accepted (e ∙ new-length) ∙ w .0,
+        n ∙ ap (λ f. padded (length out) (sheet G f)) (sheet-formula-in (r .accepted)) ∙ w .1,
       )
 
 -- the calls, once Check accepts
@@ -99,58 +120,40 @@ unfolding write
 write-after ts us new out h =
     ap (λ (a : Answer ℕ). record { answer = a; output = output-after a new out }) (sym (answer-++ ts us (length new) h))
 
--- with formats that code holds
-module _ {F G : Format} (b : Bytes) {s : Layout} (h : Sheet F b s) where
-  module _ (from : F ≡ narrow) (to : G ≡ wide) where
-    narrow-sheet : Sheet narrow b s
-    narrow-sheet = subst (λ E. Sheet E b s) from h
+module _ {b : Bytes} {s : Layout} (h : Sheet Narrow b s) where
+  pub widen-ready : Ready s b Wide
+  widen-ready =
+      rw (h .layout-is)
+      (record { accepted = record { tests-pass = h .tests-pass; layout-is = refl }; within = widen-within b (h .tests-pass) })
 
-    pub widen-ready : Ready F G b s
-    widen-ready =
-        subst₂ (λ E H. Ready E H b s) (sym from) (sym to)
-        (record {
-          manageable = narrow-manageable;
-          accepted = narrow-sheet;
-          few-bytes = four-wide;
-          sound = wide-sound;
-          within = widen-within b (narrow-sheet .tests-pass);
-        })
+  pub widen-checked : {w : Written} (out : Bytes) → w ≡ room-call (format-in s) wide b out → w ≡ widen-call b out
+  unfolding widen-call widen-tests
+  widen-checked out e =
+      e ∙ ap (λ f. room-call (format-of f) wide b out) (sheet-format h) ∙
+      write-after (check-tests narrow b) _ (carried narrow wide b) out (h .tests-pass)
 
-    pub widen-checked : (out : Bytes) → room-call F G b out ≡ widen-call b out
-    unfolding widen-call widen-tests
-    widen-checked out =
-        ap₂ (λ E H. room-call E H b out) from to ∙
-        write-after (check-tests narrow b) _ (carried narrow wide b) out (narrow-sheet .tests-pass)
-
-  module _ (from : F ≡ wide) (to : G ≡ narrow) {t : Bool} (is : t ≡ beyond F G b) where
-    wide-sheet : Sheet wide b s
-    wide-sheet = subst (λ E. Sheet E b s) from h
-
+module _ {b : Bytes} {s : Layout} (h : Sheet Wide b s) where
+  module _ {t : Bool} (is : t ≡ beyond (format-in s) narrow b) where
     told : {answer : Bool} → t ≡ answer → beyond wide narrow b ≡ answer
-    told e = sym (ap₂ (λ E H. beyond E H b) from to) ∙ sym is ∙ e
+    told e = sym (is ∙ ap (λ f. beyond (format-of f) narrow b) (sheet-format h)) ∙ e
 
-    pub bring-back-above : t ≡ true → (out : Bytes)
-        → (refused 24 0 ≡ (bring-back-call b out) .answer) × (out ≡ (bring-back-call b out) .output)
-    bring-back-above e out = bring-back-beyond b out (wide-sheet .tests-pass) (told e)
+    pub bring-back-above : t ≡ true → (out : Bytes) → record { answer = refused not-narrow 0; output = out } ≡ bring-back-call b out
+    bring-back-above e out = written (bring-back-beyond b out (h .tests-pass) (told e))
 
-    pub bring-back-ready : t ≡ false → Ready F G b s
+    pub bring-back-ready : t ≡ false → Ready s b Narrow
     bring-back-ready e =
-        subst₂ (λ E H. Ready E H b s) (sym from) (sym to)
-        (record {
-          manageable = wide-manageable;
-          accepted = wide-sheet;
-          few-bytes = two-wide;
-          sound = narrow-sound;
-          within = within-passed wide narrow b (wide-sheet .tests-pass) (told e);
-        })
+        record {
+          accepted = sheet-own h;
+          within = rw (h .layout-is) (within-passed wide narrow b (h .tests-pass) (told e));
+        }
 
-    pub bring-back-within : t ≡ false → (out : Bytes) → room-call F G b out ≡ bring-back-call b out
+    pub bring-back-within : t ≡ false → {w : Written} (out : Bytes) → w ≡ room-call (format-in s) narrow b out → w ≡ bring-back-call b out
     unfolding bring-back-call bring-back-tests passes
-    bring-back-within e out =
+    bring-back-within e out k =
         let room = carried-room-test wide narrow b (length out) ∷ [] in
-        ap₂ (λ E H. room-call E H b out) from to ∙
-        write-after (test (beyond wide narrow b) 24 0 ∷ []) room (carried wide narrow b) out (passed (told e)) ∙
-        write-after (check-tests wide b) (test (beyond wide narrow b) 24 0 ∷ room) (carried wide narrow b) out (wide-sheet .tests-pass)
+        k ∙ ap (λ f. room-call (format-of f) narrow b out) (sheet-format h) ∙
+        write-after (test (beyond wide narrow b) not-narrow 0 ∷ []) room (carried wide narrow b) out (passed (told e)) ∙
+        write-after (check-tests wide b) (test (beyond wide narrow b) not-narrow 0 ∷ room) (carried wide narrow b) out (h .tests-pass)
       where
-        passed : {f : Bool} → f ≡ false → passes (test f 24 0 ∷ []) ≡ true
+        passed : {f : Bool} → f ≡ false → passes (test f not-narrow 0 ∷ []) ≡ true
         passed e = rw e

@@ -35,7 +35,7 @@ module _ {s : Layout} {b : Bytes} {t : Layout} (d : Bytes) (fit : RowsFit s b t 
 
   module _ {out : Bytes} {r : ℕ} (c : Copied s b t d out r) where
     pub room-left : Room t (length out)
-    room-left = record { few-bytes = fit .room .few-bytes; holds = omega (arith, fit .room .holds, c .same-length) }
+    room-left = record { holds = omega (arith, fit .room .holds, c .same-length) }
 
     length-output : length (rows-in t out) ≡ total s
     length-output = length-rows-in out room-left ∙ fit .as-many

@@ -7,22 +7,26 @@ use native.Mathlib.Omega.{arith}
 use lib.ListN.{length, getD, take, replicate}
 use lib.Seq.{take-all}
 use Rattle.formula.specs.Tree.{Formula, rows}
-use Rattle.sheet.specs.Format.{Bytes, Format, Row, row, digits, sheet-length}
+use Rattle.sheet.specs.Format as sheet
+use Rattle.sheet.specs.Format.{Bytes, Row, row, digits, sheet-length}
 use Rattle.sheet.specs.Sheet.{formula-rows, row-kinds, row-arguments, sheet}
 use Rattle.sheet.specs.Operations.{padded}
 use Rattle.sheet.proofs.Every.{Every}
 use Rattle.sheet.proofs.Parts.{ArgumentFits, sheet-length-rows}
 use Rattle.sheet.proofs.RoundTrip.{length-sheet, arguments-fit}
+use Rattle.rows.specs.Formats.{format-of}
 use Rattle.rows.specs.Layouts.{total, rows-in, Room, sealed}
-use Rattle.rows.specs.Formulas.{formula-in}
+use Rattle.rows.specs.Formulas.{formula-in, layout-for}
+use Rattle.rows.specs.declared.Format.{Format}
 use Rattle.rows.specs.declared.Layout.{Layout}
 use Rattle.rows.proofs.Layouts.{length-rows-in}
 use Rattle.rows.proofs.Formulas.{length-prefix, rows-nodes}
+use Rattle.rows.proofs.Limits.{sound}
 use Rattle.carrying.specs.Inner.Rows.{RowsFit, Carriable}
 
 -- the layout that has as many rows in the other format
-abbrev pub layout-in : Format → Layout → Layout
-layout-in G s = record { width = G .width; variables = s .variables; nodes = s .nodes }
+abbrev layout-in : Format → Layout → Layout
+layout-in g s = record { format = g; variables = s .variables; nodes = s .nodes }
 
 every-at : (P : Row → Type 0) (rs : List Row) (r : ℕ) (d : Row) → Every P rs → r < length rs → P (getD rs r d)
 every-at P [] r d h l = absurd (omega arith)
@@ -33,12 +37,15 @@ every-at P (x ∷ rs) (suc r) d h l = every-at P rs r d (h .1) (omega arith)
 abbrev laid-out : ℕ → ℕ → ℕ → List Row → ℕ → Bytes
 laid-out w v n rs zeros = digits w v ++ digits w n ++ row-kinds rs ++ row-arguments w rs ++ replicate zeros 0
 
-module _ {s : Layout} {b : Bytes} {G : Format} {len : ℕ} (c : Carriable s b G len) where
+module _ {s : Layout} {b : Bytes} {g : Format} {len : ℕ} (c : Carriable s b g len) where
+  abbrev G : sheet.Format
+  G = format-of g
+
   abbrev f : Formula
   f = formula-in s b
 
   abbrev t : Layout
-  t = layout-in G s
+  t = layout-in g s
 
   variables-are : length (f .prefix) ≡ s .variables
   unfolding formula-in
@@ -48,9 +55,12 @@ module _ {s : Layout} {b : Bytes} {G : Format} {len : ℕ} (c : Carriable s b G 
   unfolding formula-in
   nodes-are = rows-nodes b (c .readable)
 
+  pub layout-is : t ≡ layout-for g f
+  layout-is = ap₂ (λ (v n : ℕ). record { format = g; variables = v; nodes = n }) (sym variables-are) (sym nodes-are)
+
   pub room : Room t len
   unfolding sheet-length
-  room = record { few-bytes = c .few-bytes; holds = c .has-room }
+  room = record { holds = c .has-room }
 
   pub rows-fit : RowsFit s b t len
   rows-fit =
@@ -61,11 +71,11 @@ module _ {s : Layout} {b : Bytes} {G : Format} {len : ℕ} (c : Carriable s b G 
         as-many = omega arith;
         arguments-fit =
             λ r l. every-at (ArgumentFits (G .width)) (rows-in s b) r (row 0 0)
-            (subst (Every (ArgumentFits (G .width))) (c .readable .is-formula) (arguments-fit G (c .sound) f (c .within)))
+            (subst (Every (ArgumentFits (G .width))) (c .readable .is-formula) (arguments-fit G (sound g) f (c .within)))
             (omega (arith, length-rows-in b (c .readable .room)));
       }
 
-  pub sheet-end : 2 * G .width + total s + G .width * total s ≡ length (sheet G f)
+  sheet-end : 2 * G .width + total s + G .width * total s ≡ length (sheet G f)
   sheet-end =
       sym
       (length-sheet G f ∙ ap₂ (sheet-length G) variables-are nodes-are ∙ sheet-length-rows G (s .variables) (s .nodes) ∙ regroup (G .width) (total s))

@@ -15,7 +15,6 @@ use printing::print_number;
 use rows::Format;
 use solve::Solved;
 use trial::Tried;
-ghost use Rattle.rows.specs.Formats.{Width};
 
 // Longer than any output: no sheet is written.
 const NO_SHEET: usize = 65536;
@@ -28,10 +27,10 @@ pub fn print_refused(number: usize, place: usize) {
 
 pub fn print_checked(answer: Checked) {
     match answer {
-        Checked::Accepted(v, n) => {
+        Checked::Accepted(s) => {
             io::write_all(1, b" accepted");
-            print_number(v);
-            print_number(n);
+            print_number(s.variables);
+            print_number(s.nodes);
         }
         Checked::Refused(number, place) => print_refused(number, place),
     }
@@ -59,7 +58,7 @@ pub fn print_tried(answer: Tried) {
 pub fn print_kinds(kinds: &[u8]) {
     let mut i = 0;
     while i < kinds.len() {
-        print_number(rows::wide(kinds[i]));
+        print_number(rows::from_byte(kinds[i]));
         i += 1;
     }
 }
@@ -89,9 +88,7 @@ pub fn print_quoted(answer: Quoted) {
     }
 }
 
-pub fn print_solved(answer: Solved, f: Format, first: &[u8], second: &[u8])
-    requires { ⌜ Width (f .width) ⌝ }
-{
+pub fn print_solved(answer: Solved, f: Format, first: &[u8], second: &[u8]) {
     io::write_all(1, b" ");
     printing::print_line(solve::line::line_for(answer));
     print_sum(first);

@@ -1,10 +1,10 @@
 // The step one block out (N6).
 use crate::answers::print_refused;
-use crate::outputs::fill;
 use crate::outputs::print_short;
 use crate::outputs::print_sum;
 use outer::Outcome;
 use printing::print_number;
+use rows::Format;
 
 fn print_copied(answer: Outcome, out: &[u8]) {
     match answer {
@@ -23,17 +23,9 @@ fn print_copied(answer: Outcome, out: &[u8]) {
     }
 }
 
-pub fn run_outer(sheet: &[u8], x: usize, out: &mut [u8]) {
-    fill(out);
+pub fn run_outer(sheet: &[u8], f: Format, x: usize, out: &mut [u8]) {
     io::write_all(1, b"outer");
     print_number(x);
-    let answer = outer::outer(sheet, x, out);
-    print_copied(answer, out);
-}
-
-pub fn run_outer_wide(sheet: &[u8], x: usize, out: &mut [u8]) {
-    io::write_all(1, b"outer");
-    print_number(x);
-    let answer = outer::outer_wide(sheet, x, out);
+    let answer = outer::outer(sheet, f, x, out);
     print_copied(answer, out);
 }

@@ -18,7 +18,6 @@ mod copies;
 mod input;
 mod operations;
 mod outputs;
-mod wide;
 
 // The longest output and the longest list of a call: each holds any sheet.
 pub const ROOM: usize = 46088;

@@ -11,58 +11,70 @@ use crate::answers::print_tried;
 use crate::answers::print_written;
 use crate::copies::run_outer;
 use crate::outputs::fill;
-use crate::wide::run_capital;
 use printing::print_number;
+use rows::Format;
 
-fn run_check(sheet: &[u8]) {
+fn run_check(sheet: &[u8], f: Format) {
     io::write_all(1, b"check");
-    print_checked(checking::check(sheet));
+    print_checked(checking::check(sheet, f));
 }
 
-fn run_trial(sheet: &[u8]) {
+fn run_trial(sheet: &[u8], f: Format) {
     io::write_all(1, b"trial");
-    print_tried(trial::trial(sheet));
+    print_tried(trial::trial(sheet, f));
 }
 
-fn run_part(sheet: &[u8], node: usize) {
+fn run_part(sheet: &[u8], f: Format, node: usize) {
     io::write_all(1, b"part");
-    print_kinds(part::part(sheet, node));
+    print_kinds(part::part(sheet, f, node));
 }
 
-fn run_tidy(sheet: &[u8], out: &mut [u8]) {
-    io::write_all(1, b"tidy");
-    let answer = tidying::tidy(sheet, out);
-    print_written(answer, out);
-}
-
-fn run_reduce(sheet: &[u8], out: &mut [u8]) {
-    io::write_all(1, b"reduce");
-    let answer = reduce::reduce(sheet, out);
-    print_written(answer, out);
-}
-
-fn run_settle(sheet: &[u8], x: usize, out: &mut [u8]) {
-    io::write_all(1, b"settle");
-    print_number(x);
-    let answer = settle::settle(sheet, x, out);
-    print_written(answer, out);
-}
-
-fn run_expand(sheet: &[u8], x: usize, out: &mut [u8]) {
-    io::write_all(1, b"expand");
-    print_number(x);
-    let answer = expand::expand(sheet, x, out);
-    print_written(answer, out);
-}
-
-fn run_quote(sheet: &[u8], x: usize) {
+fn run_quote(sheet: &[u8], f: Format, x: usize) {
     io::write_all(1, b"quote");
     print_number(x);
-    print_quoted(expand::quote::quote(sheet, x));
+    print_quoted(expand::quote::quote(sheet, f, x));
+}
+
+fn run_tidy(sheet: &[u8], f: Format, out: &mut [u8]) {
+    io::write_all(1, b"tidy");
+    let answer = tidying::tidy(sheet, f, out);
+    print_written(answer, out);
+}
+
+fn run_reduce(sheet: &[u8], f: Format, out: &mut [u8]) {
+    io::write_all(1, b"reduce");
+    let answer = reduce::reduce(sheet, f, out);
+    print_written(answer, out);
+}
+
+fn run_sort(sheet: &[u8], f: Format, out: &mut [u8]) {
+    io::write_all(1, b"sort");
+    let answer = order::sort::sort(sheet, f, out);
+    print_written(answer, out);
+}
+
+fn run_qdimacs(text: &[u8], f: Format, out: &mut [u8]) {
+    io::write_all(1, b"qdimacs");
+    let answer = reader::qdimacs(text, f, out);
+    print_written(answer, out);
+}
+
+fn run_settle(sheet: &[u8], f: Format, x: usize, out: &mut [u8]) {
+    io::write_all(1, b"settle");
+    print_number(x);
+    let answer = settle::settle(sheet, f, x, out);
+    print_written(answer, out);
+}
+
+fn run_expand(sheet: &[u8], f: Format, x: usize, out: &mut [u8]) {
+    io::write_all(1, b"expand");
+    print_number(x);
+    let answer = expand::expand(sheet, f, x, out);
+    print_written(answer, out);
 }
 
 // The ceiling is the number that the list begins with.
-fn run_execute(sheet: &[u8], x: usize, list: &[u8], out: &mut [u8]) {
+fn run_execute(sheet: &[u8], f: Format, x: usize, list: &[u8], out: &mut [u8]) {
     if list.len() < 4 {
         return;
     }
@@ -70,122 +82,39 @@ fn run_execute(sheet: &[u8], x: usize, list: &[u8], out: &mut [u8]) {
     io::write_all(1, b"execute");
     print_number(x);
     print_number(ceiling);
-    fill(out);
-    let answer = expand::execute(sheet, x, ceiling, out);
+    let answer = expand::execute(sheet, f, x, ceiling, out);
     print_written(answer, out);
 }
 
-fn run_sort(sheet: &[u8], out: &mut [u8]) {
-    io::write_all(1, b"sort");
-    let answer = order::sort::sort(sheet, out);
-    print_written(answer, out);
-}
-
-fn run_qdimacs(text: &[u8], out: &mut [u8]) {
-    io::write_all(1, b"qdimacs");
-    let answer = reader::qdimacs(text, out);
-    print_written(answer, out);
-}
-
-fn run_writing(operation: u8, number: usize, sheet: &[u8], out: &mut [u8]) {
-    fill(out);
-    if operation == b'd' {
-        run_tidy(sheet, out);
-        return;
-    }
-    if operation == b'r' {
-        run_reduce(sheet, out);
-        return;
-    }
-    if operation == b's' {
-        run_settle(sheet, number, out);
-        return;
-    }
-    if operation == b'a' {
-        run_sort(sheet, out);
-        return;
-    }
-    if operation == b'm' {
-        run_qdimacs(sheet, out);
-        return;
-    }
-    run_expand(sheet, number, out);
-}
-
-fn solve_in_buffers(sheet: &[u8], first: &mut [u8], second: &mut [u8]) {
-    fill(first);
-    fill(second);
+fn run_solve(sheet: &[u8], f: Format, first: &mut [u8], second: &mut [u8]) {
     io::write_all(1, b"solve");
-    let answer = solve::solve(sheet, first, second);
-    print_solved(answer, rows::narrow(), first, second);
+    let answer = solve::solve(sheet, f, first, second);
+    print_solved(answer, f, first, second);
 }
 
-// Solves with a second buffer of `length` bytes.
-fn run_solve(sheet: &[u8], first: &mut [u8], length: usize) {
-    let mut space = [0u8; ROOM];
-    if ROOM < length {
-        return;
-    }
-    let second = &mut space[..length];
-    solve_in_buffers(sheet, first, second);
-}
-
-fn compare_in_buffers(a: &[u8], b: &[u8], first: &mut [u8], second: &mut [u8]) {
-    fill(first);
-    fill(second);
+// Compares the sheet with the one in the list.
+fn run_compare(sheet: &[u8], f: Format, list: &[u8], first: &mut [u8], second: &mut [u8]) {
     io::write_all(1, b"compare");
-    let answer = order::compare::compare(a, b, first, second);
+    let answer = order::compare::compare(sheet, list, f, first, second);
     print_compared(answer, first, second);
 }
 
-// Compares the sheet with the one in the list, with a second buffer of `length` bytes.
-fn run_compare(sheet: &[u8], list: &[u8], first: &mut [u8], length: usize) {
-    let mut space = [0u8; ROOM];
-    if ROOM < length {
-        return;
-    }
-    let second = &mut space[..length];
-    compare_in_buffers(sheet, list, first, second);
-}
-
-fn force_in_buffers(sheet: &[u8], values: &[u8], first: &mut [u8], second: &mut [u8]) {
-    fill(first);
-    fill(second);
+// The list holds the values.
+fn run_force(sheet: &[u8], f: Format, list: &[u8], first: &mut [u8], second: &mut [u8]) {
     io::write_all(1, b"force");
-    let answer = force::force(sheet, values, first, second);
+    let answer = force::force(sheet, f, list, first, second);
     print_forced(answer, first, second);
 }
 
-// Force with the list as values and a second buffer of `length` bytes.
-fn run_force(sheet: &[u8], values: &[u8], first: &mut [u8], length: usize) {
-    let mut space = [0u8; ROOM];
-    if ROOM < length {
-        return;
-    }
-    let second = &mut space[..length];
-    force_in_buffers(sheet, values, first, second);
-}
-
-fn guards_in_buffers(sheet: &[u8], out: &mut [u8], first: &mut [u8], second: &mut [u8]) {
-    fill(out);
+fn guards_in_buffers(sheet: &[u8], f: Format, out: &mut [u8], first: &mut [u8], second: &mut [u8]) {
     fill(first);
-    fill(second);
     io::write_all(1, b"guards");
-    let answer = guards::guards(sheet, out, first, second);
+    let answer = guards::guards(sheet, f, out, first, second);
     print_guarded(answer, out, first, second);
 }
 
-fn guards_beside(sheet: &[u8], out: &mut [u8], first: &mut [u8], length: usize) {
-    let mut space = [0u8; ROOM];
-    if ROOM < length {
-        return;
-    }
-    let second = &mut space[..length];
-    guards_in_buffers(sheet, out, first, second);
-}
-
-// Guards with a second buffer of `length` bytes; the length of the first is the number that the list begins with.
-fn run_guards(sheet: &[u8], list: &[u8], out: &mut [u8], length: usize) {
+// The length of the first buffer is the number that the list begins with.
+fn run_guards(sheet: &[u8], f: Format, list: &[u8], out: &mut [u8], second: &mut [u8]) {
     let mut space = [0u8; ROOM];
     if list.len() < 4 {
         return;
@@ -195,54 +124,79 @@ fn run_guards(sheet: &[u8], list: &[u8], out: &mut [u8], length: usize) {
         return;
     }
     let first = &mut space[..room];
-    guards_beside(sheet, out, first, length);
+    guards_in_buffers(sheet, f, out, first, second);
 }
 
-// Calls the operation of this letter.
+// Calls the operation of this small letter, one of those with a second buffer.
+fn run_in_buffers(
+    operation: u8,
+    f: Format,
+    sheet: &[u8],
+    list: &[u8],
+    out: &mut [u8],
+    second: &mut [u8],
+) {
+    fill(second);
+    match operation {
+        b'o' => run_solve(sheet, f, out, second),
+        b'k' => run_compare(sheet, f, list, out, second),
+        b'f' => run_force(sheet, f, list, out, second),
+        b'g' => run_guards(sheet, f, list, out, second),
+        _ => {}
+    }
+}
+
+// The same with a second buffer of `length` bytes.
+fn run_beside(operation: u8, f: Format, length: usize, sheet: &[u8], list: &[u8], out: &mut [u8]) {
+    let mut space = [0u8; ROOM];
+    if ROOM < length {
+        return;
+    }
+    let second = &mut space[..length];
+    run_in_buffers(operation, f, sheet, list, out, second);
+}
+
+// Calls the operation of this small letter on a sheet of this format.
+fn run_on(operation: u8, f: Format, number: usize, sheet: &[u8], list: &[u8], out: &mut [u8]) {
+    match operation {
+        b'c' => run_check(sheet, f),
+        b't' => run_trial(sheet, f),
+        b'p' => run_part(sheet, f, number),
+        b'q' => run_quote(sheet, f, number),
+        b'd' => run_tidy(sheet, f, out),
+        b'r' => run_reduce(sheet, f, out),
+        b'a' => run_sort(sheet, f, out),
+        b'm' => run_qdimacs(sheet, f, out),
+        b's' => run_settle(sheet, f, number, out),
+        b'e' => run_expand(sheet, f, number, out),
+        b'x' => run_execute(sheet, f, number, list, out),
+        b'u' => run_outer(sheet, f, number, out),
+        _ => run_beside(operation, f, number, sheet, list, out),
+    }
+}
+
+fn run_widen(sheet: &[u8], out: &mut [u8]) {
+    io::write_all(1, b"widen");
+    let answer = carrying::widen(sheet, out);
+    print_written(answer, out);
+}
+
+fn run_bring_back(sheet: &[u8], out: &mut [u8]) {
+    io::write_all(1, b"bring back");
+    let answer = carrying::bring_back(sheet, out);
+    print_written(answer, out);
+}
+
+// Calls the operation of this letter: a capital's, but for W and N, is the small letter's on a wide sheet.
 pub fn run(operation: u8, number: usize, sheet: &[u8], list: &[u8], out: &mut [u8]) {
-    if operation == b'c' {
-        run_check(sheet);
-        return;
+    fill(out);
+    match operation {
+        b'W' => run_widen(sheet, out),
+        b'N' => run_bring_back(sheet, out),
+        b'A'..=b'Z' => {
+            io::write_all(1, b"wide ");
+            run_on(operation + 32, Format::Wide, number, sheet, list, out);
+        }
+        _ => run_on(operation, Format::Narrow, number, sheet, list, out),
     }
-    if operation == b't' {
-        run_trial(sheet);
-        return;
-    }
-    if operation == b'p' {
-        run_part(sheet, number);
-        return;
-    }
-    if operation == b'o' {
-        run_solve(sheet, out, number);
-        return;
-    }
-    if operation == b'q' {
-        run_quote(sheet, number);
-        return;
-    }
-    if operation == b'x' {
-        run_execute(sheet, number, list, out);
-        return;
-    }
-    if operation == b'u' {
-        run_outer(sheet, number, out);
-        return;
-    }
-    if operation == b'k' {
-        run_compare(sheet, list, out, number);
-        return;
-    }
-    if operation == b'f' {
-        run_force(sheet, list, out, number);
-        return;
-    }
-    if operation == b'g' {
-        run_guards(sheet, list, out, number);
-        return;
-    }
-    if operation < b'a' {
-        run_capital(operation, number, sheet, list, out);
-        return;
-    }
-    run_writing(operation, number, sheet, out);
 }

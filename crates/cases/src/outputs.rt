@@ -5,7 +5,6 @@ use rows::fit::sheet_length;
 use rows::places::header;
 use rows::read::nodes_at;
 use rows::read::variables_at;
-ghost use Rattle.rows.specs.Formats.{Width};
 
 const FILLING: u8 = 165;
 
@@ -26,7 +25,7 @@ fn sum(bytes: &[u8]) -> usize {
     let mut so_far = 0;
     let mut i = 0;
     while i < bytes.len() {
-        so_far = (257 * so_far + rows::wide(bytes[i])) % 65521;
+        so_far = (257 * so_far + rows::from_byte(bytes[i])) % 65521;
         i += 1;
     }
     so_far
@@ -42,7 +41,7 @@ fn print_hexadecimal(bytes: &[u8]) {
     let mut i = 0;
     while i < bytes.len() {
         io::write_all(1, b" ");
-        io::print_hex(1, rows::wide(bytes[i]) as u64, 2);
+        io::print_hex(1, rows::from_byte(bytes[i]) as u64, 2);
         i += 1;
     }
 }
@@ -57,9 +56,7 @@ pub fn print_short(out: &[u8], length: usize) {
 }
 
 // Writes the sheet at the front of Solve's first buffer if it is short; the filling that a refused call leaves has no small sizes.
-pub fn print_reached(first: &[u8], f: Format)
-    requires { ⌜ Width (f .width) ⌝ }
-{
+pub fn print_reached(first: &[u8], f: Format) {
     if first.len() < header(f) {
         return;
     }

@@ -12,7 +12,7 @@ use Rattle.sheet.specs.Sheet.{row-kinds, row-arguments}
 use Rattle.sheet.proofs.Every.{every-take, every-drop}
 use Rattle.sheet.proofs.Numbers.{IsByte}
 use Rattle.sheet.proofs.Parts.{row-kinds-zip, row-arguments-zip}
-use Rattle.rows.specs.Layouts.{total, kind-place, argument-place, rows-in, Room}
+use Rattle.rows.specs.Layouts.{width, total, kind-place, argument-place, rows-in, Room}
 use Rattle.rows.specs.declared.Layout.{Layout}
 use Rattle.rows.proofs.Layouts.{length-rows-in}
 use Rattle.rows.proofs.Sealing.{all-bytes}
@@ -40,7 +40,7 @@ drop-zip w (suc at) (k ∷ ks) ds =
 
 module _ (s : Layout) (b : Bytes) (room : Room s (length b)) (span : Span) (inside : Within span s) where
   abbrev w : ℕ
-  w = s .width
+  w = width s
 
   abbrev m : ℕ
   m = total s

@@ -12,7 +12,8 @@ use Rattle.sheet.specs.Format.{Bytes, Row, zip-rows}
 use Rattle.sheet.specs.Sheet.{row-kinds, row-arguments}
 use Rattle.sheet.proofs.Every.{Every}
 use Rattle.sheet.proofs.Parts.{ArgumentFits, zip-rows-rows, length-row-kinds, length-row-arguments, length-zip-rows}
-use Rattle.rows.specs.Layouts.{total, kind-place, argument-place, rows-in, Room, Kept}
+use Rattle.rows.specs.Formats.{format-of}
+use Rattle.rows.specs.Layouts.{width, total, kind-place, argument-place, rows-in, Room, Kept}
 use Rattle.rows.specs.declared.Layout.{Layout}
 use Rattle.rows.proofs.Layouts.{length-rows-in}
 use Rattle.changing.specs.Changes.{changed-row, copied}
@@ -122,10 +123,10 @@ module _ (w : ℕ) (ks ds : Bytes) (enough : w * length ks ≤ length ds) where
 
 -- a copy in the bytes of an output
 
-module _ (t : Layout) (d : Bytes) (room : Room t (length d)) (at : ℕ) (new : List Row) (fits : Every (ArgumentFits (t .width)) new)
+module _ (t : Layout) (d : Bytes) (room : Room t (length d)) (at : ℕ) (new : List Row) (fits : Every (ArgumentFits (width t)) new)
     (within : at + length new ≤ total t) where
   abbrev w : ℕ
-  w = t .width
+  w = width t
 
   abbrev m : ℕ
   m = total t
@@ -218,28 +219,27 @@ pub ready-on : {s t : Layout} {b old new : Bytes} → Ready s b t old → length
 ready-on {t = t} r e =
     record {
       source = r .source;
-      room = record { few-bytes = r .room .few-bytes; holds = omega (arith, e, r .room .holds) };
-      same-width = r .same-width;
-      two-bytes = r .two-bytes;
+      room = record { holds = omega (arith, e, r .room .holds) };
+      same-format = r .same-format;
     }
 
--- the arguments of k rows have their place, by either layout's width
+-- the arguments of k rows have their place, by the format of either layout
 pub arguments-room : {s t : Layout} {b out : Bytes} → Ready s b t out → (at k : ℕ) → at + k ≤ total t
-    → argument-place t at + s .width * k ≤ length out
+    → argument-place t at + width s * k ≤ length out
 arguments-room {s} {t} ready at k h =
-    rw (← ready .same-width)
-    (omega (arith, ready .room .holds, add-mul 1 (t .width) (total t), one-mul (total t), mul-add (t .width) at k, mul-le-mul-left (t .width) h))
+    rw (← ready .same-format)
+    (omega (arith, ready .room .holds, add-mul 1 (width t) (total t), one-mul (total t), mul-add (width t) at k, mul-le-mul-left (width t) h))
 
-pub copied-laid : {s t : Layout} {b : Bytes} (d : Bytes) → Ready s b t d → (at : ℕ) (new : List Row) → Every (ArgumentFits (s .width)) new → (k : ℕ)
+pub copied-laid : {s t : Layout} {b : Bytes} (d : Bytes) → Ready s b t d → (at : ℕ) (new : List Row) → Every (ArgumentFits (width s)) new → (k : ℕ)
     → length new ≡ k → at + k ≤ total t → {kinds arguments : ℕ} → kinds ≡ kind-place t at → arguments ≡ argument-place t at
-    → {mid out : Bytes} → mid ≡ spliced kinds (row-kinds new) d → out ≡ spliced arguments (row-arguments (s .width) new) mid
+    → {mid out : Bytes} → mid ≡ spliced kinds (row-kinds new) d → out ≡ spliced arguments (row-arguments (width s) new) mid
     → Laid t d out at (at + k) new
 copied-laid {s} {t} d ready at new fits k counted within at-kinds at-arguments first second =
     subst₂ (λ n out. Laid t d out at (at + n) new) counted
     (sym
-    (second ∙ ap₂ (λ i mid. spliced i (row-arguments (s .width) new) mid) at-arguments (first ∙ ap (λ i. spliced i (row-kinds new) d) at-kinds) ∙
-    ap (λ w. spliced (argument-place t at) (row-arguments w new) (spliced (kind-place t at) (row-kinds new) d)) (sym (ready .same-width))))
-    (copy-laid t d (ready .room) at new (rw (ready .same-width) fits) (omega arith))
+    (second ∙ ap₂ (λ i mid. spliced i (row-arguments (width s) new) mid) at-arguments (first ∙ ap (λ i. spliced i (row-kinds new) d) at-kinds) ∙
+    ap (λ f. spliced (argument-place t at) (row-arguments ((format-of f) .width) new) (spliced (kind-place t at) (row-kinds new) d)) (sym (ready .same-format))))
+    (copy-laid t d (ready .room) at new (rw (ready .same-format) fits) (omega arith))
 
 pub row-laid : (t : Layout) (d : Bytes) → Room t (length d) → (at : ℕ) (r : Row) → at < total t → {out : Bytes}
     → rows-in t out ≡ set (rows-in t d) at r → Kept t d out → Laid t d out at (at + 1) (r ∷ [])

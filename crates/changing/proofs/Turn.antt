@@ -82,7 +82,7 @@ module _ (s : Layout) (t : List ℕ) (d : Bytes) (room : Room s (length d)) (fro
   module _ {b : Bytes} {i : ℕ} (h : i < to) (c : Changing s t d from to b i) where
     -- there is as much room
     pub room-left : Room s (length b)
-    room-left = record { few-bytes = room .few-bytes; holds = omega (arith, room .holds, c .same-length) }
+    room-left = record { holds = omega (arith, room .holds, c .same-length) }
 
     pub changed-next : {new : Bytes} → rows-in s new ≡ set (rows-in s b) i (changed-row t (getD (rows-in s b) i (row 0 0))) → Kept s b new
         → length new ≡ length b → Changing s t d from to new (i + 1)

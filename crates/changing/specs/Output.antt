@@ -22,12 +22,11 @@ pub record Within (span : Span) (s : Layout) : Type 0 where
   pub ordered : span .from ≤ span .to
   pub inside : span .to ≤ total s
 
--- the rows of s can be read from b, and those of t, of the same width, have their place in out; a number takes two bytes or more
+-- the rows of s can be read from b, and those of t, of the same format, have their place in out
 pub record Ready (s : Layout) (b : Bytes) (t : Layout) (out : Bytes) : Type 0 where
   pub source : Room s (length b)
   pub room : Room t (length out)
-  pub same-width : t .width ≡ s .width
-  pub two-bytes : 2 ≤ s .width
+  pub same-format : t .format ≡ s .format
 
 -- the bytes from start on replaced by others
 unfoldable pub spliced : ℕ → Bytes → Bytes → Bytes

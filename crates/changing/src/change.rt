@@ -12,7 +12,7 @@ use rows::read::argument_at;
 use rows::read::kind_at;
 use rows::write::set_row;
 ghost use mathlib.Core.Path.{_≡_};
-ghost use Prim.Native.Nat.{_≤_, _<_};
+ghost use Prim.Native.Nat.{_<_};
 ghost use lib.ListN.{length, getD, set};
 ghost use Rattle.sheet.specs.Format.{row};
 ghost use Rattle.rows.specs.Layouts.{total, rows-in, Room, Kept};
@@ -37,7 +37,7 @@ fn is_changed(b: &[u8], s: Layout, table: &[u16], r: usize) -> bool
 
 // Changes row `r`: of a variable put in, to AND of nothing where the literal is true and to OR of nothing where not.
 fn change_row(b: &mut [u8], s: Layout, table: &[u16], r: usize)
-    requires { ⌜ Room s (length (now b)) × (2 ≤ s .width) × (r < total s) ⌝ }
+    requires { ⌜ Room s (length (now b)) × (r < total s) ⌝ }
     ensures { λ _. ⌜ rows-in s (now (b .exit)) ≡ set (rows-in s (now (b .entry))) r (changed-row (now (table .entry)) (getD (rows-in s (now (b .entry))) r (row 0 0))) ⌝ }
     ensures { λ _. ⌜ Kept s (now (b .entry)) (now (b .exit)) ⌝ }
 {
@@ -60,7 +60,7 @@ fn change_row(b: &mut [u8], s: Layout, table: &[u16], r: usize)
 
 // Changes the rows `span`.
 pub fn change_rows(b: &mut [u8], s: Layout, table: &[u16], span: Span)
-    requires { ⌜ Room s (length (now b)) × (2 ≤ s .width) × Within span s ⌝ }
+    requires { ⌜ Room s (length (now b)) × Within span s ⌝ }
     ensures { λ _. ⌜ Laid s (now (b .entry)) (now (b .exit)) (span .from) (span .to) (copy-in s (now (b .entry)) (now (table .entry)) span) ⌝ }
 {
     let to = span.to;

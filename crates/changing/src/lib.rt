@@ -1,5 +1,5 @@
 // Rows copied from one sheet to another with a table that says what each variable's literals become. The source is read where it lies;
-// the output's numbers have the same width.
+// the output has the same format.
 use rows::Layout;
 
 pub mod change;

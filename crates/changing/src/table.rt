@@ -5,8 +5,9 @@ use rows::NUMBERS;
 ghost use mathlib.Core.Path.{_≡_};
 ghost use mathlib.Core.Bool.{true, false};
 ghost use mathlib.Core.List.{_++_};
-ghost use Prim.Native.Nat.{_≤_, _<_};
+ghost use Prim.Native.Nat.{_*_, _≤_, _<_};
 ghost use lib.ListN.{length, set};
+ghost use Rattle.rows.specs.Tables.{HIGHEST, NUMBERS};
 ghost use Rattle.changing.specs.Changes.{entry, put-entry, numbers, putting-in, putting};
 
 // Makes every variable stay.
@@ -44,7 +45,7 @@ pub fn fill(table: &mut [u16], x: usize, value: bool)
 
 // Makes the tables of Expand, one behind the other: x = 0 put in by the first, x = 1 by the second.
 pub fn fill_both(tables: &mut [u16], x: usize)
-    requires { ⌜ (length (now tables) ≡ 2050) × (x ≤ 1024) ⌝ }
+    requires { ⌜ (length (now tables) ≡ 2 * NUMBERS) × (x ≤ HIGHEST) ⌝ }
     ensures { λ _. ⌜ now (tables .exit) ≡ putting x false ++ putting x true ⌝ }
 {
     fill(&mut tables[..NUMBERS], x, false);

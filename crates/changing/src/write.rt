@@ -5,19 +5,20 @@ use crate::change::change_rows;
 use rows::Layout;
 use rows::places::argument_place;
 use rows::places::kind_place;
+use rows::width;
 use rows::write::set_row;
 ghost use mathlib.Core.Path.{_≡_};
 ghost use mathlib.Core.List.{[], _∷_, _++_};
-ghost use Prim.Native.Nat.{_+_, _^_, _≤_, _<_};
+ghost use Prim.Native.Nat.{_+_, _≤_, _<_};
 ghost use lib.ListN.{length, take, drop};
 ghost use lib.Seq.{slice};
 ghost use Rattle.sheet.specs.Format.{row};
-ghost use Rattle.rows.specs.Layouts.{total, rows-in, Room};
+ghost use Rattle.rows.specs.Layouts.{Fits, total, rows-in, Room};
 ghost use Rattle.changing.specs.Output.{extent, copy-in, Within, Ready, spliced, Laid};
 
 // Writes a row.
 pub fn write_row(out: &mut [u8], to: Target, kind: u8, argument: usize) -> usize
-    requires { ⌜ Room (to .layout) (length (now out)) × (to .at < total (to .layout)) × (argument < 256 ^ to .layout .width) ⌝ }
+    requires { ⌜ Room (to .layout) (length (now out)) × (to .at < total (to .layout)) × Fits (to .layout) argument ⌝ }
     ensures { λ next. ⌜ Laid (to .layout) (now (out .entry)) (now (out .exit)) (to .at) next (row kind argument ∷ []) ⌝ }
 {
     let t = to.layout;
@@ -53,13 +54,14 @@ pub fn write_rows(b: &[u8], s: Layout, span: Span, out: &mut [u8], to: Target) -
     ensures { λ next. ⌜ next ≡ to .at + extent span ⌝ }
 {
     let t = to.layout;
+    let f = s.format;
     let at = to.at;
     let from = span.from;
     let count = span.to - from;
     let kinds = kind_place(t, at);
     let arguments = argument_place(t, at);
     write_bytes(b, kind_place(s, from), count, out, kinds);
-    write_bytes(b, argument_place(s, from), s.width * count, out, arguments);
+    write_bytes(b, argument_place(s, from), width(f) * count, out, arguments);
     at + count
 }
 

@@ -2,14 +2,20 @@
 -- Assumes nothing.
 use Prim.Native.Nat.{ℕ}
 use Rattle.sheet.specs.Check.{Answer, refused, accepted, Sizes}
+use Rattle.rows.specs.declared.Format.{Format}
 use Rattle.checking.specs.declared.Checked as checked
 use Rattle.checking.specs.declared.Checked.{Checked}
 use Rattle.checking.specs.declared.Written as written
 use Rattle.checking.specs.declared.Written.{Written}
 
--- Check: "Accepted, it returns V and N"; "refusing returns number and place"
+-- Check of a sheet of format f: "Accepted, it returns V and N", in the sheet's layout; "refusing returns number and place"
+abbrev pub checked-as : Format → Answer Sizes → Checked
+checked-as f (accepted z) = checked.the-variants.Accepted (record { format = f; variables = z .variables; nodes = z .nodes })
+checked-as f (refused number place) = checked.the-variants.Refused number place
+
+-- the same without the format
 abbrev pub checked-answer : Checked → Answer Sizes
-checked-answer (checked.the-variants.Accepted v n) = accepted (record { variables = v; nodes = n })
+checked-answer (checked.the-variants.Accepted s) = accepted (record { variables = s .variables; nodes = s .nodes })
 checked-answer (checked.the-variants.Refused number place) = refused number place
 
 -- an accepted operation that writes a sheet "returns the new sheet's length"

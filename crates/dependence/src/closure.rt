@@ -11,9 +11,10 @@ use sets::add;
 use sets::intersect;
 use sets::lowest_left;
 ghost use mathlib.Core.Path.{_≡_};
-ghost use Prim.Native.Nat.{_≤_};
+ghost use Prim.Native.Nat.{_*_, _≤_};
 ghost use lib.ListN.{length, replicate};
 ghost use Rattle.rows.specs.Formulas.{formula-in};
+ghost use Rattle.rows.specs.Tables.{HIGHEST, NUMBERS};
 ghost use Rattle.subtrees.specs.Ends.{Indexed};
 ghost use Rattle.occurrences.specs.Occurrences.{Occurrences};
 ghost use Rattle.dependence.specs.Blocks.{Located};
@@ -21,7 +22,7 @@ ghost use Rattle.dependence.specs.Dependents.{range-at, IsNext, Dependen
 
 // The rows of the first and the last literal of the variable `y`, if it has one.
 fn range_of(ranges: &[u16], y: usize) -> Range
-    requires { ⌜ (length (now ranges) ≡ 2050) × (y ≤ 1024) ⌝ }
+    requires { ⌜ (length (now ranges) ≡ 2 * NUMBERS) × (y ≤ HIGHEST) ⌝ }
     ensures { λ r. ⌜ r ≡ range-at (now (ranges .entry)) y ⌝ }
 {
     Range {

@@ -10,17 +10,18 @@ use lib.ListN.{length}
 use Rattle.formula.specs.Tree.{Prefix, Formula, of}
 use Rattle.formula.specs.Expand.{innermost, raw-rows, expanded}
 use Rattle.formula.specs.Solve.{fits-raw}
-use Rattle.sheet.specs.Format.{Bytes, Format, fits}
+use Rattle.sheet.specs.Format.{Bytes, Format, sheet-length, fits}
 use Rattle.sheet.specs.Sheet.{formula, sheet}
 use Rattle.sheet.specs.Check.{refused, accepted, Test, test, answer, passes}
 use Rattle.sheet.specs.Operations.{padded, quote-tests, raw-count, quote-call, raw-room-test, expand-tests, expand-call, execute-tests, execute-call}
 use Rattle.sheet.proofs.Tests.{passes-++, answer-++, answer-passes, refused-first, refused-alike}
+use Rattle.sheet.proofs.RoundTrip.{length-sheet}
 use Rattle.sheet.proofs.Quote.{execute-within, execute-above}
-use Rattle.sheet.proofs.Writing.{write-refused, write-accepted}
-use Rattle.rows.specs.Formulas.{prefix-in, matrix-in, formula-in}
+use Rattle.sheet.proofs.Writing.{written, write-refused, write-accepted}
+use Rattle.rows.specs.Layouts.{format-in}
+use Rattle.rows.specs.Formulas.{prefix-in, matrix-in, formula-in, layout-for}
 use Rattle.rows.specs.declared.Layout.{Layout}
 use Rattle.rows.proofs.Formulas.{length-prefix}
-use Rattle.checking.specs.Limits.{Countable}
 use Rattle.checking.proofs.CheckedSheets.{sheet-readable, sheet-formula-in}
 use Rattle.prefixes.specs.Places.{place, binding-at, binding-in}
 use Rattle.prefixes.proofs.Places.{variable-place}
@@ -30,7 +31,7 @@ use Rattle.choice.specs.declared.expand.ExpandChoice.{ExpandChoice}
 use Rattle.stepping.specs.Steps.{Named}
 use Rattle.stepping.specs.Admission.{admission-tests, Admitted}
 use Rattle.stepping.specs.Expanding.{Priced, Prepared, Expands}
-use Rattle.stepping.specs.declared.expanding.Expanding.{Expanding}
+use Rattle.stepping.specs.declared.survey.Survey.{Survey}
 use Rattle.stepping.proofs.Admitting.{sheet-steppable}
 use Rattle.expand.specs.Inner.Plan.{Planned}
 
@@ -57,12 +58,15 @@ refused-ceiling F b x ceiling len h =
     refused-first (quote-tests F b x) (test (ltb ceiling (raw-count F b x)) 19 0 ∷ raw-room-test F b x len ∷ []) x x h
 
 -- a variable that tests 1 to 10 admit
-module _ {F : Format} {b : Bytes} {x : ℕ} {s : Layout} {i : ℕ} {ends : List ℕ} (k : Countable F) (a : Admitted F b x s i ends) where
+module _ {b : Bytes} {x : ℕ} {s : Layout} {i : ℕ} {ends : List ℕ} (a : Admitted b x s i ends) where
+  abbrev F : Format
+  F = format-in s
+
   abbrev p : Prefix
   p = prefix-in s b
 
   inside : place x p < length p
-  inside = omega (arith, a .named .inside, a .named .row-is, length-prefix b (sheet-readable (a .sheet) (k .manageable)))
+  inside = omega (arith, a .named .inside, a .named .row-is, length-prefix b (sheet-readable (a .sheet)))
 
   innermost-here : {c : Bool} → innermost x (formula-in s b) ≡ c → innermost x (formula F b) ≡ c
   innermost-here e = ap (innermost x) (sym (sheet-formula-in (a .sheet))) ∙ e
@@ -109,23 +113,18 @@ module _ {F : Format} {b : Bytes} {x : ℕ} {s : Layout} {i : ℕ} {ends : List 
         ap (λ (f : Formula). raw-rows (of x) (f .matrix)) (sheet-formula-in (a .sheet))) ∙
         sym (answer-passes (quote-tests F b x) (raw-count F b x) (quoted e))
 
-    pub planned : {table : List ℕ} {w : Expanding} → innermost x (formula-in s b) ≡ true
-        → Prepared s b (c .variable) (c .row) table w → Planned F b x table s w
+    pub planned : {table : List ℕ} {w : Survey} → innermost x (formula-in s b) ≡ true
+        → Prepared s b (c .variable) (c .row) table w → Planned b x table s w
     planned {table} {w} e r =
-        let variable : w .variable ≡ x = r .variable-is ∙ ap (λ (q : ExpandChoice). q .variable) is ∙ row-variable in
+        let variable : c .variable ≡ x = ap (λ (q : ExpandChoice). q .variable) is ∙ row-variable in
         let row : w .to .row ≡ i = r .row-is ∙ ap (λ (q : ExpandChoice). q .row) is in
         record {
           tests-pass = quoted e;
-          variable-is = variable;
-          from = sheet-steppable (a .sheet) k;
-          named = subst₂ (Named s b) (sym variable) (sym row) (a .named);
-          prepared = subst₂ (λ y j. Prepared s b y j table w) (sym (r .variable-is)) (sym (r .row-is)) r;
+          from = sheet-steppable (a .sheet);
+          named = subst (Named s b x) (sym row) (a .named);
+          prepared = subst₂ (λ y j. Prepared s b y j table w) variable (sym (r .row-is)) r;
           same-formula = sheet-formula-in (a .sheet);
         }
-
-pub by-its-variable : {F : Format} {b : Bytes} {x : ℕ} {table : List ℕ} {s : Layout} {w : Expanding} → Planned F b x table s w
-    → Planned F b (w .variable) table s w
-by-its-variable {F} {b} {table = table} {s} {w} d = subst (λ (y : ℕ). Planned F b y table s w) (sym (d .variable-is)) d
 
 -- the call
 
@@ -134,72 +133,75 @@ unfolding quote-call
 refused-quote-call F b x h = refused-alike (quote-tests F b x) x (raw-count F b x) h
 
 pub refused-execution : {n i : ℕ} (F : Format) (b : Bytes) (x ceiling : ℕ) (out : Bytes) → refused n i ≡ answer (quote-tests F b x) x
-    → (refused n i ≡ (execute-call F b x ceiling out) .answer) × (out ≡ (execute-call F b x ceiling out) .output)
+    → record { answer = refused n i; output = out } ≡ execute-call F b x ceiling out
 unfolding execute-call
 refused-execution F b x ceiling out h =
-    write-refused (execute-tests F b x ceiling (length out)) x _ out (refused-ceiling F b x ceiling (length out) h)
+    written (write-refused (execute-tests F b x ceiling (length out)) x _ out (refused-ceiling F b x ceiling (length out) h))
 
 pub refused-call : {n i : ℕ} (F : Format) (b : Bytes) (x : ℕ) (out : Bytes) → refused n i ≡ answer (expand-tests F b x (length out)) x
-    → (refused n i ≡ (expand-call F b x out) .answer) × (out ≡ (expand-call F b x out) .output)
+    → record { answer = refused n i; output = out } ≡ expand-call F b x out
 unfolding expand-call
-refused-call F b x out h = write-refused (expand-tests F b x (length out)) x _ out h
+refused-call F b x out h = written (write-refused (expand-tests F b x (length out)) x _ out h)
 
-module _ {F : Format} {b : Bytes} {table : List ℕ} {s : Layout} {w : Expanding} (d : Planned F b (w .variable) table s w) where
-  abbrev y : ℕ
-  y = w .variable
+module _ {b : Bytes} {y : ℕ} {table : List ℕ} {s : Layout} {w : Survey} (d : Planned b y table s w) where
+  abbrev G : Format
+  G = format-in s
 
-  fits-here : (len : ℕ) → fits-raw (fits F len) y (formula F b) ≡ fits F len (s .variables - 1) (w .to .layout .nodes)
+  fits-here : (len : ℕ) → fits-raw (fits G len) y (formula G b) ≡ fits G len (s .variables - 1) (w .to .layout .nodes)
   unfolding fits-raw formula-in
   fits-here len =
-      ap (fits-raw (fits F len) y) (sym (d .same-formula)) ∙
-      ap₂ (λ v n. fits F len (v - 1) n) (length-prefix b (d .from .readable)) (sym (ap (λ (l : Layout). l .nodes) (d .prepared .layout-is)))
+      ap (fits-raw (fits G len) y) (sym (d .same-formula)) ∙
+      ap₂ (λ v n. fits G len (v - 1) n) (length-prefix b (d .from .readable)) (sym (ap (λ (l : Layout). l .nodes) (d .prepared .layout-is)))
 
   -- 19 above the ceiling; within it Execute is Expand
-  raw-here : w .to .layout .nodes ≡ raw-count F b y
+  raw-here : w .to .layout .nodes ≡ raw-count G b y
   unfolding formula-in
   raw-here =
       ap (λ (l : Layout). l .nodes) (d .prepared .layout-is) ∙ ap (λ (f : Formula). raw-rows (of y) (f .matrix)) (d .same-formula)
 
   pub above-ceiling : (ceiling : ℕ) (out : Bytes) → ceiling < w .to .layout .nodes
-      → (refused 19 0 ≡ (execute-call F b y ceiling out) .answer) × (out ≡ (execute-call F b y ceiling out) .output)
-  above-ceiling ceiling out h = execute-above F b y ceiling out (d .tests-pass) (omega (arith, raw-here))
+      → record { answer = refused 19 0; output = out } ≡ execute-call G b y ceiling out
+  above-ceiling ceiling out h = written (execute-above G b y ceiling out (d .tests-pass) (omega (arith, raw-here)))
 
-  pub within-ceiling : (ceiling : ℕ) (out : Bytes) → w .to .layout .nodes ≤ ceiling → execute-call F b y ceiling out ≡ expand-call F b y out
-  within-ceiling ceiling out h = execute-within F b y ceiling out (omega (arith, raw-here))
+  pub within-ceiling : (ceiling : ℕ) (out : Bytes) → w .to .layout .nodes ≤ ceiling → execute-call G b y ceiling out ≡ expand-call G b y out
+  within-ceiling ceiling out h = execute-within G b y ceiling out (omega (arith, raw-here))
 
-  module _ (out : Bytes) {c : Bool} (is : c ≡ fits F (length out) (s .variables - 1) (w .to .layout .nodes)) where
+  module _ (out : Bytes) {c : Bool} (is : c ≡ fits G (length out) (s .variables - 1) (w .to .layout .nodes)) where
     -- 13 the raw sheet doesn't fit
-    pub no-room : c ≡ false → (refused 13 0 ≡ (expand-call F b y out) .answer) × (out ≡ (expand-call F b y out) .output)
+    pub no-room : c ≡ false → record { answer = refused 13 0; output = out } ≡ expand-call G b y out
     unfolding answer expand-tests
     no-room e =
-        refused-call F b y out
+        refused-call G b y out
         (rw (
-          answer-++ (quote-tests F b y) (raw-room-test F b y (length out) ∷ []) y (d .tests-pass),
+          answer-++ (quote-tests G b y) (raw-room-test G b y (length out) ∷ []) y (d .tests-pass),
           fits-here (length out),
           ← is,
           e,
         ))
 
-    pub expands : c ≡ true → Expands F s b table w (length out)
+    pub expands : c ≡ true → Expands s b y table w (length out)
     expands e = record { from = d .from; named = d .named; prepared = d .prepared; has-room = sym is ∙ e }
 
-    tests-pass : c ≡ true → passes (expand-tests F b y (length out)) ≡ true
+    tests-pass : c ≡ true → passes (expand-tests G b y (length out)) ≡ true
     unfolding passes expand-tests
     tests-pass e =
         rw (
-          passes-++ (quote-tests F b y) (raw-room-test F b y (length out) ∷ []),
+          passes-++ (quote-tests G b y) (raw-room-test G b y (length out) ∷ []),
           d .tests-pass,
           fits-here (length out),
           ← is,
           e,
         )
 
-    pub expanded-call : c ≡ true → {len : ℕ} {written : Bytes} → len ≡ length (sheet F (expanded y (formula-in s b)))
-        → written ≡ padded (length out) (sheet F (expanded y (formula-in s b)))
-        → (accepted len ≡ (expand-call F b y out) .answer) × (written ≡ (expand-call F b y out) .output)
+    pub expanded-call : c ≡ true → {t : Layout} {len : ℕ} {new : Bytes} → t ≡ layout-for (s .format) (expanded y (formula-in s b))
+        → len ≡ sheet-length G (t .variables) (t .nodes) → new ≡ padded (length out) (sheet G (expanded y (formula-in s b)))
+        → record { answer = accepted len; output = new } ≡ expand-call G b y out
     unfolding expand-call
-    expanded-call e l h =
-        let call = write-accepted (expand-tests F b y (length out)) (sheet F (expanded y (formula F b))) out (tests-pass e) in (
-          ap accepted (l ∙ ap (λ (f : Formula). length (sheet F (expanded y f))) (d .same-formula)) ∙ call .0,
-          h ∙ ap (λ (f : Formula). padded (length out) (sheet F (expanded y f))) (d .same-formula) ∙ call .1,
+    expanded-call e at l h =
+        let call = write-accepted (expand-tests G b y (length out)) (sheet G (expanded y (formula G b))) out (tests-pass e) in
+        let same = d .same-formula in
+        let long = l ∙ ap (λ (t : Layout). sheet-length G (t .variables) (t .nodes)) at ∙ sym (length-sheet G (expanded y (formula-in s b))) in
+        written (
+          ap accepted (long ∙ ap (λ (f : Formula). length (sheet G (expanded y f))) same) ∙ call .0,
+          h ∙ ap (λ (f : Formula). padded (length out) (sheet G (expanded y f))) same ∙ call .1,
         )

@@ -6,57 +6,51 @@ use rows::Format;
 use rows::Layout;
 use rows::NUMBERS;
 use rows::ROWS;
+use rows::refusals::WRONG_BLOCK;
 use stepping::admission::Admission;
 use stepping::admission::Binding;
 use stepping::admission::admit;
-use stepping::expanding::Expanding;
-use stepping::expanding::prepare;
+use stepping::expanding::draft;
+use stepping::survey::Survey;
+use stepping::survey::survey_draft;
 ghost use Prim.Native.Nat.{_<_};
 ghost use lib.ListN.{length};
-ghost use Rattle.rows.specs.Formats.{format-of};
-ghost use Rattle.checking.specs.Limits.{Countable};
+ghost use Rattle.rows.specs.Tables.{ROWS};
 ghost use Rattle.stepping.specs.Admission.{Admitted};
 ghost use Rattle.expand.specs.Inner.Plan.{Plans};
 
 // A refusal's number and place; or the sheet's layout and what is written.
 pub enum Plan {
     Refused(usize, usize),
-    Expands(Layout, Expanding),
+    Expands(Layout, Survey),
 }
 
 // Decides on a variable that tests 1 to 10 admit: 11 not in the innermost block. The cuts of an innermost one are filled.
-fn plan_admitted(
-    sheet: &[u8],
-    f: Format,
-    s: Layout,
-    ends: &[u16],
-    z: Binding,
-    cuts: &mut [u16],
-) -> Plan
-    requires { ⌜ Countable (format-of f) × Admitted (format-of f) (now sheet) (z .variable) s (z .row) (now ends) × (8192 < length (now cuts)) ⌝ }
-    ensures { λ r. ⌜ Plans (format-of f) (now (sheet .entry)) (z .variable) (now (cuts .exit)) r ⌝ }
+fn plan_admitted(sheet: &[u8], s: Layout, ends: &[u16], z: Binding, cuts: &mut [u16]) -> Plan
+    requires { ⌜ Admitted (now sheet) (z .variable) s (z .row) (now ends) × (ROWS < length (now cuts)) ⌝ }
+    ensures { λ r. ⌜ Plans (s .format) (now (sheet .entry)) (z .variable) (now (cuts .exit)) r ⌝ }
 {
     let mut ranges = [0u16; 2 * NUMBERS];
     let mut next = [0u16; ROWS];
     let p = find_price(sheet, s, ends, z, &mut ranges, &mut next);
     match p {
-        Price::Outside => Plan::Refused(11, 0),
+        Price::Outside => Plan::Refused(WRONG_BLOCK, 0),
         Price::Inside(c) => {
-            let w = prepare(sheet, s, ends, &ranges, &next, c, cuts);
-            Plan::Expands(s, w)
+            let d = draft(sheet, s, &ranges, c);
+            Plan::Expands(s, survey_draft(sheet, s, ends, &next, d, cuts))
         }
     }
 }
 
 // Decides what Expand of `x` does with a sheet, whatever the output.
 pub fn plan_expand(sheet: &[u8], f: Format, x: usize, cuts: &mut [u16]) -> Plan
-    requires { ⌜ Countable (format-of f) × (8192 < length (now cuts)) ⌝ }
-    ensures { λ r. ⌜ Plans (format-of f) (now (sheet .entry)) x (now (cuts .exit)) r ⌝ }
+    requires { ⌜ ROWS < length (now cuts) ⌝ }
+    ensures { λ r. ⌜ Plans f (now (sheet .entry)) x (now (cuts .exit)) r ⌝ }
 {
     let mut ends = [0u16; ROWS];
     let a = admit(sheet, f, x, &mut ends);
     match a {
         Admission::Refused(number, place) => Plan::Refused(number, place),
-        Admission::Admitted(s, z) => plan_admitted(sheet, f, s, &ends, z, cuts),
+        Admission::Admitted(s, z) => plan_admitted(sheet, s, &ends, z, cuts),
     }
 }

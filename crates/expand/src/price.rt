@@ -6,8 +6,9 @@ use occurrences::fill_occurrences;
 use rows::Layout;
 use stepping::admission::Binding;
 ghost use mathlib.Core.Path.{_≡_};
-ghost use Prim.Native.Nat.{_≤_};
+ghost use Prim.Native.Nat.{_*_, _≤_};
 ghost use lib.ListN.{length};
+ghost use Rattle.rows.specs.Tables.{NUMBERS};
 ghost use Rattle.subtrees.specs.Ends.{Indexed};
 ghost use Rattle.choice.specs.Choosing.{Bound};
 ghost use Rattle.stepping.specs.Steps.{Named};
@@ -29,7 +30,7 @@ pub fn find_price(
     next: &mut [u16],
 ) -> Price
     requires { ⌜ Indexed s (now sheet) (now ends) × Bound s (now sheet) × Named s (now sheet) (z .variable) (z .row) ⌝ }
-    requires { ⌜ (length (now ranges) ≡ 2050) × (s .nodes ≤ length (now next)) ⌝ }
+    requires { ⌜ (length (now ranges) ≡ 2 * NUMBERS) × (s .nodes ≤ length (now next)) ⌝ }
     ensures { λ r. ⌜ Prices s (now (sheet .entry)) z (now (ranges .exit)) (now (next .exit)) r ⌝ }
 {
     fill_occurrences(sheet, s, ranges, next);

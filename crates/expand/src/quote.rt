@@ -5,14 +5,14 @@ use rows::Format;
 use rows::Layout;
 use rows::NUMBERS;
 use rows::ROWS;
+use rows::refusals::WRONG_BLOCK;
 use stepping::admission::Admission;
 use stepping::admission::Binding;
 use stepping::admission::admit;
 ghost use mathlib.Core.Path.{_≡_};
-ghost use Rattle.sheet.specs.Format.{narrow, wide};
 ghost use Rattle.sheet.specs.Operations.{quote-call};
 ghost use Rattle.rows.specs.Formats.{format-of};
-ghost use Rattle.checking.specs.Limits.{Countable};
+ghost use Rattle.rows.specs.Layouts.{format-in};
 ghost use Rattle.stepping.specs.Admission.{Admitted};
 ghost use Rattle.expand.specs.Answers.{quoted-answer};
 
@@ -23,42 +23,27 @@ pub enum Quoted {
 }
 
 // Quotes a variable that tests 1 to 10 admit: 11 not in the innermost block.
-fn quote_admitted(sheet: &[u8], f: Format, s: Layout, ends: &[u16], z: Binding) -> Quoted
-    requires { ⌜ Countable (format-of f) × Admitted (format-of f) (now sheet) (z .variable) s (z .row) (now ends) ⌝ }
-    ensures { λ r. ⌜ quoted-answer r ≡ quote-call (format-of f) (now (sheet .entry)) (z .variable) ⌝ }
+fn quote_admitted(sheet: &[u8], s: Layout, ends: &[u16], z: Binding) -> Quoted
+    requires { ⌜ Admitted (now sheet) (z .variable) s (z .row) (now ends) ⌝ }
+    ensures { λ r. ⌜ quoted-answer r ≡ quote-call (format-in s) (now (sheet .entry)) (z .variable) ⌝ }
 {
     let mut ranges = [0u16; 2 * NUMBERS];
     let mut next = [0u16; ROWS];
     let p = find_price(sheet, s, ends, z, &mut ranges, &mut next);
     match p {
-        Price::Outside => Quoted::Refused(11, 0),
+        Price::Outside => Quoted::Refused(WRONG_BLOCK, 0),
         Price::Inside(c) => Quoted::Rows(c.raw),
     }
 }
 
-// Quotes the expansion of `x` in a sheet of any format whose rows this code can count.
-pub fn quote_in(sheet: &[u8], f: Format, x: usize) -> Quoted
-    requires { ⌜ Countable (format-of f) ⌝ }
+// Quotes the expansion of `x`: the raw row count, or the refusal that Expand would give short of 13.
+pub fn quote(sheet: &[u8], f: Format, x: usize) -> Quoted
     ensures { λ r. ⌜ quoted-answer r ≡ quote-call (format-of f) (now (sheet .entry)) x ⌝ }
 {
     let mut ends = [0u16; ROWS];
     let a = admit(sheet, f, x, &mut ends);
     match a {
         Admission::Refused(number, place) => Quoted::Refused(number, place),
-        Admission::Admitted(s, z) => quote_admitted(sheet, f, s, &ends, z),
+        Admission::Admitted(s, z) => quote_admitted(sheet, s, &ends, z),
     }
-}
-
-// Quotes the expansion of `x` in a sheet of document 01: the raw row count, or the refusal that Expand would give short of 13.
-pub fn quote(sheet: &[u8], x: usize) -> Quoted
-    ensures { λ r. ⌜ quoted-answer r ≡ quote-call narrow (now (sheet .entry)) x ⌝ }
-{
-    quote_in(sheet, rows::narrow(), x)
-}
-
-// Quotes the expansion of `x` in a wide sheet (N11) in the same way.
-pub fn quote_wide(sheet: &[u8], x: usize) -> Quoted
-    ensures { λ r. ⌜ quoted-answer r ≡ quote-call wide (now (sheet .entry)) x ⌝ }
-{
-    quote_in(sheet, rows::wider(), x)
 }

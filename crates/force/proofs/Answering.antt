@@ -1,27 +1,30 @@
--- What Force answers and leaves, from its plan and its two runs.
+-- What Force answers and leaves, from its tests and its two runs.
 -- Assumes nothing.
 use mathlib.Core.Path.{_≡_, refl, sym, ap, ap₂, _∙_}
-use mathlib.Core.Bool.{Bool, true, false, Bool·beq, false≢true, true≢false}
-use Prim.Native.Nat.{ℕ}
+use mathlib.Core.Bool.{Bool, true, false, not, Bool·beq, false≢true, true≢false}
+use Prim.Native.Nat.{ℕ, _≤_, _<_}
 use native.Mathlib.Omega.{arith}
 use lib.ListN.{length, drop, replicate, length-map}
 use lib.Seq.{drop-cons}
+use borrow.Author.Tests.{not-true, not-false}
 use Rattle.formula.specs.Tree.{Quantifier, and, or, same-op, exists, for-all, Formula}
 use Rattle.formula.specs.Solve.{End, ended, stopped}
 use Rattle.formula.specs.Force.{owner, turn-after, wanted, Forced, stopped-at, which, forced-by, forced}
 use Rattle.formula.proofs.Force.{prefix-given, first-stop, second-stop}
-use Rattle.sheet.specs.Format.{Bytes, Format, fits}
+use Rattle.sheet.specs.Format.{Bytes, Format, fits, variables}
 use Rattle.sheet.specs.Sheet.{formula}
-use Rattle.sheet.specs.Check.{Answer, refused, accepted, answer}
+use Rattle.sheet.specs.Check.{Answer, refused, accepted, answer, check-tests, check}
 use Rattle.sheet.specs.Trace.{room}
-use Rattle.sheet.specs.Force.{value-of, values-of, force-tests, Panel, panel, Forcing, buffer-after, force-call}
-use Rattle.sheet.proofs.Tests.{answer-passes}
+use Rattle.sheet.specs.Force.{are-values, value-of, values-of, force-tests, Panel, panel, Forcing, buffer-after, force-call}
+use Rattle.sheet.proofs.Tests.{answer-passes, refused-first}
+use Rattle.sheet.proofs.Force.{refused-21, refused-22, refused-13, none-fails}
+use Rattle.rows.specs.Layouts.{format-in}
 use Rattle.rows.specs.Formulas.{prefix-in, formula-in}
 use Rattle.rows.specs.declared.Layout.{Layout}
 use Rattle.rows.proofs.Formulas.{length-prefix}
-use Rattle.checking.proofs.CheckedSheets.{sheet-formula-in}
+use Rattle.checking.specs.Sheets.{Sheet}
+use Rattle.checking.proofs.CheckedSheets.{sheet-right, sheet-formula-in}
 use Rattle.prefixes.specs.Places.{binding-at, binding-in}
-use Rattle.force.specs.Inner.Plan.{Planned}
 use Rattle.force.specs.Inner.Judging.{Judgeable, end-in, outcome-in}
 use Rattle.force.proofs.Judging.{readable}
 
@@ -37,7 +40,10 @@ wanted-is : (q : Quantifier) → same-op exists q ≡ wanted q
 wanted-is or = refl
 wanted-is and = refl
 
-module _ {F : Format} {s : Layout} {b vs : Bytes} {len : ℕ} (j : Judgeable F s b vs len) where
+module _ {s : Layout} {b vs : Bytes} {len : ℕ} (j : Judgeable s b vs len) where
+  abbrev F : Format
+  F = format-in s
+
   -- the owner of the first row without a value
   pub turn-is : (binding-in s b (length vs)) .quantifier ≡ turn-after (values-of vs) (formula F b)
   unfolding owner binding-at formula-in
@@ -48,16 +54,16 @@ module _ {F : Format} {s : Layout} {b vs : Bytes} {len : ℕ} (j : Judgeable F s
       ap (λ (n : ℕ). owner (drop n (prefix-in s b))) (length-map vs value-of) ∙
       ap owner (drop-cons (prefix-in s b) (length vs) _ (omega (arith, length-prefix b (readable j), j .fewer))))
 
-  pub stopped-0 : {x : ℕ} → stopped x ≡ end-in F b vs false len → stopped-at x ≡ outcome-in F b vs len
+  pub stopped-0 : {x : ℕ} → stopped x ≡ end-in s b vs false len → stopped-at x ≡ outcome-in s b vs len
   stopped-0 e = sym (first-stop (fits F len) (values-of vs) (formula F b) (sym e))
 
-  pub stopped-1 : {x : ℕ} {v : Bool} → ended v ≡ end-in F b vs false len → stopped x ≡ end-in F b vs true len
-      → stopped-at x ≡ outcome-in F b vs len
+  pub stopped-1 : {x : ℕ} {v : Bool} → ended v ≡ end-in s b vs false len → stopped x ≡ end-in s b vs true len
+      → stopped-at x ≡ outcome-in s b vs len
   stopped-1 e₀ e₁ = sym (second-stop (fits F len) (values-of vs) (formula F b) (sym e₀) (sym e₁))
 
   pub both-ended : {existential : Bool} → existential ≡ same-op exists ((binding-in s b (length vs)) .quantifier)
-      → {v₀ v₁ w₀ w₁ : Bool} → ended v₀ ≡ end-in F b vs false len → ended v₁ ≡ end-in F b vs true len
-      → w₀ ≡ Bool·beq existential v₀ → w₁ ≡ Bool·beq existential v₁ → which w₀ w₁ ≡ outcome-in F b vs len
+      → {v₀ v₁ w₀ w₁ : Bool} → ended v₀ ≡ end-in s b vs false len → ended v₁ ≡ end-in s b vs true len
+      → w₀ ≡ Bool·beq existential v₀ → w₁ ≡ Bool·beq existential v₁ → which w₀ w₁ ≡ outcome-in s b vs len
   unfolding forced forced-by
   both-ended {existential} is {v₀} {v₁} e₀ e₁ k₀ k₁ =
       ap₂ which k₀ k₁ ∙ ap (λ (w : Bool). forced-by w (ended v₀) (ended v₁)) wants ∙ ap₂ (λ (n m : End). forced-by wish n m) e₀ e₁
@@ -68,38 +74,68 @@ module _ {F : Format} {s : Layout} {b vs : Bytes} {len : ℕ} (j : Judgeable F s
       wants : existential ≡ wish
       wants = is ∙ wanted-is ((binding-in s b (length vs)) .quantifier) ∙ ap wanted turn-is
 
--- what is left after a call with this answer
-pub record Left (s : Forcing) (a : Answer Panel) (first second : Bytes) : Type 0 where
-  pub answers : a ≡ s .answer
-  pub in-first : first ≡ s .first
-  pub in-second : second ≡ s .second
+-- what a call answers and leaves
 
 module _ (F : Format) (b vs first second : Bytes) where
-  abbrev whole : ℕ → Answer Panel
-  whole len = answer (force-tests F b vs len) (panel F b vs len)
+  abbrev whole : Answer Panel
+  whole = answer (force-tests F b vs (room first second)) (panel F b vs (room first second))
 
-  pub refused-call : {k p len : ℕ} → len ≡ room first second → refused k p ≡ whole len
-      → Left (force-call F b vs first second) (refused k p) first second
+  abbrev after : Answer Panel → Forcing
+  after a = record { answer = a; first = buffer-after a first; second = buffer-after a second }
+
+  refused-call : {k p : ℕ} → refused k p ≡ whole
+      → record { answer = refused k p; first = first; second = second } ≡ force-call F b vs first second
   unfolding force-call buffer-after
-  refused-call l e =
-      let is = e ∙ ap whole l in
-      record {
-        answers = is;
-        in-first = ap (λ (a : Answer Panel). buffer-after a first) is;
-        in-second = ap (λ (a : Answer Panel). buffer-after a second) is;
-      }
+  refused-call e = ap after e
 
-  pub answered-call : {s : Layout} {len : ℕ} {q : Quantifier} {o : Forced} {new zeros : Bytes} → len ≡ room first second
-      → Planned F b vs len s → q ≡ (binding-in s b (length vs)) .quantifier → o ≡ outcome-in F b vs len
-      → new ≡ replicate (length first) 0 → zeros ≡ replicate (length second) 0
-      → Left (force-call F b vs first second) (accepted (record { turn = q; outcome = o })) new zeros
-  unfolding force-call buffer-after panel
-  answered-call {s} {len} {q} {o} l made t e n z =
-      let is : accepted (record { turn = q; outcome = o }) ≡ whole (room first second)
-      = ap₂ (λ (q : Quantifier) (o : Forced). accepted (record { turn = q; outcome = o })) (t ∙ turn-is (made .judgeable)) e ∙
-      sym (answer-passes (force-tests F b vs len) (panel F b vs len) (made .tests-pass)) ∙ ap whole l in
-      record {
-        answers = is;
-        in-first = n ∙ ap (λ (a : Answer Panel). buffer-after a first) is;
-        in-second = z ∙ ap (λ (a : Answer Panel). buffer-after a second) is;
-      }
+  -- 1 to 8
+  pub unchecked-call : {k p : ℕ} → refused k p ≡ check F b
+      → record { answer = refused k p; first = first; second = second } ≡ force-call F b vs first second
+  unfolding check force-tests
+  unchecked-call e = refused-call (refused-first (check-tests F b) _ _ _ e)
+
+module _ {b : Bytes} {s : Layout} (h : Sheet (s .format) b s) (vs first second : Bytes) {ok : Bool} (e : ok ≡ are-values vs) where
+  abbrev G : Format
+  G = format-in s
+
+  abbrev most : ℕ
+  most = room first second
+
+  variables-are : s .variables ≡ variables G b
+  variables-are = sheet-right h .variables-are
+
+  -- 21 a value isn't 0 or 1
+  pub bad-call : not ok ≡ true → record { answer = refused 21 0; first = first; second = second } ≡ force-call G b vs first second
+  bad-call n = refused-call G b vs first second (sym (refused-21 G b vs most (h .tests-pass) (sym e ∙ not-true ok n)))
+
+  module _ (n : not ok ≡ false) where
+    good : are-values vs ≡ true
+    good = sym e ∙ not-false ok n
+
+    -- 22 the values are as many as V or more
+    pub many-call : s .variables ≤ length vs
+        → record { answer = refused 22 0; first = first; second = second } ≡ force-call G b vs first second
+    many-call l = refused-call G b vs first second (sym (refused-22 G b vs most (h .tests-pass) good (omega (arith, variables-are))))
+
+    module _ (fewer : length vs < s .variables) where
+      few : length vs < variables G b
+      few = omega (arith, variables-are)
+
+      -- 13 a work buffer shorter than the sheet
+      pub short-call : most < length b
+          → record { answer = refused 13 0; first = first; second = second } ≡ force-call G b vs first second
+      short-call l = refused-call G b vs first second (sym (refused-13 G b vs most (h .tests-pass) good few l))
+
+      module _ (l : length b ≤ most) where
+        judgeable : Judgeable s b vs most
+        judgeable = record { checked = h; fewer = fewer; has-room = l }
+
+        pub answered-call : {q : Quantifier} {o : Forced} {first′ second′ : Bytes} → q ≡ (binding-in s b (length vs)) .quantifier
+            → o ≡ outcome-in s b vs most → first′ ≡ replicate (length first) 0 → second′ ≡ replicate (length second) 0
+            → record { answer = accepted (record { turn = q; outcome = o }); first = first′; second = second′ } ≡ force-call G b vs first second
+        unfolding force-call buffer-after panel
+        answered-call {q} {o} t k zeros zeros′ =
+            ap₂ (λ (x y : Bytes). record { answer = accepted (record { turn = q; outcome = o }); first = x; second = y }) zeros zeros′ ∙
+            ap (after G b vs first second)
+            (ap₂ (λ (q : Quantifier) (o : Forced). accepted (record { turn = q; outcome = o })) (t ∙ turn-is judgeable) k ∙
+            sym (answer-passes (force-tests G b vs most) (panel G b vs most) (none-fails G b vs most (h .tests-pass) good few l)))

@@ -4,7 +4,7 @@
 use mathlib.Core.Path.{_≡_, sym, ap, ap₂, _∙_, subst}
 use mathlib.Core.Bool.{Bool}
 use mathlib.Core.List.{List, [], _∷_, _++_}
-use Prim.Native.Nat.{ℕ, _+_, _-_, _*_, _≤_, min}
+use Prim.Native.Nat.{ℕ, _+_, _-_, _≤_, min}
 use native.Mathlib.Nat.{mul-le-mul-left}
 use native.Mathlib.Omega.{arith}
 use lib.ListN.{length, drop, length-append, length-drop, length-map}
@@ -14,7 +14,7 @@ use Rattle.formula.specs.Force.{tried, judged}
 use Rattle.formula.proofs.Force.{prefix-given}
 use Rattle.sheet.specs.Format.{Bytes, Format, row, sheet-length, fits}
 use Rattle.sheet.specs.Sheet.{binding, formula, formula-rows}
-use Rattle.sheet.specs.Operations.{is-refused, is-stopped, is-ended, solved}
+use Rattle.sheet.specs.Operations.{Solved, is-refused, is-stopped, is-ended, solved, Solving, solving}
 use Rattle.sheet.specs.Limits.{Within}
 use Rattle.sheet.specs.Trace.{room}
 use Rattle.sheet.specs.Force.{value-of, values-of}
@@ -22,16 +22,16 @@ use Rattle.sheet.proofs.Accepted.{accepted-within}
 use Rattle.sheet.proofs.Refusals.{solved-not-refused}
 use Rattle.sheet.proofs.Limits.{numbered-at, binds-numbered}
 use Rattle.sheet.proofs.Force.{within-given}
-use Rattle.rows.specs.Layouts.{total, size, rows-in, Room}
+use Rattle.rows.specs.Layouts.{format-in, width, total, size, rows-in, Room}
 use Rattle.rows.specs.Formulas.{prefix-in, matrix-in, formula-in, Readable}
 use Rattle.rows.specs.declared.Layout.{Layout}
 use Rattle.rows.proofs.Formulas.{length-prefix, formula-written}
-use Rattle.rows.proofs.Widths.{at-least-two}
+use Rattle.rows.proofs.Limits.{limits}
 use Rattle.checking.proofs.CheckedSheets.{sheet-right, sheet-readable, sheet-formula-in}
 use Rattle.prefixes.specs.Places.{binding-at}
 use Rattle.raw.specs.Formulas.{Raw}
 use Rattle.tidying.proofs.Raw.{few-rows, raw-rows}
-use Rattle.solve.specs.Inner.Running.{RawReady, solution}
+use Rattle.solve.specs.Inner.Running.{RawReady, answered, solution, raw-call}
 use Rattle.force.specs.Inner.Moves.{Numbered, moves, behind-raw, layout-behind}
 use Rattle.force.specs.Inner.Judging.{Judgeable}
 use Rattle.force.proofs.Tables.{Small, moves-given}
@@ -51,12 +51,15 @@ unfolding solved
 ended-ending (ended w) s {v} h = let k : v ≡ w = cc in ap ended k
 ended-ending (stopped y) s h = let z : _≡_ {A = ℕ} 0 1 = cc in absurd (omega arith)
 
-module _ {F : Format} {s : Layout} {b vs : Bytes} {len : ℕ} (j : Judgeable F s b vs len) where
+module _ {s : Layout} {b vs : Bytes} {len : ℕ} (j : Judgeable s b vs len) where
+  abbrev F : Format
+  F = format-in s
+
   abbrev p : Prefix
   p = prefix-in s b
 
   pub readable : Readable s b
-  readable = sheet-readable (j .checked) (j .countable .manageable)
+  readable = sheet-readable (j .checked)
 
   same-formula : formula-in s b ≡ formula F b
   same-formula = sheet-formula-in (j .checked)
@@ -64,40 +67,32 @@ module _ {F : Format} {s : Layout} {b vs : Bytes} {len : ℕ} (j : Judgeable F s
   within : Within F (formula-in s b)
   within = subst (Within F) (sym same-formula) (accepted-within F b (j .checked .tests-pass))
 
-  width-is : s .width ≡ F .width
-  width-is = ap (λ (t : Layout). t .width) (j .checked .layout-is)
-
-  pub two-bytes : 2 ≤ s .width
-  two-bytes = omega (arith, width-is, at-least-two (j .countable .manageable .few-bytes))
-
   pub numbered : Numbered s b
   unfolding binding-at formula-in
   numbered i h =
       omega (
         arith,
         numbered-at F p i (binding (row 0 0)) (within .is-numbered) (omega (arith, length-prefix b readable)),
-        j .countable .manageable .few-variables,
+        limits (s .format) .few-variables,
       )
 
   small : Small p
   unfolding formula-in
-  small v h = omega (arith, binds-numbered F p v (within .is-numbered) h, j .countable .manageable .few-variables)
+  small v h = omega (arith, binds-numbered F p v (within .is-numbered) h, limits (s .format) .few-variables)
 
   -- the sheet left is no longer than the one given
-  pub left-short : (k : ℕ) → size (layout-behind s k) ≤ len
+  left-short : (k : ℕ) → size (layout-behind s k) ≤ len
   unfolding sheet-length
   left-short k =
-      let r = sheet-right (j .checked) in
       omega (
         arith,
-        mul-le-mul-left {m = total (layout-behind s k)} {n = total s} (1 + s .width) (omega arith),
-        ap (λ (w : ℕ). 2 * w + (1 + w) * total s) width-is,
-        r .right-length,
+        mul-le-mul-left {m = total (layout-behind s k)} {n = total s} (1 + width s) (omega arith),
+        sheet-right (j .checked) .right-length,
         j .has-room,
       )
 
   pub left-room : (k : ℕ) {n : ℕ} → len ≤ n → Room (layout-behind s k) n
-  left-room k h = record { few-bytes = readable .room .few-bytes; holds = omega (arith, left-short k) }
+  left-room k h = record { holds = omega (arith, left-short k) }
 
   module _ (c : Bool) where
     abbrev bs : List Bool
@@ -108,9 +103,6 @@ module _ {F : Format} {s : Layout} {b vs : Bytes} {len : ℕ} (j : Judgeable F s
 
     abbrev g : Formula
     g = tried (values-of vs) c (formula F b)
-
-    abbrev t : Layout
-    t = layout-behind s k
 
     count-moves : length bs ≡ k
     count-moves = length-append (values-of vs) (c ∷ []) ∙ omega (arith, length-map vs value-of)
@@ -125,34 +117,40 @@ module _ {F : Format} {s : Layout} {b vs : Bytes} {len : ℕ} (j : Judgeable F s
         ap (λ (f : Formula). tried (values-of vs) c f) same-formula
 
     module _ {table : List ℕ} (filled : table ≡ moves bs p) {old new : Bytes} (second : Bytes) (same : length new ≡ length old)
-        (shorter : len ≡ room old second) (w : Raw t old new (behind-raw k table (formula-in s b))) where
-      rows-are : rows-in t new ≡ formula-rows g
+        (shorter : len ≡ room old second) {t : Layout} (at : t ≡ layout-behind s k)
+        (w : Raw (layout-behind s k) old new (behind-raw k table (formula-in s b))) where
+      rows-are : rows-in (layout-behind s k) new ≡ formula-rows g
       rows-are = w .all-rows ∙ ap formula-rows (raw-is filled)
 
-      prefix-count : length (g .prefix) ≡ t .variables
+      prefix-count : length (g .prefix) ≡ s .variables - k
       unfolding formula-in
       prefix-count =
           ap (λ (f : Formula). length ((tried (values-of vs) c f) .prefix)) (sym same-formula) ∙
           ap length (prefix-given bs p (matrix-in s b)) ∙ length-drop (length bs) p ∙
           omega (arith, count-moves, length-prefix b readable)
 
-      written : formula-in t new ≡ g
-      written = formula-written t new g rows-are prefix-count
+      written : formula-in (layout-behind s k) new ≡ g
+      written = formula-written (layout-behind s k) new g rows-are prefix-count
 
-      pub raw-ready : RawReady F t new second
+      pub raw-ready : RawReady t new second
       raw-ready =
           let r = sheet-right (j .checked) in
-          record {
-            countable = j .countable;
+          rw at
+          (record {
             raw =
-                raw-rows F t new g rows-are prefix-count width-is (left-room k (omega arith))
-                (few-rows (j .countable) t width-is (omega (arith, r .few-variables)) (r .few-nodes));
-            within =
-                subst (Within F) (sym written)
-                (within-given F bs (formula F b) (accepted-within F b (j .checked .tests-pass)));
+                raw-rows (layout-behind s k) new g rows-are prefix-count (left-room k (omega arith))
+                (few-rows (layout-behind s k) (omega (arith, r .few-variables)) (r .few-nodes));
+            within = subst (Within F) (sym written) (within-given F bs (formula F b) (accepted-within F b (j .checked .tests-pass)));
             has-room = omega (arith, left-short k);
-          }
+          })
 
-      pub run-is : solution F t new second ≡ judged (fits F len) (values-of vs) c (formula F b)
+      run-is : solution t new second ≡ judged (fits F len) (values-of vs) c (formula F b)
       run-is =
+          ap (λ (u : Layout). solution u new second) at ∙
           ap₂ (λ (n : ℕ) (f : Formula). solve (fits F n) f) (ap (λ (n : ℕ). min n (length second)) same ∙ sym shorter) written
+
+      -- what the run answers
+      pub run-answers : {a : Solved} {first′ second′ : Bytes} → record { answer = a; first = first′; second = second′ } ≡ raw-call t new second
+          → a ≡ answered (judged (fits F len) (values-of vs) c (formula F b))
+      unfolding raw-call solving
+      run-answers e = ap (λ (x : Solving). x .answer) e ∙ ap answered run-is

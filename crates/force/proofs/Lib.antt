@@ -1,6 +1,6 @@
 pub mod Tables
 pub mod Filling
 pub mod Rows
-pub mod Planning
+pub mod Values
 pub mod Judging
 pub mod Answering

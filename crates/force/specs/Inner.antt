@@ -1,4 +1,3 @@
 -- How Force goes about it: definitions that no entry point cites.
-pub mod Plan
 pub mod Moves
 pub mod Judging

@@ -1,28 +1,17 @@
 // A value judged: the sheet under the values given and this one stands in the first buffer, and Solve runs from there.
 use crate::moves::fill_moves;
 use crate::moves::write_behind;
-use rows::Format;
 use rows::Layout;
 use rows::NUMBERS;
-use rows::bytes::clear;
 use solve::Solved;
 use solve::Verdict;
 use solve::run_raw;
 ghost use mathlib.Core.Path.{_≡_};
-ghost use lib.ListN.{length, replicate};
 ghost use Rattle.formula.specs.Solve.{End, State};
 ghost use Rattle.sheet.specs.Operations.{solved};
 ghost use Rattle.sheet.specs.Trace.{room};
-ghost use Rattle.rows.specs.Formats.{format-of};
 ghost use Rattle.solve.specs.Answers.{solved-answer};
 ghost use Rattle.force.specs.Inner.Judging.{Judgeable, end-of, end-in};
-
-// A value tried for the first row without one, in a sheet of this format and layout.
-pub struct Move {
-    pub format: Format,
-    pub layout: Layout,
-    pub value: bool,
-}
 
 // How a value's run ended.
 pub enum Judged {
@@ -40,25 +29,21 @@ fn ending(r: Solved) -> Judged
     }
 }
 
-// Judges a value by a run in two buffers, both of which end as zeros.
-pub fn judge(sheet: &[u8], values: &[u8], m: Move, first: &mut [u8], second: &mut [u8]) -> Judged
-    requires { ⌜ Judgeable (format-of (m .format)) (m .layout) (now sheet) (now values) (room (now first) (now second)) ⌝ }
-    ensures { λ j. ⌜ end-of j ≡ end-in (format-of (m .format)) (now (sheet .entry)) (now (values .entry)) (m .value) (room (now (first .entry)) (now (second .entry))) ⌝ }
-    ensures { λ _. ⌜ now (first .exit) ≡ replicate (length (now (first .entry))) 0 ⌝ }
-    ensures { λ _. ⌜ now (second .exit) ≡ replicate (length (now (second .entry))) 0 ⌝ }
+// Judges the value `tried` for the first row without one, by a run in two buffers.
+pub fn judge(
+    sheet: &[u8],
+    s: Layout,
+    values: &[u8],
+    tried: bool,
+    first: &mut [u8],
+    second: &mut [u8],
+) -> Judged
+    requires { ⌜ Judgeable s (now sheet) (now values) (room (now first) (now second)) ⌝ }
+    ensures { λ j. ⌜ end-of j ≡ end-in s (now (sheet .entry)) (now (values .entry)) tried (room (now (first .entry)) (now (second .entry))) ⌝ }
 {
-    let s = m.layout;
-    let f = m.format;
-    let k = values.len() + 1;
     let mut table = [0u16; NUMBERS];
-    fill_moves(sheet, s, values, m.value, &mut table);
-    write_behind(sheet, s, &table, k, first);
-    let t = Layout {
-        width: s.width,
-        variables: s.variables - k,
-        nodes: s.nodes,
-    };
-    let r = run_raw(first, second, f, t);
-    clear(first, 0);
+    fill_moves(sheet, s, values, tried, &mut table);
+    let t = write_behind(sheet, s, &table, values.len() + 1, first);
+    let r = run_raw(first, second, t);
     ending(r)
 }

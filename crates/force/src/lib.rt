@@ -1,34 +1,34 @@
 // Force (N9): given values for the first variables of the prefix, whose turn is next and with which values its owner forces the outcome
 // wanted. Each of 0 and 1 is judged by a run of Solve on the sheet so reduced, which is written to the first buffer.
 use crate::judge::Judged;
-use crate::judge::Move;
 use crate::judge::judge;
-use crate::plan::Plan;
-use crate::plan::plan_force;
+use checking::Checked;
 use prefixes::is_existential;
 use rows::Format;
 use rows::Layout;
+use rows::bytes::clear;
+use rows::fit::shorter;
+use rows::refusals::BAD_VALUE;
+use rows::refusals::NO_ROOM;
+use rows::refusals::TOO_MANY_VALUES;
 use solve::Verdict;
-use solve::shorter;
 ghost use mathlib.Core.Path.{_≡_};
 ghost use mathlib.Core.Bool.{Bool·beq};
 ghost use Prim.Native.Nat.{_<_};
-ghost use lib.ListN.{length, replicate};
 ghost use Rattle.formula.specs.Force.{which};
-ghost use Rattle.sheet.specs.Format.{narrow, wide};
-ghost use Rattle.sheet.specs.Force.{force-call};
+ghost use Rattle.sheet.specs.Force.{are-values, force-call};
 ghost use Rattle.sheet.specs.Trace.{room};
 ghost use Rattle.rows.specs.Formats.{format-of};
+ghost use Rattle.rows.specs.Layouts.{format-in};
 ghost use Rattle.rows.specs.Formulas.{Readable};
-ghost use Rattle.checking.specs.Limits.{Countable};
+ghost use Rattle.checking.specs.Sheets.{Sheet};
 ghost use Rattle.prefixes.specs.Places.{binding-in};
 ghost use Rattle.solve.specs.Answers.{verdict-of};
-ghost use Rattle.force.specs.Answers.{turn-of, outcome-of, forced-answer};
+ghost use Rattle.force.specs.Answers.{turn-of, outcome-of, forcing-of};
 ghost use Rattle.force.specs.Inner.Judging.{Judgeable, outcome-in};
 
 pub mod judge;
 pub mod moves;
-pub mod plan;
 
 // Whose turn is next: the owner of the first row without a value.
 pub enum Turn {
@@ -49,6 +49,20 @@ pub enum Outcome {
 pub enum Forced {
     Refused(usize, usize),
     Answered(Turn, Outcome),
+}
+
+// Whether every byte is 0 or 1.
+fn are_values(values: &[u8]) -> bool
+    ensures { λ r. ⌜ r ≡ are-values (now (values .entry)) ⌝ }
+{
+    let mut i: usize = 0;
+    while i < values.len() {
+        if 1 < values[i] {
+            return false;
+        }
+        i += 1;
+    }
+    true
 }
 
 // The owner of prefix row `i`.
@@ -87,36 +101,17 @@ fn outcome_for(zero: bool, one: bool) -> Outcome
     Outcome::Neither
 }
 
-// Tries both values, 0 first; a run that stops is the outcome. Both buffers end as zeros.
-fn try_both(
-    sheet: &[u8],
-    f: Format,
-    s: Layout,
-    values: &[u8],
-    first: &mut [u8],
-    second: &mut [u8],
-) -> Outcome
-    requires { ⌜ Judgeable (format-of f) s (now sheet) (now values) (room (now first) (now second)) ⌝ }
-    ensures { λ r. ⌜ outcome-of r ≡ outcome-in (format-of f) (now (sheet .entry)) (now (values .entry)) (room (now (first .entry)) (now (second .entry))) ⌝ }
-    ensures { λ _. ⌜ now (first .exit) ≡ replicate (length (now (first .entry))) 0 ⌝ }
-    ensures { λ _. ⌜ now (second .exit) ≡ replicate (length (now (second .entry))) 0 ⌝ }
+// Tries both values, 0 first; a run that stops is the outcome.
+fn try_both(sheet: &[u8], s: Layout, values: &[u8], first: &mut [u8], second: &mut [u8]) -> Outcome
+    requires { ⌜ Judgeable s (now sheet) (now values) (room (now first) (now second)) ⌝ }
+    ensures { λ r. ⌜ outcome-of r ≡ outcome-in s (now (sheet .entry)) (now (values .entry)) (room (now (first .entry)) (now (second .entry))) ⌝ }
 {
     let existential = is_existential(sheet, s, values.len());
-    let zero = Move {
-        format: f,
-        layout: s,
-        value: false,
-    };
-    let j = judge(sheet, values, zero, first, second);
+    let j = judge(sheet, s, values, false, first, second);
     match j {
         Judged::Stopped(x) => Outcome::Stopped(x),
         Judged::Ended(at_zero) => {
-            let one = Move {
-                format: f,
-                layout: s,
-                value: true,
-            };
-            let k = judge(sheet, values, one, first, second);
+            let k = judge(sheet, s, values, true, first, second);
             match k {
                 Judged::Stopped(x) => Outcome::Stopped(x),
                 Judged::Ended(at_one) => outcome_for(
@@ -128,45 +123,42 @@ fn try_both(
     }
 }
 
-// Answers for a sheet of any format whose rows this code can count.
-pub fn force_in(
+// Answers for a sheet that Check accepts, of this layout: 21 a value isn't 0 or 1, 22 the values are as many as V or more, 13 a work
+// buffer shorter than the sheet.
+fn force_checked(
     sheet: &[u8],
-    f: Format,
+    s: Layout,
     values: &[u8],
     first: &mut [u8],
     second: &mut [u8],
 ) -> Forced
-    requires { ⌜ Countable (format-of f) ⌝ }
-    ensures { λ r. ⌜ forced-answer r ≡ (force-call (format-of f) (now (sheet .entry)) (now (values .entry)) (now (first .entry)) (now (second .entry))) .answer ⌝ }
-    ensures { λ _. ⌜ now (first .exit) ≡ (force-call (format-of f) (now (sheet .entry)) (now (values .entry)) (now (first .entry)) (now (second .entry))) .first ⌝ }
-    ensures { λ _. ⌜ now (second .exit) ≡ (force-call (format-of f) (now (sheet .entry)) (now (values .entry)) (now (first .entry)) (now (second .entry))) .second ⌝ }
+    requires { ⌜ Sheet (s .format) (now sheet) s ⌝ }
+    ensures { λ r. ⌜ forcing-of r (now (first .exit)) (now (second .exit)) ≡ force-call (format-in s) (now (sheet .entry)) (now (values .entry)) (now (first .entry)) (now (second .entry)) ⌝ }
 {
-    let p = plan_force(sheet, f, values, shorter(first.len(), second.len()));
-    match p {
-        Plan::Refused(number, place) => Forced::Refused(number, place),
-        Plan::Forces(s) => {
-            let turn = turn_at(sheet, s, values.len());
-            let outcome = try_both(sheet, f, s, values, first, second);
-            Forced::Answered(turn, outcome)
-        }
+    if !are_values(values) {
+        return Forced::Refused(BAD_VALUE, 0);
     }
+    if s.variables <= values.len() {
+        return Forced::Refused(TOO_MANY_VALUES, 0);
+    }
+    if shorter(first.len(), second.len()) < sheet.len() {
+        return Forced::Refused(NO_ROOM, 0);
+    }
+    let turn = turn_at(sheet, s, values.len());
+    let outcome = try_both(sheet, s, values, first, second);
+    clear(first, 0);
+    clear(second, 0);
+    Forced::Answered(turn, outcome)
 }
 
-// Says of a sheet of document 01, with values for its first variables (a byte each, 0 or 1), whose turn is next and with which values
-// its owner forces the outcome wanted. Both work buffers then hold zeros; refused, they are left as they were.
-pub fn force(sheet: &[u8], values: &[u8], first: &mut [u8], second: &mut [u8]) -> Forced
-    ensures { λ r. ⌜ forced-answer r ≡ (force-call narrow (now (sheet .entry)) (now (values .entry)) (now (first .entry)) (now (second .entry))) .answer ⌝ }
-    ensures { λ _. ⌜ now (first .exit) ≡ (force-call narrow (now (sheet .entry)) (now (values .entry)) (now (first .entry)) (now (second .entry))) .first ⌝ }
-    ensures { λ _. ⌜ now (second .exit) ≡ (force-call narrow (now (sheet .entry)) (now (values .entry)) (now (first .entry)) (now (second .entry))) .second ⌝ }
+// Says of a sheet, with values for its first variables (a byte each, 0 or 1), whose turn is next and with which values its owner forces
+// the outcome wanted. Both work buffers then hold zeros; refused, they are left as they were.
+pub fn force(sheet: &[u8], f: Format, values: &[u8], first: &mut [u8], second: &mut [u8]) -> Forced
+    ensures { λ r. ⌜ forcing-of r (now (first .exit)) (now (second .exit)) ≡ force-call (format-of f) (now (sheet .entry)) (now (values .entry)) (now (first .entry)) (now (second .entry)) ⌝ }
 {
-    force_in(sheet, rows::narrow(), values, first, second)
-}
-
-// The same of a wide sheet.
-pub fn force_wide(sheet: &[u8], values: &[u8], first: &mut [u8], second: &mut [u8]) -> Forced
-    ensures { λ r. ⌜ forced-answer r ≡ (force-call wide (now (sheet .entry)) (now (values .entry)) (now (first .entry)) (now (second .entry))) .answer ⌝ }
-    ensures { λ _. ⌜ now (first .exit) ≡ (force-call wide (now (sheet .entry)) (now (values .entry)) (now (first .entry)) (now (second .entry))) .first ⌝ }
-    ensures { λ _. ⌜ now (second .exit) ≡ (force-call wide (now (sheet .entry)) (now (values .entry)) (now (first .entry)) (now (second .entry))) .second ⌝ }
-{
-    force_in(sheet, rows::wider(), values, first, second)
+    let c = checking::check(sheet, f);
+    match c {
+        Checked::Refused(number, place) => Forced::Refused(number, place),
+        Checked::Accepted(s) => force_checked(sheet, s, values, first, second),
+    }
 }

@@ -13,12 +13,13 @@ ghost use lib.ListN.{length};
 ghost use Rattle.sheet.specs.Force.{values-of};
 ghost use Rattle.rows.specs.Layouts.{Room};
 ghost use Rattle.rows.specs.Formulas.{Readable, prefix-in, formula-in};
+ghost use Rattle.rows.specs.Tables.{NUMBERS};
 ghost use Rattle.raw.specs.Formulas.{Raw};
 ghost use Rattle.force.specs.Inner.Moves.{Numbered, moves, layout-behind, behind-raw};
 
 // Makes the table that puts the values in for the variables of the first rows, and `tried` for that of the row behind them.
 pub fn fill_moves(b: &[u8], s: Layout, values: &[u8], tried: bool, table: &mut [u16])
-    requires { ⌜ Readable s (now b) × Numbered s (now b) × (length (now values) < s .variables) × (length (now table) ≡ 1025) ⌝ }
+    requires { ⌜ Readable s (now b) × Numbered s (now b) × (length (now values) < s .variables) × (length (now table) ≡ NUMBERS) ⌝ }
     ensures { λ _. ⌜ now (table .exit) ≡ moves (values-of (now (values .entry)) ++ (tried ∷ [])) (prefix-in s (now (b .entry))) ⌝ }
 {
     keep_all(table);
@@ -30,13 +31,16 @@ pub fn fill_moves(b: &[u8], s: Layout, values: &[u8], tried: bool, table: &mut [
     put(table, variable_at(b, s, i), tried);
 }
 
-// Writes the rows from row `k` on, a row of the prefix or the first node row, in one pass; no table changes a quantifier's row.
-pub fn write_behind(b: &[u8], s: Layout, table: &[u16], k: usize, out: &mut [u8])
-    requires { ⌜ Readable s (now b) × (2 ≤ s .width) × (k ≤ s .variables) × Room (layout-behind s k) (length (now out)) ⌝ }
+// Writes the rows from row `k` on, a row of the prefix or the first node row, in one pass, and returns their layout; no table changes a
+// quantifier's row.
+pub fn write_behind(b: &[u8], s: Layout, table: &[u16], k: usize, out: &mut [u8]) -> Layout
+    requires { ⌜ Readable s (now b) × (k ≤ s .variables) × Room (layout-behind s k) (length (now out)) ⌝ }
+    ensures { λ t. ⌜ t ≡ layout-behind s k ⌝ }
     ensures { λ _. ⌜ Raw (layout-behind s k) (now (out .entry)) (now (out .exit)) (behind-raw k (now (table .entry)) (formula-in s (now (b .entry)))) ⌝ }
 {
+    let f = s.format;
     let t = Layout {
-        width: s.width,
+        format: f,
         variables: s.variables - k,
         nodes: s.nodes,
     };
@@ -46,4 +50,5 @@ pub fn write_behind(b: &[u8], s: Layout, table: &[u16], k: usize, out: &mut [u8]
     };
     let front = Target { layout: t, at: 0 };
     write_copy(b, s, table, rest, out, front);
+    t
 }

@@ -2,13 +2,14 @@
 -- Assumes nothing.
 use mathlib.Core.Path.{_≡_, sym, ap, _∙_}
 use mathlib.Core.List.{List, [], _∷_, _++_, append-assoc, append-nil}
-use Prim.Native.Nat.{ℕ, _^_, _≤_, _<_}
+use Prim.Native.Nat.{ℕ, _≤_, _<_}
 use native.Mathlib.Omega.{arith}
 use lib.ListN.{length, getD}
 use lib.Seq.{slice}
 use Rattle.formula.specs.Tree.{Forest, rows-all, count}
 use Rattle.sheet.specs.Format.{Bytes, Row}
 use Rattle.sheet.specs.Sheet.{forest-rows}
+use Rattle.rows.specs.Layouts.{Fits}
 use Rattle.rows.specs.Formulas.{Readable}
 use Rattle.rows.specs.declared.Layout.{Layout}
 use Rattle.subtrees.proofs.Forest.{trees-rows}
@@ -42,12 +43,11 @@ module _ (s : Layout) (b : Bytes) (ends ks : List ℕ) (rest : ℕ) (us : Forest
   pub guards-read : guards-in s b ends ks rest ≡ us
   guards-read = ap Rattle.sheet.specs.Sheet.trees e ∙ trees-rows us
 
-  pub chosen : {n m : ℕ} → Readable s b → 2 ≤ s .width → s .nodes ≤ length ends → Placed ends 0 ks rest → rest ≤ s .nodes → n ≡ count us
-      → m ≡ rows-all us → m < s .nodes → n < 256 ^ s .width → Chosen s b ends ks (record { guards = n; rows = m; rest = rest })
-  chosen ok two holds placed within counted long no-more fit =
+  pub chosen : {n m : ℕ} → Readable s b → s .nodes ≤ length ends → Placed ends 0 ks rest → rest ≤ s .nodes → n ≡ count us
+      → m ≡ rows-all us → m < s .nodes → Fits s n → Chosen s b ends ks (record { guards = n; rows = m; rest = rest })
+  chosen ok holds placed within counted long no-more fit =
       record {
         readable = ok;
-        two-bytes = two;
         holds = holds;
         placed = placed;
         rest-within = within;

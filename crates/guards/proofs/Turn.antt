@@ -3,7 +3,7 @@
 use mathlib.Core.Path.{_≡_, refl, sym, ap, ap₂, _∙_, subst}
 use mathlib.Core.Bool.{false}
 use mathlib.Core.List.{List, [], _∷_, _++_, append-nil}
-use Prim.Native.Nat.{ℕ, zero, suc, _+_, _-_, _^_, _≤_, _<_}
+use Prim.Native.Nat.{ℕ, zero, suc, _+_, _-_, _≤_, _<_}
 use native.Mathlib.Omega.{arith}
 use native.Mathlib.Numerals.{add-one}
 use lib.ListN.{length, getD, take, drop, set, length-set, length-drop}
@@ -20,10 +20,11 @@ use Rattle.sheet.specs.Limits.{Within}
 use Rattle.sheet.proofs.Preorder.{forest-rows-⧺, length-tree-rows, length-forest-rows, count-rows, rows-positive}
 use Rattle.sheet.proofs.Accepted.{accepted-within}
 use Rattle.sheet.proofs.Guards.{within-fewer}
+use Rattle.rows.specs.Layouts.{format-in, Fits}
 use Rattle.rows.specs.Formulas.{prefix-in, node-rows-in, matrix-in, formula-in, Readable}
 use Rattle.rows.specs.declared.Layout.{Layout}
 use Rattle.rows.proofs.Formulas.{length-nodes, one-tree}
-use Rattle.rows.proofs.Widths.{at-least-two}
+use Rattle.rows.proofs.Limits.{limits}
 use Rattle.checking.proofs.CheckedSheets.{sheet-readable, sheet-formula-in, sheet-right}
 use Rattle.subtrees.specs.Subtrees.{kids, forest-in, subtree-in, siblings-in, Beside}
 use Rattle.subtrees.specs.Ends.{Indexed}
@@ -54,7 +55,10 @@ judged-left g False end = refl
 judged-left g True end = refl
 judged-left g Stopped end = refl
 
-module _ (F : Format) (s : Layout) (b : Bytes) (most : ℕ) where
+module _ (s : Layout) (b : Bytes) (most : ℕ) where
+  abbrev F : Format
+  F = format-in s
+
   abbrev N : List Row
   N = node-rows-in s b
 
@@ -78,15 +82,12 @@ module _ (F : Format) (s : Layout) (b : Bytes) (most : ℕ) where
     pub few : Beside s b (g .at) (g .left)
     pub rest-are : drop (g .at) N ≡ forest-rows (siblings-in s b (g .at) (g .left))
     pub fewer : Fewer (kept ⧺ siblings-in s b (g .at) (g .left)) (guards (matrix-in s b))
-    pub owed-those : (sift (says (fits F most) (prefix-in s b)) kept (siblings-in s b (g .at) (g .left))) .those ≡ (clashing-in F s b most) .those
-    pub owed-stops : g .stops + (sift (says (fits F most) (prefix-in s b)) kept (siblings-in s b (g .at) (g .left))) .stops ≡ (clashing-in F s b most) .stops
+    pub owed-those : (sift S kept (siblings-in s b (g .at) (g .left))) .those ≡ (clashing-in s b most) .those
+    pub owed-stops : g .stops + (sift S kept (siblings-in s b (g .at) (g .left))) .stops ≡ (clashing-in s b most) .stops
 
-  module _ (h : Siftable F s b most) where
+  module _ (h : Siftable s b most) where
     pub ok : Readable s b
-    ok = sheet-readable (h .sheet) (h .countable .manageable)
-
-    width-is : s .width ≡ F .width
-    width-is = ap (λ (t : Layout). t .width) (h .sheet .layout-is)
+    ok = sheet-readable (h .sheet)
 
     -- the sheet's own formula, whose guards are tried
     whole-within : Within F (conjoined (prefix-in s b) (guards (matrix-in s b)))
@@ -133,21 +134,21 @@ module _ (F : Format) (s : Layout) (b : Bytes) (most : ℕ) where
     pub kept-few : {ends table : List ℕ} {g : Sieve} → Sifting ends table g → g .guards < s .nodes
     kept-few i = omega (arith, i .counted, i .long, count-rows (i .kept), i .below, i .at-most)
 
-    fit : {n : ℕ} → n < s .nodes → n < 256 ^ s .width
-    fit l = rw width-is (omega (arith, h .countable .few-rows, sheet-right (h .sheet) .few-nodes))
+    fit : {n : ℕ} → n < s .nodes → Fits s n
+    fit l = omega (arith, limits (s .format) .few-rows, sheet-right (h .sheet) .few-nodes)
 
     nothing-behind : (ends ks : List ℕ) → part-rows s b ends ks (s .nodes) ≡ children-rows s b ends ks
     nothing-behind ends ks = ap (λ l. children-rows s b ends ks ++ l) (slice-empty (s .nodes) N) ∙ append-nil (children-rows s b ends ks)
 
     pub last-turn : {ends table : List ℕ} {g : Sieve} → s .nodes ≤ length ends → g .left ≤ 0 → Sifting ends table g
-        → Sifted F s b most ends table g
+        → Sifted s b most ends table g
     unfolding sift
     last-turn {ends} {table} {g} holds l i =
         let none = siblings-none s b (g .at) l in
         let rows-are = nothing-behind ends (starts table g) ∙ i .kept-are in
         record {
           chosen =
-              chosen s b ends (starts table g) (s .nodes) (i .kept) rows-are ok (rw width-is (at-least-two (h .countable .manageable .few-bytes))) holds
+              chosen s b ends (starts table g) (s .nodes) (i .kept) rows-are ok holds
               (placed-to ends 0 (starts table g) (g .at) (s .nodes) (i .placed) (i .at-most)) (omega arith) (i .counted) (i .long)
               (omega (arith, i .below, i .at-most)) (fit (kept-few i));
           those-are =
@@ -230,13 +231,11 @@ module _ (F : Format) (s : Layout) (b : Bytes) (most : ℕ) where
       no-more : g .rows + (s .nodes - end) < s .nodes
       no-more = omega (arith, i .below, walked .next, walked .next-within)
 
-      pub tried : Tried F s b ends K (record { guards = g .guards + (g .left - 1); rows = g .rows + (s .nodes - end); rest = end }) most
+      pub tried : Tried s b ends K (record { guards = g .guards + (g .left - 1); rows = g .rows + (s .nodes - end); rest = end }) most
       tried =
           record {
-            countable = h .countable;
-            width-is = width-is;
             chosen =
-                chosen s b ends K end (i .kept ⧺ rest) tried-are ok (rw width-is (at-least-two (h .countable .manageable .few-bytes))) (ix .holds)
+                chosen s b ends K end (i .kept ⧺ rest) tried-are ok (ix .holds)
                 (placed-to ends 0 K (g .at) end (i .placed) (omega (arith, walked .next))) (walked .next-within) counted long no-more
                 (fit (omega (arith, counted, long, no-more, count-rows (i .kept ⧺ rest))));
             within = rw tried-read (within-fewer F (prefix-in s b) tried-fewer whole-within);

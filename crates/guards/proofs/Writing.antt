@@ -5,7 +5,7 @@ use mathlib.Core.List.{List, [], _∷_, _++_, append-assoc, map}
 use Prim.Native.Nat.{ℕ, _+_, _*_, _-_, _≤_}
 use native.Mathlib.Nat.{mul-le-mul-left}
 use native.Mathlib.Omega.{arith}
-use lib.ListN.{length, take, replicate, length-append}
+use lib.ListN.{length, replicate, length-append}
 use lib.Seq.{slice, take-all, length-slice}
 use Rattle.formula.specs.Tree.{Formula, rows}
 use Rattle.formula.specs.Guards.{conjoined}
@@ -15,18 +15,17 @@ use Rattle.sheet.specs.Operations.{padded}
 use Rattle.sheet.proofs.Preorder.{length-forest-rows}
 use Rattle.sheet.proofs.Parts.{sheet-length-rows}
 use Rattle.sheet.proofs.RoundTrip.{length-sheet}
-use Rattle.rows.specs.Layouts.{total, size, rows-in, Room, sealed}
+use Rattle.rows.specs.Layouts.{format-in, width, total, size, rows-in, Room, sealed}
 use Rattle.rows.specs.Formulas.{prefix-in, node-rows-in}
 use Rattle.rows.specs.declared.Layout.{Layout}
 use Rattle.rows.proofs.Layouts.{length-rows-in}
 use Rattle.rows.proofs.Formulas.{quantifiers, length-nodes}
-use Rattle.changing.specs.Changes.{copied}
-use Rattle.changing.specs.Output.{copy-in, Ready, Laid}
+use Rattle.changing.specs.Output.{Ready, Laid}
 use Rattle.changing.proofs.Splice.{laid-on, laid-all}
+use Rattle.raw.proofs.Source.{nodes-part}
 use Rattle.guards.specs.declared.part.Part.{Part}
 use Rattle.guards.specs.Inner.Parts.{children-rows, Placed, part-rows, guards-in, part-layout, Chosen}
 use Rattle.guards.proofs.Children.{placed-to}
-use Rattle.guards.proofs.Copying.{all-unchanged, nodes-same}
 
 module _ {s : Layout} {b : Bytes} {ends ks : List ℕ} {p : Part} (h : Chosen s b ends ks p) where
   abbrev t : Layout
@@ -45,21 +44,17 @@ module _ {s : Layout} {b : Bytes} {ends ks : List ℕ} {p : Part} (h : Chosen s 
 
   -- no more bytes than the sheet's
   pub part-size : size t ≤ size s
-  part-size = omega (arith, mul-le-mul-left {m = total t} {n = total s} (1 + s .width) (omega (arith, h .no-more)))
+  part-size = omega (arith, mul-le-mul-left {m = total t} {n = total s} (1 + width s) (omega (arith, h .no-more)))
 
   pub part-room : {n : ℕ} → Room s n → Room t n
-  part-room r = record { few-bytes = r .few-bytes; holds = omega (arith, part-size, r .holds) }
+  part-room r = record { holds = omega (arith, part-size, r .holds) }
 
   pub part-ready : (out : Bytes) → Room s (length out) → Ready s b t out
   part-ready out r =
-      record { source = h .readable .room; room = part-room r; same-width = refl; two-bytes = h .two-bytes }
+      record { source = h .readable .room; room = part-room r; same-format = refl }
 
   pub all-placed : Placed ends 0 ks (s .nodes)
   all-placed = placed-to ends 0 ks (p .rest) (s .nodes) (h .placed) (h .rest-within)
-
-  prefix-rows : copied [] 0 (s .variables) (rows-in s b) ≡ map binding-row (prefix-in s b)
-  unfolding copied
-  prefix-rows = all-unchanged (take (s .variables) (rows-in s b)) ∙ sym (quantifiers b (h .readable))
 
   all-rows : map binding-row (prefix-in s b) ++ (row 5 (p .guards) ∷ part-rows s b ends ks (p .rest)) ≡
       formula-rows (conjoined (prefix-in s b) (guards-in s b ends ks (p .rest)))
@@ -68,40 +63,48 @@ module _ {s : Layout} {b : Bytes} {ends ks : List ℕ} {p : Part} (h : Chosen s 
 
   -- the prefix's rows, the root's, the children's, and all rows behind these
   pub part-written : {a₀ a₁ a₂ a₃ a₄ : Bytes} {top below next last : ℕ} → Room t (length a₄) → top ≡ s .variables
-      → Laid t a₀ a₁ 0 top (copied [] 0 (s .variables) (rows-in s b))
+      → Laid t a₀ a₁ 0 top (slice 0 (s .variables) (rows-in s b))
       → Laid t a₁ a₂ top below (row 5 (p .guards) ∷ [])
       → Laid t a₂ a₃ below next (children-rows s b ends ks)
-      → Laid t a₃ a₄ next last (copy-in s b [] (record { from = s .variables + p .rest; to = s .variables + s .nodes }))
+      → Laid t a₃ a₄ next last (slice (s .variables + p .rest) (s .variables + s .nodes) (rows-in s b))
       → rows-in t a₄ ≡ formula-rows (conjoined (prefix-in s b) (guards-in s b ends ks (p .rest)))
   part-written {a₃ = a₃} {a₄ = a₄} {next = next} {last = last} room e f g k l =
-      laid-all room ends-there (laid-on (laid-on (laid-on f g) k) rest) ∙ gather ∙ all-rows
+      laid-all room ends-there (laid-on (laid-on (laid-on f g) k) others-laid) ∙ gather ∙ all-rows
     where
-      rest : Laid t a₃ a₄ next last (slice (p .rest) (s .nodes) (node-rows-in s b))
-      rest = subst (Laid t a₃ a₄ next last) (nodes-same s b (h .readable) (p .rest) (s .nodes)) l
+      prefix-rows : List Row
+      prefix-rows = slice 0 (s .variables) (rows-in s b)
+
+      others : List Row
+      others = slice (p .rest) (s .nodes) (node-rows-in s b)
+
+      others-laid : Laid t a₃ a₄ next last others
+      others-laid = subst (Laid t a₃ a₄ next last) (nodes-part s b (h .readable) (p .rest) (s .nodes)) l
 
       ends-there : last ≡ total t
-      ends-there = omega (arith, rest .next-row, k .next-row, g .next-row, e, rest-long, both-long)
+      ends-there = omega (arith, others-laid .next-row, k .next-row, g .next-row, e, rest-long, both-long)
 
-      gather : copied [] 0 (s .variables) (rows-in s b) ++ (row 5 (p .guards) ∷ []) ++ children-rows s b ends ks ++
-          slice (p .rest) (s .nodes) (node-rows-in s b) ≡
+      gather : prefix-rows ++ (row 5 (p .guards) ∷ []) ++ children-rows s b ends ks ++ others ≡
           map binding-row (prefix-in s b) ++ (row 5 (p .guards) ∷ part-rows s b ends ks (p .rest))
       gather =
-          append-assoc (copied [] 0 (s .variables) (rows-in s b) ++ (row 5 (p .guards) ∷ [])) (children-rows s b ends ks) (slice (p .rest) (s .nodes) (node-rows-in s b)) ∙
-          append-assoc (copied [] 0 (s .variables) (rows-in s b)) (row 5 (p .guards) ∷ []) (part-rows s b ends ks (p .rest)) ∙
-          ap (λ l. l ++ (row 5 (p .guards) ∷ part-rows s b ends ks (p .rest))) prefix-rows
+          append-assoc (prefix-rows ++ (row 5 (p .guards) ∷ [])) (children-rows s b ends ks) others ∙
+          append-assoc prefix-rows (row 5 (p .guards) ∷ []) (part-rows s b ends ks (p .rest)) ∙
+          ap (λ l. l ++ (row 5 (p .guards) ∷ part-rows s b ends ks (p .rest))) (sym (quantifiers b (h .readable)))
 
 -- a sheet's bytes and zeros behind them
 abbrev laid-out : ℕ → ℕ → ℕ → List Row → ℕ → Bytes
 laid-out w v n rs zeros = digits w v ++ digits w n ++ row-kinds rs ++ row-arguments w rs ++ replicate zeros 0
 
 -- all the rows of a layout are those of a formula: made a sheet, they are that formula's
-module _ (F : Format) (t : Layout) (b : Bytes) (g : Formula) (width-is : t .width ≡ F .width) (room : Room t (length b))
+module _ (t : Layout) (b : Bytes) (g : Formula) (room : Room t (length b))
     (is : rows-in t b ≡ formula-rows g) (vs : length (g .prefix) ≡ t .variables) (ns : rows (g .matrix) ≡ t .nodes) where
-  pub sealed-length : 2 * t .width + total t + t .width * total t ≡ length (sheet F g)
+  abbrev F : Format
+  F = format-in t
+
+  pub sealed-length : 2 * width t + total t + width t * total t ≡ length (sheet F g)
   sealed-length =
       sym
       (length-sheet F g ∙ sheet-length-rows F (length (g .prefix)) (rows (g .matrix)) ∙
-      ap₂ (λ k n. header F + (k + n + F .width * (k + n))) vs ns ∙ regroup (F .width) ∙ ap (λ w. 2 * w + total t + w * total t) (sym width-is))
+      ap₂ (λ k n. header F + (k + n + F .width * (k + n))) vs ns ∙ regroup (F .width))
     where
       regroup : (w : ℕ) → 2 * w + (total t + w * total t) ≡ 2 * w + total t + w * total t
       regroup w = omega arith
@@ -109,10 +112,9 @@ module _ (F : Format) (t : Layout) (b : Bytes) (g : Formula) (width-is : t .widt
   pub sealed-sheet : sealed t (total t) b ≡ padded (length b) (sheet F g)
   unfolding sealed padded sheet
   sealed-sheet =
-      ap₂ (λ rs k. laid-out (t .width) (t .variables) (total t - t .variables) rs (length b - k))
+      ap₂ (λ rs k. laid-out (width t) (t .variables) (total t - t .variables) rs (length b - k))
       (take-all (total t) (rows-in t b) (omega (arith, length-rows-in b room)) ∙ is) sealed-length ∙
-      ap₂ (λ v n. laid-out (t .width) v n (formula-rows g) (length b - length (sheet F g))) (sym vs) left ∙
-      ap (λ w. laid-out w (length (g .prefix)) (rows (g .matrix)) (formula-rows g) (length b - length (sheet F g))) width-is
+      ap₂ (λ v n. laid-out (width t) v n (formula-rows g) (length b - length (sheet F g))) (sym vs) left
     where
       left : total t - t .variables ≡ rows (g .matrix)
       left = omega (arith, ns)

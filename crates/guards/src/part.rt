@@ -1,8 +1,8 @@
 // Some of the root's children: the sheet's prefix and the root's row over them, written as rows that aren't tidied.
 use changing::Span;
 use changing::Target;
-use changing::write::write_copy;
 use changing::write::write_row;
+use changing::write::write_rows;
 use rows::AND;
 use rows::Layout;
 ghost use mathlib.Core.Path.{_≡_};
@@ -37,14 +37,14 @@ fn write_kept(b: &[u8], s: Layout, ends: &[u16], kept: &[u16], out: &mut [u8], t
             to: v + ends[row] as usize,
         };
         let here = Target { layout: t, at: at };
-        at = write_copy(b, s, &ends[..0], child, out, here);
+        at = write_rows(b, s, child, out, here);
         i += 1;
     }
     at
 }
 
 // Writes AND of the children that begin at the rows `kept` and of all from row `rest` on, under the sheet's prefix, and returns the
-// layout of these rows. No table changes a literal.
+// layout of these rows.
 pub fn write_part(
     b: &[u8],
     s: Layout,
@@ -57,8 +57,9 @@ pub fn write_part(
     ensures { λ t. ⌜ t ≡ part-layout s p ⌝ }
     ensures { λ t. ⌜ rows-in t (now (out .exit)) ≡ formula-rows (conjoined (prefix-in s (now (b .entry))) (guards-in s (now (b .entry)) (now (ends .entry)) (now (kept .entry)) (p .rest))) ⌝ }
 {
+    let f = s.format;
     let t = Layout {
-        width: s.width,
+        format: f,
         variables: s.variables,
         nodes: p.rows + 1,
     };
@@ -67,7 +68,7 @@ pub fn write_part(
         to: s.variables,
     };
     let front = Target { layout: t, at: 0 };
-    let top = write_copy(b, s, &ends[..0], prefix, out, front);
+    let top = write_rows(b, s, prefix, out, front);
     let root = Target { layout: t, at: top };
     let below = write_row(out, root, AND, p.guards);
     let children = Target {
@@ -83,6 +84,6 @@ pub fn write_part(
         layout: t,
         at: next,
     };
-    write_copy(b, s, &ends[..0], others, out, last);
+    write_rows(b, s, others, out, last);
     t
 }

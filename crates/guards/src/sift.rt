@@ -2,7 +2,6 @@
 // these and of all children behind the one tried.
 use crate::part::Part;
 use crate::part::write_part;
-use rows::Format;
 use rows::Layout;
 use solve::Solved;
 use solve::Verdict;
@@ -12,7 +11,7 @@ ghost use mathlib.Core.Path.{_≡_};
 ghost use Prim.Native.Nat.{_≤_, _<_};
 ghost use lib.ListN.{length};
 ghost use Rattle.sheet.specs.Trace.{room};
-ghost use Rattle.rows.specs.Formats.{format-of};
+ghost use Rattle.rows.specs.Tables.{ROWS};
 ghost use Rattle.subtrees.specs.Ends.{Indexed};
 ghost use Rattle.guards.specs.Inner.Sieves.{word-for, judged-by, Siftable, Sifted};
 
@@ -80,15 +79,14 @@ fn judge(g: Sieve, word: Word, end: usize) -> Sieve
 // Goes through the root's children: the first entries of the table are then the rows at which the children kept begin.
 pub fn sift(
     b: &[u8],
-    f: Format,
     s: Layout,
     ends: &[u16],
     kept: &mut [u16],
     first: &mut [u8],
     second: &mut [u8],
 ) -> Sieve
-    requires { ⌜ Siftable (format-of f) s (now b) (room (now first) (now second)) × Indexed s (now b) (now ends) × (8192 ≤ length (now kept)) ⌝ }
-    ensures { λ r. ⌜ Sifted (format-of f) s (now (b .entry)) (room (now (first .entry)) (now (second .entry))) (now (ends .entry)) (now (kept .exit)) r ⌝ }
+    requires { ⌜ Siftable s (now b) (room (now first) (now second)) × Indexed s (now b) (now ends) × (ROWS ≤ length (now kept)) ⌝ }
+    ensures { λ r. ⌜ Sifted s (now (b .entry)) (room (now (first .entry)) (now (second .entry))) (now (ends .entry)) (now (kept .exit)) r ⌝ }
 {
     let mut g = Sieve {
         at: 1,
@@ -107,7 +105,7 @@ pub fn sift(
             rest: end,
         };
         let t = write_part(b, s, ends, &kept[..count], others, first);
-        let answer = run_raw(first, second, f, t);
+        let answer = run_raw(first, second, t);
         let said = heard(answer);
         kept[count] = at as u16;
         g = judge(g, said, end);

@@ -10,6 +10,7 @@ ghost use Prim.Native.Nat.{_*_, _^_, _≤_, _<_};
 ghost use lib.Dec.{ltb};
 ghost use lib.ListN.{length, getD, set, replicate};
 ghost use Rattle.rows.specs.Formulas.{Readable};
+ghost use Rattle.rows.specs.Tables.{HIGHEST, NUMBERS};
 ghost use Rattle.subtrees.specs.Subtrees.{subtree-in};
 ghost use Rattle.occurrences.specs.Occurrences.{Occurrences, variable-of, Firsts, Nexts, Lasts, FirstsKept};
 
@@ -57,7 +58,7 @@ fn fill(table: &mut [u16], value: u16)
 
 // The first literal of each variable, and from each literal the next one: from the last row to the first.
 fn link(b: &[u8], s: Layout, ranges: &mut [u16], next: &mut [u16])
-    requires { ⌜ Readable s (now b) × (length (now ranges) ≡ 2050) × (s .nodes ≤ length (now next)) ⌝ }
+    requires { ⌜ Readable s (now b) × (length (now ranges) ≡ 2 * NUMBERS) × (s .nodes ≤ length (now next)) ⌝ }
     ensures { λ _. ⌜ Firsts s (now (b .entry)) 0 (now (ranges .exit)) × Nexts s (now (b .entry)) 0 (now (next .exit)) ⌝ }
 {
     fill(ranges, s.nodes as u16);
@@ -72,7 +73,7 @@ fn link(b: &[u8], s: Layout, ranges: &mut [u16], next: &mut [u16])
 
 // The last literal of each variable: from the first row to the last, each over those before.
 fn mark(b: &[u8], s: Layout, ranges: &mut [u16])
-    requires { ⌜ Readable s (now b) × (length (now ranges) ≡ 2050) ⌝ }
+    requires { ⌜ Readable s (now b) × (length (now ranges) ≡ 2 * NUMBERS) ⌝ }
     ensures { λ _. ⌜ Lasts s (now (b .entry)) (s .nodes) (now (ranges .exit)) × FirstsKept (now (ranges .entry)) (now (ranges .exit)) ⌝ }
 {
     let mut i: usize = 0;
@@ -86,7 +87,7 @@ fn mark(b: &[u8], s: Layout, ranges: &mut [u16])
 // Where each variable's literals stand: `ranges` by variable number, and `next` by node row, after a literal the next row with one
 // of the same variable, or N.
 pub fn fill_occurrences(b: &[u8], s: Layout, ranges: &mut [u16], next: &mut [u16])
-    requires { ⌜ Readable s (now b) × (length (now ranges) ≡ 2050) × (s .nodes ≤ length (now next)) ⌝ }
+    requires { ⌜ Readable s (now b) × (length (now ranges) ≡ 2 * NUMBERS) × (s .nodes ≤ length (now next)) ⌝ }
     ensures { λ _. ⌜ Occurrences s (now (b .entry)) (now (ranges .exit)) (now (next .exit)) ⌝ }
 {
     link(b, s, ranges, next);
@@ -95,7 +96,7 @@ pub fn fill_occurrences(b: &[u8], s: Layout, ranges: &mut [u16], next: &mut [u16
 
 // Whether the variable `x` has a literal.
 pub fn occurs(s: Layout, ranges: &[u16], x: usize) -> bool
-    requires { ⌜ (length (now ranges) ≡ 2050) × (x ≤ 1024) ⌝ }
+    requires { ⌜ (length (now ranges) ≡ 2 * NUMBERS) × (x ≤ HIGHEST) ⌝ }
     ensures { λ r. ⌜ r ≡ ltb (getD (now (ranges .entry)) (2 * x) 0) (s .nodes) ⌝ }
 {
     (ranges[2 * x] as usize) < s.nodes

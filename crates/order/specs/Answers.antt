@@ -1,7 +1,8 @@
 -- Compare's answer in document 02's words (N14).
 -- Assumes nothing.
 use Rattle.formula.specs.Order.{before, same, after}
-use Rattle.sheet.specs.Order.{is-refused, is-ordered}
+use Rattle.sheet.specs.Format.{Bytes}
+use Rattle.sheet.specs.Order.{is-refused, is-ordered, Comparing}
 use Rattle.sheet.specs.Order as sheets
 use Rattle.order.specs.declared.compare.Compared as compared
 use Rattle.order.specs.declared.compare.Compared.{Compared}
@@ -13,3 +14,7 @@ compared-answer (compared.the-variants.Refused which number place) = is-refused 
 compared-answer compared.the-variants.Before = is-ordered before
 compared-answer compared.the-variants.Equal = is-ordered same
 compared-answer compared.the-variants.After = is-ordered after
+
+-- the same with what the two buffers hold
+abbrev pub compared-with : Compared → Bytes → Bytes → Comparing
+compared-with r first second = record { answer = compared-answer r; first = first; second = second }

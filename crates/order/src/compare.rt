@@ -1,11 +1,13 @@
 // Compare: prefixes, then the rows of both sorted trees in lock step. The work buffers only end as zeros.
 use checking::Checked;
+use checking::check;
 use rows::Format;
 use rows::Layout;
 use rows::ROWS;
 use rows::bytes::clear;
 use rows::read::argument_at;
 use rows::read::kind_at;
+use rows::refusals::NO_ROOM;
 use sorting::order::Order;
 use sorting::order::compare_numbers;
 use sorting::order::compare_rows;
@@ -17,14 +19,13 @@ ghost use Prim.Native.Nat.{_<_};
 ghost use lib.ListN.{length, getD};
 ghost use Rattle.formula.specs.Order.{sort, compare-trees, compare-bindings, compare-bound, compare-prefixes, compare-formulas};
 ghost use Rattle.sheet.specs.Sheet.{binding};
-ghost use Rattle.sheet.specs.Format.{row, narrow, wide};
+ghost use Rattle.sheet.specs.Format.{row};
 ghost use Rattle.sheet.specs.Order.{is-ordered, compare-answer, compare-call};
 ghost use Rattle.rows.specs.Formats.{format-of};
 ghost use Rattle.rows.specs.Layouts.{rows-in};
 ghost use Rattle.rows.specs.Formulas.{prefix-in, matrix-in, formula-in, Readable};
-ghost use Rattle.checking.specs.Limits.{Manageable};
 ghost use Rattle.sorting.specs.Rows.{ordering};
-ghost use Rattle.order.specs.Answers.{compared-answer};
+ghost use Rattle.order.specs.Answers.{compared-answer, compared-with};
 ghost use Rattle.order.specs.Inner.{checked-answer, refuses};
 
 // Refused for the first sheet (1) or the second (2) with number and place; or where the first stands beside the second.
@@ -139,39 +140,26 @@ fn compare_checked(
     ensures { λ r. ⌜ compared-answer r ≡ checked-answer s t (now (a .entry)) (now (b .entry)) (now (first .entry)) (now (second .entry)) ⌝ }
 {
     if first.len() < a.len() {
-        return Compared::Refused(1, 13, 0);
+        return Compared::Refused(1, NO_ROOM, 0);
     }
     if second.len() < b.len() {
-        return Compared::Refused(2, 13, 0);
+        return Compared::Refused(2, NO_ROOM, 0);
     }
     answer_of(compare_sheets(a, s, b, t))
 }
 
 // Decides, and touches nothing: the tests of the first sheet, of the second, and then of the buffers.
 fn judge(a: &[u8], b: &[u8], f: Format, first: &[u8], second: &[u8]) -> Compared
-    requires { ⌜ Manageable (format-of f) ⌝ }
     ensures { λ r. ⌜ compared-answer r ≡ compare-answer (format-of f) (now (a .entry)) (now (b .entry)) (now (first .entry)) (now (second .entry)) ⌝ }
 {
-    let c = checking::check_in(a, f);
+    let c = check(a, f);
     match c {
         Checked::Refused(number, place) => Compared::Refused(1, number, place),
-        Checked::Accepted(v, n) => {
-            let d = checking::check_in(b, f);
+        Checked::Accepted(s) => {
+            let d = check(b, f);
             match d {
                 Checked::Refused(number, place) => Compared::Refused(2, number, place),
-                Checked::Accepted(w, m) => {
-                    let s = Layout {
-                        width: f.width,
-                        variables: v,
-                        nodes: n,
-                    };
-                    let t = Layout {
-                        width: f.width,
-                        variables: w,
-                        nodes: m,
-                    };
-                    compare_checked(a, s, b, t, first, second)
-                }
+                Checked::Accepted(t) => compare_checked(a, s, b, t, first, second),
             }
         }
     }
@@ -188,12 +176,9 @@ fn is_refused(r: Compared) -> bool
     }
 }
 
-// Compares two sheets of any format that this code can read.
-pub fn compare_in(a: &[u8], b: &[u8], f: Format, first: &mut [u8], second: &mut [u8]) -> Compared
-    requires { ⌜ Manageable (format-of f) ⌝ }
-    ensures { λ r. ⌜ compared-answer r ≡ (compare-call (format-of f) (now (a .entry)) (now (b .entry)) (now (first .entry)) (now (second .entry))) .answer ⌝ }
-    ensures { λ _. ⌜ now (first .exit) ≡ (compare-call (format-of f) (now (a .entry)) (now (b .entry)) (now (first .entry)) (now (second .entry))) .first ⌝ }
-    ensures { λ _. ⌜ now (second .exit) ≡ (compare-call (format-of f) (now (a .entry)) (now (b .entry)) (now (first .entry)) (now (second .entry))) .second ⌝ }
+// Says where sheet `a` stands beside sheet `b`, and clears both work buffers; or refuses a sheet or its buffer, and alters nothing.
+pub fn compare(a: &[u8], b: &[u8], f: Format, first: &mut [u8], second: &mut [u8]) -> Compared
+    ensures { λ r. ⌜ compared-with r (now (first .exit)) (now (second .exit)) ≡ compare-call (format-of f) (now (a .entry)) (now (b .entry)) (now (first .entry)) (now (second .entry)) ⌝ }
 {
     let r = judge(a, b, f, first, second);
     if is_refused(r) {
@@ -202,22 +187,4 @@ pub fn compare_in(a: &[u8], b: &[u8], f: Format, first: &mut [u8], second: &mut 
     clear(first, 0);
     clear(second, 0);
     r
-}
-
-// Says where sheet `a` stands beside sheet `b`, and clears both work buffers; or refuses a sheet or its buffer, and alters nothing.
-pub fn compare(a: &[u8], b: &[u8], first: &mut [u8], second: &mut [u8]) -> Compared
-    ensures { λ r. ⌜ compared-answer r ≡ (compare-call narrow (now (a .entry)) (now (b .entry)) (now (first .entry)) (now (second .entry))) .answer ⌝ }
-    ensures { λ _. ⌜ now (first .exit) ≡ (compare-call narrow (now (a .entry)) (now (b .entry)) (now (first .entry)) (now (second .entry))) .first ⌝ }
-    ensures { λ _. ⌜ now (second .exit) ≡ (compare-call narrow (now (a .entry)) (now (b .entry)) (now (first .entry)) (now (second .entry))) .second ⌝ }
-{
-    compare_in(a, b, rows::narrow(), first, second)
-}
-
-// The same for two wide sheets.
-pub fn compare_wide(a: &[u8], b: &[u8], first: &mut [u8], second: &mut [u8]) -> Compared
-    ensures { λ r. ⌜ compared-answer r ≡ (compare-call wide (now (a .entry)) (now (b .entry)) (now (first .entry)) (now (second .entry))) .answer ⌝ }
-    ensures { λ _. ⌜ now (first .exit) ≡ (compare-call wide (now (a .entry)) (now (b .entry)) (now (first .entry)) (now (second .entry))) .first ⌝ }
-    ensures { λ _. ⌜ now (second .exit) ≡ (compare-call wide (now (a .entry)) (now (b .entry)) (now (first .entry)) (now (second .entry))) .second ⌝ }
-{
-    compare_in(a, b, rows::wider(), first, second)
 }

@@ -1,29 +1,30 @@
 // Sort: the sheet is copied, and its node rows are written in their order, once.
 use checking::Checked;
 use checking::Written;
+use checking::check;
 use rows::Format;
 use rows::Layout;
 use rows::ROWS;
+use rows::bytes::copy_front;
 use rows::read::argument_at;
 use rows::read::kind_at;
+use rows::refusals::NO_ROOM;
 use rows::write::seal;
 use rows::write::set_row;
 use sorting::table::sort_rows;
-use tidying::copy_front;
 ghost use mathlib.Core.Path.{_≡_};
 ghost use mathlib.Core.List.{_++_};
 ghost use Prim.Native.Nat.{_≤_};
 ghost use lib.ListN.{length, take};
 ghost use Rattle.formula.specs.Order.{sort, sorted};
 ghost use Rattle.sheet.specs.Sheet.{tree-rows, formula, sheet};
-ghost use Rattle.sheet.specs.Format.{narrow, wide};
 ghost use Rattle.sheet.specs.Operations.{padded};
 ghost use Rattle.sheet.specs.Order.{sort-call};
 ghost use Rattle.rows.specs.Formats.{format-of};
-ghost use Rattle.rows.specs.Layouts.{rows-in, Room};
+ghost use Rattle.rows.specs.Layouts.{format-in, rows-in, Room};
 ghost use Rattle.rows.specs.Formulas.{matrix-in, Readable};
 ghost use Rattle.checking.specs.Answers.{written-answer};
-ghost use Rattle.checking.specs.Limits.{Countable, Sheet};
+ghost use Rattle.checking.specs.Sheets.{Sheet};
 ghost use Rattle.sorting.specs.Tables.{picked-rows, Numbers};
 
 // Writes the node rows of a sheet that a table picks, behind the prefix rows of an output of the same layout.
@@ -51,10 +52,10 @@ fn write_sorted(source: &[u8], s: Layout, at: &mut [u16], out: &mut [u8])
 }
 
 // Sorts a sheet that Check accepts, of this layout, into an output that is as long at least, and returns the sheet's length.
-pub fn sort_into(source: &[u8], f: Format, s: Layout, out: &mut [u8]) -> usize
-    requires { ⌜ Countable (format-of f) × Sheet (format-of f) (now source) s × (length (now source) ≤ length (now out)) ⌝ }
-    ensures { λ _. ⌜ now (out .exit) ≡ padded (length (now (out .entry))) (sheet (format-of f) (sorted (formula (format-of f) (now (source .entry))))) ⌝ }
-    ensures { λ r. ⌜ r ≡ length (sheet (format-of f) (sorted (formula (format-of f) (now (source .entry))))) ⌝ }
+pub fn sort_into(source: &[u8], s: Layout, out: &mut [u8]) -> usize
+    requires { ⌜ Sheet (s .format) (now source) s × (length (now source) ≤ length (now out)) ⌝ }
+    ensures { λ _. ⌜ now (out .exit) ≡ padded (length (now (out .entry))) (sheet (format-in s) (sorted (formula (format-in s) (now (source .entry))))) ⌝ }
+    ensures { λ r. ⌜ r ≡ length (sheet (format-in s) (sorted (formula (format-in s) (now (source .entry))))) ⌝ }
 {
     let n = s.nodes;
     let mut table = [0u16; ROWS];
@@ -64,51 +65,25 @@ pub fn sort_into(source: &[u8], f: Format, s: Layout, out: &mut [u8]) -> usize
 }
 
 // Sorts a sheet that Check accepts, of this layout: 13 output shorter than the sheet.
-fn sort_checked(sheet: &[u8], f: Format, s: Layout, out: &mut [u8]) -> Written
-    requires { ⌜ Countable (format-of f) × Sheet (format-of f) (now sheet) s ⌝ }
-    ensures { λ r. ⌜ written-answer r ≡ (sort-call (format-of f) (now (sheet .entry)) (now (out .entry))) .answer ⌝ }
-    ensures { λ _. ⌜ now (out .exit) ≡ (sort-call (format-of f) (now (sheet .entry)) (now (out .entry))) .output ⌝ }
+fn sort_checked(sheet: &[u8], s: Layout, out: &mut [u8]) -> Written
+    requires { ⌜ Sheet (s .format) (now sheet) s ⌝ }
+    ensures { λ r. ⌜ record { answer = written-answer r; output = now (out .exit) } ≡ sort-call (format-in s) (now (sheet .entry)) (now (out .entry)) ⌝ }
 {
     if out.len() < sheet.len() {
-        return Written::Refused(13, 0);
+        return Written::Refused(NO_ROOM, 0);
     }
-    let length = sort_into(sheet, f, s, out);
+    let length = sort_into(sheet, s, out);
     Written::Accepted(length)
-}
-
-// Sorts a sheet of any format whose rows this code can count.
-pub fn sort_in(sheet: &[u8], f: Format, out: &mut [u8]) -> Written
-    requires { ⌜ Countable (format-of f) ⌝ }
-    ensures { λ r. ⌜ written-answer r ≡ (sort-call (format-of f) (now (sheet .entry)) (now (out .entry))) .answer ⌝ }
-    ensures { λ _. ⌜ now (out .exit) ≡ (sort-call (format-of f) (now (sheet .entry)) (now (out .entry))) .output ⌝ }
-{
-    let c = checking::check_in(sheet, f);
-    match c {
-        Checked::Accepted(v, n) => {
-            let s = Layout {
-                width: f.width,
-                variables: v,
-                nodes: n,
-            };
-            sort_checked(sheet, f, s, out)
-        }
-        Checked::Refused(number, place) => Written::Refused(number, place),
-    }
 }
 
 // Writes the sheet with all children in order to the front of `out`, with zeros behind it, and returns its length; or refuses the sheet
 // or the output, and alters nothing.
-pub fn sort(sheet: &[u8], out: &mut [u8]) -> Written
-    ensures { λ r. ⌜ written-answer r ≡ (sort-call narrow (now (sheet .entry)) (now (out .entry))) .answer ⌝ }
-    ensures { λ _. ⌜ now (out .exit) ≡ (sort-call narrow (now (sheet .entry)) (now (out .entry))) .output ⌝ }
+pub fn sort(sheet: &[u8], f: Format, out: &mut [u8]) -> Written
+    ensures { λ r. ⌜ record { answer = written-answer r; output = now (out .exit) } ≡ sort-call (format-of f) (now (sheet .entry)) (now (out .entry)) ⌝ }
 {
-    sort_in(sheet, rows::narrow(), out)
-}
-
-// The same for a wide sheet.
-pub fn sort_wide(sheet: &[u8], out: &mut [u8]) -> Written
-    ensures { λ r. ⌜ written-answer r ≡ (sort-call wide (now (sheet .entry)) (now (out .entry))) .answer ⌝ }
-    ensures { λ _. ⌜ now (out .exit) ≡ (sort-call wide (now (sheet .entry)) (now (out .entry))) .output ⌝ }
-{
-    sort_in(sheet, rows::wider(), out)
+    let c = check(sheet, f);
+    match c {
+        Checked::Accepted(s) => sort_checked(sheet, s, out),
+        Checked::Refused(number, place) => Written::Refused(number, place),
+    }
 }

@@ -1,6 +1,6 @@
 -- The turns of the loops, and what is written.
 mod Linking
-mod Surveying
+mod Drafting
 mod Written
 mod Deciding
 mod Sheets

@@ -2,9 +2,7 @@
 -- Assumes nothing.
 use mathlib.Core.Path.{_≡_, ap}
 use mathlib.Core.List.{List, _++_, map}
-use Prim.Native.Nat.{ℕ, _-_, _^_, _<_}
-use native.Mathlib.Nat.{lt-of-lt-of-le, pow-le-pow-right}
-use native.Mathlib.Omega.{arith}
+use Prim.Native.Nat.{ℕ, _-_}
 use lib.ListN.{length, take, drop}
 use Rattle.sheet.specs.Format.{Bytes}
 use Rattle.sheet.specs.Sheet.{binding-row}
@@ -15,14 +13,7 @@ use Rattle.raw.specs.Expansions.{raw-matrix}
 use Rattle.raw.specs.declared.expand.Expansion.{Expansion}
 use Rattle.raw.proofs.Plans.{rest-of}
 use Rattle.renaming.specs.Prefixes.{rows-from}
-use Rattle.outer.specs.Inner.Writing.{Writes, written-rows}
-
--- a variable's number fits its bytes
-pub numbers-fit : {s : Layout} {b : Bytes} {tables cuts : List ℕ} {e : Expansion} {out : Bytes} → Writes s b tables cuts e out
-    → 1024 < 256 ^ e .layout .width
-numbers-fit {e = e} w =
-    lt-of-lt-of-le (omega arith)
-    (pow-le-pow-right {n = 256} (omega arith) {i = 2} {j = e .layout .width} (omega (arith, w .copyable .two-bytes, w .copyable .same-width)))
+use Rattle.outer.specs.Inner.Writing.{written-rows}
 
 -- the second table as it is lent
 pub written-by : (s : Layout) (b : Bytes) (tables : List ℕ) (e : Expansion)

@@ -1,7 +1,10 @@
--- What the step one block out answers, by number and values (N6).
+-- What the step one block out answers, by number and values, and what it leaves in its output (N6).
 -- Assumes nothing.
+use Prim.Native.Nat.{ℕ}
+use lib.ListN.{length}
+use Rattle.sheet.specs.Format.{Bytes, Format}
 use Rattle.sheet.specs.Check.{Answer, refused, accepted}
-use Rattle.sheet.specs.Outer.{Copied as Copies}
+use Rattle.sheet.specs.Outer.{Copied as Copies, outer-call, outer-answer}
 use Rattle.outer.specs.declared.Outcome.{Outcome}
 use Rattle.outer.specs.declared.Outcome.the-variants.{Refused, Copied}
 
@@ -9,3 +12,11 @@ use Rattle.outer.specs.declared.Outcome.the-variants.{Refused, Copied}
 abbrev pub outcome-answer : Outcome → Answer Copies
 outcome-answer (Refused number place) = refused number place
 outcome-answer (Copied end count lowest) = accepted (record { new-length = end; copied = count; lowest = lowest })
+
+-- The answer in full, and what the output then holds; the call of demand 3, `outer-call`, answers with the new length alone.
+pub record OuterWritten : Type 0 where
+  pub answer : Answer Copies
+  pub output : Bytes
+
+abbrev pub outer-written : Format → Bytes → ℕ → Bytes → OuterWritten
+outer-written F b x out = record { answer = outer-answer F b x (length out); output = (outer-call F b x out) .output }

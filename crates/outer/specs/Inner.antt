@@ -1,5 +1,5 @@
 -- Definitions that no entry point cites.
 pub mod Chain
-pub mod Survey
+pub mod Draft
 pub mod Writing
 pub mod Plan

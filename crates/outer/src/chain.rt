@@ -8,13 +8,14 @@ ghost use Prim.Native.Nat.{_≤_, _<_};
 ghost use lib.ListN.{length};
 ghost use Rattle.formula.specs.Settle.{is-lit};
 ghost use Rattle.rows.specs.Formulas.{Readable};
+ghost use Rattle.rows.specs.Tables.{NUMBERS};
 ghost use Rattle.subtrees.specs.Subtrees.{subtree-in};
 ghost use Rattle.changing.specs.Changes.{chosen};
 ghost use Rattle.outer.specs.Inner.Chain.{with-row, Linked};
 
 // Whether node row `i` is a literal that the table changes.
 fn is_chosen(b: &[u8], s: Layout, table: &[u16], i: usize) -> bool
-    requires { ⌜ Readable s (now b) × (i < s .nodes) × (length (now table) ≡ 1025) ⌝ }
+    requires { ⌜ Readable s (now b) × (i < s .nodes) × (length (now table) ≡ NUMBERS) ⌝ }
     ensures { λ r. ⌜ r ≡ is-lit (chosen (now (table .entry))) (subtree-in s (now (b .entry)) i) ⌝ }
 {
     let v = variable_at(b, s, i);
@@ -39,7 +40,7 @@ fn with_row(r: Range, none: usize, i: usize, chosen: bool) -> Range
 
 // The rows of the first and the last literal that the table changes, N if there is none, and in `next` from each to the next one.
 pub fn link_chosen(b: &[u8], s: Layout, table: &[u16], next: &mut [u16]) -> Range
-    requires { ⌜ Readable s (now b) × (length (now table) ≡ 1025) × (s .nodes ≤ length (now next)) ⌝ }
+    requires { ⌜ Readable s (now b) × (length (now table) ≡ NUMBERS) × (s .nodes ≤ length (now next)) ⌝ }
     ensures { λ r. ⌜ Linked (chosen (now (table .entry))) s (now (b .entry)) (now (next .exit)) r ⌝ }
 {
     let none = s.nodes;

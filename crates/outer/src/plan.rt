@@ -1,7 +1,5 @@
 // What the step decides before it looks at the output: 1 to 11 and 18, in the paper's order, or all that the writing needs.
-use crate::survey::Place;
-use crate::survey::Survey;
-use crate::survey::survey_part;
+use crate::draft::draft_chosen;
 use dependence::Target;
 use dependence::answer::count_dependents;
 use dependence::answer::lowest_dependent;
@@ -13,15 +11,19 @@ use rows::Format;
 use rows::Layout;
 use rows::NUMBERS;
 use rows::ROWS;
+use rows::most_variables;
+use rows::refusals::NO_NUMBERS_LEFT;
+use rows::refusals::WRONG_BLOCK;
 use sets::WORDS;
 use stepping::admission::Admission;
 use stepping::admission::admit;
+use stepping::survey::Survey;
+use stepping::survey::survey_draft;
 ghost use mathlib.Core.Path.{_≡_};
-ghost use Prim.Native.Nat.{_<_};
+ghost use Prim.Native.Nat.{_*_, _<_};
 ghost use lib.ListN.{length, replicate};
-ghost use Rattle.rows.specs.Formats.{format-of};
 ghost use Rattle.rows.specs.Formulas.{formula-in};
-ghost use Rattle.checking.specs.Limits.{Countable};
+ghost use Rattle.rows.specs.Tables.{ROWS, NUMBERS};
 ghost use Rattle.subtrees.specs.Ends.{Indexed};
 ghost use Rattle.dependence.specs.Blocks.{Located};
 ghost use Rattle.stepping.specs.Admission.{Admitted};
@@ -62,31 +64,31 @@ fn find_dependents(sheet: &[u8], t: Target, ends: &[u16], set: &mut [u64]) -> bo
 // tables of the copies and the cuts are filled.
 fn plan_admitted(
     sheet: &[u8],
-    f: Format,
     t: Target,
     ends: &[u16],
     tables: &mut [u16],
     cuts: &mut [u16],
 ) -> Plan
-    requires { ⌜ Countable (format-of f) × Admitted (format-of f) (now sheet) (t .variable) (t .layout) (t .row) (now ends) × (length (now tables) ≡ 2050) × (8192 < length (now cuts)) ⌝ }
-    ensures { λ r. ⌜ Plans (format-of f) (now (sheet .entry)) (t .variable) (now (tables .exit)) (now (cuts .exit)) r ⌝ }
+    requires { ⌜ Admitted (now sheet) (t .variable) (t .layout) (t .row) (now ends) × (length (now tables) ≡ 2 * NUMBERS) × (ROWS < length (now cuts)) ⌝ }
+    ensures { λ r. ⌜ Plans (t .layout .format) (now (sheet .entry)) (t .variable) (now (tables .exit)) (now (cuts .exit)) r ⌝ }
 {
     let s = t.layout;
     let mut set = [0u64; WORDS];
     if !find_dependents(sheet, t, ends, &mut set) {
-        return Plan::Refused(11, 0);
+        return Plan::Refused(WRONG_BLOCK, 0);
     }
     let copied = count_dependents(&set);
-    if f.most_variables - s.variables < copied {
-        return Plan::Refused(18, 0);
+    let f = s.format;
+    let highest = most_variables(f);
+    if highest - s.variables < copied {
+        return Plan::Refused(NO_NUMBERS_LEFT, 0);
     }
     let lowest = lowest_dependent(&set);
-    fill_tables(sheet, s, &set, f.most_variables, t.variable, tables);
-    let place = Place {
-        row: t.row,
-        variables: s.variables - 1 + copied,
-    };
-    let w = survey_part(sheet, s, ends, &tables[NUMBERS..], place, cuts);
+    fill_tables(sheet, s, &set, highest, t.variable, tables);
+    let mut next = [0u16; ROWS];
+    let variables = s.variables - 1 + copied;
+    let d = draft_chosen(sheet, t, ends, &tables[NUMBERS..], variables, &mut next);
+    let w = survey_draft(sheet, s, ends, &next, d, cuts);
     let c = Copying {
         variable: t.variable,
         from: s,
@@ -99,8 +101,8 @@ fn plan_admitted(
 
 // Decides what the step does with `x` in a sheet, whatever the output.
 pub fn plan_outer(sheet: &[u8], f: Format, x: usize, tables: &mut [u16], cuts: &mut [u16]) -> Plan
-    requires { ⌜ Countable (format-of f) × (length (now tables) ≡ 2050) × (8192 < length (now cuts)) ⌝ }
-    ensures { λ r. ⌜ Plans (format-of f) (now (sheet .entry)) x (now (tables .exit)) (now (cuts .exit)) r ⌝ }
+    requires { ⌜ (length (now tables) ≡ 2 * NUMBERS) × (ROWS < length (now cuts)) ⌝ }
+    ensures { λ r. ⌜ Plans f (now (sheet .entry)) x (now (tables .exit)) (now (cuts .exit)) r ⌝ }
 {
     let mut ends = [0u16; ROWS];
     let a = admit(sheet, f, x, &mut ends);
@@ -110,9 +112,9 @@ pub fn plan_outer(sheet: &[u8], f: Format, x: usize, tables: &mut [u16], cuts: &
             let t = Target {
                 layout: s,
                 row: z.row,
-                variable: x,
+                variable: z.variable,
             };
-            plan_admitted(sheet, f, t, &ends, tables, cuts)
+            plan_admitted(sheet, t, &ends, tables, cuts)
         }
     }
 }

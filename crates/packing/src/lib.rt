@@ -27,7 +27,7 @@ pub fn pack_checked(answer: checking::Checked) -> u64
     ensures { λ r. ⌜ r ≡ packed-check (checked-answer answer) ⌝ }
 {
     match answer {
-        checking::Checked::Accepted(v, n) => pack(0, 0, v, n as u64),
+        checking::Checked::Accepted(s) => pack(0, 0, s.variables, s.nodes as u64),
         checking::Checked::Refused(number, place) => pack(number, 0, place, 0),
     }
 }

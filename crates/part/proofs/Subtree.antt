@@ -8,14 +8,17 @@ use native.Mathlib.Omega.{arith}
 use lib.ListN.{length, take, drop, length-drop}
 use lib.Seq.{take-take, drop-drop}
 use borrow.Author.Tests.{lt-ltb, le-ltb}
-use Rattle.sheet.specs.Format.{Bytes, Format, Row, nodes, kind-bytes}
+use Rattle.sheet.specs.Format as sheet
+use Rattle.sheet.specs.Format.{Bytes, Row, nodes, kind-bytes}
 use Rattle.sheet.specs.Check.{passes, check-tests}
 use Rattle.sheet.specs.Operations.{span, part-call}
-use Rattle.rows.specs.Layouts.{total, kind-place, rows-in, Room}
+use Rattle.rows.specs.Formats.{format-of}
+use Rattle.rows.specs.Layouts.{width, total, kind-place, rows-in, Room}
+use Rattle.rows.specs.declared.Format.{Format}
 use Rattle.rows.specs.declared.Layout.{Layout}
 use Rattle.rows.proofs.Layouts.{all-rows-in, length-rows-in}
 use Rattle.checking.specs.declared.Reached.{Reached}
-use Rattle.checking.specs.Limits.{Sheet}
+use Rattle.checking.specs.Sheets.{Sheet}
 use Rattle.checking.specs.Inner.Stages.{pay}
 use Rattle.checking.proofs.Debt.{pay-span, span-length}
 
@@ -26,11 +29,14 @@ take-drop-take (suc k) s zero l h = absurd (omega arith)
 take-drop-take (suc k) s (suc m) [] h = refl
 take-drop-take (suc k) s (suc m) (x ∷ l) h = take-drop-take k s m l (omega arith)
 
-pub bad-sheet : (F : Format) (b : Bytes) (i : ℕ) → passes (check-tests F b) ≡ false → [] ≡ part-call F b i
+pub bad-sheet : (F : sheet.Format) (b : Bytes) (i : ℕ) → passes (check-tests F b) ≡ false → [] ≡ part-call F b i
 unfolding part-call
 bad-sheet F b i h = rw h
 
-module _ {F : Format} {b : Bytes} {s : Layout} (i : ℕ) (h : Sheet F b s) where
+module _ {f : Format} {b : Bytes} {s : Layout} (i : ℕ) (h : Sheet f b s) where
+  abbrev F : sheet.Format
+  F = format-of f
+
   nodes-are : s .nodes ≡ nodes F b
   nodes-are = ap (λ (s : Layout). s .nodes) (h .layout-is)
 
@@ -53,19 +59,19 @@ module _ {F : Format} {b : Bytes} {s : Layout} (i : ℕ) (h : Sheet F b s) where
     ends-within =
         omega (arith, ends, span-length subtree 1, length-drop (s .variables + i) (rows-in s b), length-rows-in b room)
 
-    own : take (span 1 subtree) (drop (s .variables + i) (take (total s) (drop (2 * s .width) b))) ≡ part-call F b i
+    own : take (span 1 subtree) (drop (s .variables + i) (take (total s) (drop (2 * width s) b))) ≡ part-call F b i
     unfolding part-call kind-bytes
-    own = rw (h .layout-is, h .tests-pass, lt-ltb i (nodes F b) (omega (arith, nodes-are)), all-rows-in F b)
+    own = rw (h .layout-is, h .tests-pass, lt-ltb i (nodes F b) (omega (arith, nodes-are)), all-rows-in f b)
 
     pub part-here : {from to : ℕ} → from ≡ kind-place s (s .variables + i) → to ≡ kind-place s (w .row)
         → take (to - from) (drop from b) ≡ part-call F b i
     part-here start end =
-        ap₂ (λ k m. take (k - m) (drop m b)) end start ∙ ap (λ k. take k (drop (2 * s .width + (s .variables + i)) b)) covered ∙
-        rw (← drop-drop (s .variables + i) (2 * s .width) b)
-        (sym (take-drop-take (s .variables + i) (span 1 subtree) (total s) (drop (2 * s .width) b) within)) ∙
+        ap₂ (λ k m. take (k - m) (drop m b)) end start ∙ ap (λ k. take k (drop (2 * width s + (s .variables + i)) b)) covered ∙
+        rw (← drop-drop (s .variables + i) (2 * width s) b)
+        (sym (take-drop-take (s .variables + i) (span 1 subtree) (total s) (drop (2 * width s) b) within)) ∙
         own
       where
-        covered : 2 * s .width + w .row - (2 * s .width + (s .variables + i)) ≡ span 1 subtree
+        covered : 2 * width s + w .row - (2 * width s + (s .variables + i)) ≡ span 1 subtree
         covered = omega (arith, ends)
 
         within : s .variables + i + span 1 subtree ≤ total s

@@ -1,11 +1,12 @@
 // The program: solves the wide sheet on standard input and writes one line ("Solve, Trial, Part"; N11).
 use checking::Checked;
+use rows::Format;
 
 // Tells on standard error what to do with a good sheet of 16-bit numbers. It is never a good wide one, since its N stands where a wide
 // sheet has the upper half of V.
 fn hint(input: &[u8]) {
-    match checking::check(input) {
-        Checked::Accepted(_, _) => {
+    match checking::check(input, Format::Narrow) {
+        Checked::Accepted(_) => {
             io::write_all(
                 2,
                 b"plumanchor: this is a sheet of 16-bit numbers; './plumanchor solve --from narrow' solves it\n",
@@ -21,7 +22,7 @@ fn main() {
     let length = io::read_full(0, &mut input);
     let mut first = [0u8; 46088];
     let mut second = [0u8; 46088];
-    let answer = solve::solve_wide(&input[..length], &mut first, &mut second);
+    let answer = solve::solve(&input[..length], Format::Wide, &mut first, &mut second);
     printing::print_line(solve::line::line_for(answer));
     printing::end_line();
     hint(&input[..length]);

@@ -1,13 +1,17 @@
--- Rows put one behind the other.
+-- Rows put one behind the other, each with a number that fits.
 -- Assumes nothing.
-use mathlib.Core.Path.{_≡_, refl, sym, ap, ap₂, _∙_, subst}
+use mathlib.Core.Path.{_≡_, sym, ap, _∙_}
 use mathlib.Core.List.{List, [], _∷_, _++_, append-assoc}
-use Prim.Native.Nat.{ℕ, zero, suc, _+_, _≤_, _<_}
+use Prim.Native.Nat.{ℕ, suc, _+_, _^_, _≤_, _<_}
 use native.Mathlib.Numerals.{add-one}
 use native.Mathlib.Omega.{arith}
 use lib.ListN.{length, getD, take, drop, set, length-append, take-append-drop}
 use lib.Seq.{drop-cons, set-at, length-take-le}
 use Rattle.sheet.specs.Format.{Row, row}
+use Rattle.rows.specs.Layouts.{Fits}
+use Rattle.rows.specs.Tables.{HIGHEST}
+use Rattle.rows.specs.declared.Layout.{Layout}
+use Rattle.rows.proofs.Limits.{number-fits as format-fits}
 use Rattle.qdimacs.specs.Inner.Rows.{spliced}
 
 pub record Put (rs₀ : List Row) (r₀ : ℕ) (done rs : List Row) (r : ℕ) : Type 0 where
@@ -25,7 +29,10 @@ put-row {rs₀} {r₀} {done} {rs} {new} {r} x p l e =
       here = omega (arith, length-append done (x ∷ []), p .here);
       inside = omega arith;
       so-far =
-          e ∙ ap (λ l. set l r x) (p .so-far ∙ ap (λ l. take r₀ rs₀ ++ (done ++ l)) (drop-cons rs₀ r (row 0 0) l) ∙ sym (append-assoc (take r₀ rs₀) done (getD rs₀ r (row 0 0) ∷ drop (suc r) rs₀))) ∙
+          e ∙
+          ap (λ l. set l r x)
+          (p .so-far ∙ ap (λ l. take r₀ rs₀ ++ (done ++ l)) (drop-cons rs₀ r (row 0 0) l) ∙
+          sym (append-assoc (take r₀ rs₀) done (getD rs₀ r (row 0 0) ∷ drop (suc r) rs₀))) ∙
           set-at (take r₀ rs₀ ++ done) (getD rs₀ r (row 0 0)) (drop (suc r) rs₀) x r front ∙ append-assoc (take r₀ rs₀) done (x ∷ drop (suc r) rs₀) ∙
           ap (λ l. take r₀ rs₀ ++ l) (sym (append-assoc done (x ∷ []) (drop (suc r) rs₀))) ∙
           ap (λ n. take r₀ rs₀ ++ ((done ++ (x ∷ [])) ++ drop n rs₀)) (sym (add-one r));
@@ -36,3 +43,7 @@ put-row {rs₀} {r₀} {done} {rs} {new} {r} x p l e =
 
 pub put-all : {rs₀ : List Row} {r₀ : ℕ} {done rs : List Row} {r : ℕ} → Put rs₀ r₀ done rs r → rs ≡ spliced rs₀ r₀ done
 put-all {rs₀} {r₀} {done} p = p .so-far ∙ ap (λ n. take r₀ rs₀ ++ (done ++ drop n rs₀)) (p .here)
+
+-- variable numbers go up to 1,024, for which a row of either format has bytes
+pub number-fits : (s : Layout) (x : ℕ) → x ≤ HIGHEST → Fits s x
+number-fits s x l = format-fits (s .format) (omega arith)

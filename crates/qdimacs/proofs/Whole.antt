@@ -1,43 +1,40 @@
 -- The answers that the words below a header get, and the sheet that is written.
 -- Assumes nothing.
-use mathlib.Core.Logic.{_⊎_, inl, inr}
-use mathlib.Core.Path.{_≡_, refl, sym, ap, ap₂, _∙_, subst}
-use mathlib.Core.Bool.{Bool, true, false, not, _&&_, _||_, cond, false≢true}
-use mathlib.Core.List.{List, [], _∷_, _++_, map, map-append, append-assoc, append-nil, flatten, flatMap}
-use Prim.Native.Nat.{ℕ, zero, suc, _+_, _*_, _-_, _^_, _≤_, _<_}
-use native.Mathlib.Nat.{lt-of-lt-of-le, pow-le-pow-right}
+use mathlib.Core.Logic.{inl, inr}
+use mathlib.Core.Path.{_≡_, refl, sym, ap, ap₂, _∙_}
+use mathlib.Core.Bool.{Bool, true, false, not, _&&_, _||_, cond}
+use mathlib.Core.List.{List, [], _∷_, _++_, map, map-append, append-assoc, flatten, flatMap}
+use Prim.Native.Nat.{ℕ, zero, suc, _+_, _*_, _-_, _≤_, _<_}
 use native.Mathlib.Omega.{arith}
-use lib.Dec.{eqb, ltb}
-use lib.ListN.{length, getD, take, drop, set, replicate, length-append, length-map, drop-of-length-le}
-use lib.Seq.{take-all, take-at, drop-at}
-use borrow.Author.Tests.{eqb-true, eq-eqb, ne-eqb, le-leb, leb-true}
-use Rattle.formula.specs.Tree.{and, or, exists, Prefix, Formula, binds, distinct, rows, rows-all, count}
+use lib.Dec.{eqb}
+use lib.ListN.{length, getD, replicate, length-append}
+use borrow.Author.Tests.{eqb-true, ne-eqb, le-leb, leb-true}
+use Rattle.formula.specs.Tree.{exists, Prefix, binds, distinct, rows, rows-all, count}
 use Rattle.formula.proofs.Booleans.{and-parts}
 use Rattle.sheet.specs.Format.{Bytes, Format, Row, row, digits, sheet-length}
 use Rattle.sheet.specs.Sheet.{binding-row, tree-rows, forest-rows, formula-rows, row-kinds, row-arguments, sheet}
-use Rattle.sheet.specs.Check.{refused, accepted}
-use Rattle.sheet.specs.Operations.{padded, Written}
-use Rattle.sheet.specs.Qdimacs.{all, is-nil, Token, is-end, absolute, text-header, tokens-below, pieces, ended-lists, open-list, in-order, well-listed, numbers-of, bound, clauses, clause-trees, matrix-of, named, is-free, free-up-to, said, qdimacs, above-count, qdimacs-call}
+use Rattle.sheet.specs.Check.{Answer, refused, accepted}
+use Rattle.sheet.specs.Operations.{padded}
+use Rattle.sheet.specs.Qdimacs.{all, is-nil, Token, is-end, absolute, text-header, tokens-below, pieces, ended-lists, open-list}
+use Rattle.sheet.specs.Qdimacs.{in-order, well-listed, numbers-of, bound, clauses, clause-trees, matrix-of, named, is-free, free-up-to, said, qdimacs, above-count}
 use Rattle.sheet.proofs.RoundTrip.{length-sheet}
 use Rattle.sheet.proofs.Parts.{sheet-length-rows}
 use Rattle.sheet.proofs.Qdimacs.Accepted.{positive, up-to, in-order-positive, prefix-few}
 use Rattle.sheet.proofs.Every.{Every}
 use Rattle.sheet.proofs.Qdimacs.Lists.{Uncut, pieces-uncut, all-both, all-leads}
-use Rattle.sheet.proofs.Qdimacs.Answers.{lists, bad-header, bad-counts, read-answer, qdimacs-refused, refused-15, refused-16, refused-17, refused-6, refused-2, refused-13, accepts}
-use Rattle.rows.specs.Layouts.{total, rows-in, Room, sealed}
+use Rattle.sheet.proofs.Qdimacs.Answers.{lists, bad-counts, read-answer, qdimacs-refused, refused-16, refused-17, refused-6, refused-2, refused-13, accepts}
+use Rattle.sheet.proofs.Writing.{written}
+use Rattle.rows.specs.Layouts.{width, total}
 use Rattle.rows.specs.declared.Layout.{Layout}
-use Rattle.checking.specs.Limits.{Countable}
 use Rattle.words.specs.Numbers.{Capped, largest}
-use Rattle.qdimacs.specs.Inner.Lists.{between, ordered, clause-tokens, bound-from, whole-lists, ends}
+use Rattle.qdimacs.specs.Inner.Lists.{between, ordered, clause-tokens, whole-lists, ends}
 use Rattle.qdimacs.specs.Inner.Cursor.{tokens-at, Cuts}
 use Rattle.qdimacs.specs.Inner.Clauses.{Counts}
-use Rattle.qdimacs.specs.Inner.Marks.{Listed, bindings-in, Marked, Binds, free-with, Names, frees}
-use Rattle.qdimacs.specs.Inner.Rows.{spliced, clause-rows, Writable}
-use Rattle.qdimacs.specs.Inner.Body.{Scanned, body-rows, Placeable, laid, Below, CallAnswers}
-use Rattle.qdimacs.specs.declared.body.Body.{Body}
+use Rattle.qdimacs.specs.Inner.Marks.{Listed, bindings-in, Marked, free-with, Names, frees}
+use Rattle.qdimacs.specs.Inner.Rows.{clause-rows}
+use Rattle.qdimacs.specs.Inner.Body.{laid, Below, CallAnswers}
 use Rattle.qdimacs.specs.declared.clauses.Clauses.{Clauses}
 use Rattle.qdimacs.specs.declared.prefix.Cut.{Cut}
-use Rattle.qdimacs.specs.declared.marks.Bound.{Bound}
 use Rattle.qdimacs.proofs.Pieces.{well-listed-is}
 use Rattle.qdimacs.proofs.Reading.{bound-by, bound-is, clauses-of, clauses-are, numbers-by, below-is, flatten-lists, numbers-named, length-lists, rows-lists, count-trees}
 
@@ -45,22 +42,25 @@ use Rattle.qdimacs.proofs.Reading.{bound-by, bound-is, clauses-of, clau
 abbrev laid-out : ℕ → ℕ → ℕ → List Row → ℕ → Bytes
 laid-out w v n rs zeros = digits w v ++ digits w n ++ row-kinds rs ++ row-arguments w rs ++ replicate zeros 0
 
+-- quantifier lines in order, and whole clauses below them
+abbrev pub ordered-whole : Bytes → Bool
+ordered-whole b = ordered between (tokens-at b 0) && whole-lists false (clause-tokens between (tokens-at b 0))
+
 -- a refusal's answer and output
-pub refuses : (F : Format) (t out : Bytes) (n : ℕ) → read-answer F t out ≡ refused n 0 → (refused n 0 ≡ (qdimacs-call F t out) .answer) × (out ≡ (qdimacs-call F t out) .output)
-refuses F t out n e = (sym e, sym (qdimacs-refused F t out n 0 e))
+pub refuses : (F : Format) (t out : Bytes) (n : ℕ) → read-answer F t out ≡ refused n 0 → CallAnswers F t out (refused n 0) out
+refuses F t out n e = written (sym e, sym (qdimacs-refused F t out n 0 e))
 
 module _ {F : Format} {t b : Bytes} {n : ℕ} (w : Below F t b n) (out : Bytes) where
   abbrev ts : List Token
   ts = tokens-at b 0
 
-  listed-is : well-listed (tokens-below t) ≡ (ordered between ts && whole-lists false (clause-tokens between ts))
+  listed-is : well-listed (tokens-below t) ≡ ordered-whole b
   listed-is = ap well-listed (w .tokens-are) ∙ well-listed-is ts
 
-  pub not-listed : (ordered between ts && whole-lists false (clause-tokens between ts)) ≡ false
-      → (refused 16 0 ≡ (qdimacs-call F t out) .answer) × (out ≡ (qdimacs-call F t out) .output)
+  pub not-listed : ordered-whole b ≡ false → CallAnswers F t out (refused 16 0) out
   not-listed e = refuses F t out 16 (refused-16 F t out (w .header-good) (listed-is ∙ e))
 
-  module _ (well : (ordered between ts && whole-lists false (clause-tokens between ts)) ≡ true) where
+  module _ (well : ordered-whole b ≡ true) where
     is-listed : well-listed (tokens-below t) ≡ true
     is-listed = listed-is ∙ well
 
@@ -88,12 +88,12 @@ module _ {F : Format} {t b : Bytes} {n : ℕ} (w : Below F t b n) (out : Bytes) 
     counts-are : bad-counts (text-header t) (tokens-below t) ≡ (not (all (up-to n) ts) || not (eqb (ends cs) ((text-header t) .clause-count)))
     counts-are = ap₂ (λ p m. p || not (eqb m ((text-header t) .clause-count))) above-is count-is
 
-    pub too-high : all (up-to n) ts ≡ false → (refused 17 0 ≡ (qdimacs-call F t out) .answer) × (out ≡ (qdimacs-call F t out) .output)
+    pub too-high : all (up-to n) ts ≡ false → CallAnswers F t out (refused 17 0) out
     too-high e =
         refuses F t out 17
         (refused-17 F t out (w .header-good) is-listed (counts-are ∙ ap (λ p. not p || not (eqb (ends cs) ((text-header t) .clause-count))) e))
 
-    pub other-count : (eqb (ends cs) ((text-header t) .clause-count)) ≡ false → (refused 17 0 ≡ (qdimacs-call F t out) .answer) × (out ≡ (qdimacs-call F t out) .output)
+    pub other-count : (eqb (ends cs) ((text-header t) .clause-count)) ≡ false → CallAnswers F t out (refused 17 0) out
     other-count e =
         refuses F t out 17
         (refused-17 F t out (w .header-good) is-listed (counts-are ∙ ap (λ p. not (all (up-to n) ts) || not p) e ∙ or-true (not (all (up-to n) ts))))
@@ -106,7 +106,7 @@ module _ {F : Format} {t b : Bytes} {n : ℕ} (w : Below F t b n) (out : Bytes) 
     right-counts e f = counts-are ∙ ap₂ (λ p q. not p || not q) e f
 
     module _ (counts : bad-counts (text-header t) (tokens-below t) ≡ false) where
-      pub twice : distinct (bindings-in b) ≡ false → (refused 6 0 ≡ (qdimacs-call F t out) .answer) × (out ≡ (qdimacs-call F t out) .output)
+      pub twice : distinct (bindings-in b) ≡ false → CallAnswers F t out (refused 6 0) out
       twice e = refuses F t out 6 (refused-6 F t out (w .header-good) is-listed counts (ap distinct bound-lists ∙ e))
 
       rows-are : rows ((qdimacs t) .matrix) ≡ suc (length cs)
@@ -117,7 +117,7 @@ module _ {F : Format} {t b : Bytes} {n : ℕ} (w : Below F t b n) (out : Bytes) 
         is-once : distinct (bound (lists (tokens-below t))) ≡ true
         is-once = ap distinct bound-lists ∙ once
 
-        pub too-many : F .most-nodes ≤ length cs → (refused 2 0 ≡ (qdimacs-call F t out) .answer) × (out ≡ (qdimacs-call F t out) .output)
+        pub too-many : F .most-nodes ≤ length cs → CallAnswers F t out (refused 2 0) out
         too-many l = refuses F t out 2 (refused-2 F t out (w .header-good) is-listed counts is-once (omega (arith, rows-are)))
 
         module _ (few : length cs < F .most-nodes) (m : List ℕ) (free-is : (x : ℕ) → 1 ≤ x → x ≤ n → eqb (getD m x 0) 2 ≡ (named x cs && not (binds (bindings-in b) x))) where
@@ -146,27 +146,26 @@ module _ {F : Format} {t b : Bytes} {n : ℕ} (w : Below F t b n) (out : Bytes) 
           long : length (sheet F (qdimacs t)) ≡ sizes
           long = length-sheet F (qdimacs t) ∙ ap₂ (sheet-length F) prefix-long rows-are
 
-          pub short : length out < sizes → (refused 13 0 ≡ (qdimacs-call F t out) .answer) × (out ≡ (qdimacs-call F t out) .output)
+          pub short : length out < sizes → CallAnswers F t out (refused 13 0) out
           short l = refuses F t out 13 (refused-13 F t out (w .header-good) is-listed counts is-once is-few (omega (arith, long)))
 
-          rows-of : (c : ℕ) → c ≡ ends cs
-              → formula-rows (qdimacs t) ≡ map binding-row (frees m n) ++ (map binding-row (bindings-in b) ++ (row 5 c ∷ clause-rows cs))
-          unfolding formula-rows qdimacs said matrix-of tree-rows
-          rows-of c e =
-              ap₂ (λ p ls. map binding-row p ++ (row 5 (count (clause-trees ls)) ∷ forest-rows (clause-trees ls))) prefix-is clause-lists ∙
-              ap₂ (λ p k. p ++ (row 5 k ∷ clause-rows cs)) (map-append binding-row (frees m n) (bindings-in b)) (count-trees (lists cs) ∙ length-lists cs ∙ sym e) ∙
-              append-assoc (map binding-row (frees m n)) (map binding-row (bindings-in b)) (row 5 c ∷ clause-rows cs)
+          abbrev rows-said : ℕ → List Token → List Row
+          rows-said c us = map binding-row (frees m n) ++ (map binding-row (bindings-in b) ++ (row 5 c ∷ clause-rows us))
 
-          pub whole-sheet : {s : Layout} {c end : ℕ} {new : Bytes} → sizes ≤ length out → s .width ≡ F .width → s .variables ≡ length (frees m n) + length (bindings-in b)
-              → s .nodes ≡ suc (length cs) → c ≡ ends cs
-              → new ≡ laid s (map binding-row (frees m n) ++ (map binding-row (bindings-in b) ++ (row 5 c ∷ clause-rows cs))) (length out)
-              → end ≡ 2 * s .width + total s + s .width * total s → (accepted end ≡ (qdimacs-call F t out) .answer) × (new ≡ (qdimacs-call F t out) .output)
+          rows-of : {c : ℕ} {us : List Token} → c ≡ ends cs → us ≡ cs → formula-rows (qdimacs t) ≡ rows-said c us
+          unfolding formula-rows qdimacs said matrix-of tree-rows
+          rows-of {c} {us} ec eu =
+              ap₂ (λ p ls. map binding-row p ++ (row 5 (count (clause-trees ls)) ∷ forest-rows (clause-trees ls))) prefix-is clause-lists ∙
+              ap₂ (λ p k. p ++ (row 5 k ∷ clause-rows cs)) (map-append binding-row (frees m n) (bindings-in b)) (count-trees (lists cs) ∙ length-lists cs ∙ sym ec) ∙
+              append-assoc (map binding-row (frees m n)) (map binding-row (bindings-in b)) (row 5 c ∷ clause-rows cs) ∙ ap (rows-said c) (sym eu)
+
+          pub whole-sheet : (s : Layout) {c end : ℕ} {us : List Token} {new : Bytes} → sizes ≤ length out → width s ≡ F .width
+              → s .variables ≡ length (frees m n) + length (bindings-in b) → s .nodes ≡ suc (length cs) → c ≡ ends cs → us ≡ cs
+              → new ≡ laid s (rows-said c us) (length out) → end ≡ 2 * width s + total s + width s * total s → CallAnswers F t out (accepted end) new
           unfolding padded sheet
-          whole-sheet {s} {c} {end} {new} room ew ev en ec e f =
-              let call = accepts F t out (w .header-good) is-listed counts is-once is-few (omega (arith, long)) in (
-                ap accepted (f ∙ end-is) ∙ sym (ap (λ (c : Written). c .answer) call),
-                e ∙ bytes-are ∙ sym (ap (λ (c : Written). c .output) call),
-              )
+          whole-sheet s {c} {end} {us} {new} room ew ev en ec eu e f =
+              written (ap accepted (f ∙ end-is), e ∙ bytes-are) ∙
+              sym (accepts F t out (w .header-good) is-listed counts is-once is-few (omega (arith, long)))
             where
               both : s .variables + s .nodes ≡ length (frees m n) + length (bindings-in b) + suc (length cs)
               both = ap₂ _+_ ev en
@@ -174,7 +173,7 @@ module _ {F : Format} {t b : Bytes} {n : ℕ} (w : Below F t b n) (out : Bytes) 
               regroup : (w n : ℕ) → 2 * w + n + w * n ≡ 2 * w + (n + w * n)
               regroup w n = omega arith
 
-              end-is : 2 * s .width + total s + s .width * total s ≡ length (sheet F (qdimacs t))
+              end-is : 2 * width s + total s + width s * total s ≡ length (sheet F (qdimacs t))
               end-is =
                   ap₂ (λ w n. 2 * w + n + w * n) ew both ∙ regroup (F .width) (length (frees m n) + length (bindings-in b) + suc (length cs)) ∙
                   sym (long ∙ sheet-length-rows F (length (frees m n) + length (bindings-in b)) (suc (length cs)))
@@ -182,9 +181,9 @@ module _ {F : Format} {t b : Bytes} {n : ℕ} (w : Below F t b n) (out : Bytes) 
               nodes-left : total s - s .variables ≡ rows ((qdimacs t) .matrix)
               nodes-left = omega (arith, en, rows-are)
 
-              bytes-are : laid s (map binding-row (frees m n) ++ (map binding-row (bindings-in b) ++ (row 5 c ∷ clause-rows cs))) (length out) ≡ padded (length out) (sheet F (qdimacs t))
+              bytes-are : laid s (rows-said c us) (length out) ≡ padded (length out) (sheet F (qdimacs t))
               bytes-are =
-                  ap₂ (λ rs zeros. laid-out (s .width) (s .variables) (total s - s .variables) rs zeros) (sym (rows-of c ec)) (ap (λ e. length out - e) end-is) ∙
+                  ap₂ (laid-out (width s) (s .variables) (total s - s .variables)) (sym (rows-of ec eu)) (ap (λ e. length out - e) end-is) ∙
                   ap (λ w. laid-out w (s .variables) (total s - s .variables) (formula-rows (qdimacs t)) (length out - length (sheet F (qdimacs t)))) ew ∙
                   ap₂ (λ v n. laid-out (F .width) v n (formula-rows (qdimacs t)) (length out - length (sheet F (qdimacs t)))) (ev ∙ sym prefix-long) nodes-left
 
@@ -234,9 +233,6 @@ pub free-of-clauses : (b : Bytes) (from : ℕ) {n : ℕ} {cs : List Token} (p : 
     → (x : ℕ) → 1 ≤ x → x ≤ n → eqb (getD m x 0) 2 ≡ (named x cs && not (binds p x))
 free-of-clauses b from {n} {cs} p m e l h x low high = h x low (omega arith) ∙ ap (λ us. named x us && not (binds p x)) e
 
-pub two-bytes-enough : (w : ℕ) → 2 ≤ w → 1024 < 256 ^ w
-two-bytes-enough w h = lt-of-lt-of-le (omega arith) (pow-le-pow-right {n = 256} (omega arith) {i = 2} {j = w} h)
-
 -- the counts that the header says, as code has them
 
 pub same-count : (n m c : ℕ) → n < largest → Capped largest m c → eqb n c ≡ eqb n m
@@ -246,14 +242,11 @@ same-count n m c l (inr e) = ne-eqb n c (λ f. absurd (omega (arith, e .1, f))) 
 -- what read_body finds out
 
 module _ {b : Bytes} {cut : Cut} (cuts : Cuts b cut) where
-  abbrev ordered-whole : Bool
-  ordered-whole = ordered between (tokens-at b 0) && whole-lists false (clause-tokens between (tokens-at b 0))
-
-  pub disordered : cut .ordered ≡ false → ordered-whole ≡ false
+  pub disordered : cut .ordered ≡ false → ordered-whole b ≡ false
   disordered e = ap (λ p. p && whole-lists false (clause-tokens between (tokens-at b 0))) (sym (cuts .ordered-is) ∙ e)
 
   module _ (o : cut .ordered ≡ true) {c : Clauses} (counts : Counts b (cut .at) c) where
-    pub listed-so : ordered-whole ≡ (c .whole && not (c .ongoing))
+    pub listed-so : ordered-whole b ≡ (c .whole && not (c .ongoing))
     listed-so =
         ap (λ p. p && whole-lists false (clause-tokens between (tokens-at b 0))) (sym (cuts .ordered-is) ∙ o) ∙
         ap (whole-lists false) (sym (cuts .clauses-from o)) ∙ sym (counts .whole-is)

@@ -15,14 +15,20 @@ use rows::Format;
 use rows::Layout;
 use rows::NUMBERS;
 use rows::fit::sheet_length;
+use rows::most_nodes;
+use rows::refusals::BAD_LISTS;
+use rows::refusals::BEYOND_HEADER;
+use rows::refusals::BOUND_TWICE;
+use rows::refusals::NO_ROOM;
+use rows::refusals::SIZE_OUTSIDE;
 use rows::write::seal;
 use rows::write::set_row;
 ghost use mathlib.Core.Path.{_≡_};
 ghost use Prim.Native.Nat.{_+_, _*_, _≤_, _<_};
 ghost use lib.ListN.{length};
 ghost use Rattle.rows.specs.Formats.{format-of};
-ghost use Rattle.rows.specs.Layouts.{total};
-ghost use Rattle.checking.specs.Limits.{Countable};
+ghost use Rattle.rows.specs.Layouts.{width, total};
+ghost use Rattle.rows.specs.Tables.{HIGHEST};
 ghost use Rattle.words.specs.Numbers.{largest};
 ghost use Rattle.qdimacs.specs.Inner.Body.{Scanned, Placeable, laid, body-rows, Answers, CountedAnswers};
 
@@ -39,7 +45,7 @@ pub struct Body {
 fn write_sheet(b: &[u8], marks: &[u8; NUMBERS], k: Body, out: &mut [u8], s: Layout) -> usize
     requires { ⌜ Placeable (now b) (now marks) k s (length (now out)) ⌝ }
     ensures { λ _. ⌜ now (out .exit) ≡ laid s (body-rows (now (b .entry)) (now (marks .entry)) k) (length (now (out .entry))) ⌝ }
-    ensures { λ r. ⌜ r ≡ 2 * s .width + total s + s .width * total s ⌝ }
+    ensures { λ r. ⌜ r ≡ 2 * width s + total s + width s * total s ⌝ }
 {
     let free = write_free(marks, k.most, out, s);
     let v = write_bound(b, out, s, free);
@@ -50,7 +56,7 @@ fn write_sheet(b: &[u8], marks: &[u8; NUMBERS], k: Body, out: &mut [u8], s: Layo
 
 // Well listed words: 6 a number bound twice, 2 too many nodes, 13 output shorter than the sheet.
 fn read_scanned(b: &[u8], f: Format, k: Body, out: &mut [u8]) -> Written
-    requires { ⌜ Countable (format-of f) × Scanned (now b) k ⌝ }
+    requires { ⌜ Scanned (now b) k ⌝ }
     ensures { λ r. ⌜ CountedAnswers (format-of f) (now (b .entry)) k (now (out .entry)) r (now (out .exit)) ⌝ }
 {
     let mut marks = [0u8; NUMBERS];
@@ -58,43 +64,43 @@ fn read_scanned(b: &[u8], f: Format, k: Body, out: &mut [u8]) -> Written
     name(b, k.from, &mut marks);
     let free = count_free(&marks, k.most);
     if bound.twice {
-        return Written::Refused(6, 0);
+        return Written::Refused(BOUND_TWICE, 0);
     }
-    if f.most_nodes <= k.words {
-        return Written::Refused(2, 0);
+    if most_nodes(f) <= k.words {
+        return Written::Refused(SIZE_OUTSIDE, 0);
     }
     let s = Layout {
-        width: f.width,
+        format: f,
         variables: free + bound.count,
         nodes: k.words + 1,
     };
     if out.len() < sheet_length(f, s.variables, s.nodes) {
-        return Written::Refused(13, 0);
+        return Written::Refused(NO_ROOM, 0);
     }
     Written::Accepted(write_sheet(b, &marks, k, out, s))
 }
 
 // The words below a header: 16 not lists as they should be, 17 a number above the header's or another number of clauses.
 pub fn read_body(b: &[u8], f: Format, h: Header, out: &mut [u8]) -> Written
-    requires { ⌜ Countable (format-of f) × (h .variables ≤ 1024) × (length (now b) < largest) ⌝ }
+    requires { ⌜ (h .variables ≤ HIGHEST) × (length (now b) < largest) ⌝ }
     ensures { λ r. ⌜ Answers (format-of f) (now (b .entry)) h (now (out .entry)) r (now (out .exit)) ⌝ }
 {
     let cut = prefix_end(b);
     if !cut.ordered {
-        return Written::Refused(16, 0);
+        return Written::Refused(BAD_LISTS, 0);
     }
     let c = count_clauses(b, cut.at);
     if !c.whole {
-        return Written::Refused(16, 0);
+        return Written::Refused(BAD_LISTS, 0);
     }
     if c.ongoing {
-        return Written::Refused(16, 0);
+        return Written::Refused(BAD_LISTS, 0);
     }
     if has_above(b, h.variables) {
-        return Written::Refused(17, 0);
+        return Written::Refused(BEYOND_HEADER, 0);
     }
     if c.count != h.clauses {
-        return Written::Refused(17, 0);
+        return Written::Refused(BEYOND_HEADER, 0);
     }
     let k = Body {
         from: cut.at,

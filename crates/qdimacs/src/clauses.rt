@@ -13,6 +13,7 @@ ghost use Prim.Native.Nat.{_≤_, _<_};
 ghost use lib.ListN.{length};
 ghost use Rattle.sheet.specs.Qdimacs.{all};
 ghost use Rattle.sheet.proofs.Qdimacs.Accepted.{up-to};
+ghost use Rattle.rows.specs.Tables.{HIGHEST};
 ghost use Rattle.words.specs.Numbers.{largest};
 ghost use Rattle.qdimacs.specs.Inner.Lists.{first-length};
 ghost use Rattle.qdimacs.specs.Inner.Cursor.{tokens-at};
@@ -98,7 +99,7 @@ fn is_above(t: Token, most: usize) -> bool
 
 // Whether a number, of quantifier lines or of clauses, is above `most`.
 pub fn has_above(b: &[u8], most: usize) -> bool
-    requires { ⌜ most ≤ 1024 ⌝ }
+    requires { ⌜ most ≤ HIGHEST ⌝ }
     ensures { λ r. ⌜ r ≡ not (all (up-to most) (tokens-at (now (b .entry)) 0)) ⌝ }
 {
     let mut at: usize = 0;

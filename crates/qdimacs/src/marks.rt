@@ -13,6 +13,7 @@ ghost use mathlib.Core.Bool.{cond};
 ghost use Prim.Native.Nat.{_≤_, _<_};
 ghost use lib.Dec.{eqb};
 ghost use lib.ListN.{length, replicate};
+ghost use Rattle.rows.specs.Tables.{HIGHEST, NUMBERS};
 ghost use Rattle.words.specs.Numbers.{largest};
 ghost use Rattle.qdimacs.specs.Inner.Marks.{Listed, found-with, marks-with, Binds, named-with, Names, frees};
 
@@ -28,7 +29,7 @@ pub struct Bound {
 
 // A number of a quantifier line is marked as bound.
 fn bind_word(found: Bound, t: Token, marks: &mut [u8; NUMBERS]) -> Bound
-    requires { ⌜ (t .class ≡ 7 → t .magnitude < 1025) × (found .count < largest) × (length (now marks) ≡ 1025) ⌝ }
+    requires { ⌜ (t .class ≡ 7 → t .magnitude < NUMBERS) × (found .count < largest) × (length (now marks) ≡ NUMBERS) ⌝ }
     ensures { λ r. ⌜ r ≡ found-with found t (now (marks .entry)) ⌝ }
     ensures { λ _. ⌜ now (marks .exit) ≡ marks-with t (now (marks .entry)) ⌝ }
 {
@@ -51,7 +52,7 @@ fn bind_word(found: Bound, t: Token, marks: &mut [u8; NUMBERS]) -> Bound
 
 // Marks the numbers of the quantifier lines.
 pub fn bind(b: &[u8], marks: &mut [u8; NUMBERS]) -> Bound
-    requires { ⌜ Listed (now b) × (now marks ≡ replicate 1025 0) ⌝ }
+    requires { ⌜ Listed (now b) × (now marks ≡ replicate NUMBERS 0) ⌝ }
     ensures { λ r. ⌜ Binds (now (b .entry)) r (now (marks .exit)) ⌝ }
 {
     let mut found = Bound {
@@ -75,7 +76,7 @@ pub fn bind(b: &[u8], marks: &mut [u8; NUMBERS]) -> Bound
 
 // A number of a clause that is not bound is marked as free.
 fn name_word(t: Token, marks: &mut [u8; NUMBERS])
-    requires { ⌜ length (now marks) ≡ 1025 ⌝ }
+    requires { ⌜ length (now marks) ≡ NUMBERS ⌝ }
     ensures { λ _. ⌜ now (marks .exit) ≡ named-with t (now (marks .entry)) ⌝ }
 {
     if t.class < ZERO {
@@ -93,7 +94,7 @@ fn name_word(t: Token, marks: &mut [u8; NUMBERS])
 
 // Marks the numbers of the clauses from `from` on.
 pub fn name(b: &[u8], from: usize, marks: &mut [u8; NUMBERS])
-    requires { ⌜ (from ≤ length (now b)) × (length (now marks) ≡ 1025) ⌝ }
+    requires { ⌜ (from ≤ length (now b)) × (length (now marks) ≡ NUMBERS) ⌝ }
     ensures { λ _. ⌜ Names (now (b .entry)) from (now (marks .entry)) (now (marks .exit)) ⌝ }
 {
     let mut at = from;
@@ -116,7 +117,7 @@ fn one_if_free(mark: u8) -> usize
 
 // How many numbers up to `most` are free.
 pub fn count_free(marks: &[u8; NUMBERS], most: usize) -> usize
-    requires { ⌜ (most ≤ 1024) × (length (now marks) ≡ 1025) ⌝ }
+    requires { ⌜ (most ≤ HIGHEST) × (length (now marks) ≡ NUMBERS) ⌝ }
     ensures { λ r. ⌜ (r ≡ length (frees (now (marks .entry)) most)) × (r ≤ most) ⌝ }
 {
     let mut count: usize = 0;

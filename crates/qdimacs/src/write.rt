@@ -25,7 +25,8 @@ ghost use lib.Dec.{eqb};
 ghost use lib.ListN.{length, set};
 ghost use Rattle.sheet.specs.Format.{row};
 ghost use Rattle.sheet.specs.Sheet.{binding-row};
-ghost use Rattle.rows.specs.Layouts.{total, rows-in, Room};
+ghost use Rattle.rows.specs.Layouts.{Fits, total, rows-in, Room};
+ghost use Rattle.rows.specs.Tables.{HIGHEST};
 ghost use Rattle.words.specs.Numbers.{largest};
 ghost use Rattle.qdimacs.specs.Inner.Lists.{first-length};
 ghost use Rattle.qdimacs.specs.Inner.Cursor.{tokens-at};
@@ -42,7 +43,7 @@ pub struct Place {
 
 // A free variable's row.
 fn write_if_free(mark: u8, x: usize, out: &mut [u8], s: Layout, r: usize) -> usize
-    requires { ⌜ Room s (length (now out)) × (mark ≡ 2 → r < total s) × (r < largest) × (x < 256 ^ s .width) ⌝ }
+    requires { ⌜ Room s (length (now out)) × (mark ≡ 2 → r < total s) × (r < largest) × Fits s x ⌝ }
     ensures { λ _. ⌜ rows-in s (now (out .exit)) ≡ cond (eqb mark 2) (set (rows-in s (now (out .entry))) r (row 1 x)) (rows-in s (now (out .entry))) ⌝ }
     ensures { λ n. ⌜ n ≡ cond (eqb mark 2) (r + 1) r ⌝ }
 {
@@ -55,7 +56,7 @@ fn write_if_free(mark: u8, x: usize, out: &mut [u8], s: Layout, r: usize) -> usi
 
 // Writes the rows of the free variables up to `most` from the first row on, and returns how many they are.
 pub fn write_free(marks: &[u8; NUMBERS], most: usize, out: &mut [u8], s: Layout) -> usize
-    requires { ⌜ Room s (length (now out)) × (most ≤ 1024) × (1024 < 256 ^ s .width) × (length (frees (now marks) most) ≤ total s) ⌝ }
+    requires { ⌜ Room s (length (now out)) × (most ≤ HIGHEST) × (length (frees (now marks) most) ≤ total s) ⌝ }
     ensures { λ _. ⌜ rows-in s (now (out .exit)) ≡ spliced (rows-in s (now (out .entry))) 0 (map binding-row (frees (now (marks .entry)) most)) ⌝ }
     ensures { λ r. ⌜ r ≡ length (frees (now (marks .entry)) most) ⌝ }
 {
@@ -70,7 +71,7 @@ pub fn write_free(marks: &[u8; NUMBERS], most: usize, out: &mut [u8], s: Layout)
 
 // The row of a number in a quantifier line of this kind.
 fn write_binding(t: Token, kind: u8, out: &mut [u8], s: Layout, r: usize) -> usize
-    requires { ⌜ Room s (length (now out)) × (t .class ≡ 7 → r < total s) × (r < largest) × (t .class ≡ 7 → t .magnitude < 256 ^ s .width) ⌝ }
+    requires { ⌜ Room s (length (now out)) × (t .class ≡ 7 → r < total s) × (r < largest) × (t .class ≡ 7 → Fits s (t .magnitude)) ⌝ }
     ensures { λ _. ⌜ rows-in s (now (out .exit)) ≡ cond (eqb (t .class) 7) (set (rows-in s (now (out .entry))) r (row kind (t .magnitude))) (rows-in s (now (out .entry))) ⌝ }
     ensures { λ n. ⌜ n ≡ cond (eqb (t .class) 7) (r + 1) r ⌝ }
 {
@@ -83,7 +84,7 @@ fn write_binding(t: Token, kind: u8, out: &mut [u8], s: Layout, r: usize) -> usi
 
 // Writes the rows of the quantifier lines from row `from` on, and returns the row behind them.
 pub fn write_bound(b: &[u8], out: &mut [u8], s: Layout, from: usize) -> usize
-    requires { ⌜ Listed (now b) × Room s (length (now out)) × (1024 < 256 ^ s .width) × (from + length (bindings-in (now b)) ≤ total s) × (total s < 2 ^ 32) ⌝ }
+    requires { ⌜ Listed (now b) × Room s (length (now out)) × (from + length (bindings-in (now b)) ≤ total s) × (total s < 2 ^ 32) ⌝ }
     ensures { λ _. ⌜ rows-in s (now (out .exit)) ≡ spliced (rows-in s (now (out .entry))) from (map binding-row (bindings-in (now (b .entry)))) ⌝ }
     ensures { λ r. ⌜ r ≡ from + length (bindings-in (now (b .entry))) ⌝ }
 {
@@ -154,7 +155,7 @@ fn open_clause(b: &[u8], p: Place, class: u8, out: &mut [u8], s: Layout) -> Plac
 
 // The row of a literal; 0 has none.
 fn write_word(t: Token, p: Place, out: &mut [u8], s: Layout) -> Place
-    requires { ⌜ Room s (length (now out)) × (7 ≤ t .class → p .row < total s) × (p .row < largest) × (7 ≤ t .class → number-said t < 256 ^ s .width) ⌝ }
+    requires { ⌜ Room s (length (now out)) × (7 ≤ t .class → p .row < total s) × (p .row < largest) × (7 ≤ t .class → Fits s (number-said t)) ⌝ }
     ensures { λ r. ⌜ r ≡ word-place t p ⌝ }
     ensures { λ _. ⌜ rows-in s (now (out .exit)) ≡ word-rows t p (rows-in s (now (out .entry))) ⌝ }
 {

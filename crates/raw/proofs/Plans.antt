@@ -3,8 +3,7 @@
 use mathlib.Core.Path.{_≡_, refl, sym, ap, ap₂, _∙_, subst, subst₂}
 use mathlib.Core.Bool.{true, false, cond}
 use mathlib.Core.List.{List, _∷_, _++_, map}
-use Prim.Native.Nat.{ℕ, suc, _+_, _-_, _^_, _≤_, _<_}
-use native.Mathlib.Nat.{lt-of-lt-of-le, pow-le-pow-right}
+use Prim.Native.Nat.{ℕ, suc, _+_, _-_, _≤_, _<_}
 use native.Mathlib.Omega.{arith}
 use lib.ListN.{length, getD, take, drop, length-append, length-drop, length-map}
 use lib.Seq.{slice, drop-cons, take-all, length-slice}
@@ -13,7 +12,7 @@ use Rattle.formula.specs.Expand.{expand-tree, raw-tree}
 use Rattle.sheet.specs.Format.{Bytes, Row, row}
 use Rattle.sheet.specs.Sheet.{binding-row, tree-rows, formula-rows}
 use Rattle.sheet.proofs.Preorder.{count-rows, length-tree-rows}
-use Rattle.rows.specs.Layouts.{total, rows-in}
+use Rattle.rows.specs.Layouts.{Fits, total, rows-in}
 use Rattle.rows.specs.Formulas.{prefix-in, node-rows-in, matrix-in, formula-in}
 use Rattle.rows.specs.declared.Layout.{Layout}
 use Rattle.rows.proofs.Formulas.{length-nodes}
@@ -22,6 +21,7 @@ use Rattle.subtrees.proofs.Forest.{rows-kids}
 use Rattle.relevance.specs.declared.Relevant.{Relevant}
 use Rattle.changing.specs.Changes.{changed-row, copied}
 use Rattle.changing.specs.Output.{Ready}
+use Rattle.rows.proofs.Limits.{number-fits}
 use Rattle.raw.specs.Formulas.{without-row, first-table, second-table, chosen-by, operator-of, copying-by, expanded-raw}
 use Rattle.raw.specs.Expansions.{Climbs, runs-in, joined, Copyable, Expandable, Located, part-in, cuts-in, new-rows, new-at, joined-in, raw-matrix}
 use Rattle.raw.specs.declared.expand.Expansion.{Expansion}
@@ -35,19 +35,12 @@ use Rattle.raw.proofs.Sited.{Sited, sited}
 
 pub ready-raw : {s : Layout} {b : Bytes} {tables : List ℕ} {e : Expansion} {out : Bytes} → Copyable s b tables e out
     → Ready s b (e .layout) out
-ready-raw x = record { source = x .readable .room; room = x .room; same-width = x .same-width; two-bytes = x .two-bytes }
+ready-raw x = record { source = x .readable .room; room = x .room; same-format = x .same-format }
 
 module _ {s : Layout} {b : Bytes} {tables : List ℕ} {e : Expansion} {out : Bytes} (x : Copyable s b tables e out)
     (l : Located s b tables e) where
   abbrev site : Sited s b tables e
   site = sited s b tables e x l
-
-  -- numbers of rows fit, by either width
-  pub enough : (8192 < 256 ^ s .width) × (8192 < 256 ^ e .layout .width)
-  enough = (fits (s .width) (x .two-bytes), fits (e .layout .width) (omega (arith, x .two-bytes, x .same-width)))
-    where
-      fits : (w : ℕ) → 2 ≤ w → 8192 < 256 ^ w
-      fits w h = lt-of-lt-of-le (omega arith) (pow-le-pow-right {n = 256} (omega arith) {i = 2} {j = w} h)
 
   -- the new rows have their place
   pub new-within : new-at e + length (new-rows s b tables e) ≤ total (e .layout)
@@ -59,10 +52,9 @@ pub copyable-on : {s : Layout} {b : Bytes} {tables : List ℕ} {e : Expansion} {
 copyable-on x h =
     record {
       readable = x .readable;
-      two-bytes = x .two-bytes;
       two-tables = x .two-tables;
       joins = x .joins;
-      same-width = x .same-width;
+      same-format = x .same-format;
       few-variables = x .few-variables;
       nodes-are = x .nodes-are;
       room = room-on (x .room) h;
@@ -73,10 +65,9 @@ pub copyable : {s : Layout} {b : Bytes} {tables : List ℕ} {e : Expansion} {out
 copyable x =
     record {
       readable = x .readable;
-      two-bytes = x .two-bytes;
       two-tables = x .two-tables;
       joins = x .joins;
-      same-width = ap (λ (t : Layout). t .width) (x .layout-is);
+      same-format = ap (λ (t : Layout). t .format) (x .layout-is);
       few-variables = omega (arith, ap (λ (t : Layout). t .variables) (x .layout-is), x .readable .few-variables);
       nodes-are = ap (λ (t : Layout). t .nodes) (x .layout-is);
       room = x .room;
@@ -90,7 +81,7 @@ rest-of a l = take-all (length l - a) (drop a l) (omega (arith, length-drop a l)
 pub record Whole (s : Layout) (b : Bytes) (tables : List ℕ) (e : Expansion) : Type 0 where
   pub inside : e .part .operator < e .end
   pub end-in : e .end ≤ s .nodes
-  pub fits-two : 2 < 256 ^ e .layout .width
+  pub fits-two : Fits (e .layout) 2
   pub room : new-at e + (1 + ((e .end - e .part .operator) + (e .end - e .part .operator))) ≤ total (e .layout)
   pub written : row (e .joint) 2 ∷
       (copied (first-table tables) (s .variables + e .part .operator) (s .variables + e .end) (rows-in s b) ++
@@ -103,7 +94,7 @@ whole {s} {b} {tables} {e} x l h =
     record {
       inside = site .inside;
       end-in = site .end-in;
-      fits-two = omega (arith, enough x l);
+      fits-two = number-fits (e .layout .format) (omega arith);
       room =
           omega (
             arith,
@@ -146,9 +137,9 @@ pub record Some (s : Layout) (b : Bytes) (tables cs : List ℕ) (e : Expansion) 
   pub climbs-relevant : Climbs 0 (drop 1 cs) (s .nodes)
   pub climbs-others : Climbs 0 (drop 2 cs) (s .nodes)
   pub few : e .part .children ≤ count (kids (part-in s b e))
-  pub fits-two : 2 < 256 ^ e .layout .width
-  pub fits-relevant : e .part .children < 256 ^ s .width
-  pub fits-children : count (kids (part-in s b e)) - e .part .children + 1 < 256 ^ e .layout .width
+  pub fits-two : Fits (e .layout) 2
+  pub fits-relevant : Fits s (e .part .children)
+  pub fits-children : Fits (e .layout) (count (kids (part-in s b e)) - e .part .children + 1)
   pub joined-length : length (joined-in s b tables cs e) ≡
       1 + ((1 + length (runs-in s b (drop 1 cs))) + (1 + length (runs-in s b (drop 1 cs))))
   pub room : new-at e +
@@ -172,9 +163,9 @@ some {s} {b} {tables} {cs} {e} x l h c =
       climbs-relevant = subst (λ l. Climbs 0 l (s .nodes)) (sym one-cut) (omega arith, climbing .1 .1);
       climbs-others = climbs-from 0 (getD cs 1 0) (s .nodes) (omega arith) (drop 2 cs) (climbing .1 .1);
       few = omega (arith, bounds .1, children-are);
-      fits-two = omega (arith, enough x l);
-      fits-relevant = omega (arith, bounds .1, children-are, kids-few, enough x l);
-      fits-children = omega (arith, bounds .0, bounds .1, children-are, kids-few, enough x l);
+      fits-two = number-fits (e .layout .format) (omega arith);
+      fits-relevant = number-fits (s .format) (omega (arith, bounds .1, children-are, kids-few));
+      fits-children = number-fits (e .layout .format) (omega (arith, bounds .0, bounds .1, children-are, kids-few));
       joined-length = joined-counts;
       room =
           omega (

@@ -24,7 +24,7 @@ use Rattle.raw.proofs.Source.{matrix-copied}
 
 -- after a write there is as much room
 pub room-on : {t : Layout} {m n : ℕ} → Room t m → n ≡ m → Room t n
-room-on r e = record { few-bytes = r .few-bytes; holds = omega (arith, e, r .holds) }
+room-on r e = record { holds = omega (arith, e, r .holds) }
 
 -- the row behind, by another name
 pub laid-to : {t : Layout} {old new : Bytes} {at next last : ℕ} {rs : List Row} → next ≡ last → Laid t old new at next rs

@@ -51,10 +51,9 @@ joined k head first second rs = row k 2 ∷ (below head first rs ++ below head s
 -- a sheet, two tables, the joint's kind, a layout with the raw sheet's nodes and any number of variables, and room for it
 pub record Copyable (s : Layout) (b : Bytes) (tables : List ℕ) (e : Expansion) (out : Bytes) : Type 0 where
   pub readable : Readable s b
-  pub two-bytes : 2 ≤ s .width
   pub two-tables : length tables ≡ 2050
   pub joins : e .joint ≡ operator-kind (operator-of (e .joint))
-  pub same-width : e .layout .width ≡ s .width
+  pub same-format : e .layout .format ≡ s .format
   pub few-variables : e .layout .variables ≤ 1024
   pub nodes-are : e .layout .nodes ≡ raw-rows (chosen-by tables) (matrix-in s b)
   pub room : Room (e .layout) (length out)
@@ -62,7 +61,6 @@ pub record Copyable (s : Layout) (b : Bytes) (tables : List ℕ) (e : Expansion)
 -- the same with the prefix row that goes, where no row is added to the prefix
 pub record Expandable (s : Layout) (b : Bytes) (tables : List ℕ) (e : Expansion) (out : Bytes) : Type 0 where
   pub readable : Readable s b
-  pub two-bytes : 2 ≤ s .width
   pub two-tables : length tables ≡ 2050
   pub in-prefix : e .row < s .variables
   pub joins : e .joint ≡ operator-kind (operator-of (e .joint))

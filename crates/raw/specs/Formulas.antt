@@ -52,7 +52,7 @@ expanded-raw i c f = record { prefix = without-row i (f .prefix); matrix = raw-t
 
 -- a raw sheet's layout: one variable less, and so many nodes
 abbrev pub raw-layout : Layout → ℕ → Layout
-raw-layout s n = record { width = s .width; variables = s .variables - 1; nodes = n }
+raw-layout s n = record { format = s .format; variables = s .variables - 1; nodes = n }
 
 -- the rows of a formula are written as all the rows of a layout
 pub record Raw (t : Layout) (old new : Bytes) (g : Formula) : Type 0 where

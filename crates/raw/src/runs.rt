@@ -5,7 +5,8 @@ use changing::write::write_copy;
 use changing::write::write_row;
 use rows::Layout;
 ghost use mathlib.Core.List.{map};
-ghost use Prim.Native.Nat.{_+_, _^_, _<_};
+ghost use Prim.Native.Nat.{_+_};
+ghost use Rattle.rows.specs.Layouts.{Fits};
 ghost use Rattle.changing.specs.Changes.{changed-row};
 ghost use Rattle.changing.specs.Output.{Laid};
 ghost use Rattle.raw.specs.Expansions.{runs-in, head-row, below, Runnable};
@@ -55,7 +56,7 @@ pub fn write_below(
     out: &mut [u8],
     head: Head,
 ) -> usize
-    requires { ⌜ Runnable s (now b) (now cuts) (head .layout) (now out) (head .at + 1) × (head .children < 256 ^ s .width) ⌝ }
+    requires { ⌜ Runnable s (now b) (now cuts) (head .layout) (now out) (head .at + 1) × Fits s (head .children) ⌝ }
     ensures { λ next. ⌜ Laid (head .layout) (now (out .entry)) (now (out .exit)) (head .at) next (below (head-row head) (now (table .entry)) (runs-in s (now (b .entry)) (now (cuts .entry)))) ⌝ }
 {
     let t = head.layout;

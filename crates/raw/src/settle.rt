@@ -33,11 +33,12 @@ pub fn write_prefix(b: &[u8], s: Layout, i: usize, out: &mut [u8], t: Layout) ->
 
 // Writes the raw sheet of settling: the prefix without row `i`, and the matrix with its literals changed by the table.
 pub fn write_settled(b: &[u8], s: Layout, table: &[u16], i: usize, out: &mut [u8])
-    requires { ⌜ Readable s (now b) × (2 ≤ s .width) × (i < s .variables) × Room (raw-layout s (s .nodes)) (length (now out)) ⌝ }
+    requires { ⌜ Readable s (now b) × (i < s .variables) × Room (raw-layout s (s .nodes)) (length (now out)) ⌝ }
     ensures { λ _. ⌜ Raw (raw-layout s (s .nodes)) (now (out .entry)) (now (out .exit)) (settled-raw i (now (table .entry)) (formula-in s (now (b .entry)))) ⌝ }
 {
+    let f = s.format;
     let t = Layout {
-        width: s.width,
+        format: f,
         variables: s.variables - 1,
         nodes: s.nodes,
     };

@@ -7,15 +7,15 @@ use qdimacs::header::header_line;
 use qdimacs::header::next_line;
 use qdimacs::header::read_header;
 use rows::Format;
+use rows::most_variables;
+use rows::refusals::BAD_HEADER;
 use words::cursor::end_of;
 ghost use mathlib.Core.Path.{_≡_};
 ghost use Prim.Native.Nat.{_≤_};
 ghost use lib.ListN.{length, drop};
-ghost use Rattle.sheet.specs.Format.{narrow, wide};
 ghost use Rattle.sheet.specs.Qdimacs.{qdimacs-call};
 ghost use Rattle.rows.specs.Formats.{format-of};
 ghost use Rattle.checking.specs.Answers.{written-answer};
-ghost use Rattle.checking.specs.Limits.{Countable};
 ghost use Rattle.reader.specs.Inner.{Headed-at, Lists-read};
 
 pub struct Reader<'a> {
@@ -78,49 +78,32 @@ pub fn header_next<'a>(r: Reader<'a>) -> Headed
 
 // The lists of a text from `at` on, below this header, written as a sheet: 15 no header as it should be, or too many variables.
 fn lists_from(text: &[u8], at: usize, h: Header, f: Format, out: &mut [u8]) -> Written
-    requires { ⌜ Countable (format-of f) × (at ≤ length (now text)) ⌝ }
+    requires { ⌜ at ≤ length (now text) ⌝ }
     ensures { λ w. ⌜ Lists-read (format-of f) h (drop at (now (text .entry))) (now (out .entry)) (record { answer = written-answer w; output = now (out .exit) }) ⌝ }
 {
     if !h.well_formed {
-        return Written::Refused(15, 0);
+        return Written::Refused(BAD_HEADER, 0);
     }
-    if f.most_variables < h.variables {
-        return Written::Refused(15, 0);
+    if most_variables(f) < h.variables {
+        return Written::Refused(BAD_HEADER, 0);
     }
     read_body(&text[at..], f, h, out)
 }
 
 // The lists that are unread, below this header, written as a sheet.
 pub fn lists_next<'a, 'b>(r: Reader<'a>, h: Header, f: Format, out: &'b mut [u8]) -> Written
-    requires { ⌜ Countable (format-of f) × (r .at ≤ length (now (r .text))) ⌝ }
+    requires { ⌜ r .at ≤ length (now (r .text)) ⌝ }
     ensures { λ w. ⌜ Lists-read (format-of f) h (drop (r .entry .at) (now (r .entry .text))) (now (out .entry)) (record { answer = written-answer w; output = now (out .exit) }) ⌝ }
 {
     lists_from(r.text, r.at, h, f, out)
 }
 
-// Reads a whole text, to a sheet of any format whose rows this code can count.
-pub fn read_text(text: &[u8], f: Format, out: &mut [u8]) -> Written
-    requires { ⌜ Countable (format-of f) ⌝ }
+// Writes the sheet of a QDIMACS text to the front of `out`, with zeros behind it, and returns its length; or refuses the text or the
+// output, and alters nothing.
+pub fn qdimacs(text: &[u8], f: Format, out: &mut [u8]) -> Written
     ensures { λ w. ⌜ record { answer = written-answer w; output = now (out .exit) } ≡ qdimacs-call (format-of f) (now (text .entry)) (now (out .entry)) ⌝ }
 {
     let r = open_text(text);
     let h = header_next(r);
     lists_next(moved(r, h.to), h.header, f, out)
-}
-
-// Writes the sheet of a QDIMACS text to the front of `out`, with zeros behind it, and returns its length; or refuses the text or the
-// output, and alters nothing.
-pub fn qdimacs(text: &[u8], out: &mut [u8]) -> Written
-    ensures { λ r. ⌜ written-answer r ≡ (qdimacs-call narrow (now (text .entry)) (now (out .entry))) .answer ⌝ }
-    ensures { λ _. ⌜ now (out .exit) ≡ (qdimacs-call narrow (now (text .entry)) (now (out .entry))) .output ⌝ }
-{
-    read_text(text, rows::narrow(), out)
-}
-
-// The same as a wide sheet.
-pub fn qdimacs_wide(text: &[u8], out: &mut [u8]) -> Written
-    ensures { λ r. ⌜ written-answer r ≡ (qdimacs-call wide (now (text .entry)) (now (out .entry))) .answer ⌝ }
-    ensures { λ _. ⌜ now (out .exit) ≡ (qdimacs-call wide (now (text .entry)) (now (out .entry))) .output ⌝ }
-{
-    read_text(text, rows::wider(), out)
 }

@@ -14,32 +14,36 @@ use Rattle.formula.specs.Tidy.{tidied, is-tidy, first-fault}
 use Rattle.formula.specs.Reduce.{in-profile, reduced}
 use Rattle.formula.proofs.Closed.{unbound}
 use Rattle.formula.proofs.Reduce.{and-below, profile-and-below, tidy-blank-tree}
-use Rattle.sheet.specs.Format.{Bytes, Format, Row, row, variables}
+use Rattle.sheet.specs.Format as sheet
+use Rattle.sheet.specs.Format.{Bytes, Row, row, sheet-length, variables}
 use Rattle.sheet.specs.Sheet.{binding-row, tree-rows, formula-rows, formula, sheet}
 use Rattle.sheet.specs.Check.{refused, accepted, Test, test, answer, passes, check-tests}
 use Rattle.sheet.specs.Operations.{padded, tidiness-test, reduce-tests, reduce-call}
 use Rattle.sheet.proofs.Limits.{binds-numbered}
 use Rattle.sheet.proofs.Accepted.{accepted-within}
 use Rattle.sheet.proofs.Tests.{passes-++, answer-++}
-use Rattle.sheet.proofs.Writing.{write-refused, write-accepted}
-use Rattle.rows.specs.Layouts.{rows-in, Room}
-use Rattle.rows.specs.Formulas.{prefix-in, matrix-in, formula-in}
+use Rattle.sheet.proofs.Writing.{written, write-refused, write-accepted}
+use Rattle.rows.specs.Formats.{format-of}
+use Rattle.rows.specs.Layouts.{format-in, rows-in, Room}
+use Rattle.rows.specs.Formulas.{prefix-in, matrix-in, formula-in, layout-for}
+use Rattle.rows.specs.declared.Format.{Format}
 use Rattle.rows.specs.declared.Layout.{Layout}
+use Rattle.rows.proofs.Limits.{limits}
 use Rattle.rows.proofs.Layouts.{rows-in-++}
 use Rattle.rows.proofs.Formulas.{length-prefix, rows-nodes}
-use Rattle.checking.specs.Limits.{Manageable, Countable, Sheet}
+use Rattle.checking.specs.Sheets.{Sheet}
 use Rattle.checking.proofs.CheckedSheets.{sheet-right, sheet-readable, sheet-formula-in}
 use Rattle.subtrees.specs.Subtrees.{top}
 use Rattle.subtrees.proofs.Forest.{tree-rows-top}
 use Rattle.tidiness.proofs.Tidiness.{fault-within, tidy-by, fault-by}
 use Rattle.tidying.specs.Limits.{Raw}
-use Rattle.tidying.proofs.Raw.{few-rows, raw-rows, raw-output, raw-length}
+use Rattle.tidying.proofs.Raw.{few-rows, layout-length, raw-rows, raw-output, raw-sizes}
 use Rattle.reduce.specs.Inner.Places.{Numbered, Placed}
 use Rattle.reduce.specs.Inner.Clauses.{Clausal, blanked}
 use Rattle.reduce.specs.Inner.Plan.{Planned}
 use Rattle.reduce.proofs.Turn.{Reducing, first-clauses}
 
-module _ {F : Format} {b : Bytes} {s : Layout} (m : Manageable F) (h : Sheet F b s) (room : ℕ) where
+module _ {f : Format} {b : Bytes} {s : Layout} (h : Sheet f b s) (room : ℕ) where
   abbrev t : Tree
   t = matrix-in s b
 
@@ -49,24 +53,24 @@ module _ {F : Format} {b : Bytes} {s : Layout} (m : Manageable F) (h : Sheet F b
       test (not (is-tidy t)) 9 (s .variables + first-fault t) ∷ test (not (in-profile t)) 20 0 ∷ test (ltb room (length b)) 13 0 ∷ []
 
   own-tests : List Test
-  own-tests = tidiness-test F b ∷ test (not (in-profile ((formula F b) .matrix))) 20 0 ∷ test (ltb room (length b)) 13 0 ∷ []
+  own-tests = tidiness-test (format-of f) b ∷ test (not (in-profile ((formula (format-of f) b) .matrix))) 20 0 ∷ test (ltb room (length b)) 13 0 ∷ []
 
   same-tests : read-tests ≡ own-tests
   unfolding read-tests own-tests formula-in
   same-tests =
       ap (λ (v : ℕ). test (not (is-tidy t)) 9 (v + first-fault t) ∷ test (not (in-profile t)) 20 0 ∷ test (ltb room (length b)) 13 0 ∷ [])
       (ap (λ (l : Layout). l .variables) (h .layout-is)) ∙
-      ap (λ (f : Formula). test (not (is-tidy (f .matrix))) 9 (variables F b + first-fault (f .matrix)) ∷
-      test (not (in-profile (f .matrix))) 20 0 ∷ test (ltb room (length b)) 13 0 ∷ []) (sheet-formula-in h)
+      ap (λ (g : Formula). test (not (is-tidy (g .matrix))) 9 (variables (format-of f) b + first-fault (g .matrix)) ∷
+      test (not (in-profile (g .matrix))) 20 0 ∷ test (ltb room (length b)) 13 0 ∷ []) (sheet-formula-in h)
 
-  answered : answer (reduce-tests F b room) room ≡ answer read-tests room
+  answered : answer (reduce-tests (format-of f) b room) room ≡ answer read-tests room
   unfolding reduce-tests own-tests
-  answered = answer-++ (check-tests F b) own-tests room (h .tests-pass) ∙ ap (λ ts. answer ts room) (sym same-tests)
+  answered = answer-++ (check-tests (format-of f) b) own-tests room (h .tests-pass) ∙ ap (λ ts. answer ts room) (sym same-tests)
 
-  passing : passes (reduce-tests F b room) ≡ passes read-tests
+  passing : passes (reduce-tests (format-of f) b room) ≡ passes read-tests
   unfolding reduce-tests own-tests
   passing =
-      passes-++ (check-tests F b) own-tests ∙ ap (λ c. c && passes own-tests) (h .tests-pass) ∙ ap passes (sym same-tests)
+      passes-++ (check-tests (format-of f) b) own-tests ∙ ap (λ c. c && passes own-tests) (h .tests-pass) ∙ ap passes (sym same-tests)
 
   -- the row told is a node row, or the one behind the last
   pub fault-most : {fault : ℕ} → fault ≡ cond (is-tidy t) (s .nodes) (first-fault t) → fault ≤ s .nodes
@@ -75,73 +79,73 @@ module _ {F : Format} {b : Bytes} {s : Layout} (m : Manageable F) (h : Sheet F b
       go : (c : Bool) → is-tidy t ≡ c → fault ≤ s .nodes
       go true e = omega (arith, told ∙ ap (λ c. cond c (s .nodes) (first-fault t)) e)
       go false e =
-          omega (arith, told ∙ ap (λ c. cond c (s .nodes) (first-fault t)) e, fault-within t e, rows-nodes b (sheet-readable h m))
+          omega (arith, told ∙ ap (λ c. cond c (s .nodes) (first-fault t)) e, fault-within t e, rows-nodes b (sheet-readable h))
 
   -- 9 not tidy, at the row of the first operator at fault
   pub not-tidy : {fault : ℕ} → fault ≡ cond (is-tidy t) (s .nodes) (first-fault t) → fault < s .nodes
-      → refused 9 (s .variables + fault) ≡ answer (reduce-tests F b room) room
+      → refused 9 (s .variables + fault) ≡ answer (reduce-tests (format-of f) b room) room
   unfolding answer read-tests
   not-tidy {fault} told l =
-      let nodes = rows-nodes b (sheet-readable h m) in
+      let nodes = rows-nodes b (sheet-readable h) in
       rw (answered, tidy-by t nodes told, lt-ltb fault (s .nodes) l) (ap (λ i. refused 9 (s .variables + i)) (fault-by t nodes told l))
 
   module _ {fault : ℕ} (told : fault ≡ cond (is-tidy t) (s .nodes) (first-fault t)) (sound : s .nodes ≤ fault)
       {inner : Bool} (is : inner ≡ and-below t) where
     tidy-here : is-tidy t ≡ true
-    tidy-here = tidy-by t (rows-nodes b (sheet-readable h m)) told ∙ ap not (le-ltb fault (s .nodes) sound)
+    tidy-here = tidy-by t (rows-nodes b (sheet-readable h)) told ∙ ap not (le-ltb fault (s .nodes) sound)
 
     profile-here : {c : Bool} → inner ≡ c → in-profile t ≡ not c
     profile-here e = profile-and-below t tidy-here ∙ ap not (sym is ∙ e)
 
     -- 20 not of the clause profile
-    pub not-clauses : inner ≡ true → refused 20 0 ≡ answer (reduce-tests F b room) room
+    pub not-clauses : inner ≡ true → refused 20 0 ≡ answer (reduce-tests (format-of f) b room) room
     unfolding answer read-tests
     not-clauses e = rw (answered, tidy-here, profile-here e)
 
     -- 13 output shorter than the sheet
-    pub no-room : inner ≡ false → room < length b → refused 13 0 ≡ answer (reduce-tests F b room) room
+    pub no-room : inner ≡ false → room < length b → refused 13 0 ≡ answer (reduce-tests (format-of f) b room) room
     unfolding answer read-tests
     no-room e l = rw (answered, tidy-here, profile-here e, lt-ltb room (length b) l)
 
-    pub planned : inner ≡ false → length b ≤ room → Planned F b room s
+    pub planned : inner ≡ false → length b ≤ room → Planned f b room s
     unfolding passes read-tests formula-in
     planned e l =
         record {
           sheet = h;
           tests-pass = rw (passing, tidy-here, profile-here e, le-ltb room (length b) l);
-          profile = ap (λ (f : Formula). in-profile (f .matrix)) (sym (sheet-formula-in h)) ∙ profile-here e;
+          profile = ap (λ (g : Formula). in-profile (g .matrix)) (sym (sheet-formula-in h)) ∙ profile-here e;
           room-is = l;
         }
 
 -- the sheet as it is read
 
-module _ {F : Format} {b : Bytes} {s : Layout} {room : ℕ} (k : Manageable F) (d : Planned F b room s) where
-  same : formula-in s b ≡ formula F b
+module _ {f : Format} {b : Bytes} {s : Layout} {room : ℕ} (d : Planned f b room s) where
+  same : formula-in s b ≡ formula (format-of f) b
   same = sheet-formula-in (d .sheet)
 
   pub sheet-numbered : Numbered s b
   unfolding formula-in
   sheet-numbered =
       record {
-        readable = sheet-readable (d .sheet) k;
+        readable = sheet-readable (d .sheet);
         few-numbers =
             λ x e. omega (
               arith,
-              k .few-variables,
-              binds-numbered F ((formula F b) .prefix) x (accepted-within F b (d .sheet .tests-pass) .is-numbered)
-                  (ap (λ (f : Formula). binds (f .prefix) x) (sym same) ∙ e),
+              limits f .few-variables,
+              binds-numbered (format-of f) ((formula (format-of f) b) .prefix) x (accepted-within (format-of f) b (d .sheet .tests-pass) .is-numbered)
+                  (ap (λ (g : Formula). binds (g .prefix) x) (sym same) ∙ e),
             );
       }
 
   pub sheet-clausal : {places : List ℕ} → Placed s b places → Clausal s b places
   unfolding formula-in
   sheet-clausal p =
-      let within = accepted-within F b (d .sheet .tests-pass) in
+      let within = accepted-within (format-of f) b (d .sheet .tests-pass) in
       record {
         placed = p;
-        is-distinct = ap (λ (f : Formula). distinct (f .prefix)) same ∙ within .is-distinct;
+        is-distinct = ap (λ (g : Formula). distinct (g .prefix)) same ∙ within .is-distinct;
         is-closed = ap closed same ∙ within .is-closed;
-        profile = ap (λ (f : Formula). in-profile (f .matrix)) same ∙ d .profile;
+        profile = ap (λ (g : Formula). in-profile (g .matrix)) same ∙ d .profile;
       }
 
 -- the clauses of a copy
@@ -178,9 +182,9 @@ module _ {s : Layout} {b : Bytes} {places : List ℕ} (c : Clausal s b places) w
 
 -- the copy tidied
 
-module _ {F : Format} {b : Bytes} {s : Layout} (k : Countable F) (out : Bytes) (d : Planned F b (length out) s) where
+module _ {b : Bytes} {s : Layout} (out : Bytes) (d : Planned (s .format) b (length out) s) where
   source : Room s (length b)
-  source = sheet-readable (d .sheet) (k .manageable) .room
+  source = sheet-readable (d .sheet) .room
 
   copied-rows : {new : Bytes} → new ≡ b ++ drop (length b) out → rows-in s new ≡ rows-in s b
   copied-rows e = ap (rows-in s) e ∙ rows-in-++ b source (drop (length b) out)
@@ -189,47 +193,51 @@ module _ {F : Format} {b : Bytes} {s : Layout} (k : Countable F) (out : Bytes) (
   copied {new} e =
       let len : length new ≡ length out =
       ap length e ∙ length-append b (drop (length b) out) ∙ omega (arith, length-drop (length b) out, d .room-is) in
-      (record { few-bytes = source .few-bytes; holds = omega (arith, source .holds, d .room-is, len) }, copied-rows e)
+      (record { holds = omega (arith, source .holds, d .room-is, len) }, copied-rows e)
 
   module _ (new : Bytes) (len : length new ≡ length out) (is : rows-in s new ≡ formula-rows (blanked (formula-in s b))) where
     prefix-count : length ((blanked (formula-in s b)) .prefix) ≡ s .variables
     unfolding blanked formula-in
-    prefix-count = length-prefix b (sheet-readable (d .sheet) (k .manageable))
+    prefix-count = length-prefix b (sheet-readable (d .sheet))
 
-    pub blanked-raw : Raw F s new
+    pub blanked-raw : Raw s new
     blanked-raw =
-        raw-rows F s new (blanked (formula-in s b)) is prefix-count (ap (λ (l : Layout). l .width) (d .sheet .layout-is))
-        (record { few-bytes = source .few-bytes; holds = omega (arith, source .holds, d .room-is, len) })
-        (few-rows k s (ap (λ (l : Layout). l .width) (d .sheet .layout-is)) (sheet-right (d .sheet) .few-variables) (sheet-right (d .sheet) .few-nodes))
+        raw-rows s new (blanked (formula-in s b)) is prefix-count (record { holds = omega (arith, source .holds, d .room-is, len) })
+        (few-rows s (sheet-right (d .sheet) .few-variables) (sheet-right (d .sheet) .few-nodes))
 
-    tidied-blanked : tidied (blanked (formula-in s b)) ≡ reduced (formula F b)
+    tidied-blanked : tidied (blanked (formula-in s b)) ≡ reduced (formula (format-in s) b)
     unfolding tidied blanked reduced
     tidied-blanked =
         ap (λ (g : Formula). tidied (blanked g)) (sheet-formula-in (d .sheet)) ∙
-        ap (λ (u : Tree). record { prefix = (formula F b) .prefix; matrix = u })
-        (tidy-blank-tree ((formula F b) .prefix) ((formula F b) .matrix) (d .profile))
+        ap (λ (u : Tree). record { prefix = (formula (format-in s) b) .prefix; matrix = u })
+        (tidy-blank-tree ((formula (format-in s) b) .prefix) ((formula (format-in s) b) .matrix) (d .profile))
 
-    pub reduced-output : {end : Bytes} → end ≡ padded (length new) (sheet F (tidied (formula-in s new)))
-        → end ≡ padded (length out) (sheet F (reduced (formula F b)))
+    pub reduced-output : {end : Bytes} → end ≡ padded (length new) (sheet (format-in s) (tidied (formula-in s new)))
+        → end ≡ padded (length out) (sheet (format-in s) (reduced (formula (format-in s) b)))
     reduced-output e =
-        raw-output F s new (blanked (formula-in s b)) is prefix-count (length new) e ∙
-        ap₂ (λ (n : ℕ) (g : Formula). padded n (sheet F g)) len tidied-blanked
+        raw-output s new (blanked (formula-in s b)) is prefix-count (length new) e ∙
+        ap₂ (λ (n : ℕ) (g : Formula). padded n (sheet (format-in s) g)) len tidied-blanked
 
-    pub reduced-length : {n : ℕ} → n ≡ length (sheet F (tidied (formula-in s new))) → n ≡ length (sheet F (reduced (formula F b)))
+    pub reduced-length : {t : Layout} → t ≡ layout-for (s .format) (tidied (formula-in s new))
+        → sheet-length (format-in t) (t .variables) (t .nodes) ≡ length (sheet (format-in s) (reduced (formula (format-in s) b)))
     reduced-length e =
-        raw-length F s new (blanked (formula-in s b)) is prefix-count e ∙ ap (λ (g : Formula). length (sheet F g)) tidied-blanked
+        layout-length (s .format) (reduced (formula (format-in s) b))
+        (raw-sizes s new (blanked (formula-in s b)) is prefix-count e ∙ ap (layout-for (s .format)) tidied-blanked)
 
 -- the call
 
-pub refused-call : {n i : ℕ} (F : Format) (b : Bytes) (out : Bytes) → refused n i ≡ answer (reduce-tests F b (length out)) (length out)
-    → (refused n i ≡ (reduce-call F b out) .answer) × (out ≡ (reduce-call F b out) .output)
+pub refused-call : {n i : ℕ} (F : sheet.Format) (b : Bytes) (out : Bytes) → refused n i ≡ answer (reduce-tests F b (length out)) (length out)
+    → record { answer = refused n i; output = out } ≡ reduce-call F b out
 unfolding reduce-call
-refused-call F b out h = write-refused (reduce-tests F b (length out)) (length out) _ out h
+refused-call F b out h =
+    written (write-refused (reduce-tests F b (length out)) (length out) _ out h)
 
-pub reduced-call : {F : Format} {b : Bytes} {s : Layout} (out : Bytes) → Planned F b (length out) s → {len : ℕ} {written : Bytes}
-    → len ≡ length (sheet F (reduced (formula F b))) → written ≡ padded (length out) (sheet F (reduced (formula F b)))
-    → (accepted len ≡ (reduce-call F b out) .answer) × (written ≡ (reduce-call F b out) .output)
+pub reduced-call : {f : Format} {b : Bytes} {s : Layout} (out : Bytes) → Planned f b (length out) s → {len : ℕ} {new : Bytes}
+    → len ≡ length (sheet (format-of f) (reduced (formula (format-of f) b)))
+    → new ≡ padded (length out) (sheet (format-of f) (reduced (formula (format-of f) b)))
+    → record { answer = accepted len; output = new } ≡ reduce-call (format-of f) b out
 unfolding reduce-call
-reduced-call {F} {b} out d l w =
+reduced-call {f} {b} out d l w =
+    let F = format-of f in
     let call = write-accepted (reduce-tests F b (length out)) (sheet F (reduced (formula F b))) out (d .tests-pass) in
-    (ap accepted l ∙ call .0, w ∙ call .1)
+    written (ap accepted l ∙ call .0, w ∙ call .1)

@@ -18,6 +18,7 @@ ghost use lib.Seq.{slice};
 ghost use Rattle.sheet.specs.Sheet.{formula-rows};
 ghost use Rattle.rows.specs.Layouts.{total, rows-in, Room};
 ghost use Rattle.rows.specs.Formulas.{prefix-in, formula-in};
+ghost use Rattle.rows.specs.Tables.{ROWS, HIGHEST};
 ghost use Rattle.reduce.specs.Inner.Places.{Placed, row-of, Bound};
 ghost use Rattle.reduce.specs.Inner.Clauses.{last-existential, goes-row, blank-row, Literals, Copy, Blanks, Clausal, blanked};
 
@@ -93,7 +94,7 @@ fn first_clause(b: &[u8], s: Layout) -> usize
 
 // The row of the first literal of the clause at row `r`: its own, or the one behind an OR.
 fn first_literal(b: &[u8], s: Layout, r: usize) -> usize
-    requires { ⌜ Room s (length (now b)) × (r < total s) × (total s ≤ 9216) ⌝ }
+    requires { ⌜ Room s (length (now b)) × (r < total s) × (total s ≤ ROWS + HIGHEST) ⌝ }
     ensures { λ i. ⌜ i ≡ r + cond (leb ((row-of s (now (b .entry)) r) .kind) 4) 0 1 ⌝ }
 {
     if kind_at(b, s, r) <= NEGATIVE {

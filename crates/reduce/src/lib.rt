@@ -8,17 +8,17 @@ use checking::Written;
 use rows::Format;
 use rows::Layout;
 use rows::NUMBERS;
-use tidying::copy_front;
+use rows::bytes::copy_front;
+use rows::fit::sheet_length;
 use tidying::tidy_in_place;
 ghost use mathlib.Core.Path.{_≡_};
 ghost use lib.ListN.{length};
 ghost use Rattle.formula.specs.Reduce.{reduced};
-ghost use Rattle.sheet.specs.Format.{narrow, wide};
 ghost use Rattle.sheet.specs.Sheet.{formula, sheet};
 ghost use Rattle.sheet.specs.Operations.{padded, reduce-call};
 ghost use Rattle.rows.specs.Formats.{format-of};
+ghost use Rattle.rows.specs.Layouts.{format-in};
 ghost use Rattle.checking.specs.Answers.{written-answer};
-ghost use Rattle.checking.specs.Limits.{Countable};
 ghost use Rattle.reduce.specs.Inner.Plan.{Planned};
 
 pub mod clauses;
@@ -27,44 +27,28 @@ pub mod plan;
 pub mod profile;
 
 // Writes the reduced sheet to the front of `out`, with zeros behind it, and returns its length.
-fn reduce_into(source: &[u8], f: Format, s: Layout, out: &mut [u8]) -> usize
-    requires { ⌜ Countable (format-of f) × Planned (format-of f) (now source) (length (now out)) s ⌝ }
-    ensures { λ _. ⌜ now (out .exit) ≡ padded (length (now (out .entry))) (sheet (format-of f) (reduced (formula (format-of f) (now (source .entry))))) ⌝ }
-    ensures { λ r. ⌜ r ≡ length (sheet (format-of f) (reduced (formula (format-of f) (now (source .entry))))) ⌝ }
+fn reduce_into(source: &[u8], s: Layout, out: &mut [u8]) -> usize
+    requires { ⌜ Planned (s .format) (now source) (length (now out)) s ⌝ }
+    ensures { λ _. ⌜ now (out .exit) ≡ padded (length (now (out .entry))) (sheet (format-in s) (reduced (formula (format-in s) (now (source .entry))))) ⌝ }
+    ensures { λ r. ⌜ r ≡ length (sheet (format-in s) (reduced (formula (format-in s) (now (source .entry))))) ⌝ }
 {
     let mut places = [0u16; NUMBERS];
     fill_places(source, s, &mut places);
     copy_front(source, out);
     blank_clauses(source, s, &places, out);
-    tidy_in_place(out, f, s)
+    let t = tidy_in_place(out, s);
+    let f = t.format;
+    sheet_length(f, t.variables, t.nodes)
 }
 
-// Reduces a sheet of any format whose rows this code can count.
-pub fn reduce_in(sheet: &[u8], f: Format, out: &mut [u8]) -> Written
-    requires { ⌜ Countable (format-of f) ⌝ }
-    ensures { λ r. ⌜ written-answer r ≡ (reduce-call (format-of f) (now (sheet .entry)) (now (out .entry))) .answer ⌝ }
-    ensures { λ _. ⌜ now (out .exit) ≡ (reduce-call (format-of f) (now (sheet .entry)) (now (out .entry))) .output ⌝ }
+// Reduces a sheet: the new sheet stands at the front of `out` with zeros behind it, and its length is returned; or the call is refused
+// with number and place, and `out` is left as it was.
+pub fn reduce(sheet: &[u8], f: Format, out: &mut [u8]) -> Written
+    ensures { λ r. ⌜ record { answer = written-answer r; output = now (out .exit) } ≡ reduce-call (format-of f) (now (sheet .entry)) (now (out .entry)) ⌝ }
 {
     let p = plan_reduce(sheet, f, out.len());
     match p {
         Plan::Refused(number, place) => Written::Refused(number, place),
-        Plan::Reduces(s) => Written::Accepted(reduce_into(sheet, f, s, out)),
+        Plan::Reduces(s) => Written::Accepted(reduce_into(sheet, s, out)),
     }
-}
-
-// Reduces a sheet of document 01: the new sheet stands at the front of `out` with zeros behind it, and its length is returned; or the
-// call is refused with number and place, and `out` is left as it was.
-pub fn reduce(sheet: &[u8], out: &mut [u8]) -> Written
-    ensures { λ r. ⌜ written-answer r ≡ (reduce-call narrow (now (sheet .entry)) (now (out .entry))) .answer ⌝ }
-    ensures { λ _. ⌜ now (out .exit) ≡ (reduce-call narrow (now (sheet .entry)) (now (out .entry))) .output ⌝ }
-{
-    reduce_in(sheet, rows::narrow(), out)
-}
-
-// The same of a wider sheet.
-pub fn reduce_wide(sheet: &[u8], out: &mut [u8]) -> Written
-    ensures { λ r. ⌜ written-answer r ≡ (reduce-call wide (now (sheet .entry)) (now (out .entry))) .answer ⌝ }
-    ensures { λ _. ⌜ now (out .exit) ≡ (reduce-call wide (now (sheet .entry)) (now (out .entry))) .output ⌝ }
-{
-    reduce_in(sheet, rows::wider(), out)
 }

@@ -8,6 +8,7 @@ use subtrees::nodes::children_at;
 ghost use mathlib.Core.Path.{_≡_};
 ghost use Prim.Native.Nat.{_≤_, _<_};
 ghost use lib.Dec.{ltb};
+ghost use Rattle.rows.specs.Tables.{ROWS};
 ghost use Rattle.subtrees.specs.Ends.{Indexed, Hops};
 ghost use Rattle.subtrees.specs.Subtrees.{subtree-in};
 ghost use Rattle.relevance.specs.Walks.{span-by, narrower, Bounded, IsAncestor, Way, Leads, with-child};
@@ -87,7 +88,7 @@ pub fn first_behind(next: &[u16], from: usize, end: usize) -> usize
 
 // The share with the subtree from row `at` up to `end` added, if `row`, the first literal from there on, is before `end`.
 fn with_child(share: Share, at: usize, end: usize, row: usize) -> Share
-    requires { ⌜ (at ≤ end) × (end ≤ 8192) × (share .rows ≤ at) × (share .children ≤ at) ⌝ }
+    requires { ⌜ (at ≤ end) × (end ≤ ROWS) × (share .rows ≤ at) × (share .children ≤ at) ⌝ }
     ensures { λ r. ⌜ r ≡ with-child (ltb row end) share at end ⌝ }
 {
     if row < end {

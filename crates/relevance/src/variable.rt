@@ -7,6 +7,7 @@ ghost use mathlib.Core.Path.{_≡_};
 ghost use Prim.Native.Nat.{_≤_};
 ghost use Rattle.formula.specs.Tree.{of};
 ghost use Rattle.rows.specs.Formulas.{matrix-in};
+ghost use Rattle.rows.specs.Tables.{ROWS, HIGHEST};
 ghost use Rattle.subtrees.specs.Ends.{Indexed};
 ghost use Rattle.occurrences.specs.Occurrences.{Occurrences};
 ghost use Rattle.relevance.specs.Raw.{grown, presence, grown-by, copied};
@@ -26,7 +27,7 @@ pub fn part_of(
     next: &[u16],
     x: usize,
 ) -> Presence
-    requires { ⌜ Indexed s (now b) (now ends) × Occurrences s (now b) (now ranges) (now next) × (x ≤ 1024) ⌝ }
+    requires { ⌜ Indexed s (now b) (now ends) × Occurrences s (now b) (now ranges) (now next) × (x ≤ HIGHEST) ⌝ }
     ensures { λ r. ⌜ r ≡ presence (of x) (matrix-in s (now (b .entry))) ⌝ }
 {
     let first = ranges[2 * x] as usize;
@@ -44,7 +45,7 @@ pub fn part_of(
 // How many node rows the raw sheet of an expansion has: N + E + 1 for a single literal and where every child is relevant, N + E + 2
 // otherwise.
 pub fn raw_rows(nodes: usize, part: Relevant) -> usize
-    requires { ⌜ (nodes ≤ 8192) × (part .rows ≤ nodes) ⌝ }
+    requires { ⌜ (nodes ≤ ROWS) × (part .rows ≤ nodes) ⌝ }
     ensures { λ r. ⌜ r ≡ grown nodes part ⌝ }
 {
     if part.all {
@@ -55,7 +56,7 @@ pub fn raw_rows(nodes: usize, part: Relevant) -> usize
 
 // The same for a variable: N if it has no literal.
 pub fn raw_rows_of(nodes: usize, presence: Presence) -> usize
-    requires { ⌜ (nodes ≤ 8192) × (copied presence ≤ nodes) ⌝ }
+    requires { ⌜ (nodes ≤ ROWS) × (copied presence ≤ nodes) ⌝ }
     ensures { λ r. ⌜ r ≡ grown-by nodes presence ⌝ }
 {
     match presence {

@@ -1,12 +1,13 @@
 -- The new numbers of the copies, and the table that gives them.
 -- Assumes nothing.
 use mathlib.Core.Path.{_≡_}
-use mathlib.Core.Bool.{false, cond}
-use mathlib.Core.List.{List, [], _∷_}
+use mathlib.Core.Bool.{true, false, cond}
+use mathlib.Core.List.{List, [], _∷_, _++_}
 use Prim.Native.Nat.{ℕ, zero, suc, _+_, _-_, _≤_}
 use lib.ListN.{length, set}
 use Rattle.formula.specs.Tree.{Prefix, binds}
 use Rattle.sets.specs.Sets.{holds}
+use Rattle.changing.specs.Changes.{putting}
 
 -- a set of the numbers of a prefix
 pub record Uses (p : Prefix) (ws : List ℕ) : Type 0 where
@@ -29,6 +30,10 @@ unfoldable pub renumbered : List ℕ → List ℕ → List ℕ → List ℕ
 renumbered [] ns t = t
 renumbered (y ∷ ys) [] t = t
 renumbered (y ∷ ys) (n ∷ ns) t = renumbered ys ns (set t y n)
+
+-- the tables of the copies, one behind the other: x = 0 put in and all else kept; x = 1 put in and each of ys renumbered
+abbrev pub copy-tables : ℕ → List ℕ → List ℕ → List ℕ
+copy-tables x ys ns = putting x false ++ renumbered ys ns (putting x true)
 
 -- what is left to do after v, whose number is taken if it is in the set
 pub record Renamed (ws used : List ℕ) (highest from v : ℕ) (before table : List ℕ) (next : ℕ) : Type 0 where

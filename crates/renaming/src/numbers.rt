@@ -7,17 +7,16 @@ use sets::WORDS;
 use sets::add;
 use sets::holds;
 ghost use mathlib.Core.Path.{_≡_};
-ghost use mathlib.Core.Bool.{true, false};
-ghost use mathlib.Core.List.{_++_};
-ghost use Prim.Native.Nat.{suc, _-_, _≤_, _<_};
+ghost use mathlib.Core.Bool.{true};
+ghost use Prim.Native.Nat.{suc, _-_, _*_, _≤_, _<_};
 ghost use lib.ListN.{length, replicate};
 ghost use Rattle.formula.specs.Solve.{those};
 ghost use Rattle.formula.specs.Outer.{unused};
 ghost use Rattle.rows.specs.Formulas.{prefix-in, Readable};
+ghost use Rattle.rows.specs.Tables.{HIGHEST, NUMBERS};
 ghost use Rattle.sets.specs.Sets.{holds};
 ghost use Rattle.signs.specs.Value.{Numbered};
-ghost use Rattle.changing.specs.Changes.{putting};
-ghost use Rattle.renaming.specs.Numbers.{free, Uses, NextFree, renumbered, Renamed};
+ghost use Rattle.renaming.specs.Numbers.{free, Uses, NextFree, renumbered, Renamed, copy-tables};
 
 // Puts every number of the prefix into an empty set.
 fn fill_used(b: &[u8], s: Layout, used: &mut [u64])
@@ -34,7 +33,7 @@ fn fill_used(b: &[u8], s: Layout, used: &mut [u64])
 
 // The smallest number from `from` up to `highest` that is not in the set, or the one behind `highest`.
 fn next_unused(used: &[u64], highest: usize, from: usize) -> usize
-    requires { ⌜ (length (now used) ≡ 17) × (highest ≤ 1024) × (from ≤ suc highest) ⌝ }
+    requires { ⌜ (length (now used) ≡ 17) × (highest ≤ HIGHEST) × (from ≤ suc highest) ⌝ }
     ensures { λ n. ⌜ NextFree (now (used .entry)) highest from n ⌝ }
 {
     let mut n = from;
@@ -56,8 +55,8 @@ fn rename(
     v: usize,
     table: &mut [u16],
 ) -> usize
-    requires { ⌜ (length (now set) ≡ 17) × (length (now used) ≡ 17) × (highest ≤ 1024) × (from ≤ suc highest) ⌝ }
-    requires { ⌜ (v ≤ 1024) × (length (now table) ≡ 1025) ⌝ }
+    requires { ⌜ (length (now set) ≡ 17) × (length (now used) ≡ 17) × (highest ≤ HIGHEST) × (from ≤ suc highest) ⌝ }
+    requires { ⌜ (v ≤ HIGHEST) × (length (now table) ≡ NUMBERS) ⌝ }
     requires { ⌜ (holds (now set) v ≡ true → 0 < length (free (now used) (suc highest - from) from)) ⌝ }
     ensures { λ r. ⌜ Renamed (now (set .entry)) (now (used .entry)) highest from v (now (table .entry)) (now (table .exit)) r ⌝ }
 {
@@ -71,7 +70,7 @@ fn rename(
 
 // Gives each variable of the prefix that is in the set its new number.
 fn rename_all(b: &[u8], s: Layout, set: &[u64], used: &[u64], highest: usize, table: &mut [u16])
-    requires { ⌜ Readable s (now b) × Numbered s (now b) × (length (now set) ≡ 17) × (length (now used) ≡ 17) × (highest ≤ 1024) × (length (now table) ≡ 1025) ⌝ }
+    requires { ⌜ Readable s (now b) × Numbered s (now b) × (length (now set) ≡ 17) × (length (now used) ≡ 17) × (highest ≤ HIGHEST) × (length (now table) ≡ NUMBERS) ⌝ }
     requires { ⌜ length (those (holds (now set)) (prefix-in s (now b))) ≤ length (free (now used) highest 1) ⌝ }
     ensures { λ _. ⌜ now (table .exit) ≡ renumbered (those (holds (now (set .entry))) (prefix-in s (now (b .entry)))) (free (now (used .entry)) highest 1) (now (table .entry)) ⌝ }
 {
@@ -87,9 +86,9 @@ fn rename_all(b: &[u8], s: Layout, set: &[u64], used: &[u64], highest: usize, ta
 
 // Makes the tables of the copies, one behind the other: x = 0 put in and all else kept; x = 1 put in and each member of the set renamed.
 pub fn fill_tables(b: &[u8], s: Layout, set: &[u64], highest: usize, x: usize, tables: &mut [u16])
-    requires { ⌜ Readable s (now b) × Numbered s (now b) × (length (now set) ≡ 17) × (highest ≤ 1024) × (x ≤ 1024) × (length (now tables) ≡ 2050) ⌝ }
+    requires { ⌜ Readable s (now b) × Numbered s (now b) × (length (now set) ≡ 17) × (highest ≤ HIGHEST) × (x ≤ HIGHEST) × (length (now tables) ≡ 2 * NUMBERS) ⌝ }
     requires { ⌜ length (those (holds (now set)) (prefix-in s (now b))) ≤ length (unused (prefix-in s (now b)) highest 1) ⌝ }
-    ensures { λ _. ⌜ now (tables .exit) ≡ putting x false ++ renumbered (those (holds (now (set .entry))) (prefix-in s (now (b .entry)))) (unused (prefix-in s (now (b .entry))) highest 1) (putting x true) ⌝ }
+    ensures { λ _. ⌜ now (tables .exit) ≡ copy-tables x (those (holds (now (set .entry))) (prefix-in s (now (b .entry)))) (unused (prefix-in s (now (b .entry))) highest 1) ⌝ }
 {
     let mut used = [0u64; WORDS];
     fill_used(b, s, &mut used);

@@ -6,7 +6,7 @@ use prefixes::variable_at;
 use rows::EXISTS;
 use rows::Layout;
 use rows::NUMBERS;
-ghost use Prim.Native.Nat.{_+_, _^_, _≤_, _<_};
+ghost use Prim.Native.Nat.{_+_, _≤_};
 ghost use lib.ListN.{length};
 ghost use Rattle.rows.specs.Layouts.{total, Room};
 ghost use Rattle.rows.specs.Formulas.{prefix-in, Readable};
@@ -15,7 +15,7 @@ ghost use Rattle.renaming.specs.Prefixes.{row-of, rows-from};
 
 // Writes the row of the copy of `v`, if the table gives `v` a new number.
 fn write_copied(out: &mut [u8], table: &[u16], v: usize, to: Target) -> usize
-    requires { ⌜ Room (to .layout) (length (now out)) × (1024 < 256 ^ to .layout .width) × (to .at + length (row-of (now table) v) ≤ total (to .layout)) ⌝ }
+    requires { ⌜ Room (to .layout) (length (now out)) × (to .at + length (row-of (now table) v) ≤ total (to .layout)) ⌝ }
     ensures { λ next. ⌜ Laid (to .layout) (now (out .entry)) (now (out .exit)) (to .at) next (row-of (now (table .entry)) v) ⌝ }
 {
     let n = entry(table, v);
@@ -30,7 +30,7 @@ fn write_copied(out: &mut [u8], table: &[u16], v: usize, to: Target) -> usize
 
 // Writes the rows of all copies.
 pub fn write_all_copied(b: &[u8], s: Layout, table: &[u16], out: &mut [u8], to: Target) -> usize
-    requires { ⌜ Readable s (now b) × Room (to .layout) (length (now out)) × (1024 < 256 ^ to .layout .width) × (to .at + length (rows-from (now table) (prefix-in s (now b))) ≤ total (to .layout)) ⌝ }
+    requires { ⌜ Readable s (now b) × Room (to .layout) (length (now out)) × (to .at + length (rows-from (now table) (prefix-in s (now b))) ≤ total (to .layout)) ⌝ }
     ensures { λ next. ⌜ Laid (to .layout) (now (out .entry)) (now (out .exit)) (to .at) next (rows-from (now (table .entry)) (prefix-in s (now (b .entry)))) ⌝ }
 {
     let t = to.layout;

@@ -5,63 +5,52 @@ use mathlib.Core.Bool.{Bool, true, false}
 use Prim.Native.Nat.{ℕ, _+_, _≤_, _<_}
 use native.Mathlib.Omega.{arith}
 use lib.Dec.{eqb, ltb}
-use lib.ListN.{length, replicate}
 use borrow.Author.Tests.{eqb-true, eqb-false, ltb-true, ltb-false, lt-ltb, le-ltb}
 use Rattle.formula.specs.Tree.{Formula}
 use Rattle.formula.specs.Solve.{solve}
-use Rattle.sheet.specs.Format.{Bytes, Format, wide, sheet-length, fits, variables, nodes}
+use Rattle.sheet.specs.Format as sheet
+use Rattle.sheet.specs.Format.{Bytes, wide, sheet-length, fits, variables, nodes}
 use Rattle.sheet.specs.Sheet.{formula}
-use Rattle.sheet.specs.Check.{accepted, answer}
-use Rattle.sheet.specs.Operations.{is-refused, Solving, solving}
+use Rattle.sheet.specs.Refusals.{no-room, wrong-counts}
+use Rattle.sheet.specs.Check.{refused, accepted, answer, passes, check-tests, check}
+use Rattle.sheet.specs.Operations.{Solved as Answer, is-refused, Solving, solving}
 use Rattle.sheet.specs.Trace.{room}
 use Rattle.sheet.specs.Limits.{Within}
-use Rattle.sheet.specs.Resume.{named, add-to-answer, with-counts, resuming, resume-call}
+use Rattle.sheet.specs.Resume.{named, add-to-answer, with-counts, resuming}
 use Rattle.sheet.proofs.Accepted.{accepted-within}
 use Rattle.sheet.proofs.Carrying.{widen-within}
-use Rattle.sheet.proofs.Resume.{resume-uncounted, resume-short, resume-runs}
+use Rattle.sheet.proofs.Resume.{resume-unchecked, resume-uncounted, resume-short, resume-runs}
+use Rattle.rows.specs.Formats.{format-of}
+use Rattle.rows.specs.Formulas.{formula-in}
+use Rattle.rows.specs.declared.Format.{Format}
+use Rattle.rows.specs.declared.Format.the-variants.{Narrow, Wide}
 use Rattle.rows.specs.declared.Layout.{Layout}
-use Rattle.checking.specs.Limits.{Manageable, Sheet}
-use Rattle.checking.proofs.CheckedSheets.{narrow-manageable, wide-manageable, sheet-right, sheet-readable, sheet-formula-in}
-use Rattle.solve.specs.declared.Solved.{Solved}
-use Rattle.solve.specs.Answers.{solved-answer}
-use Rattle.solve.specs.Inner.Running.{answered, shown}
+use Rattle.checking.specs.Sheets.{Sheet}
+use Rattle.checking.proofs.CheckedSheets.{sheet-right, sheet-readable, sheet-formula-in}
 use Rattle.resume.specs.declared.Counts.{Counts}
-use Rattle.resume.specs.Inner.Going.{Placed, wide-run, resumed}
+use Rattle.resume.specs.Calls.{is-narrow, resume-with}
+use Rattle.resume.specs.Inner.Going.{Placed, wide-call, resumed}
 
--- the two formats
+-- the format that the caller names
+named-is : (f : Format) → format-of f ≡ named (is-narrow f)
+named-is Narrow = refl
+named-is Wide = refl
 
-pub named-manageable : (w : Bool) → Manageable (named w)
-named-manageable true = narrow-manageable
-named-manageable false = wide-manageable
+-- a sheet of either format is within the wide limits
+within-wide : (f : Format) (b : Bytes) → passes (check-tests (format-of f) b) ≡ true → Within wide (formula (format-of f) b)
+within-wide Narrow b h = widen-within b h
+within-wide Wide b h = accepted-within wide b h
 
-pub named-sheet : (w : Bool) {F : Format} {b : Bytes} {s : Layout} → F ≡ named w → Sheet F b s → Sheet (named w) b s
-named-sheet w {F} {b} {s} is h = subst (λ (E : Format). Sheet E b s) is h
-
-named-within : (w : Bool) (b : Bytes) {s : Layout} → Sheet (named w) b s → Within wide (formula (named w) b)
-named-within true b h = widen-within b (h .tests-pass)
-named-within false b h = accepted-within wide b (h .tests-pass)
-
-pub named-placed : (w : Bool) (b : Bytes) {s : Layout} → Sheet (named w) b s → Placed s b
-named-placed w b h =
+pub sheet-placed : {f : Format} {b : Bytes} {s : Layout} → Sheet f b s → Placed s b
+sheet-placed {f} {b} h =
     record {
-      readable = sheet-readable h (named-manageable w);
-      within = subst (Within wide) (sym (sheet-formula-in h)) (named-within w b h);
+      readable = sheet-readable h;
+      within = subst (Within wide) (sym (sheet-formula-in h)) (within-wide f b (h .tests-pass));
     }
 
--- what a call leaves
-
-pub record Leaves (w : Solving) (n i : ℕ) (first second : Bytes) : Type 0 where
-  pub answers : is-refused n i ≡ w .answer
-  pub in-first : first ≡ w .first
-  pub in-second : second ≡ w .second
-
-pub leaves : (w : Solving) {n i : ℕ} {first second : Bytes} → w ≡ record { answer = is-refused n i; first = first; second = second } → Leaves w n i first second
-leaves w e =
-    record {
-      answers = sym (ap (λ (v : Solving). v .answer) e);
-      in-first = sym (ap (λ (v : Solving). v .first) e);
-      in-second = sym (ap (λ (v : Solving). v .second) e);
-    }
+-- what is refused leaves the buffers as they were
+abbrev left : ℕ → Bytes → Bytes → Solving
+left n first second = record { answer = is-refused n 0; first = first; second = second }
 
 module _ (s : Layout) (c : Counts) (b first second : Bytes) where
   abbrev sum : ℕ
@@ -70,67 +59,82 @@ module _ (s : Layout) (c : Counts) (b first second : Bytes) where
   abbrev needed : ℕ
   needed = sheet-length wide (s .variables) (s .nodes)
 
-  abbrev runs : Solving
-  runs = with-counts (c .settled) (c .expanded) (solving wide first second (accepted (wide-run s b first second)))
-
-  pub uncounted : eqb sum (c .started) ≡ false → resumed s c b first second ≡ record { answer = is-refused 25 0; first = first; second = second }
+  pub uncounted : eqb sum (c .started) ≡ false → left wrong-counts first second ≡ resumed s c b first second
   unfolding answer resuming
   uncounted e = rw e
 
   module _ (right : eqb sum (c .started) ≡ true) where
-    pub short : room first second < needed → resumed s c b first second ≡ record { answer = is-refused 13 0; first = first; second = second }
+    pub short : room first second < needed → left no-room first second ≡ resumed s c b first second
     unfolding answer resuming
     short l = rw (right, lt-ltb (room first second) needed l)
 
-    pub going : needed ≤ room first second → resumed s c b first second ≡ runs
+    going : needed ≤ room first second → resumed s c b first second ≡ with-counts (c .settled) (c .expanded) (wide-call s b first second)
     unfolding answer resuming
     going l = rw (right, le-ltb (room first second) needed l)
 
     -- the run's answer with the counts added, and its buffers
-    pub ran : (r r′ : Solved) {held cleared : Bytes} → needed ≤ room first second → solved-answer r ≡ answered (wide-run s b first second)
-        → solved-answer r′ ≡ add-to-answer (c .settled) (c .expanded) (solved-answer r)
-        → held ≡ shown wide (length first) (wide-run s b first second) → cleared ≡ replicate (length second) 0
-        → (solved-answer r′ ≡ (resumed s c b first second) .answer) ×
-        ((held ≡ (resumed s c b first second) .first) × (cleared ≡ (resumed s c b first second) .second))
-    unfolding with-counts solving
-    ran r r′ l e e′ h k =
-        let all = sym (going l) in (
-          e′ ∙ ap (add-to-answer (c .settled) (c .expanded)) e ∙ ap (λ (w : Solving). w .answer) all,
-          (h ∙ ap (λ (w : Solving). w .first) all, k ∙ ap (λ (w : Solving). w .second) all),
-        )
+    pub ran : (a a′ : Answer) {held cleared : Bytes} → needed ≤ room first second
+        → record { answer = a; first = held; second = cleared } ≡ wide-call s b first second
+        → a′ ≡ add-to-answer (c .settled) (c .expanded) a
+        → record { answer = a′; first = held; second = cleared } ≡ resumed s c b first second
+    unfolding with-counts
+    ran a a′ {held} {cleared} l e e′ =
+        ap (λ (r : Answer). record { answer = r; first = held; second = cleared }) e′ ∙
+        ap (with-counts (c .settled) (c .expanded)) e ∙ sym (going l)
 
   -- Resume on a sheet that Check accepts
-  module _ (w : Bool) (h : Sheet (named w) b s) where
+  module _ {f : Format} (h : Sheet f b s) where
+    abbrev F : sheet.Format
+    F = named (is-narrow f)
+
     abbrev call : Solving
-    call = resume-call (c .started) (c .settled) (c .expanded) b w first second
+    call = resume-with c b f first second
 
-    variables-are : s .variables ≡ variables (named w) b
-    variables-are = sheet-right h .variables-are
+    tests-pass : passes (check-tests F b) ≡ true
+    tests-pass = subst (λ (E : sheet.Format). passes (check-tests E b) ≡ true) (named-is f) (h .tests-pass)
 
-    same-needed : needed ≡ sheet-length wide (variables (named w) b) (nodes (named w) b)
-    same-needed = ap₂ (sheet-length wide) variables-are (sheet-right h .nodes-are)
+    variables-are : s .variables ≡ variables F b
+    variables-are = sheet-right h .variables-are ∙ ap (λ (E : sheet.Format). variables E b) (named-is f)
 
-    pub resume-checked : resumed s c b first second ≡ call
-    resume-checked = by (eqb sum (c .started)) refl
+    same-needed : needed ≡ sheet-length wide (variables F b) (nodes F b)
+    same-needed =
+        ap₂ (sheet-length wide) variables-are (sheet-right h .nodes-are ∙ ap (λ (E : sheet.Format). nodes E b) (named-is f))
+
+    same-formula : formula-in s b ≡ formula F b
+    same-formula = sheet-formula-in h ∙ ap (λ (E : sheet.Format). formula E b) (named-is f)
+
+    pub resume-checked : {w : Solving} → w ≡ resumed s c b first second → w ≡ call
+    resume-checked k = k ∙ by (eqb sum (c .started)) refl
       where
         placed : (right : eqb sum (c .started) ≡ true) (t : Bool) → ltb (room first second) needed ≡ t → resumed s c b first second ≡ call
         placed right true e =
-            short right (ltb-true (room first second) needed e) ∙
+            let less = ltb-true (room first second) needed e in
+            sym (short right less) ∙
             sym
-            (resume-short (c .started) (c .settled) (c .expanded) b w first second (h .tests-pass) (omega (arith, eqb-true sum (c .started) right, variables-are))
-            (omega (arith, ltb-true (room first second) needed e, same-needed)))
+            (resume-short (c .started) (c .settled) (c .expanded) b (is-narrow f) first second tests-pass
+            (omega (arith, eqb-true sum (c .started) right, variables-are)) (omega (arith, less, same-needed)))
         placed right false e =
-            going right (ltb-false (room first second) needed e) ∙
-            ap (λ (f : Formula). with-counts (c .settled) (c .expanded) (solving wide first second (accepted (solve (fits wide (room first second)) f))))
-            (sheet-formula-in h) ∙
+            let enough = ltb-false (room first second) needed e in
+            going right enough ∙
+            ap
+            (λ (g : Formula). with-counts (c .settled) (c .expanded) (solving wide first second (accepted (solve (fits wide (room first second)) g))))
+            same-formula ∙
             sym
-            (resume-runs (c .started) (c .settled) (c .expanded) b w first second (h .tests-pass) (omega (arith, eqb-true sum (c .started) right, variables-are))
-            (omega (arith, ltb-false (room first second) needed e, same-needed)))
+            (resume-runs (c .started) (c .settled) (c .expanded) b (is-narrow f) first second tests-pass
+            (omega (arith, eqb-true sum (c .started) right, variables-are)) (omega (arith, enough, same-needed)))
 
         by : (t : Bool) → eqb sum (c .started) ≡ t → resumed s c b first second ≡ call
         by true e = placed e (ltb (room first second) needed) refl
         by false e =
-            uncounted e ∙
+            sym (uncounted e) ∙
             sym
-            (resume-uncounted (c .started) (c .settled) (c .expanded) b w first second (h .tests-pass)
+            (resume-uncounted (c .started) (c .settled) (c .expanded) b (is-narrow f) first second tests-pass
             (λ k. eqb-false sum (c .started) e (omega (arith, k, variables-are))))
+
+-- Resume on a sheet that Check refuses
+pub resume-refused : (c : Counts) (b : Bytes) (f : Format) (first second : Bytes) {n i : ℕ} → refused n i ≡ check (format-of f) b
+    → record { answer = is-refused n i; first = first; second = second } ≡ resume-with c b f first second
+resume-refused c b f first second e =
+    sym
+    (resume-unchecked (c .started) (c .settled) (c .expanded) b (is-narrow f) first second
+    (e ∙ ap (λ (E : sheet.Format). check E b) (named-is f)))

@@ -1,6 +1,6 @@
 -- Counts: whether they add up, and that those of a run may be added.
 -- Assumes nothing.
-use mathlib.Core.Path.{_≡_, refl}
+use mathlib.Core.Path.{_≡_, refl, ap}
 use mathlib.Core.Bool.{Bool, true, false}
 use Prim.Native.Nat.{ℕ, _+_, _-_, _^_, _≤_, _<_}
 use native.Mathlib.Omega.{arith}
@@ -9,7 +9,7 @@ use borrow.Author.Tests.{eqb-true, eqb-false, eq-eqb, ne-eqb}
 use Rattle.formula.specs.Solve.{State, End, ended, stopped}
 use Rattle.formula.proofs.Solve.{solve-right}
 use Rattle.sheet.specs.Format.{Bytes, wide, fits}
-use Rattle.sheet.specs.Operations.{solved}
+use Rattle.sheet.specs.Operations.{solved, Solving, solving}
 use Rattle.sheet.specs.Trace.{room}
 use Rattle.rows.specs.Formulas.{formula-in}
 use Rattle.rows.specs.declared.Layout.{Layout}
@@ -17,8 +17,7 @@ use Rattle.rows.proofs.Formulas.{length-prefix}
 use Rattle.solve.specs.declared.Solved.{Solved}
 use Rattle.solve.specs.declared.Solved.the-variants.{Refused, Stopped, Ended}
 use Rattle.solve.specs.Answers.{solved-answer}
-use Rattle.solve.specs.Inner.Running.{answered}
-use Rattle.resume.specs.Inner.Going.{Placed, wide-run, Addable}
+use Rattle.resume.specs.Inner.Going.{Placed, wide-run, wide-call, Addable}
 
 -- two tests for the same thing
 pub same-test : (a b c d : ℕ) → (a ≡ b → c ≡ d) → (c ≡ d → a ≡ b) → eqb a b ≡ eqb c d
@@ -50,12 +49,12 @@ few-counts (Ended w n m) (ended v) s settled expanded h k l =
     let b : m ≡ s .expands = cc in
     (omega arith, omega arith)
 
-pub addable : {s : Layout} {b : Bytes} (first second : Bytes) → Placed s b → (r : Solved) (started settled expanded : ℕ)
-    → solved-answer r ≡ answered (wide-run s b first second) → settled + expanded + s .variables ≡ started → started < 2 ^ 64
+pub addable : {s : Layout} {b : Bytes} (first second : Bytes) → Placed s b → (r : Solved) (started settled expanded : ℕ) {held cleared : Bytes}
+    → record { answer = solved-answer r; first = held; second = cleared } ≡ wide-call s b first second → settled + expanded + s .variables ≡ started → started < 2 ^ 64
     → Addable settled expanded r
-unfolding formula-in
+unfolding formula-in solving
 addable {s} {b} first second ok r started settled expanded h sum small =
     let run = wide-run s b first second in
     let counts = solve-right (fits wide (room first second)) (formula-in s b) (ok .within .is-distinct) (ok .within .is-closed) .counts in
     let left = length-prefix b (ok .readable) in
-    few-counts r (run .end) (run .state) settled expanded h (omega (arith, counts, left)) (omega (arith, counts, left))
+    few-counts r (run .end) (run .state) settled expanded (ap (λ (w : Solving). w .answer) h) (omega (arith, counts, left)) (omega (arith, counts, left))

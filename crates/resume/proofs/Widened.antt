@@ -1,96 +1,72 @@
 -- The sheet reached, widened into the first work buffer, and Solve's run from there.
 -- Assumes nothing.
-use mathlib.Core.Path.{_≡_, refl, sym, ap, ap₂, _∙_, subst}
+use mathlib.Core.Path.{_≡_, sym, ap, ap₂, _∙_, subst}
 use Prim.Native.Nat.{ℕ, min}
 use native.Mathlib.Omega.{arith}
-use lib.ListN.{length}
-use Rattle.formula.specs.Tree.{Formula, rows}
-use Rattle.formula.specs.Solve.{solve}
-use Rattle.sheet.specs.Format.{Bytes, Format, wide, sheet-length, fits}
+use lib.ListN.{length, replicate}
+use Rattle.formula.specs.Tree.{Formula}
+use Rattle.formula.specs.Solve.{Run, solve}
+use Rattle.sheet.specs.Format.{Bytes, wide, sheet-length, fits}
 use Rattle.sheet.specs.Sheet.{sheet}
-use Rattle.sheet.specs.Operations.{padded}
-use Rattle.sheet.specs.Limits.{Within}
+use Rattle.sheet.specs.Operations.{padded, Solving, solving}
 use Rattle.sheet.specs.Trace.{room}
-use Rattle.sheet.proofs.Limits.{wide-sound}
-use Rattle.rows.specs.Formulas.{formula-in, Readable}
+use Rattle.rows.specs.Formulas.{formula-in, Readable, layout-for}
+use Rattle.rows.specs.declared.Format.the-variants.{Wide}
 use Rattle.rows.specs.declared.Layout.{Layout}
 use Rattle.rows.proofs.Formulas.{length-prefix, rows-nodes}
-use Rattle.rows.proofs.Widths.{four-wide}
-use Rattle.checking.proofs.CheckedSheets.{wide-countable}
 use Rattle.carrying.specs.Inner.Rows.{Carriable}
 use Rattle.tidying.proofs.Raw.{few-rows}
-use Rattle.solve.specs.Inner.Running.{layout-for, RawReady, solution, shown}
+use Rattle.solve.specs.Inner.Running.{RawReady, answered, shown, solution, raw-call}
 use Rattle.solve.proofs.Holding.{padded-readable, padded-formula}
-use Rattle.resume.specs.Inner.Going.{Widenable, wide-run}
+use Rattle.resume.specs.Inner.Going.{Widenable, wide-run, wide-call}
 
--- the layout of the wide sheet with as many rows
-abbrev pub layout-in : Format → Layout → Layout
-layout-in G s = record { width = G .width; variables = s .variables; nodes = s .nodes }
-
-module _ {G : Format} (is : G ≡ wide) {s : Layout} {b first second : Bytes} (ok : Widenable s b first second) where
+module _ {s : Layout} {b first second : Bytes} (ok : Widenable s b first second) where
   abbrev f : Formula
   f = formula-in s b
 
-  pub carriable : Carriable s b G (length first)
+  pub carriable : Carriable s b Wide (length first)
   carriable =
-      subst (λ (E : Format). Carriable s b E (length first)) (sym is)
-      (record {
+      record {
         readable = ok .placed .readable;
-        few-bytes = four-wide;
-        sound = wide-sound;
         within = ok .placed .within;
         has-room = omega (arith, ok .has-room);
-      })
+      }
 
-  layout-is : layout-for wide f ≡ layout-in wide s
-  unfolding formula-in
-  layout-is =
-      ap₂ (λ (v n : ℕ). record { width = 4; variables = v; nodes = n }) (length-prefix b (ok .placed .readable)) (rows-nodes b (ok .placed .readable))
+  -- the first buffer, once it holds the wide sheet, of layout t
+  module _ {held : Bytes} (e : held ≡ padded (length first) (sheet wide f)) (same : length held ≡ length first) {t : Layout}
+      (at : t ≡ layout-for Wide f) where
+    abbrev wide-layout : Layout
+    wide-layout = layout-for Wide f
 
-  -- the first buffer, once it holds the wide sheet
-  module _ {held : Bytes} (e : held ≡ padded (length first) (sheet G f)) (same : length held ≡ length first) where
-    wide-held : padded (length first) (sheet wide f) ≡ held
-    wide-held = sym (e ∙ ap (λ (E : Format). padded (length first) (sheet E f)) is)
-
-    held-readable : Readable (layout-in wide s) held
-    held-readable =
-        subst (λ (t : Layout). Readable t held) layout-is
-        (subst (Readable (layout-for wide f)) wide-held (padded-readable wide-countable f (ok .placed .within) (length first)))
-
-    held-formula : formula-in (layout-in wide s) held ≡ f
-    held-formula =
-        ap₂ formula-in (sym layout-is) (sym wide-held) ∙ padded-formula wide-countable f (ok .placed .within) (length first)
+    held-formula : formula-in wide-layout held ≡ f
+    held-formula = ap (formula-in wide-layout) e ∙ padded-formula Wide f (ok .placed .within) (length first)
 
     same-room : room held second ≡ room first second
     same-room = ap (λ n. min n (length second)) same
 
-    pub raw-ready : RawReady G (layout-in G s) held second
-    unfolding sheet-length
+    pub raw-ready : RawReady t held second
+    unfolding sheet-length formula-in
     raw-ready =
-        subst (λ (E : Format). RawReady E (layout-in E s) held second) (sym is)
+        let within = ok .placed .within in
+        let read : Readable wide-layout held = rw e (padded-readable Wide f within (length first)) in
+        subst (λ (l : Layout). RawReady l held second) (sym at)
         (record {
-          countable = wide-countable;
           raw =
               record {
-                width-is = refl;
-                room = held-readable .room;
-                few-rows =
-                    record {
-                      counted = omega (arith, held-readable .few-variables, held-readable .few-nodes);
-                      in-tables = omega (arith, held-readable .few-variables, held-readable .few-nodes);
-                    };
-                is-formula = held-readable .is-formula;
+                room = read .room;
+                few-rows = few-rows wide-layout (within .few-variables) (within .few-nodes);
+                is-formula = read .is-formula;
               };
-          within = subst (Within wide) (sym held-formula) (ok .placed .within);
-          has-room = omega (arith, ok .has-room, same);
+          within = rw held-formula within;
+          has-room =
+              omega (arith, ok .has-room, same, length-prefix b (ok .placed .readable), rows-nodes b (ok .placed .readable));
         })
 
-    pub same-run : solution G (layout-in G s) held second ≡ wide-run s b first second
-    same-run =
-        ap (λ (E : Format). solution E (layout-in E s) held second) is ∙
-        ap₂ (λ n (g : Formula). solve (fits wide n) g) same-room held-formula
+    same-run : solution wide-layout held second ≡ wide-run s b first second
+    same-run = ap₂ (λ n (g : Formula). solve (fits wide n) g) same-room held-formula
 
-    pub shown-wide : {new : Bytes} → new ≡ shown G (length held) (solution G (layout-in G s) held second)
-        → new ≡ shown wide (length first) (wide-run s b first second)
-    shown-wide h =
-        h ∙ ap (λ (E : Format). shown E (length held) (solution G (layout-in G s) held second)) is ∙ ap₂ (shown wide) same same-run
+    pub ran-wide : {w : Solving} → w ≡ raw-call t held second → w ≡ wide-call s b first second
+    unfolding raw-call solving
+    ran-wide h =
+        h ∙ ap (λ (l : Layout). raw-call l held second) at ∙
+        ap₂ (λ (n : ℕ) (u : Run). record { answer = answered u; first = shown wide n u; second = replicate (length second) 0 }) same same-run

@@ -1,2 +1,4 @@
--- Resume's contract needs no definition of its own.
+-- What a reader of Resume's contract must believe.
+pub mod Calls
+-- how its code goes about it
 pub mod Inner

@@ -5,34 +5,24 @@ use checking::Checked;
 use rows::Format;
 use rows::Layout;
 use rows::fit::sheet_length;
+use rows::fit::shorter;
+use rows::refusals::NO_ROOM;
+use rows::refusals::WRONG_COUNTS;
 use solve::Solved;
 use solve::run_raw;
 ghost use mathlib.Core.Path.{_≡_};
 ghost use Prim.Native.Nat.{_+_};
 ghost use lib.Dec.{eqb};
-ghost use lib.ListN.{length, replicate};
-ghost use Rattle.sheet.specs.Format.{wide};
-ghost use Rattle.sheet.specs.Resume.{named, add-to-answer, resume-call};
-ghost use Rattle.rows.specs.Formats.{format-of};
+ghost use Rattle.sheet.specs.Resume.{add-to-answer};
 ghost use Rattle.solve.specs.Answers.{solved-answer};
-ghost use Rattle.solve.specs.Inner.Running.{answered, shown};
-ghost use Rattle.resume.specs.Inner.Going.{Widenable, wide-run, Addable, Placed, resumed};
+ghost use Rattle.resume.specs.Calls.{resume-with};
+ghost use Rattle.resume.specs.Inner.Going.{Widenable, wide-call, Addable, Placed, resumed};
 
 // How many variables a run began with, and how many of them it settled and expanded.
 pub struct Counts {
     pub started: usize,
     pub settled: usize,
     pub expanded: usize,
-}
-
-// The format of the sheet reached, by a word whether it is narrow.
-fn named_format(narrow: bool) -> Format
-    ensures { λ f. ⌜ format-of f ≡ named narrow ⌝ }
-{
-    if narrow {
-        return rows::narrow();
-    }
-    rows::wider()
 }
 
 // Whether settled, expanded and variables left add up to the starting count: subtracted step by step, so that no sum is too large.
@@ -52,18 +42,10 @@ fn adds_up(c: Counts, left: usize) -> bool
 // Solves the formula whose rows stand in `sheet` as a wide sheet, in the two work buffers.
 fn run_wide(sheet: &[u8], s: Layout, first: &mut [u8], second: &mut [u8]) -> Solved
     requires { ⌜ Widenable s (now sheet) (now first) (now second) ⌝ }
-    ensures { λ r. ⌜ solved-answer r ≡ answered (wide-run s (now (sheet .entry)) (now (first .entry)) (now (second .entry))) ⌝ }
-    ensures { λ _. ⌜ now (first .exit) ≡ shown wide (length (now (first .entry))) (wide-run s (now (sheet .entry)) (now (first .entry)) (now (second .entry))) ⌝ }
-    ensures { λ _. ⌜ now (second .exit) ≡ replicate (length (now (second .entry))) 0 ⌝ }
+    ensures { λ r. ⌜ record { answer = solved-answer r; first = now (first .exit); second = now (second .exit) } ≡ wide-call s (now (sheet .entry)) (now (first .entry)) (now (second .entry)) ⌝ }
 {
-    let g = rows::wider();
-    let t = Layout {
-        width: g.width,
-        variables: s.variables,
-        nodes: s.nodes,
-    };
-    carry(sheet, s, g, first);
-    run_raw(first, second, g, t)
+    let t = carry(sheet, s, Format::Wide, first);
+    run_raw(first, second, t)
 }
 
 // An answer of Solve with the counts given added to its own.
@@ -85,42 +67,27 @@ fn add_counts(answer: Solved, c: Counts) -> Solved
 // Goes on from a sheet that Check accepts, of this layout: 25 the counts don't add up, 13 a work buffer shorter than the widened sheet.
 fn resume_checked(sheet: &[u8], s: Layout, c: Counts, first: &mut [u8], second: &mut [u8]) -> Solved
     requires { ⌜ Placed s (now sheet) ⌝ }
-    ensures { λ r. ⌜ solved-answer r ≡ (resumed s c (now (sheet .entry)) (now (first .entry)) (now (second .entry))) .answer ⌝ }
-    ensures { λ _. ⌜ now (first .exit) ≡ (resumed s c (now (sheet .entry)) (now (first .entry)) (now (second .entry))) .first ⌝ }
-    ensures { λ _. ⌜ now (second .exit) ≡ (resumed s c (now (sheet .entry)) (now (first .entry)) (now (second .entry))) .second ⌝ }
+    ensures { λ r. ⌜ record { answer = solved-answer r; first = now (first .exit); second = now (second .exit) } ≡ resumed s c (now (sheet .entry)) (now (first .entry)) (now (second .entry)) ⌝ }
 {
     if !adds_up(c, s.variables) {
-        return Solved::Refused(25, 0);
+        return Solved::Refused(WRONG_COUNTS, 0);
     }
-    let length = sheet_length(rows::wider(), s.variables, s.nodes);
-    if first.len() < length {
-        return Solved::Refused(13, 0);
-    }
-    if second.len() < length {
-        return Solved::Refused(13, 0);
+    let length = sheet_length(Format::Wide, s.variables, s.nodes);
+    if shorter(first.len(), second.len()) < length {
+        return Solved::Refused(NO_ROOM, 0);
     }
     let answer = run_wide(sheet, s, first, second);
     add_counts(answer, c)
 }
 
-// Carries a stopped run over: goes on from the sheet reached, which is narrow or wide, with the counts of the run so far. The first work
-// buffer then holds the sheet reached, a wide one, and zeros, the second only zeros; refused, both are left as they were.
-pub fn resume(sheet: &[u8], narrow: bool, c: Counts, first: &mut [u8], second: &mut [u8]) -> Solved
-    ensures { λ r. ⌜ solved-answer r ≡ (resume-call (c .started) (c .settled) (c .expanded) (now (sheet .entry)) narrow (now (first .entry)) (now (second .entry))) .answer ⌝ }
-    ensures { λ _. ⌜ now (first .exit) ≡ (resume-call (c .started) (c .settled) (c .expanded) (now (sheet .entry)) narrow (now (first .entry)) (now (second .entry))) .first ⌝ }
-    ensures { λ _. ⌜ now (second .exit) ≡ (resume-call (c .started) (c .settled) (c .expanded) (now (sheet .entry)) narrow (now (first .entry)) (now (second .entry))) .second ⌝ }
+// Carries a stopped run over: goes on from the sheet reached, of the format `f`, with the counts of the run so far. The first work buffer
+// then holds the sheet reached, a wide one, and zeros, the second only zeros; refused, both are left as they were.
+pub fn resume(sheet: &[u8], f: Format, c: Counts, first: &mut [u8], second: &mut [u8]) -> Solved
+    ensures { λ r. ⌜ record { answer = solved-answer r; first = now (first .exit); second = now (second .exit) } ≡ resume-with c (now (sheet .entry)) f (now (first .entry)) (now (second .entry)) ⌝ }
 {
-    let f = named_format(narrow);
-    let checked = checking::check_in(sheet, f);
+    let checked = checking::check(sheet, f);
     match checked {
         Checked::Refused(number, place) => Solved::Refused(number, place),
-        Checked::Accepted(variables, nodes) => {
-            let s = Layout {
-                width: f.width,
-                variables,
-                nodes,
-            };
-            resume_checked(sheet, s, c, first, second)
-        }
+        Checked::Accepted(s) => resume_checked(sheet, s, c, first, second),
     }
 }

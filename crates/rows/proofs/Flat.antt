@@ -9,7 +9,6 @@ use Rattle.sheet.specs.Format.{Bytes, Row, zip-rows}
 unfoldable pub rows-in : ℕ → ℕ → Bytes → List Row
 rows-in w n b = zip-rows w (take n (drop (2 * w) b)) (drop (2 * w + n) b)
 
--- n rows of width w have their place in len bytes, and a number fits 32 bits
+-- n rows of width w have their place in len bytes
 pub record Room (w n len : ℕ) : Type 0 where
-  pub few-bytes : w ≤ 4
   pub holds : 2 * w + (1 + w) * n ≤ len

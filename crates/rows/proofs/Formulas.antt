@@ -3,27 +3,29 @@
 use mathlib.Core.Path.{_≡_, sym, ap, ap₂, _∙_}
 use mathlib.Core.Bool.{true}
 use mathlib.Core.List.{map}
-use Prim.Native.Nat.{ℕ, _+_, _≤_}
+use Prim.Native.Nat.{ℕ, _+_}
 use native.Mathlib.Omega.{arith}
 use lib.ListN.{length, getD, take, drop, length-drop, length-map}
 use lib.Seq.{getD-drop, take-at, drop-at, length-take-le}
 use Rattle.formula.specs.Tree.{Tree, Prefix, Formula, rows}
-use Rattle.sheet.specs.Format.{Bytes, Format, row, sheet-length, prefix-rows, node-rows}
+use Rattle.sheet.specs.Format.{Bytes, row, sheet-length, prefix-rows, node-rows}
 use Rattle.sheet.specs.Sheet.{binding, binding-row, trees, root, tree-rows, formula-rows, formula}
 use Rattle.sheet.specs.Check.{passes, check-tests}
 use Rattle.sheet.proofs.Preorder.{length-tree-rows, root-trees}
 use Rattle.sheet.proofs.CheckTests.{passed, passed-sizes, map-binding-row}
 use Rattle.sheet.proofs.Accepted.{accepted-length, formula-rows-formula}
-use Rattle.rows.specs.Formats.{Width}
+use Rattle.rows.specs.Formats.{format-of}
 use Rattle.rows.specs.Layouts.{rows-in, Room}
 use Rattle.rows.specs.Formulas.{prefix-in, node-rows-in, matrix-in, formula-in, Readable, layout-of}
+use Rattle.rows.specs.declared.Format.{Format}
 use Rattle.rows.specs.declared.Layout.{Layout}
+use Rattle.rows.proofs.Limits.{limits}
 use Rattle.rows.proofs.Layouts.{all-rows-in, length-rows-in}
 
 -- the formula of a sheet
-pub formula-read : (F : Format) (b : Bytes) → formula-in (layout-of F b) b ≡ formula F b
+pub formula-read : (f : Format) (b : Bytes) → formula-in (layout-of f b) b ≡ formula (format-of f) b
 unfolding formula-in prefix-in matrix-in node-rows-in formula prefix-rows node-rows
-formula-read F b = rw (all-rows-in F b)
+formula-read f b = rw (all-rows-in f b)
 
 -- a node row by its number among all rows
 pub node-row : (s : Layout) (b : Bytes) (i : ℕ) → getD (rows-in s b) (s .variables + i) (row 0 0) ≡ getD (node-rows-in s b) i (row 0 0)
@@ -91,15 +93,16 @@ module _ (s : Layout) (b : Bytes) (g : Formula) (is : rows-in s b ≡ formula-ro
   written-is-formula = ap formula-rows formula-written ∙ sym is
 
 -- a sheet that Check accepts is readable
-module _ (F : Format) (b : Bytes) (h : passes (check-tests F b) ≡ true) where
-  pub accepted-readable : Width (F .width) → F .most-variables ≤ 1024 → F .most-nodes ≤ 8192 → Readable (layout-of F b) b
+module _ (f : Format) (b : Bytes) (h : passes (check-tests (format-of f) b) ≡ true) where
+  pub accepted-readable : Readable (layout-of f b) b
   unfolding sheet-length
-  accepted-readable narrow few-variables few-nodes =
+  accepted-readable =
+      let F = format-of f in
       let sizes = passed-sizes F b (passed F b h .sizes) in
       record {
-        room = record { few-bytes = narrow; holds = omega (arith, accepted-length F b h) };
-        few-variables = omega (arith, sizes .few-variables);
+        room = record { holds = omega (arith, accepted-length F b h) };
+        few-variables = omega (arith, sizes .few-variables, limits f .few-variables);
         some-nodes = omega (arith, sizes .some-node);
-        few-nodes = omega (arith, sizes .few-nodes);
-        is-formula = ap formula-rows (formula-read F b) ∙ formula-rows-formula F b h ∙ all-rows-in F b;
+        few-nodes = omega (arith, sizes .few-nodes, limits f .few-nodes);
+        is-formula = ap formula-rows (formula-read f b) ∙ formula-rows-formula F b h ∙ all-rows-in f b;
       }

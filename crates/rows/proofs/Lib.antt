@@ -1,8 +1,9 @@
-pub mod Widths
+pub mod Limits
 pub mod Flat
 pub mod Rows
 mod Turn
 mod Stores
+mod CopyFront
 pub mod Sealing
 pub mod Layouts
 pub mod Formulas

@@ -4,10 +4,12 @@ use mathlib.Core.Path.{_≡_}
 use mathlib.Core.List.{List, map}
 use Prim.Native.Nat.{_≤_}
 use lib.ListN.{length, take, drop}
-use Rattle.formula.specs.Tree.{Tree, Prefix, Formula}
-use Rattle.sheet.specs.Format.{Bytes, Format, Row, variables, nodes}
+use Rattle.formula.specs.Tree.{Tree, Prefix, Formula, rows}
+use Rattle.sheet.specs.Format.{Bytes, Row, variables, nodes}
 use Rattle.sheet.specs.Sheet.{binding, trees, root, formula-rows}
+use Rattle.rows.specs.Formats.{format-of}
 use Rattle.rows.specs.Layouts.{rows-in, Room}
+use Rattle.rows.specs.declared.Format.{Format}
 use Rattle.rows.specs.declared.Layout.{Layout}
 
 unfoldable pub prefix-in : Layout → Bytes → Prefix
@@ -32,4 +34,8 @@ pub record Readable (s : Layout) (b : Bytes) : Type 0 where
 
 -- the layout of a sheet of a format, by the sizes that it tells
 abbrev pub layout-of : Format → Bytes → Layout
-layout-of F b = record { width = F .width; variables = variables F b; nodes = nodes F b }
+layout-of f b = record { format = f; variables = variables (format-of f) b; nodes = nodes (format-of f) b }
+
+-- the layout of a formula's sheet
+abbrev pub layout-for : Format → Formula → Layout
+layout-for f g = record { format = f; variables = length (g .prefix); nodes = rows (g .matrix) }

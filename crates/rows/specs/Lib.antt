@@ -2,3 +2,4 @@
 pub mod Formats
 pub mod Layouts
 pub mod Formulas
+pub mod Tables

@@ -1,10 +1,11 @@
 // Bytes of a sheet: a number put, a part moved, the rest cleared.
+use crate::Format;
 ghost use mathlib.Core.Path.{_≡_};
 ghost use mathlib.Core.List.{_++_};
 ghost use Prim.Native.Nat.{_+_, _-_, _≤_};
 ghost use lib.ListN.{length, take, drop, replicate};
 ghost use Rattle.sheet.specs.Format.{digits};
-ghost use Rattle.rows.specs.Formats.{Width};
+ghost use Rattle.rows.specs.Formats.{format-of};
 
 // Writes a number to the two bytes at `at`, low byte first.
 fn put_pair(b: &mut [u8], at: usize, value: usize)
@@ -24,16 +25,15 @@ fn put_quad(b: &mut [u8], at: usize, value: usize)
     put_pair(b, at + 2, value / 65536);
 }
 
-// Writes a number to the `width` bytes at `at`, low byte first: two bytes or four.
-pub fn put_number(b: &mut [u8], at: usize, width: usize, value: usize)
-    requires { ⌜ (at + width ≤ length (now b)) × Width width ⌝ }
-    ensures { λ _. ⌜ now (b .exit) ≡ take at (now (b .entry)) ++ digits width value ++ drop (at + width) (now (b .entry)) ⌝ }
+// Writes a number of a format at `at`, low byte first: two bytes or four.
+pub fn put_number(b: &mut [u8], at: usize, f: Format, value: usize)
+    requires { ⌜ at + (format-of f) .width ≤ length (now b) ⌝ }
+    ensures { λ _. ⌜ now (b .exit) ≡ take at (now (b .entry)) ++ digits ((format-of f) .width) value ++ drop (at + (format-of f) .width) (now (b .entry)) ⌝ }
 {
-    if width == 2 {
-        put_pair(b, at, value);
-        return;
+    match f {
+        Format::Narrow => put_pair(b, at, value),
+        Format::Wide => put_quad(b, at, value),
     }
-    put_quad(b, at, value);
 }
 
 // Copies `count` bytes from `from` down to `to`.
@@ -44,6 +44,18 @@ pub fn move_down(b: &mut [u8], to: usize, from: usize, count: usize)
     let mut i: usize = 0;
     while i < count {
         b[to + i] = b[from + i];
+        i += 1;
+    }
+}
+
+// Copies a sheet to the front of an output.
+pub fn copy_front(sheet: &[u8], out: &mut [u8])
+    requires { ⌜ length (now sheet) ≤ length (now out) ⌝ }
+    ensures { λ _. ⌜ now (out .exit) ≡ now (sheet .entry) ++ drop (length (now (sheet .entry))) (now (out .entry)) ⌝ }
+{
+    let mut i: usize = 0;
+    while i < sheet.len() {
+        out[i] = sheet[i];
         i += 1;
     }
 }

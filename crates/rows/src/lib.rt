@@ -2,13 +2,14 @@
 ghost use mathlib.Core.Path.{_≡_};
 ghost use Prim.Native.Nat.{_+_, _^_, _≤_, _<_};
 ghost use lib.ListN.{length, take, drop};
-ghost use Rattle.sheet.specs.Format.{number, narrow, wide};
-ghost use Rattle.rows.specs.Formats.{format-of, Width};
+ghost use Rattle.sheet.specs.Format.{number};
+ghost use Rattle.rows.specs.Formats.{format-of};
 
 pub mod bytes;
 pub mod fit;
 pub mod places;
 pub mod read;
+pub mod refusals;
 pub mod write;
 
 // Kinds of rows: 1 exists, 2 for all, 3 a variable, 4 its negation, 5 AND, 6 OR.
@@ -29,44 +30,50 @@ pub const ROWS: usize = 8192;
 
 pub const NUMBERS: usize = 1025;
 
-// Bytes to a number, most variables (and the highest variable number), most nodes.
-pub struct Format {
-    pub width: usize,
-    pub most_variables: usize,
-    pub most_nodes: usize,
+// The two formats: document 01's own sheets, of 16-bit numbers, and wide ones (N11), of 32-bit numbers.
+pub enum Format {
+    Narrow,
+    Wide,
 }
 
-// How a sheet's rows lie in its bytes: bytes to a number, variables, nodes.
+// How a sheet's rows lie in its bytes: its format, variables, nodes.
 pub struct Layout {
-    pub width: usize,
+    pub format: Format,
     pub variables: usize,
     pub nodes: usize,
 }
 
-// The format of document 01's own sheets: 16 bits, 256 variables, 4,096 nodes.
-pub fn narrow() -> Format
-    ensures { λ f. ⌜ format-of f ≡ narrow ⌝ }
+// Bytes to a number.
+pub fn width(f: Format) -> usize
+    ensures { λ r. ⌜ (r ≡ (format-of f) .width) × (r ≤ 4) ⌝ }
 {
-    Format {
-        width: 2,
-        most_variables: 256,
-        most_nodes: 4096,
+    match f {
+        Format::Narrow => 2,
+        Format::Wide => 4,
     }
 }
 
-// The format of wider sheets: 32 bits, 1,024 variables, 8,192 nodes.
-pub fn wider() -> Format
-    ensures { λ f. ⌜ format-of f ≡ wide ⌝ }
+// The most variables, and the highest variable number.
+pub fn most_variables(f: Format) -> usize
+    ensures { λ r. ⌜ r ≡ (format-of f) .most-variables ⌝ }
 {
-    Format {
-        width: 4,
-        most_variables: 1024,
-        most_nodes: 8192,
+    match f {
+        Format::Narrow => 256,
+        Format::Wide => 1024,
+    }
+}
+
+pub fn most_nodes(f: Format) -> usize
+    ensures { λ r. ⌜ r ≡ (format-of f) .most-nodes ⌝ }
+{
+    match f {
+        Format::Narrow => 4096,
+        Format::Wide => 8192,
     }
 }
 
 // A byte as a number.
-pub fn wide(b: u8) -> usize
+pub fn from_byte(b: u8) -> usize
     ensures { λ r. ⌜ (r ≡ b) × (r < 256) ⌝ }
 {
     b as usize
@@ -77,7 +84,7 @@ fn pair_at(b: &[u8], at: usize) -> usize
     requires { ⌜ at + 2 ≤ length (now b) ⌝ }
     ensures { λ r. ⌜ (r ≡ number (take 2 (drop at (now (b .entry))))) × (r < 2 ^ 16) ⌝ }
 {
-    wide(b[at]) + 256 * wide(b[at + 1])
+    from_byte(b[at]) + 256 * from_byte(b[at + 1])
 }
 
 // The number of four bytes that stands at `at`, low byte first.
@@ -90,13 +97,13 @@ pub fn quad_at(b: &[u8], at: usize) -> usize
     low + 65536 * high
 }
 
-// The number of `width` bytes that stands at `at`, low byte first: two bytes or four, read at once.
-pub fn number_at(b: &[u8], at: usize, width: usize) -> usize
-    requires { ⌜ (at + width ≤ length (now b)) × Width width ⌝ }
-    ensures { λ r. ⌜ (r ≡ number (take width (drop at (now (b .entry))))) × (r < 2 ^ 32) ⌝ }
+// The number of a format that stands at `at`, low byte first: two bytes or four, read at once.
+pub fn number_at(b: &[u8], at: usize, f: Format) -> usize
+    requires { ⌜ at + (format-of f) .width ≤ length (now b) ⌝ }
+    ensures { λ r. ⌜ (r ≡ number (take ((format-of f) .width) (drop at (now (b .entry))))) × (r < 2 ^ 32) ⌝ }
 {
-    if width == 2 {
-        return pair_at(b, at);
+    match f {
+        Format::Narrow => pair_at(b, at),
+        Format::Wide => quad_at(b, at),
     }
-    quad_at(b, at)
 }

@@ -5,27 +5,28 @@ use crate::NEGATIVE;
 use crate::number_at;
 use crate::places::argument_place;
 use crate::places::kind_place;
+use crate::width;
 ghost use mathlib.Core.Path.{_≡_};
 ghost use Prim.Native.Nat.{_^_, _≤_, _<_};
 ghost use lib.ListN.{length, getD};
 ghost use Rattle.sheet.specs.Format.{header, variables, nodes, row, children};
-ghost use Rattle.rows.specs.Formats.{format-of, Width};
+ghost use Rattle.rows.specs.Formats.{format-of};
 ghost use Rattle.rows.specs.Layouts.{total, rows-in, Room};
 
 // V, as a sheet's first bytes say it.
 pub fn variables_at(b: &[u8], f: Format) -> usize
-    requires { ⌜ (header (format-of f) ≤ length (now b)) × Width (f .width) ⌝ }
+    requires { ⌜ header (format-of f) ≤ length (now b) ⌝ }
     ensures { λ r. ⌜ (r ≡ variables (format-of f) (now (b .entry))) × (r < 2 ^ 32) ⌝ }
 {
-    number_at(b, 0, f.width)
+    number_at(b, 0, f)
 }
 
 // N, as the bytes behind V say it.
 pub fn nodes_at(b: &[u8], f: Format) -> usize
-    requires { ⌜ (header (format-of f) ≤ length (now b)) × Width (f .width) ⌝ }
+    requires { ⌜ header (format-of f) ≤ length (now b) ⌝ }
     ensures { λ r. ⌜ (r ≡ nodes (format-of f) (now (b .entry))) × (r < 2 ^ 32) ⌝ }
 {
-    number_at(b, f.width, f.width)
+    number_at(b, width(f), f)
 }
 
 // The kind of row `r`.
@@ -41,7 +42,8 @@ pub fn argument_at(b: &[u8], s: Layout, r: usize) -> usize
     requires { ⌜ Room s (length (now b)) × (r < total s) ⌝ }
     ensures { λ a. ⌜ (a ≡ (getD (rows-in s (now (b .entry))) r (row 0 0)) .argument) × (a < 2 ^ 32) ⌝ }
 {
-    number_at(b, argument_place(s, r), s.width)
+    let f = s.format;
+    number_at(b, argument_place(s, r), f)
 }
 
 // How many children row `r` adds to the tree.

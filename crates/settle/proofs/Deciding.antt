@@ -17,11 +17,12 @@ use Rattle.sheet.specs.Sheet.{formula, sheet}
 use Rattle.sheet.specs.Check.{refused, accepted, Test, test, answer, passes}
 use Rattle.sheet.specs.Operations.{padded, settle-tests, settle-call}
 use Rattle.sheet.proofs.Tests.{passes-++, answer-++, refused-first}
-use Rattle.sheet.proofs.Writing.{write-refused, write-accepted}
-use Rattle.rows.specs.Formulas.{prefix-in, formula-in}
+use Rattle.sheet.proofs.RoundTrip.{length-sheet}
+use Rattle.sheet.proofs.Writing.{written, write-refused, write-accepted}
+use Rattle.rows.specs.Layouts.{format-in}
+use Rattle.rows.specs.Formulas.{prefix-in, formula-in, layout-for}
 use Rattle.rows.specs.declared.Layout.{Layout}
 use Rattle.rows.proofs.Formulas.{length-prefix}
-use Rattle.checking.specs.Limits.{Countable}
 use Rattle.checking.proofs.CheckedSheets.{sheet-readable, sheet-formula-in}
 use Rattle.prefixes.specs.Places.{place, binding-at}
 use Rattle.prefixes.proofs.Places.{quantifier-of-place, variable-place}
@@ -47,7 +48,10 @@ pub refused-before : {n i : ℕ} (F : Format) (b : Bytes) (x room : ℕ) → ref
 unfolding settle-tests admission-tests
 refused-before F b x room h = refused-first (admission-tests F b x) (own-tests F b x room) x x h
 
-module _ {F : Format} {b : Bytes} {x : ℕ} {s : Layout} {i : ℕ} {ends : List ℕ} (k : Countable F) (a : Admitted F b x s i ends) (room : ℕ) where
+module _ {b : Bytes} {x : ℕ} {s : Layout} {i : ℕ} {ends : List ℕ} (a : Admitted b x s i ends) (room : ℕ) where
+  abbrev F : Format
+  F = format-in s
+
   answered : answer (settle-tests F b x room) x ≡ answer (own-tests F b x room) x
   unfolding settle-tests admission-tests
   answered = answer-++ (admission-tests F b x) (own-tests F b x room) x (a .tests-pass)
@@ -65,7 +69,7 @@ module _ {F : Format} {b : Bytes} {x : ℕ} {s : Layout} {i : ℕ} {ends : List 
   value-here v h =
       let p = prefix-in s b in
       let inside : place x p < length p
-      = omega (arith, a .named .inside, a .named .row-is, length-prefix b (sheet-readable (a .sheet) (k .manageable))) in
+      = omega (arith, a .named .inside, a .named .row-is, length-prefix b (sheet-readable (a .sheet))) in
       ap (may-settle x) (sym same) ∙
       rw (quantifier-of-place x p inside)
       (ap (λ (y : ℕ). settling ((binding-at p (place x p)) .quantifier) y ((formula-in s b) .matrix)) (sym (variable-place x p inside)) ∙
@@ -87,12 +91,12 @@ module _ {F : Format} {b : Bytes} {x : ℕ} {s : Layout} {i : ℕ} {ends : List 
     no-room e l = rw (answered, value-here v h, e, raw-length, lt-ltb room (sheet-length F (s .variables - 1) (s .nodes)) l)
 
     pub planned : (c : Bool) → v ≡ Take c → sheet-length F (s .variables - 1) (s .nodes) ≤ room
-        → Planned F b x room s (record { row = i; variable = x; value = c })
+        → Planned b x room s (record { row = i; variable = x; value = c })
     unfolding passes is-some
     planned c e l =
         record {
           tests-pass = rw (passing, value-here v h, e, raw-length, le-ltb room (sheet-length F (s .variables - 1) (s .nodes)) l);
-          puts = record { from = sheet-steppable (a .sheet) k; named = a .named; room = l };
+          puts = record { from = sheet-steppable (a .sheet); named = a .named; room = l };
           variable-is = refl;
           value-is = value-here v h ∙ ap value-of e;
           same-formula = same;
@@ -101,25 +105,32 @@ module _ {F : Format} {b : Bytes} {x : ℕ} {s : Layout} {i : ℕ} {ends : List 
 -- the call
 
 pub refused-call : {n i : ℕ} (F : Format) (b : Bytes) (x : ℕ) (out : Bytes) → refused n i ≡ answer (settle-tests F b x (length out)) x
-    → (refused n i ≡ (settle-call F b x out) .answer) × (out ≡ (settle-call F b x out) .output)
+    → record { answer = refused n i; output = out } ≡ settle-call F b x out
 unfolding settle-call
-refused-call F b x out h = write-refused (settle-tests F b x (length out)) x _ out h
+refused-call F b x out h = written (write-refused (settle-tests F b x (length out)) x _ out h)
 
-module _ {F : Format} {b : Bytes} {x : ℕ} {s : Layout} {p : Put} (out : Bytes) (d : Planned F b x (length out) s p) where
+module _ {b : Bytes} {x : ℕ} {s : Layout} {p : Put} (out : Bytes) (d : Planned b x (length out) s p) where
+  abbrev G : Format
+  G = format-in s
+
   new : Formula
-  new = settled x (Option·getD (may-settle x (formula F b)) false) (formula F b)
+  new = settled x (Option·getD (may-settle x (formula G b)) false) (formula G b)
 
   same-new : settled-by p (formula-in s b) ≡ new
   unfolding new
   same-new =
-      rw (d .variable-is, d .same-formula) (ap (λ (o : Option Bool). settled x (Option·getD o false) (formula F b)) (sym (d .value-is)))
+      rw (d .variable-is, d .same-formula) (ap (λ (o : Option Bool). settled x (Option·getD o false) (formula G b)) (sym (d .value-is)))
 
-  pub settled-call : {len : ℕ} {written : Bytes} → len ≡ length (sheet F (settled-by p (formula-in s b)))
-      → written ≡ padded (length out) (sheet F (settled-by p (formula-in s b)))
-      → (accepted len ≡ (settle-call F b x out) .answer) × (written ≡ (settle-call F b x out) .output)
+  pub settled-call : {t : Layout} {len : ℕ} {new-out : Bytes} → t ≡ layout-for (s .format) (settled-by p (formula-in s b))
+      → len ≡ sheet-length G (t .variables) (t .nodes)
+      → new-out ≡ padded (length out) (sheet G (settled-by p (formula-in s b)))
+      → record { answer = accepted len; output = new-out } ≡ settle-call G b x out
   unfolding settle-call new
-  settled-call l w =
-      let call = write-accepted (settle-tests F b x (length out)) (sheet F new) out (d .tests-pass) in (
-        ap accepted (l ∙ ap (λ (f : Formula). length (sheet F f)) same-new) ∙ call .0,
-        w ∙ ap (λ (f : Formula). padded (length out) (sheet F f)) same-new ∙ call .1,
+  settled-call at l w =
+      let call = write-accepted (settle-tests G b x (length out)) (sheet G new) out (d .tests-pass) in
+      let g = settled-by p (formula-in s b) in
+      let len-is = l ∙ ap (λ (t : Layout). sheet-length G (t .variables) (t .nodes)) at ∙ sym (length-sheet G g) in
+      written (
+        ap accepted (len-is ∙ ap (λ (f : Formula). length (sheet G f)) same-new) ∙ call .0,
+        w ∙ ap (λ (f : Formula). padded (length out) (sheet G f)) same-new ∙ call .1,
       )

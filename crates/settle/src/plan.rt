@@ -3,6 +3,8 @@ use rows::Format;
 use rows::Layout;
 use rows::ROWS;
 use rows::fit::sheet_length;
+use rows::refusals::NO_ROOM;
+use rows::refusals::NOT_SETTLED;
 use signs::table::SIGNS;
 use signs::table::fill_signs;
 use signs::value::Settling;
@@ -11,8 +13,6 @@ use stepping::admission::Admission;
 use stepping::admission::Binding;
 use stepping::admission::admit;
 use stepping::settling::Put;
-ghost use Rattle.rows.specs.Formats.{format-of};
-ghost use Rattle.checking.specs.Limits.{Countable};
 ghost use Rattle.settle.specs.Inner.Plan.{Admissible, Plans};
 
 // A refusal's number and place; or the sheet's layout and what is put in.
@@ -22,18 +22,19 @@ pub enum Plan {
 }
 
 // Decides on a variable that tests 1 to 10 admit: 12 may not be settled, 13 no room for the raw sheet.
-fn plan_admitted(sheet: &[u8], f: Format, s: Layout, z: Binding, room: usize) -> Plan
-    requires { ⌜ Countable (format-of f) × Admissible (format-of f) (now sheet) (z .variable) s (z .row) ⌝ }
-    ensures { λ r. ⌜ Plans (format-of f) (now (sheet .entry)) (z .variable) room r ⌝ }
+fn plan_admitted(sheet: &[u8], s: Layout, z: Binding, room: usize) -> Plan
+    requires { ⌜ Admissible (now sheet) (z .variable) s (z .row) ⌝ }
+    ensures { λ r. ⌜ Plans (s .format) (now (sheet .entry)) (z .variable) room r ⌝ }
 {
     let mut table = [false; SIGNS];
     fill_signs(sheet, s, &mut table);
     let v = value_at(sheet, s, z.row, &table);
     let Settling::Take(value) = v else {
-        return Plan::Refused(12, 0);
+        return Plan::Refused(NOT_SETTLED, 0);
     };
+    let f = s.format;
     if room < sheet_length(f, s.variables - 1, s.nodes) {
-        return Plan::Refused(13, 0);
+        return Plan::Refused(NO_ROOM, 0);
     }
     let put = Put {
         row: z.row,
@@ -45,13 +46,12 @@ fn plan_admitted(sheet: &[u8], f: Format, s: Layout, z: Binding, room: usize) ->
 
 // Decides what Settle of `x` does with a sheet and an output of `room` bytes.
 pub fn plan_settle(sheet: &[u8], f: Format, x: usize, room: usize) -> Plan
-    requires { ⌜ Countable (format-of f) ⌝ }
-    ensures { λ r. ⌜ Plans (format-of f) (now (sheet .entry)) x room r ⌝ }
+    ensures { λ r. ⌜ Plans f (now (sheet .entry)) x room r ⌝ }
 {
     let mut ends = [0u16; ROWS];
     let a = admit(sheet, f, x, &mut ends);
     match a {
         Admission::Refused(number, place) => Plan::Refused(number, place),
-        Admission::Admitted(s, z) => plan_admitted(sheet, f, s, z, room),
+        Admission::Admitted(s, z) => plan_admitted(sheet, s, z, room),
     }
 }

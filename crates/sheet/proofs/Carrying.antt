@@ -19,7 +19,7 @@ use Rattle.sheet.specs.Limits.{Sound, numbered, Within}
 use Rattle.sheet.specs.Carrying.{carried, Carried, above, beyond, widen-tests, widen-call, bring-back-tests, bring-back-call}
 use Rattle.sheet.proofs.Numbers.{AllBytes}
 use Rattle.sheet.proofs.Tests.{passed-∷, passes-++, passed-++, answer-++, answer-passes, refused-first}
-use Rattle.sheet.proofs.Writing.{write-refused, write-accepted}
+use Rattle.sheet.proofs.Writing.{written, write-refused, write-accepted}
 use Rattle.sheet.proofs.Limits.{narrow-sound, wide-sound, numbered-∷, binds-numbered}
 use Rattle.sheet.proofs.CheckTests.{passed, passed-quantifiers, member-arguments}
 use Rattle.sheet.proofs.RoundTrip.{length-sheet, all-rows-sheet, formula-sheet, passes-sheet, check-sheet}
@@ -215,8 +215,7 @@ holds b out = record { answer = accepted (length b); output = padded (length out
 write-holds : (tests : List Test) (new out : Bytes) → passes tests ≡ true → write tests new out ≡ holds new out
 unfolding write
 write-holds tests new out h =
-    let w = write-accepted tests new out h in
-    ap₂ (λ a o. record { answer = a; output = o }) (sym (w .0)) (sym (w .1))
+    sym (written (write-accepted tests new out h))
 
 -- the tests behind those that pass refuse
 write-behind : (ts us : List Test) (new out : Bytes) (n i : ℕ) → passes ts ≡ true → refused n i ≡ answer us (length new)

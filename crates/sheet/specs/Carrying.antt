@@ -9,6 +9,7 @@ use lib.ListN.{length}
 use Rattle.formula.specs.Truth.{truth}
 use Rattle.sheet.specs.Format.{Bytes, Format, narrow, wide, Row, sheet-length, variables, nodes, all-rows}
 use Rattle.sheet.specs.Sheet.{formula, sheet}
+use Rattle.sheet.specs.Refusals.{no-room, not-narrow}
 use Rattle.sheet.specs.Check.{Test, test, passes, check-tests, check}
 use Rattle.sheet.specs.Operations.{Written, write}
 
@@ -28,7 +29,7 @@ beyond F G b =
 
 -- 13 output shorter than the other format's sheet
 abbrev pub carried-room-test : Format → Format → Bytes → ℕ → Test
-carried-room-test F G b len = test (ltb len (sheet-length G (variables F b) (nodes F b))) 13 0
+carried-room-test F G b len = test (ltb len (sheet-length G (variables F b) (nodes F b))) no-room 0
 
 -- Carrying over: 1 to 8 of the narrow format; 13
 unfoldable pub widen-tests : Bytes → ℕ → List Test
@@ -39,7 +40,7 @@ widen-call b out = write (widen-tests b (length out)) (carried narrow wide b) ou
 
 -- Bringing back: 1 to 8 of the wide format; 24 a number or size above the narrow limits; 13
 unfoldable pub bring-back-tests : Bytes → ℕ → List Test
-bring-back-tests b len = check-tests wide b ++ (test (beyond wide narrow b) 24 0 ∷ carried-room-test wide narrow b len ∷ [])
+bring-back-tests b len = check-tests wide b ++ (test (beyond wide narrow b) not-narrow 0 ∷ carried-room-test wide narrow b len ∷ [])
 
 unfoldable pub bring-back-call : Bytes → Bytes → Written
 bring-back-call b out = write (bring-back-tests b (length out)) (carried wide narrow b) out

@@ -6,6 +6,7 @@ use Prim.Native.Nat.{ℕ, zero, suc, _+_}
 use lib.Dec.{eqb, ltb, leb}
 use lib.ListN.{length}
 use Rattle.sheet.specs.Format.{Bytes, Format, Row, header, sheet-length, variables, nodes, prefix-rows, node-rows, children}
+use Rattle.sheet.specs.Refusals.{too-short, size-outside, wrong-length, bad-kind, bad-number, bound-twice, unbound, not-one-tree}
 
 -- an answer: refused with number and place, or accepted with a value
 pub data Answer (A : Type 0) : Type 0 where
@@ -32,9 +33,9 @@ passes (t ∷ ts) = not (t .fails) && passes ts
 -- 1 under 4 bytes; 2 a size outside its limits; 3 wrong length
 unfoldable pub size-tests : Format → Bytes → List Test
 size-tests F b =
-    test (ltb (length b) (header F)) 1 0 ∷
-    test (ltb (F .most-variables) (variables F b) || eqb (nodes F b) 0 || ltb (F .most-nodes) (nodes F b)) 2 0 ∷
-    test (not (eqb (length b) (sheet-length F (variables F b) (nodes F b)))) 3 0 ∷
+    test (ltb (length b) (header F)) too-short 0 ∷
+    test (ltb (F .most-variables) (variables F b) || eqb (nodes F b) 0 || ltb (F .most-nodes) (nodes F b)) size-outside 0 ∷
+    test (not (eqb (length b) (sheet-length F (variables F b) (nodes F b)))) wrong-length 0 ∷
     []
 
 unfoldable pub member : ℕ → List ℕ → Bool
@@ -45,25 +46,25 @@ member x (y ∷ ys) = eqb y x || member x ys
 unfoldable pub quantifier-tests : Format → ℕ → List ℕ → List Row → List Test
 quantifier-tests F i bound [] = []
 quantifier-tests F i bound (r ∷ rs) =
-    test (not (eqb (r .kind) 1 || eqb (r .kind) 2)) 4 i ∷
-    test (eqb (r .argument) 0 || ltb (F .most-variables) (r .argument)) 5 i ∷
-    test (member (r .argument) bound) 6 i ∷
+    test (not (eqb (r .kind) 1 || eqb (r .kind) 2)) bad-kind i ∷
+    test (eqb (r .argument) 0 || ltb (F .most-variables) (r .argument)) bad-number i ∷
+    test (member (r .argument) bound) bound-twice i ∷
     quantifier-tests F (suc i) (r .argument ∷ bound) rs
 
 -- the node rows, from row i on: 4 kind, 7 literal unbound
 unfoldable pub node-tests : ℕ → List ℕ → List Row → List Test
 node-tests i bound [] = []
 node-tests i bound (r ∷ rs) =
-    test (not (leb 3 (r .kind) && leb (r .kind) 6)) 4 i ∷
-    test (leb (r .kind) 4 && not (member (r .argument) bound)) 7 i ∷
+    test (not (leb 3 (r .kind) && leb (r .kind) 6)) bad-kind i ∷
+    test (leb (r .kind) 4 && not (member (r .argument) bound)) unbound i ∷
     node-tests (suc i) bound rs
 
 -- 8 not one tree: one node is owed at first, each row pays one and adds its children, and the debt reaches zero at the last row and
 -- not before. The place is the first row after an early end, or V+N if rows run out.
 unfoldable pub tree-test : ℕ → ℕ → List Row → Test
-tree-test zero i [] = test false 8 i
-tree-test zero i (r ∷ rs) = test true 8 i
-tree-test (suc owed) i [] = test true 8 i
+tree-test zero i [] = test false not-one-tree i
+tree-test zero i (r ∷ rs) = test true not-one-tree i
+tree-test (suc owed) i [] = test true not-one-tree i
 tree-test (suc owed) i (r ∷ rs) = tree-test (owed + children r) (suc i) rs
 
 unfoldable pub arguments : List Row → List ℕ

@@ -10,6 +10,7 @@ use Rattle.formula.specs.Tree.{Quantifier}
 use Rattle.formula.specs.Force.{Forced, neither, turn-after, forced, allows-some}
 use Rattle.sheet.specs.Format.{Bytes, Format, fits, variables}
 use Rattle.sheet.specs.Sheet.{formula}
+use Rattle.sheet.specs.Refusals.{no-room, bad-value, too-many-values}
 use Rattle.sheet.specs.Check.{Answer, refused, accepted, Test, test, answer, check-tests}
 use Rattle.sheet.specs.Trace.{room}
 
@@ -28,7 +29,7 @@ values-of vs = map value-of vs
 unfoldable pub force-tests : Format → Bytes → Bytes → ℕ → List Test
 force-tests F b vs len =
     check-tests F b ++
-    (test (not (are-values vs)) 21 0 ∷ test (not (ltb (length vs) (variables F b))) 22 0 ∷ test (ltb len (length b)) 13 0 ∷ [])
+    (test (not (are-values vs)) bad-value 0 ∷ test (not (ltb (length vs) (variables F b))) too-many-values 0 ∷ test (ltb len (length b)) no-room 0 ∷ [])
 
 -- "whose turn is next and with which of 0 and 1 its owner can force the outcome wanted"
 pub record Panel : Type 0 where

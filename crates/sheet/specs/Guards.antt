@@ -11,6 +11,7 @@ use Rattle.formula.specs.Truth.{truth}
 use Rattle.formula.specs.Guards.{is-and, guards, Guarded, holds, stuck, clash, guarded, weakened}
 use Rattle.sheet.specs.Format.{Bytes, Format, fits}
 use Rattle.sheet.specs.Sheet.{formula, sheet}
+use Rattle.sheet.specs.Refusals.{no-room, root-not-and}
 use Rattle.sheet.specs.Check.{Answer, refused, accepted, Test, test, answer, passes, check-tests}
 use Rattle.sheet.specs.Operations.{padded, Solved, is-stopped, is-ended}
 use Rattle.sheet.specs.Trace.{room}
@@ -32,7 +33,7 @@ pub record Guarding : Type 0 where
 -- 1 to 8; 23 the root isn't AND; 13 output or a work buffer shorter than the sheet
 unfoldable pub guards-tests : Format → Bytes → ℕ → List Test
 guards-tests F b len =
-    check-tests F b ++ (test (not (is-and ((formula F b) .matrix))) 23 0 ∷ test (ltb len (length b)) 13 0 ∷ [])
+    check-tests F b ++ (test (not (is-and ((formula F b) .matrix))) root-not-and 0 ∷ test (ltb len (length b)) no-room 0 ∷ [])
 
 unfoldable pub guards-answer : Format → Guarded → Guards
 guards-answer F (holds s) = guards-true (s .settles) (s .expands)

@@ -1,6 +1,7 @@
 -- Document 01 on bytes, in the document's order.
 pub mod Format
 pub mod Sheet
+pub mod Refusals
 pub mod Check
 pub mod Operations
 pub mod Carrying

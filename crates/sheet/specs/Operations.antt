@@ -15,6 +15,7 @@ use Rattle.formula.specs.Trial.{Tried, trial}
 use Rattle.formula.specs.Reduce.{in-profile, reduced}
 use Rattle.sheet.specs.Format.{Bytes, Format, Row, sheet-length, fits, variables, nodes, kind-bytes, all-rows, children}
 use Rattle.sheet.specs.Sheet.{formula, sheet}
+use Rattle.sheet.specs.Refusals.{not-tidy, not-in-prefix, wrong-block, not-settled, no-room, too-many-to-try, above-ceiling, no-clauses}
 use Rattle.sheet.specs.Check.{Answer, refused, accepted, Test, test, answer, passes, check-tests}
 
 -- the bytes at the front of an output, with zeros behind them
@@ -36,25 +37,25 @@ write tests new out = record { answer = answer tests (length new); output = outp
 
 -- Tidy: 1 to 8; 13 output shorter than the sheet
 unfoldable pub tidy-tests : Format → Bytes → ℕ → List Test
-tidy-tests F b len = check-tests F b ++ (test (ltb len (length b)) 13 0 ∷ [])
+tidy-tests F b len = check-tests F b ++ (test (ltb len (length b)) no-room 0 ∷ [])
 
 unfoldable pub tidy-call : Format → Bytes → Bytes → Written
 tidy-call F b out = write (tidy-tests F b (length out)) (sheet F (tidied (formula F b))) out
 
 -- 9 not tidy, at the row of the first operator at fault
 abbrev pub tidiness-test : Format → Bytes → Test
-tidiness-test F b = test (not (is-tidy ((formula F b) .matrix))) 9 (variables F b + first-fault ((formula F b) .matrix))
+tidiness-test F b = test (not (is-tidy ((formula F b) .matrix))) not-tidy (variables F b + first-fault ((formula F b) .matrix))
 
 -- 9; 10 x not in the prefix
 unfoldable pub tidy-and-bound-tests : Format → Bytes → ℕ → List Test
-tidy-and-bound-tests F b x = tidiness-test F b ∷ test (not (binds ((formula F b) .prefix) x)) 10 0 ∷ []
+tidy-and-bound-tests F b x = tidiness-test F b ∷ test (not (binds ((formula F b) .prefix) x)) not-in-prefix 0 ∷ []
 
 -- Settle: 1 to 8; 9; 10; 12 may not be settled; 13 output shorter than 4 + 3 times (V-1+N)
 unfoldable pub settle-tests : Format → Bytes → ℕ → ℕ → List Test
 settle-tests F b x len =
     check-tests F b ++ tidy-and-bound-tests F b x ++
-    (test (not (is-some (may-settle x (formula F b)))) 12 0 ∷
-    test (ltb len (sheet-length F (variables F b - 1) (nodes F b))) 13 0 ∷
+    (test (not (is-some (may-settle x (formula F b)))) not-settled 0 ∷
+    test (ltb len (sheet-length F (variables F b - 1) (nodes F b))) no-room 0 ∷
     [])
 
 unfoldable pub settle-call : Format → Bytes → ℕ → Bytes → Written
@@ -63,7 +64,7 @@ settle-call F b x out =
 
 -- Quote (N7): 1 to 8; 9; 10; 11 x not in the innermost block
 unfoldable pub quote-tests : Format → Bytes → ℕ → List Test
-quote-tests F b x = check-tests F b ++ tidy-and-bound-tests F b x ++ (test (not (innermost x (formula F b))) 11 0 ∷ [])
+quote-tests F b x = check-tests F b ++ tidy-and-bound-tests F b x ++ (test (not (innermost x (formula F b))) wrong-block 0 ∷ [])
 
 -- the raw row count of the expansion of x
 abbrev pub raw-count : Format → Bytes → ℕ → ℕ
@@ -74,7 +75,7 @@ quote-call F b x = answer (quote-tests F b x) (raw-count F b x)
 
 -- 13 the raw sheet doesn't fit
 abbrev pub raw-room-test : Format → Bytes → ℕ → ℕ → Test
-raw-room-test F b x len = test (not (fits-raw (fits F len) x (formula F b))) 13 0
+raw-room-test F b x len = test (not (fits-raw (fits F len) x (formula F b))) no-room 0
 
 -- Expand: the quote's tests; 13
 unfoldable pub expand-tests : Format → Bytes → ℕ → ℕ → List Test
@@ -86,7 +87,7 @@ expand-call F b x out = write (expand-tests F b x (length out)) (sheet F (expand
 -- Execute (N7), the carrying out of a quote: the quote's tests; 19 the raw count is above the ceiling; 13
 unfoldable pub execute-tests : Format → Bytes → ℕ → ℕ → ℕ → List Test
 execute-tests F b x ceiling len =
-    quote-tests F b x ++ (test (ltb ceiling (raw-count F b x)) 19 0 ∷ raw-room-test F b x len ∷ [])
+    quote-tests F b x ++ (test (ltb ceiling (raw-count F b x)) above-ceiling 0 ∷ raw-room-test F b x len ∷ [])
 
 unfoldable pub execute-call : Format → Bytes → ℕ → ℕ → Bytes → Written
 execute-call F b x ceiling out = write (execute-tests F b x ceiling (length out)) (sheet F (expanded x (formula F b))) out
@@ -95,7 +96,7 @@ execute-call F b x ceiling out = write (execute-tests F b x ceiling (length out)
 unfoldable pub reduce-tests : Format → Bytes → ℕ → List Test
 reduce-tests F b len =
     check-tests F b ++
-    (tidiness-test F b ∷ test (not (in-profile ((formula F b) .matrix))) 20 0 ∷ test (ltb len (length b)) 13 0 ∷ [])
+    (tidiness-test F b ∷ test (not (in-profile ((formula F b) .matrix))) no-clauses 0 ∷ test (ltb len (length b)) no-room 0 ∷ [])
 
 unfoldable pub reduce-call : Format → Bytes → Bytes → Written
 reduce-call F b out = write (reduce-tests F b (length out)) (sheet F (reduced (formula F b))) out
@@ -134,7 +135,7 @@ solve-call F b first second =
 
 -- Trial: 1 to 8; 14 V above 20
 unfoldable pub trial-call : Format → Bytes → Answer Tried
-trial-call F b = answer (check-tests F b ++ (test (ltb 20 (variables F b)) 14 0 ∷ [])) (trial (formula F b))
+trial-call F b = answer (check-tests F b ++ (test (ltb 20 (variables F b)) too-many-to-try 0 ∷ [])) (trial (formula F b))
 
 -- the rows of a subtree: as many as pay the debt of one node
 unfoldable pub span : ℕ → List Row → ℕ

@@ -7,12 +7,13 @@ use lib.ListN.{length, replicate}
 use Rattle.formula.specs.Order.{Ordering, sorted, compare-formulas}
 use Rattle.sheet.specs.Format.{Bytes, Format}
 use Rattle.sheet.specs.Sheet.{formula, sheet}
+use Rattle.sheet.specs.Refusals.{no-room}
 use Rattle.sheet.specs.Check.{Answer, refused, accepted, Test, test, answer, check-tests, check}
 use Rattle.sheet.specs.Operations.{Written, write}
 
 -- 13 a buffer shorter than the sheet
 abbrev pub room-test : Bytes → Bytes → Test
-room-test b buffer = test (ltb (length buffer) (length b)) 13 0
+room-test b buffer = test (ltb (length buffer) (length b)) no-room 0
 
 -- Sort: 1 to 8; 13
 unfoldable pub sort-tests : Format → Bytes → Bytes → List Test

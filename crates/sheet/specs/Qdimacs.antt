@@ -9,6 +9,7 @@ use Rattle.formula.specs.Tree.{and, or, Quantifier, exists, for-all, Tree, lit,
 use Rattle.formula.specs.Reduce.{is-literal, is-clause}
 use Rattle.sheet.specs.Format.{Bytes, Format, sheet-length}
 use Rattle.sheet.specs.Sheet.{sheet}
+use Rattle.sheet.specs.Refusals.{size-outside, bound-twice, no-room, bad-header, bad-lists, beyond-header}
 use Rattle.sheet.specs.Check.{Test, test}
 use Rattle.sheet.specs.Operations.{Written, write}
 
@@ -248,12 +249,12 @@ unfoldable pub said-tests : Format → Header → List Token → ℕ → List Te
 said-tests F h ts len =
     let ls = ended-lists (pieces ts) in
     let f = said h ts in
-    test (not (h .well-formed) || ltb (F .most-variables) (h .variable-count)) 15 0 ∷
-    test (not (well-listed ts)) 16 0 ∷
-    test (above-count (h .variable-count) ls || not (eqb (length (clauses ls)) (h .clause-count))) 17 0 ∷
-    test (not (distinct (bound ls))) 6 0 ∷
-    test (ltb (F .most-nodes) (rows (f .matrix))) 2 0 ∷
-    test (ltb len (sheet-length F (length (f .prefix)) (rows (f .matrix)))) 13 0 ∷
+    test (not (h .well-formed) || ltb (F .most-variables) (h .variable-count)) bad-header 0 ∷
+    test (not (well-listed ts)) bad-lists 0 ∷
+    test (above-count (h .variable-count) ls || not (eqb (length (clauses ls)) (h .clause-count))) beyond-header 0 ∷
+    test (not (distinct (bound ls))) bound-twice 0 ∷
+    test (ltb (F .most-nodes) (rows (f .matrix))) size-outside 0 ∷
+    test (ltb len (sheet-length F (length (f .prefix)) (rows (f .matrix)))) no-room 0 ∷
     []
 
 unfoldable pub qdimacs-tests : Format → Bytes → ℕ → List Test

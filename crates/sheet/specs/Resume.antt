@@ -5,6 +5,7 @@ use mathlib.Core.List.{List, [], _∷_, _++_}
 use Prim.Native.Nat.{ℕ, _+_}
 use lib.Dec.{eqb}
 use Rattle.sheet.specs.Format.{Bytes, Format, narrow, wide, variables}
+use Rattle.sheet.specs.Refusals.{wrong-counts}
 use Rattle.sheet.specs.Check.{Answer, refused, accepted, Test, test, answer, check-tests}
 use Rattle.sheet.specs.Operations.{Solved, is-refused, is-stopped, is-ended, Solving, solve-call}
 use Rattle.sheet.specs.Trace.{room}
@@ -24,7 +25,7 @@ widened false b = b
 unfoldable pub resume-tests : ℕ → ℕ → ℕ → Bytes → Bool → ℕ → List Test
 resume-tests started settled expanded b is-narrow len =
     let F = named is-narrow in
-    check-tests F b ++ (test (not (eqb (settled + expanded + variables F b) started)) 25 0 ∷ carried-room-test F wide b len ∷ [])
+    check-tests F b ++ (test (not (eqb (settled + expanded + variables F b) started)) wrong-counts 0 ∷ carried-room-test F wide b len ∷ [])
 
 -- "the counts given added to its own", for a verdict and for a stop alike
 unfoldable pub add-to-answer : ℕ → ℕ → Solved → Solved

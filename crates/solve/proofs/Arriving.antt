@@ -21,16 +21,19 @@ use Rattle.formula.proofs.Booleans.{and-parts}
 use Rattle.formula.proofs.Closed.{length-without}
 use Rattle.formula.proofs.Choice.{lowest-chosen, cheapest-chosen}
 use Rattle.formula.proofs.Steps.{proper-settled, rows-settled, proper-expanded, rows-expanded}
-use Rattle.sheet.specs.Format.{Bytes, Format, sheet-length, nodes, fits}
+use Rattle.sheet.specs.Format as sheet
+use Rattle.sheet.specs.Format.{Bytes, sheet-length, fits}
 use Rattle.sheet.specs.Sheet.{sheet}
 use Rattle.sheet.specs.Operations.{padded}
 use Rattle.sheet.specs.Limits.{Within}
 use Rattle.sheet.proofs.RoundTrip.{length-sheet}
 use Rattle.sheet.proofs.Limits.{binds-numbered}
-use Rattle.rows.specs.Formats.{Width}
-use Rattle.rows.specs.Formulas.{matrix-in, formula-in}
+use Rattle.rows.specs.Formats.{format-of}
+use Rattle.rows.specs.Layouts.{format-in}
+use Rattle.rows.specs.Formulas.{matrix-in, formula-in, layout-for}
+use Rattle.rows.specs.declared.Format.{Format}
 use Rattle.rows.specs.declared.Layout.{Layout}
-use Rattle.checking.specs.Limits.{Countable}
+use Rattle.rows.proofs.Limits.{limits}
 use Rattle.relevance.specs.Raw.{grown-by, copied}
 use Rattle.relevance.specs.declared.variable.Presence.{Presence}
 use Rattle.relevance.specs.declared.variable.Presence.the-variants.{Absent, Present}
@@ -40,51 +43,57 @@ use Rattle.choice.specs.Expanding.{ToExpand}
 use Rattle.choice.specs.declared.expand.ExpandChoice.{ExpandChoice}
 use Rattle.stepping.specs.Steps.{Named, Puts}
 use Rattle.stepping.specs.Expanding.{Prepared, Expands}
-use Rattle.stepping.specs.declared.expanding.Expanding.{Expanding}
 use Rattle.stepping.specs.declared.settling.Put.{Put}
+use Rattle.stepping.specs.declared.survey.Survey.{Survey}
 use Rattle.solve.specs.declared.State.{State}
-use Rattle.solve.specs.Inner.Running.{layout-for, Held, Ready, begun, Open, Settles, Fetchable, ZerosBehind, reached}
+use Rattle.solve.specs.declared.step.Step.the-variants as taking
+use Rattle.solve.specs.Inner.Running.{Held, Ready, begun, Open, Settles, Fetchable, ZerosBehind, Stepped, reached}
 use Rattle.solve.proofs.Holding.{hold, readable, proper, steppable, variables-are, nodes-are}
-use Rattle.solve.proofs.Carrying.{front-part, header-within, nodes-read}
+use Rattle.solve.proofs.Carrying.{front-part}
 use Rattle.solve.proofs.Stepping.{step-ends, step-settles, step-expands, step-stops, variables-left, within-settled, within-expanded, fits-tested}
 
 -- fewer variables and nodes make a shorter sheet
-shorter-sheet : (F : Format) {v n v′ n′ : ℕ} → v ≤ v′ → n ≤ n′ → sheet-length F v n ≤ sheet-length F v′ n′
+shorter-sheet : (F : sheet.Format) {v n v′ n′ : ℕ} → v ≤ v′ → n ≤ n′ → sheet-length F v n ≤ sheet-length F v′ n′
 unfolding sheet-length
 shorter-sheet F {v} {n} {v′} {n′} h l = omega (arith, mul-le-mul-left {m = v + n} {n = v′ + n′} (1 + F .width) (omega arith))
 
 -- a formula that a step leads to, whose sheet has its place
-pub record Arrives (F : Format) (most : ℕ) (v : ℕ) (g : Formula) : Type 0 where
+pub record Arrives (F : sheet.Format) (most : ℕ) (v : ℕ) (g : Formula) : Type 0 where
   pub variables-left : v ≡ length (g .prefix)
   pub within : Within F g
   pub is-neat : is-tidy (g .matrix) ≡ true
   pub short : length (sheet F g) ≤ most
 
-module _ {F : Format} (k : Countable F) {most v : ℕ} {g : Formula} (a : Arrives F most v g) (rest : Bytes) {bytes : ℕ} {c : Bytes}
-    (in-second : c ≡ sheet F g ++ rest) (as-long : bytes ≡ length (sheet F g)) where
-  pub fetchable : {d : Bytes} → most ≤ length d → Fetchable F bytes d c
+module _ (f : Format) {most v : ℕ} {g : Formula} (a : Arrives (format-of f) most v g) (rest : Bytes) {u : Layout} {bytes : ℕ} {c : Bytes}
+    (in-second : c ≡ sheet (format-of f) g ++ rest) (at : u ≡ layout-for f g)
+    (as-long : bytes ≡ sheet-length (format-of f) (u .variables) (u .nodes)) where
+  long : bytes ≡ length (sheet (format-of f) g)
+  long = as-long ∙ ap (λ (t : Layout). sheet-length (format-of f) (t .variables) (t .nodes)) at ∙ sym (length-sheet (format-of f) g)
+
+  pub fetchable : {d : Bytes} → most ≤ length d → Fetchable bytes d c
   fetchable l =
       record {
-        few-bytes = k .manageable .few-bytes;
-        header = omega (arith, header-within F g, as-long);
-        in-first = omega (arith, as-long, a .short);
-        in-second = omega (arith, as-long, ap length in-second, length-append (sheet F g) rest);
+        in-first = omega (arith, long, a .short);
+        in-second = omega (arith, long, ap length in-second, length-append (sheet (format-of f) g) rest);
       }
 
-  module _ (old : ℕ) {t : Layout} {b : Bytes} (room : most ≤ old) (in-first : b ≡ padded old (take bytes c))
-      (at : t ≡ record { width = F .width; variables = v; nodes = nodes F c }) where
-    arrived : (formula-in t b ≡ g) × Held F most t b
-    arrived =
-        hold k g (a .within) old (a .is-neat) (a .short) room
-        (at ∙
-        ap₂ (λ (x n : ℕ). record { width = F .width; variables = x; nodes = n }) (a .variables-left) (nodes-read F g k (a .within) rest in-second))
-        (in-first ∙ ap (padded old) (front-part F g rest in-second as-long))
+  pub arrived : (old : ℕ) {b : Bytes} → most ≤ old → b ≡ padded old (take bytes c) → (formula-in u b ≡ g) × Held most u b
+  arrived old room in-first =
+      hold f g (a .within) old (a .is-neat) (a .short) room at (in-first ∙ ap (padded old) (front-part (format-of f) g rest in-second long))
 
-    pub arrived-formula : formula-in t b ≡ g
-    arrived-formula = arrived .0
+-- the step to the next state, once the sheet that a step wrote stands in the first buffer
+abbrev Goes-to : ℕ → State → Bytes → Formula → State → Bytes → Type 0
+Goes-to most s first g t new = formula-in (t .sheet) new ≡ g → step (fits (format-in (s .sheet)) most) (reached s first) ≡ next (reached t new)
 
-    pub arrived-held : Held F most t b
-    arrived-held = arrived .1
+pub taken : {most : ℕ} (s t : State) (first : Bytes) {v : ℕ} {g : Formula} (a : Arrives (format-in (s .sheet)) most v g) (rest : Bytes)
+    {bytes : ℕ} {c new : Bytes} → c ≡ sheet (format-in (s .sheet)) g ++ rest → t .sheet ≡ layout-for (s .sheet .format) g
+    → bytes ≡ sheet-length (format-in (s .sheet)) (t .sheet .variables) (t .sheet .nodes)
+    → (old : ℕ) → most ≤ old → new ≡ padded old (take bytes c) → Goes-to most s first g t new
+    → s .sheet .variables ≡ suc (t .sheet .variables) → begun t ≡ begun s
+    → (second : Bytes) → Stepped most s first second new c (taking.Next t)
+taken s t first a rest in-second at as-long old room in-first goes less same second =
+    let arrival = arrived (s .sheet .format) a rest in-second at as-long old room in-first in
+    (goes (arrival .0), arrival .1, less, same, ap (λ (u : Layout). u .format) at)
 
 -- a raw sheet has at most twice the rows and two
 grown-small : (n : ℕ) (p : Presence) → copied p ≤ n → grown-by n p ≤ n + n + 2
@@ -95,28 +104,28 @@ grown-small n (Present p) h = by (p .all)
     by true = omega arith
     by false = omega arith
 
-module _ {F : Format} {most : ℕ} {s : State} {first second : Bytes} (r : Ready F most s first second) where
-  abbrev k : Countable F
-  k = r .countable
-
+module _ {most : ℕ} {s : State} {first second : Bytes} (r : Ready most s first second) where
   abbrev t : Layout
   t = s .sheet
+
+  abbrev F : sheet.Format
+  F = format-in t
 
   abbrev f : Formula
   f = formula-in t first
 
   sheet-room : sheet-length F (t .variables) (t .nodes) ≤ most
-  sheet-room = omega (arith, r .held .has-room, length-sheet F f ∙ ap₂ (sheet-length F) (sym (variables-are k (r .held))) (sym (nodes-are k (r .held))))
+  sheet-room = omega (arith, r .held .has-room, length-sheet F f ∙ ap₂ (sheet-length F) (sym (variables-are (r .held))) (sym (nodes-are (r .held))))
 
   -- its sizes are small enough to compute with
-  pub few-rows : Width (F .width) × (t .variables < 2 ^ 32) × (t .nodes < 2 ^ 32)
-  few-rows = (k .manageable .few-bytes, omega (arith, r .few), omega (arith, readable k (r .held) .few-nodes))
+  pub few-rows : (t .variables < 2 ^ 32) × (t .nodes < 2 ^ 32)
+  few-rows = (omega (arith, r .few), omega (arith, readable (r .held) .few-nodes))
 
   -- the sheet held, and behind it only zeros
   pub zeros-behind : {old : ℕ} → old ≡ sheet-length F (t .variables) (t .nodes) → ZerosBehind old first
   unfolding padded
   zeros-behind {old} e =
-      let long : old ≡ length (sheet F f) = e ∙ sym (length-sheet F f ∙ ap₂ (sheet-length F) (sym (variables-are k (r .held))) (sym (nodes-are k (r .held)))) in
+      let long : old ≡ length (sheet F f) = e ∙ sym (length-sheet F f ∙ ap₂ (sheet-length F) (sym (variables-are (r .held))) (sym (nodes-are (r .held)))) in
       record {
         inside = omega (arith, long, r .held .has-room, r .first-room);
         zeros =
@@ -134,10 +143,10 @@ module _ {F : Format} {most : ℕ} {s : State} {first second : Bytes} (r : Ready
     still-undecided = undecided
 
     pub some-left : 0 < t .variables
-    some-left = omega (arith, variables-left f (proper k (r .held)) still-undecided, variables-are k (r .held))
+    some-left = omega (arith, variables-left f (proper (r .held)) still-undecided, variables-are (r .held))
 
     one-less : (g : Formula) → length (f .prefix) ≡ suc (length (g .prefix)) → t .variables - 1 ≡ length (g .prefix)
-    one-less g e = omega (arith, variables-are k (r .held), e)
+    one-less g e = omega (arith, variables-are (r .held), e)
 
     -- Settle
 
@@ -152,11 +161,11 @@ module _ {F : Format} {most : ℕ} {s : State} {first second : Bytes} (r : Ready
       pub settle-room : sheet-length F (t .variables - 1) (t .nodes) ≤ most
       settle-room = omega (arith, sheet-room, shorter-sheet F {v = t .variables - 1} {n = t .nodes} {v′ = t .variables} {n′ = t .nodes} (omega arith) (omega arith))
 
-      pub settle-puts : {len : ℕ} → sheet-length F (t .variables - 1) (t .nodes) ≤ len → Puts F t first p len
+      pub settle-puts : {len : ℕ} → sheet-length F (t .variables - 1) (t .nodes) ≤ len → Puts t first p len
       unfolding formula-in
       settle-puts l =
           record {
-            from = steppable k (r .held);
+            from = steppable (r .held);
             named =
                 record {
                   inside = here .inside;
@@ -164,7 +173,7 @@ module _ {F : Format} {most : ℕ} {s : State} {first second : Bytes} (r : Ready
                   few =
                       omega (
                         arith,
-                        k .manageable .few-variables,
+                        limits (t .format) .few-variables,
                         binds-numbered F (f .prefix) x (r .held .within .is-numbered) (lowest-chosen f x (here .is-lowest) .1),
                       );
                 };
@@ -176,15 +185,15 @@ module _ {F : Format} {most : ℕ} {s : State} {first second : Bytes} (r : Ready
           let g = settled x (p .value) f in
           record {
             variables-left = one-less g less;
-            within = within-settled F f x (p .value) (proper k (r .held)) (r .held .within) (here .is-lowest);
-            is-neat = proper-settled x (p .value) f (proper k (r .held)) .is-neat;
+            within = within-settled F f x (p .value) (proper (r .held)) (r .held .within) (here .is-lowest);
+            is-neat = proper-settled x (p .value) f (proper (r .held)) .is-neat;
             short =
                 omega (
                   arith,
                   length-sheet F g,
                   sheet-room,
                   shorter-sheet F {v = length (g .prefix)} {n = rows (g .matrix)} {v′ = t .variables} {n′ = t .nodes}
-                      (omega (arith, less, variables-are k (r .held))) (omega (arith, rows-settled x (p .value) f, nodes-are k (r .held))),
+                      (omega (arith, less, variables-are (r .held))) (omega (arith, rows-settled x (p .value) f, nodes-are (r .held))),
                 );
           }
 
@@ -206,12 +215,12 @@ module _ {F : Format} {most : ℕ} {s : State} {first second : Bytes} (r : Ready
 
       pub raw-small : c .raw ≤ 16386
       raw-small =
-          let ok = readable k (r .held) in
+          let ok = readable (r .held) in
           let raw = raw-rows-by (of y) first ok {p = c .part} (here .part-is) in
           omega (arith, grown-small (t .nodes) (c .part) (raw .1), raw .0, here .raw-is, ok .few-nodes)
 
       tested : fits-raw (fits F most) y f ≡ fits F most (t .variables - 1) (c .raw)
-      tested = fits-tested F most f y (variables-are k (r .held)) raw-is
+      tested = fits-tested F most f y (variables-are (r .held)) raw-is
 
       pub expand-stops : fits F most (t .variables - 1) (c .raw) ≡ false → step (fits F most) (reached s first) ≡ halt (stopped y)
       expand-stops m =
@@ -226,7 +235,7 @@ module _ {F : Format} {most : ℕ} {s : State} {first second : Bytes} (r : Ready
             few =
                 omega (
                   arith,
-                  k .manageable .few-variables,
+                  limits (t .format) .few-variables,
                   binds-numbered F (f .prefix) y (r .held .within .is-numbered) (cheapest-chosen f y (here .is-cheapest) .1),
                 );
           }
@@ -247,15 +256,15 @@ module _ {F : Format} {most : ℕ} {s : State} {first second : Bytes} (r : Ready
             let g = expanded y f in
             record {
               variables-left = one-less g fewer;
-              within = within-expanded F f y (proper k (r .held)) (r .held .within) (here .is-cheapest) (omega (arith, raw-is, few-and-short .0));
-              is-neat = proper-expanded y f (proper k (r .held)) .is-neat;
+              within = within-expanded F f y (proper (r .held)) (r .held .within) (here .is-cheapest) (omega (arith, raw-is, few-and-short .0));
+              is-neat = proper-expanded y f (proper (r .held)) .is-neat;
               short =
                   omega (
                     arith,
                     length-sheet F g,
                     few-and-short .1,
                     shorter-sheet F {v = length (g .prefix)} {n = rows (g .matrix)} {v′ = t .variables - 1} {n′ = c .raw}
-                        (omega (arith, fewer, variables-are k (r .held))) (omega (arith, rows-expanded y f, raw-is)),
+                        (omega (arith, fewer, variables-are (r .held))) (omega (arith, rows-expanded y f, raw-is)),
                   );
             }
 
@@ -267,29 +276,17 @@ module _ {F : Format} {most : ℕ} {s : State} {first second : Bytes} (r : Ready
             ap₂ (λ (g : Formula) (a : ℕ). next (record { formula = g; settles = s .settled; expands = a })) (sym e) (sym (add-one (s .expanded)))
 
         -- with what is found for it beforehand
-        module _ {table : List ℕ} {w : Expanding} (pr : Prepared t first y (c .row) table w) where
-          nodes-are-raw : w .to .layout .nodes ≡ c .raw
-          nodes-are-raw = ap (λ (l : Layout). l .nodes) (pr .layout-is) ∙ sym (here .raw-is)
-
-          pub expand-expands : {len : ℕ} → sheet-length F (t .variables - 1) (c .raw) ≤ len → Expands F t first table w len
-          unfolding fits
-          expand-expands {len} l =
-              record {
-                from = steppable k (r .held);
-                named = rw (pr .variable-is, pr .row-is) expand-named;
-                prepared =
-                    subst (λ (x : ℕ). Prepared t first x (w .to .row) table w) (sym (pr .variable-is))
-                    (subst (λ (i : ℕ). Prepared t first y i table w) (sym (pr .row-is)) pr);
-                has-room =
-                    rw nodes-are-raw
-                    (ap₂ _&&_ (le-leb (c .raw) (F .most-nodes) (few-and-short .0))
-                    (le-leb (sheet-length F (t .variables - 1) (c .raw)) len l));
-              }
-
-          pub prepared-arrives : Arrives F most (t .variables - 1) (expanded (w .variable) f)
-          prepared-arrives = rw (pr .variable-is) expand-arrives
-
-          pub prepared-next : (u : Layout) (new : Bytes) → formula-in u new ≡ expanded (w .variable) f
-              → step (fits F most) (reached s first) ≡
-              next (reached (record { sheet = u; settled = s .settled; expanded = s .expanded + 1 }) new)
-          prepared-next u new e = expand-next u new (e ∙ ap (λ (x : ℕ). expanded x f) (pr .variable-is))
+        pub expand-expands : {table : List ℕ} {w : Survey} → Prepared t first y (c .row) table w
+            → {len : ℕ} → sheet-length F (t .variables - 1) (c .raw) ≤ len → Expands t first y table w len
+        unfolding fits
+        expand-expands {table} {w} pr {len} l =
+            let raw : w .to .layout .nodes ≡ c .raw = ap (λ (l : Layout). l .nodes) (pr .layout-is) ∙ sym (here .raw-is) in
+            record {
+              from = steppable (r .held);
+              named = rw (pr .row-is) expand-named;
+              prepared = subst (λ (i : ℕ). Prepared t first y i table w) (sym (pr .row-is)) pr;
+              has-room =
+                  rw raw
+                  (ap₂ _&&_ (le-leb (c .raw) (F .most-nodes) (few-and-short .0))
+                  (le-leb (sheet-length F (t .variables - 1) (c .raw)) len l));
+            }

@@ -2,19 +2,15 @@
 -- Assumes nothing.
 use mathlib.Core.Path.{_≡_, sym, ap, ap₂, _∙_}
 use mathlib.Core.List.{_++_, append-assoc}
-use Prim.Native.Nat.{ℕ, _+_, _*_, _-_, _≤_}
+use Prim.Native.Nat.{ℕ, _+_, _-_, _≤_}
 use native.Mathlib.Omega.{arith}
 use lib.ListN.{length, take, drop, replicate, length-append, length-drop, length-replicate, replicate-append-replicate}
-use lib.Seq.{length-take-le, take-append-seam, take-append-le, drop-append-le, drop-drop, drop-at}
-use Rattle.formula.specs.Tree.{Formula, rows}
-use Rattle.sheet.specs.Format.{Bytes, Format, sheet-length, number, nodes}
+use lib.Seq.{length-take-le, take-append-seam, drop-drop, drop-at}
+use Rattle.formula.specs.Tree.{Formula}
+use Rattle.sheet.specs.Format.{Bytes, Format}
 use Rattle.sheet.specs.Sheet.{sheet}
 use Rattle.sheet.specs.Operations.{padded}
-use Rattle.sheet.specs.Limits.{Within}
-use Rattle.sheet.proofs.RoundTrip.{length-sheet, nodes-sheet}
-use Rattle.checking.specs.Limits.{Countable}
 use Rattle.solve.specs.Inner.Running.{ZerosBehind}
-use Rattle.solve.proofs.Holding.{sound}
 
 -- the first bytes of one buffer copied to another, and the rest cleared
 pub cleared : (c d : Bytes) (n : ℕ) {mid new : Bytes} → n ≤ length c → n ≤ length d → mid ≡ take n c ++ drop (length (take n c)) d
@@ -65,18 +61,3 @@ module _ (F : Format) (f : Formula) where
       → b ≡ sheet F f ++ (replicate (len - length (sheet F f)) 0 ++ behind)
   unfolding padded
   in-front len behind p e = e ∙ ap (λ l. l ++ behind) p ∙ append-assoc (sheet F f) (replicate (len - length (sheet F f)) 0) behind
-
-  -- the sizes stand in it
-  pub header-within : 2 * F .width ≤ length (sheet F f)
-  unfolding sheet-length
-  header-within = omega (arith, length-sheet F f)
-
-  -- and its nodes are read from it
-  pub nodes-read : Countable F → Within F f → (z : Bytes) {b : Bytes} → b ≡ sheet F f ++ z → nodes F b ≡ rows (f .matrix)
-  unfolding nodes
-  nodes-read k h z e =
-      let s = sheet F f in
-      ap (λ (d : Bytes). number (take (F .width) (drop (F .width) d))) e ∙
-      ap (λ (d : Bytes). number (take (F .width) d)) (drop-append-le (F .width) s z (omega (arith, header-within))) ∙
-      ap number (take-append-le (F .width) (drop (F .width) s) z (omega (arith, header-within, length-drop (F .width) s))) ∙
-      nodes-sheet F (sound k) f h

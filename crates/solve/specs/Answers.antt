@@ -2,7 +2,8 @@
 -- Assumes nothing.
 use mathlib.Core.Bool.{Bool, true, false}
 use mathlib.Core.Option.{Option, none, some}
-use Rattle.sheet.specs.Operations.{Solved as Answer, is-refused, is-stopped, is-ended}
+use Rattle.sheet.specs.Format.{Bytes}
+use Rattle.sheet.specs.Operations.{Solved as Answer, is-refused, is-stopped, is-ended, Solving}
 use Rattle.solve.specs.declared.Verdict.{Verdict}
 use Rattle.solve.specs.declared.Verdict.the-variants.{True, False}
 use Rattle.solve.specs.declared.Solved.{Solved}
@@ -19,6 +20,10 @@ abbrev pub solved-answer : Solved → Answer
 solved-answer (Refused number place) = is-refused number place
 solved-answer (Stopped x settled expanded) = is-stopped x settled expanded
 solved-answer (Ended v settled expanded) = is-ended (verdict-of v) settled expanded
+
+-- with what both buffers then hold
+abbrev pub leaves : Solved → Bytes → Bytes → Solving
+leaves r first second = record { answer = solved-answer r; first = first; second = second }
 
 -- the verdict of a decided sheet
 abbrev pub decision-of : Decision → Option Bool

@@ -7,21 +7,17 @@ use rows::Format;
 use rows::Layout;
 use rows::ROWS;
 use rows::bytes::clear;
-use rows::read::nodes_at;
-use tidying::copy_front;
+use rows::bytes::copy_front;
+use rows::fit::shorter;
+use rows::refusals::NO_ROOM;
 use tidying::tidy_in_place;
 ghost use mathlib.Core.Path.{_≡_};
-ghost use Prim.Native.Nat.{min};
-ghost use lib.ListN.{length, replicate};
-ghost use Rattle.formula.specs.Solve.{solve};
-ghost use Rattle.sheet.specs.Format.{narrow, wide};
 ghost use Rattle.sheet.specs.Operations.{solve-call};
-ghost use Rattle.sheet.specs.Trace.{room};
 ghost use Rattle.rows.specs.Formats.{format-of};
-ghost use Rattle.rows.specs.Formulas.{formula-in};
-ghost use Rattle.checking.specs.Limits.{Countable, Sheet};
-ghost use Rattle.solve.specs.Answers.{solved-answer};
-ghost use Rattle.solve.specs.Inner.Running.{Ready, RawReady, run-from, answered, shown, solution};
+ghost use Rattle.rows.specs.Layouts.{format-in};
+ghost use Rattle.checking.specs.Sheets.{Sheet};
+ghost use Rattle.solve.specs.Answers.{solved-answer, leaves};
+ghost use Rattle.solve.specs.Inner.Running.{Ready, RawReady, Goes, run-call, raw-call};
 
 pub mod line;
 pub mod step;
@@ -46,26 +42,15 @@ pub struct State {
     pub expanded: usize,
 }
 
-// The smaller of two lengths.
-pub fn shorter(a: usize, b: usize) -> usize
-    ensures { λ r. ⌜ r ≡ min a b ⌝ }
-{
-    if a < b {
-        return a;
-    }
-    b
-}
-
 // Takes steps from a state whose tidy sheet stands in the first buffer, for as long as raw sheets fit `room` bytes.
-fn go(first: &mut [u8], second: &mut [u8], f: Format, room: usize, start: State) -> Solved
-    requires { ⌜ Ready (format-of f) room start (now first) (now second) ⌝ }
-    ensures { λ r. ⌜ solved-answer r ≡ answered (run-from (format-of f) room start (now (first .entry))) ⌝ }
-    ensures { λ _. ⌜ now (first .exit) ≡ shown (format-of f) (length (now (first .entry))) (run-from (format-of f) room start (now (first .entry))) ⌝ }
+fn go(first: &mut [u8], second: &mut [u8], room: usize, start: State) -> Solved
+    requires { ⌜ Ready room start (now first) (now second) ⌝ }
+    ensures { λ r. ⌜ Goes room start (now (first .entry)) (now (first .exit)) (solved-answer r) ⌝ }
 {
     let mut s = start;
     let mut ends = [0u16; ROWS];
     loop {
-        let t = take_step(first, second, f, room, s, &mut ends);
+        let t = take_step(first, second, room, s, &mut ends);
         match t {
             Step::Ended(verdict) => return Solved::Ended(verdict, s.settled, s.expanded),
             Step::Stopped(x) => return Solved::Stopped(x, s.settled, s.expanded),
@@ -76,89 +61,50 @@ fn go(first: &mut [u8], second: &mut [u8], f: Format, room: usize, start: State)
 
 // Goes on from a state whose tidy sheet stands in the first buffer, for as long as raw sheets fit `room` bytes, which both buffers have.
 // The first then holds the sheet reached and zeros, the second only zeros.
-pub fn run(first: &mut [u8], second: &mut [u8], f: Format, room: usize, start: State) -> Solved
-    requires { ⌜ Ready (format-of f) room start (now first) (now second) ⌝ }
-    ensures { λ r. ⌜ solved-answer r ≡ answered (run-from (format-of f) room start (now (first .entry))) ⌝ }
-    ensures { λ _. ⌜ now (first .exit) ≡ shown (format-of f) (length (now (first .entry))) (run-from (format-of f) room start (now (first .entry))) ⌝ }
-    ensures { λ _. ⌜ now (second .exit) ≡ replicate (length (now (second .entry))) 0 ⌝ }
+pub fn run(first: &mut [u8], second: &mut [u8], room: usize, start: State) -> Solved
+    requires { ⌜ Ready room start (now first) (now second) ⌝ }
+    ensures { λ r. ⌜ leaves r (now (first .exit)) (now (second .exit)) ≡ run-call room start (now (first .entry)) (now (second .entry)) ⌝ }
 {
-    let answer = go(first, second, f, room, start);
+    let answer = go(first, second, room, start);
     clear(second, 0);
     answer
 }
 
 // Tidies the formula whose rows stand in the first buffer, and runs from there, with the shorter buffer's length as room.
-pub fn run_raw(first: &mut [u8], second: &mut [u8], f: Format, s: Layout) -> Solved
-    requires { ⌜ RawReady (format-of f) s (now first) (now second) ⌝ }
-    ensures { λ r. ⌜ solved-answer r ≡ answered (solution (format-of f) s (now (first .entry)) (now (second .entry))) ⌝ }
-    ensures { λ _. ⌜ now (first .exit) ≡ shown (format-of f) (length (now (first .entry))) (solution (format-of f) s (now (first .entry)) (now (second .entry))) ⌝ }
-    ensures { λ _. ⌜ now (second .exit) ≡ replicate (length (now (second .entry))) 0 ⌝ }
+pub fn run_raw(first: &mut [u8], second: &mut [u8], s: Layout) -> Solved
+    requires { ⌜ RawReady s (now first) (now second) ⌝ }
+    ensures { λ r. ⌜ leaves r (now (first .exit)) (now (second .exit)) ≡ raw-call s (now (first .entry)) (now (second .entry)) ⌝ }
 {
     let room = shorter(first.len(), second.len());
-    tidy_in_place(first, f, s);
-    let sheet = Layout {
-        width: s.width,
-        variables: s.variables,
-        nodes: nodes_at(first, f),
-    };
+    let sheet = tidy_in_place(first, s);
     let start = State {
         sheet: sheet,
         settled: 0,
         expanded: 0,
     };
-    run(first, second, f, room, start)
+    run(first, second, room, start)
 }
 
 // Solves a sheet that Check accepts, of this layout: 13 a work buffer shorter than the sheet.
-fn solve_checked(sheet: &[u8], f: Format, s: Layout, first: &mut [u8], second: &mut [u8]) -> Solved
-    requires { ⌜ Countable (format-of f) × Sheet (format-of f) (now sheet) s ⌝ }
-    ensures { λ r. ⌜ solved-answer r ≡ (solve-call (format-of f) (now (sheet .entry)) (now (first .entry)) (now (second .entry))) .answer ⌝ }
-    ensures { λ _. ⌜ now (first .exit) ≡ (solve-call (format-of f) (now (sheet .entry)) (now (first .entry)) (now (second .entry))) .first ⌝ }
-    ensures { λ _. ⌜ now (second .exit) ≡ (solve-call (format-of f) (now (sheet .entry)) (now (first .entry)) (now (second .entry))) .second ⌝ }
+fn solve_checked(sheet: &[u8], s: Layout, first: &mut [u8], second: &mut [u8]) -> Solved
+    requires { ⌜ Sheet (s .format) (now sheet) s ⌝ }
+    ensures { λ r. ⌜ leaves r (now (first .exit)) (now (second .exit)) ≡ solve-call (format-in s) (now (sheet .entry)) (now (first .entry)) (now (second .entry)) ⌝ }
 {
     if shorter(first.len(), second.len()) < sheet.len() {
-        return Solved::Refused(13, 0);
+        return Solved::Refused(NO_ROOM, 0);
     }
     copy_front(sheet, first);
-    run_raw(first, second, f, s)
+    run_raw(first, second, s)
 }
 
-// Solves a sheet of any format whose rows this code can count.
-pub fn solve_in(sheet: &[u8], f: Format, first: &mut [u8], second: &mut [u8]) -> Solved
-    requires { ⌜ Countable (format-of f) ⌝ }
-    ensures { λ r. ⌜ solved-answer r ≡ (solve-call (format-of f) (now (sheet .entry)) (now (first .entry)) (now (second .entry))) .answer ⌝ }
-    ensures { λ _. ⌜ now (first .exit) ≡ (solve-call (format-of f) (now (sheet .entry)) (now (first .entry)) (now (second .entry))) .first ⌝ }
-    ensures { λ _. ⌜ now (second .exit) ≡ (solve-call (format-of f) (now (sheet .entry)) (now (first .entry)) (now (second .entry))) .second ⌝ }
+// Solves a sheet in two work buffers. The first then holds the sheet reached and zeros, the second only zeros; refused, both are left as
+// they were.
+pub fn solve(sheet: &[u8], f: Format, first: &mut [u8], second: &mut [u8]) -> Solved
+    ensures { λ r. ⌜ leaves r (now (first .exit)) (now (second .exit)) ≡ solve-call (format-of f) (now (sheet .entry)) (now (first .entry)) (now (second .entry)) ⌝ }
 {
-    let c = checking::check_in(sheet, f);
+    let c = checking::check(sheet, f);
     match c {
         Checked::Refused(number, place) => Solved::Refused(number, place),
-        Checked::Accepted(v, n) => {
-            let s = Layout {
-                width: f.width,
-                variables: v,
-                nodes: n,
-            };
-            solve_checked(sheet, f, s, first, second)
-        }
+        Checked::Accepted(s) => solve_checked(sheet, s, first, second),
     }
-}
-
-// Solves a sheet of document 01 in two work buffers. The first then holds the sheet reached and zeros, the second only zeros; refused,
-// both are left as they were.
-pub fn solve(sheet: &[u8], first: &mut [u8], second: &mut [u8]) -> Solved
-    ensures { λ r. ⌜ solved-answer r ≡ (solve-call narrow (now (sheet .entry)) (now (first .entry)) (now (second .entry))) .answer ⌝ }
-    ensures { λ _. ⌜ now (first .exit) ≡ (solve-call narrow (now (sheet .entry)) (now (first .entry)) (now (second .entry))) .first ⌝ }
-    ensures { λ _. ⌜ now (second .exit) ≡ (solve-call narrow (now (sheet .entry)) (now (first .entry)) (now (second .entry))) .second ⌝ }
-{
-    solve_in(sheet, rows::narrow(), first, second)
-}
-
-// Solves a wide sheet (N11) in the same way.
-pub fn solve_wide(sheet: &[u8], first: &mut [u8], second: &mut [u8]) -> Solved
-    ensures { λ r. ⌜ solved-answer r ≡ (solve-call wide (now (sheet .entry)) (now (first .entry)) (now (second .entry))) .answer ⌝ }
-    ensures { λ _. ⌜ now (first .exit) ≡ (solve-call wide (now (sheet .entry)) (now (first .entry)) (now (second .entry))) .first ⌝ }
-    ensures { λ _. ⌜ now (second .exit) ≡ (solve-call wide (now (sheet .entry)) (now (first .entry)) (now (second .entry))) .second ⌝ }
-{
-    solve_in(sheet, rows::wider(), first, second)
 }

@@ -9,18 +9,23 @@ use lib.ListN.{length}
 use borrow.Author.Tests.{lt-ltb, le-ltb}
 use Rattle.formula.specs.Tree.{Tree, Formula, binds, distinct}
 use Rattle.formula.specs.Tidy.{is-tidy, first-fault}
-use Rattle.sheet.specs.Format.{Bytes, Format, row, variables}
+use Rattle.sheet.specs.Format as sheet
+use Rattle.sheet.specs.Format.{Bytes, row, variables}
 use Rattle.sheet.specs.Sheet.{formula, binding}
 use Rattle.sheet.specs.Check.{refused, Test, test, answer, passes, check-tests}
 use Rattle.sheet.specs.Operations.{tidy-and-bound-tests}
 use Rattle.sheet.proofs.Limits.{binds-numbered, numbered-at}
 use Rattle.sheet.proofs.Accepted.{accepted-within}
 use Rattle.sheet.proofs.Tests.{passes-++, answer-++}
+use Rattle.rows.specs.Formats.{format-of}
+use Rattle.rows.specs.Layouts.{format-in}
 use Rattle.rows.specs.Formulas.{prefix-in, matrix-in, formula-in}
+use Rattle.rows.specs.declared.Format.{Format}
 use Rattle.rows.specs.declared.Layout.{Layout}
 use Rattle.rows.proofs.Formulas.{length-prefix, rows-nodes}
-use Rattle.checking.specs.Limits.{Manageable, Countable, Sheet}
-use Rattle.checking.proofs.CheckedSheets.{sheet-right, sheet-readable, sheet-formula-in}
+use Rattle.rows.proofs.Limits.{limits}
+use Rattle.checking.specs.Sheets.{Sheet}
+use Rattle.checking.proofs.CheckedSheets.{sheet-format, sheet-right, sheet-readable, sheet-formula-in}
 use Rattle.subtrees.specs.Ends.{Indexed}
 use Rattle.prefixes.specs.Places.{place, binding-at}
 use Rattle.prefixes.proofs.Places.{binds-place}
@@ -31,42 +36,44 @@ use Rattle.stepping.specs.Steps.{Steppable}
 use Rattle.stepping.specs.Admission.{admission-tests, Admitted}
 
 -- a sheet that Check accepts: its prefix has no number twice and none past the tables, and it is within its format's limits
-module _ {F : Format} {b : Bytes} {s : Layout} (h : Sheet F b s) where
-  pub sheet-numbered : Manageable F → Numbered s b
+module _ {f : Format} {b : Bytes} {s : Layout} (h : Sheet f b s) where
+  pub sheet-numbered : Numbered s b
   unfolding formula-in binding-at
-  sheet-numbered m =
-      let same = ap (λ (f : Formula). f .prefix) (sheet-formula-in h) in
+  sheet-numbered =
+      let F = format-of f in
+      let same = ap (λ (g : Formula). g .prefix) (sheet-formula-in h) in
       let numbers = accepted-within F b (h .tests-pass) .is-numbered in
       record {
         few-numbers =
             λ i l. rw same
             (omega (
               arith,
-              m .few-variables,
+              limits f .few-variables,
               numbered-at F ((formula F b) .prefix) i (binding (row 0 0)) numbers
-                  (omega (arith, ap length same, length-prefix b (sheet-readable h m), l)),
+                  (omega (arith, ap length same, length-prefix b (sheet-readable h), l)),
             ));
       }
 
-  pub sheet-bound : Manageable F → Bound s b
+  pub sheet-bound : Bound s b
   unfolding formula-in
-  sheet-bound m =
+  sheet-bound =
       record {
-        is-distinct = ap (λ (f : Formula). distinct (f .prefix)) (sheet-formula-in h) ∙ accepted-within F b (h .tests-pass) .is-distinct;
-        numbered = sheet-numbered m;
+        is-distinct = ap (λ (g : Formula). distinct (g .prefix)) (sheet-formula-in h) ∙ accepted-within (format-of f) b (h .tests-pass) .is-distinct;
+        numbered = sheet-numbered;
       }
 
-  pub sheet-steppable : Countable F → Steppable F s b
-  sheet-steppable k =
+  pub sheet-steppable : Steppable s b
+  sheet-steppable =
       record {
-        countable = k;
-        readable = sheet-readable h (k .manageable);
-        width-is = ap (λ (t : Layout). t .width) (h .layout-is);
-        few-variables = sheet-right h .few-variables;
-        few-nodes = sheet-right h .few-nodes;
+        readable = sheet-readable h;
+        few-variables = rw (sheet-format h) (sheet-right h .few-variables);
+        few-nodes = rw (sheet-format h) (sheet-right h .few-nodes);
       }
 
-module _ {F : Format} {b : Bytes} {s : Layout} (m : Manageable F) (h : Sheet F b s) (x : ℕ) where
+module _ {b : Bytes} {s : Layout} (h : Sheet (s .format) b s) (x : ℕ) where
+  abbrev F : sheet.Format
+  F = format-in s
+
   abbrev t : Tree
   t = matrix-in s b
 
@@ -79,8 +86,8 @@ module _ {F : Format} {b : Bytes} {s : Layout} (m : Manageable F) (h : Sheet F b
   same-tests =
       ap (λ (v : ℕ). test (not (is-tidy t)) 9 (v + first-fault t) ∷ test (not (binds (prefix-in s b) x)) 10 0 ∷ [])
       (ap (λ (l : Layout). l .variables) (h .layout-is)) ∙
-      ap (λ (f : Formula). test (not (is-tidy (f .matrix))) 9 (variables F b + first-fault (f .matrix)) ∷
-      test (not (binds (f .prefix) x)) 10 0 ∷ []) (sheet-formula-in h)
+      ap (λ (g : Formula). test (not (is-tidy (g .matrix))) 9 (variables F b + first-fault (g .matrix)) ∷
+      test (not (binds (g .prefix) x)) 10 0 ∷ []) (sheet-formula-in h)
 
   answered : answer (admission-tests F b x) x ≡ answer read-tests x
   unfolding admission-tests
@@ -93,7 +100,7 @@ module _ {F : Format} {b : Bytes} {s : Layout} (m : Manageable F) (h : Sheet F b
       ap passes (sym same-tests)
 
   size : length (prefix-in s b) ≡ s .variables
-  size = length-prefix b (sheet-readable h m)
+  size = length-prefix b (sheet-readable h)
 
   -- every bound number is within the tables
   few : {i : ℕ} → i ≡ place x (prefix-in s b) → i < s .variables → x ≤ 1024
@@ -101,10 +108,10 @@ module _ {F : Format} {b : Bytes} {s : Layout} (m : Manageable F) (h : Sheet F b
   few {i} at l =
       let bound : binds (prefix-in s b) x ≡ true =
       binds-place x (prefix-in s b) ∙ lt-ltb (place x (prefix-in s b)) (length (prefix-in s b)) (omega (arith, size)) in
-      let same = ap (λ (f : Formula). f .prefix) (sheet-formula-in h) in
+      let same = ap (λ (g : Formula). g .prefix) (sheet-formula-in h) in
       omega (
         arith,
-        m .few-variables,
+        limits (s .format) .few-variables,
         binds-numbered F ((formula F b) .prefix) x (accepted-within F b (h .tests-pass) .is-numbered) (ap (λ p. binds p x) (sym same) ∙ bound),
       )
 
@@ -113,12 +120,12 @@ module _ {F : Format} {b : Bytes} {s : Layout} (m : Manageable F) (h : Sheet F b
       → refused 9 (s .variables + fault) ≡ answer (admission-tests F b x) x
   unfolding answer read-tests
   not-tidy {fault} told l =
-      let nodes = rows-nodes b (sheet-readable h m) in
+      let nodes = rows-nodes b (sheet-readable h) in
       rw (answered, tidy-by t nodes told, lt-ltb fault (s .nodes) l) (ap (λ i. refused 9 (s .variables + i)) (fault-by t nodes told l))
 
   module _ {fault : ℕ} (told : fault ≡ cond (is-tidy t) (s .nodes) (first-fault t)) (sound : s .nodes ≤ fault) where
     tidy-here : is-tidy t ≡ true
-    tidy-here = tidy-by t (rows-nodes b (sheet-readable h m)) told ∙ ap not (le-ltb fault (s .nodes) sound)
+    tidy-here = tidy-by t (rows-nodes b (sheet-readable h)) told ∙ ap not (le-ltb fault (s .nodes) sound)
 
     -- 10 x not in the prefix
     pub not-bound : {i : ℕ} → i ≡ place x (prefix-in s b) → s .variables ≤ i → refused 10 0 ≡ answer (admission-tests F b x) x
@@ -131,7 +138,7 @@ module _ {F : Format} {b : Bytes} {s : Layout} (m : Manageable F) (h : Sheet F b
           le-ltb (place x (prefix-in s b)) (length (prefix-in s b)) (omega (arith, size)),
         )
 
-    pub admitted : {i : ℕ} {ends : List ℕ} → i ≡ place x (prefix-in s b) → i < s .variables → Indexed s b ends → Admitted F b x s i ends
+    pub admitted : {i : ℕ} {ends : List ℕ} → i ≡ place x (prefix-in s b) → i < s .variables → Indexed s b ends → Admitted b x s i ends
     unfolding passes read-tests
     admitted {i} at l e =
         record {

@@ -16,10 +16,9 @@ use Rattle.formula.proofs.Booleans.{and-parts}
 use Rattle.sheet.specs.Format.{Bytes, Format, sheet-length, fits}
 use Rattle.sheet.specs.Sheet.{operator-kind, sheet}
 use Rattle.sheet.specs.Operations.{padded}
-use Rattle.rows.specs.Layouts.{Room}
-use Rattle.rows.specs.Formulas.{prefix-in, matrix-in, formula-in}
+use Rattle.rows.specs.Layouts.{format-in, Room}
+use Rattle.rows.specs.Formulas.{prefix-in, matrix-in, formula-in, layout-for}
 use Rattle.rows.specs.declared.Layout.{Layout}
-use Rattle.rows.proofs.Widths.{at-least-two}
 use Rattle.subtrees.specs.Subtrees.{kids, subtree-in}
 use Rattle.changing.specs.Changes.{putting, chosen, changed}
 use Rattle.changing.proofs.Tables.{length-putting, chosen-putting, changed-putting}
@@ -29,8 +28,8 @@ use Rattle.raw.specs.Formulas.{first-table, second-table, chosen-by, operator-o
 use Rattle.raw.specs.Expansions.{Expandable, Found}
 use Rattle.tidying.specs.Limits as tidying
 use Rattle.stepping.specs.Expanding.{Expands}
-use Rattle.stepping.specs.declared.expanding.Expanding.{Expanding}
-use Rattle.stepping.proofs.RawSheets.{raw-room, prefix-without, written-raw, written-sheet, written-length}
+use Rattle.stepping.specs.declared.survey.Survey.{Survey}
+use Rattle.stepping.proofs.RawSheets.{raw-room, prefix-without, written-raw, written-sheet, written-layout}
 
 operator-back : (q : Op) → operator-of (operator-kind q) ≡ q
 operator-back and = refl
@@ -64,10 +63,10 @@ module _ {x : ℕ} (few : x ≤ 1024) {tables : List ℕ} (is : tables ≡ putti
       ap₂ (λ (l r : Bool → ℕ → Tree). record { chosen = of x; joint = operator-of j; first = l; second = r }) first second ∙
       ap (λ (o : Op). copying o x) (ap operator-of e ∙ operator-back q)
 
-module _ {F : Format} {s : Layout} {b : Bytes} {table : List ℕ} {w : Expanding} {len : ℕ} (k : Expands F s b table w len)
-    {tables : List ℕ} (is : tables ≡ putting (w .variable) false ++ putting (w .variable) true) where
-  abbrev x : ℕ
-  x = w .variable
+module _ {s : Layout} {b : Bytes} {x : ℕ} {table : List ℕ} {w : Survey} {len : ℕ} (k : Expands s b x table w len) {tables : List ℕ}
+    (is : tables ≡ putting x false ++ putting x true) where
+  abbrev F : Format
+  F = format-in s
 
   abbrev t : Tree
   t = matrix-in s b
@@ -95,7 +94,6 @@ module _ {F : Format} {s : Layout} {b : Bytes} {table : List ℕ} {w : Expanding
       let joint = k .prepared .joint-is in
       record {
         readable = k .from .readable;
-        two-bytes = omega (arith, k .from .width-is, at-least-two (k .from .countable .manageable .few-bytes));
         two-tables = two-tables (k .named .few) is;
         in-prefix = k .named .inside;
         joins = joint ∙ ap operator-kind (sym (ap operator-of joint ∙ operator-back q));
@@ -140,21 +138,25 @@ module _ {F : Format} {s : Layout} {b : Bytes} {table : List ℕ} {w : Expanding
     room : sheet-length F (s .variables - 1) n ≤ length old
     room = omega (arith, fit .1, long)
 
-    pub raw-written : tidying.Raw F (w .to .layout) new
+    pub raw-written : tidying.Raw (w .to .layout) new
     raw-written =
-        subst (λ l. tidying.Raw F l new) (sym layout-here)
+        subst (λ l. tidying.Raw l new) (sym layout-here)
         (written-raw (k .from) (k .named) written prefix-is (fit .0) same room r′)
 
-    pub sheet-written : {out : Bytes} → out ≡ padded (length new) (sheet F (tidied (formula-in (w .to .layout) new)))
+    pub sheet-written : {out : Bytes} → out ≡ padded (length new) (sheet (format-in (w .to .layout)) (tidied (formula-in (w .to .layout) new)))
         → out ≡ padded (length old) (sheet F (expanded x (formula-in s b)))
     sheet-written h =
         written-sheet (k .from) (k .named) written prefix-is (fit .0) same room r′
-        (h ∙ ap (λ l. padded (length new) (sheet F (tidied (formula-in l new)))) layout-here) ∙
+        (h ∙ ap (λ l. padded (length new) (sheet (format-in l) (tidied (formula-in l new)))) layout-here) ∙
         ap (λ (f : Formula). padded (length old) (sheet F f)) tidied-is
 
-    pub length-written : {len : ℕ} → len ≡ length (sheet F (tidied (formula-in (w .to .layout) new)))
-        → len ≡ length (sheet F (expanded x (formula-in s b)))
-    length-written h =
-        written-length (k .from) (k .named) written prefix-is (fit .0) same room r′
-        (h ∙ ap (λ l. length (sheet F (tidied (formula-in l new)))) layout-here) ∙
-        ap (λ (f : Formula). length (sheet F f)) tidied-is
+    pub layout-written : {t : Layout} → t ≡ layout-for (w .to .layout .format) (tidied (formula-in (w .to .layout) new))
+        → t ≡ layout-for (s .format) (expanded x (formula-in s b))
+    layout-written h =
+        written-layout (k .from) (k .named) written prefix-is (fit .0) same room r′
+        (h ∙ ap (λ (l : Layout). layout-for (l .format) (tidied (formula-in l new))) layout-here) ∙
+        ap (layout-for (s .format)) tidied-is
+
+    pub sizes-written : (t : Layout) → (t .variables ≡ w .to .layout .variables) × (t .nodes ≤ w .to .layout .nodes)
+        → (t .variables ≡ s .variables - 1) × (t .nodes ≤ w .to .layout .nodes)
+    sizes-written t h = (h .0 ∙ ap (λ (l : Layout). l .variables) layout-here, h .1)

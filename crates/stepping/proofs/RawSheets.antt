@@ -3,7 +3,7 @@
 use mathlib.Core.Path.{_≡_, sym, ap, ap₂, _∙_}
 use mathlib.Core.Bool.{Bool, true}
 use mathlib.Core.List.{List, _++_}
-use Prim.Native.Nat.{ℕ, suc, _-_, _≤_, _<_}
+use Prim.Native.Nat.{ℕ, suc, _+_, _-_, _≤_, _<_}
 use native.Mathlib.Omega.{arith}
 use lib.ListN.{length, take, drop}
 use borrow.Author.Tests.{lt-ltb}
@@ -13,8 +13,9 @@ use Rattle.formula.proofs.Closed.{length-without}
 use Rattle.sheet.specs.Format.{Bytes, Format, sheet-length}
 use Rattle.sheet.specs.Sheet.{sheet}
 use Rattle.sheet.specs.Operations.{padded}
-use Rattle.rows.specs.Layouts.{Room}
-use Rattle.rows.specs.Formulas.{prefix-in, matrix-in, formula-in}
+use Rattle.rows.specs.Layouts.{format-in, total, Room}
+use Rattle.rows.specs.Formulas.{prefix-in, matrix-in, formula-in, layout-for}
+use Rattle.rows.specs.Tables.{ROWS, HIGHEST}
 use Rattle.rows.specs.declared.Layout.{Layout}
 use Rattle.rows.proofs.Formulas.{length-prefix}
 use Rattle.prefixes.specs.Places.{place}
@@ -23,17 +24,20 @@ use Rattle.changing.specs.Changes.{changed, putting-in}
 use Rattle.changing.proofs.Tables.{changed-putting-in}
 use Rattle.raw.specs.Formulas.{without-row, settled-raw, raw-layout, Raw}
 use Rattle.tidying.specs.Limits as tidying
-use Rattle.tidying.proofs.Raw.{few-rows, raw-rows, raw-output, raw-length}
+use Rattle.tidying.proofs.Raw.{few-rows, raw-rows, raw-output, raw-sizes}
 use Rattle.stepping.specs.Steps.{Steppable, Named}
 
-module _ {F : Format} {s : Layout} {b : Bytes} (st : Steppable F s b) where
+module _ {s : Layout} {b : Bytes} (st : Steppable s b) where
+  abbrev F : Format
+  F = format-in s
+
   -- room for the raw rows is what the fit of the raw sheet says
   pub raw-room : (n : ℕ) {len : ℕ} → sheet-length F (s .variables - 1) n ≤ len → Room (raw-layout s n) len
   unfolding sheet-length
-  raw-room n {len} h = record { few-bytes = st .readable .room .few-bytes; holds = rw (st .width-is) h }
+  raw-room n {len} h = record { holds = h }
 
-  raw-few : (n : ℕ) → n ≤ F .most-nodes → tidying.Few (raw-layout s n)
-  raw-few n h = few-rows (st .countable) (raw-layout s n) (st .width-is) (omega (arith, st .few-variables)) h
+  raw-few : (n : ℕ) → n ≤ F .most-nodes → total (raw-layout s n) ≤ ROWS + HIGHEST
+  raw-few n h = few-rows (raw-layout s n) (omega (arith, st .few-variables)) h
 
   module _ {x i : ℕ} (nm : Named s b x i) where
     bound : binds (prefix-in s b) x ≡ true
@@ -54,17 +58,16 @@ module _ {F : Format} {s : Layout} {b : Bytes} (st : Steppable F s b) where
       one-less =
           omega (arith, ap length e, length-without x (prefix-in s b) bound, length-prefix b (st .readable))
 
-      pub written-raw : tidying.Raw F (raw-layout s n) new
-      written-raw =
-          raw-rows F (raw-layout s n) new g (w .all-rows) one-less (st .width-is) (rw same (raw-room n room)) (raw-few n few)
+      pub written-raw : tidying.Raw (raw-layout s n) new
+      written-raw = raw-rows (raw-layout s n) new g (w .all-rows) one-less (rw same (raw-room n room)) (raw-few n few)
 
       pub written-sheet : {out : Bytes} → out ≡ padded (length new) (sheet F (tidied (formula-in (raw-layout s n) new)))
           → out ≡ padded (length old) (sheet F (tidied g))
       written-sheet h =
-          raw-output F (raw-layout s n) new g (w .all-rows) one-less (length new) h ∙ ap (λ (len : ℕ). padded len (sheet F (tidied g))) same
+          raw-output (raw-layout s n) new g (w .all-rows) one-less (length new) h ∙ ap (λ (len : ℕ). padded len (sheet F (tidied g))) same
 
-      pub written-length : {len : ℕ} → len ≡ length (sheet F (tidied (formula-in (raw-layout s n) new))) → len ≡ length (sheet F (tidied g))
-      written-length h = raw-length F (raw-layout s n) new g (w .all-rows) one-less h
+      pub written-layout : {t : Layout} → t ≡ layout-for (s .format) (tidied (formula-in (raw-layout s n) new)) → t ≡ layout-for (s .format) (tidied g)
+      written-layout h = raw-sizes (raw-layout s n) new g (w .all-rows) one-less h
 
     -- the raw formula of settling
     pub put-formula : (c : Bool) {n : ℕ} → x < n → {table : List ℕ} → table ≡ putting-in n x c

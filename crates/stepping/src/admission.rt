@@ -3,12 +3,14 @@ use checking::Checked;
 use prefixes::find_variable;
 use rows::Format;
 use rows::Layout;
+use rows::refusals::NOT_IN_PREFIX;
+use rows::refusals::NOT_TIDY;
 use subtrees::ends::fill_ends;
 use tidiness::first_fault;
 ghost use Prim.Native.Nat.{_≤_};
 ghost use lib.ListN.{length};
-ghost use Rattle.rows.specs.Formats.{format-of};
-ghost use Rattle.checking.specs.Limits.{Manageable, Sheet};
+ghost use Rattle.rows.specs.Tables.{ROWS};
+ghost use Rattle.checking.specs.Sheets.{Sheet};
 ghost use Rattle.stepping.specs.Admission.{Admits};
 
 // A variable and its prefix row.
@@ -24,18 +26,18 @@ pub enum Admission {
 }
 
 // Decides on a sheet that Check accepts.
-fn admit_checked(sheet: &[u8], f: Format, s: Layout, x: usize, ends: &mut [u16]) -> Admission
-    requires { ⌜ Manageable (format-of f) × Sheet (format-of f) (now sheet) s × (8192 ≤ length (now ends)) ⌝ }
-    ensures { λ r. ⌜ Admits (format-of f) (now (sheet .entry)) x (now (ends .exit)) r ⌝ }
+fn admit_checked(sheet: &[u8], s: Layout, x: usize, ends: &mut [u16]) -> Admission
+    requires { ⌜ Sheet (s .format) (now sheet) s × (ROWS ≤ length (now ends)) ⌝ }
+    ensures { λ r. ⌜ Admits (s .format) (now (sheet .entry)) x (now (ends .exit)) r ⌝ }
 {
     fill_ends(sheet, s, ends);
     let fault = first_fault(sheet, s, ends);
     if fault < s.nodes {
-        return Admission::Refused(9, s.variables + fault);
+        return Admission::Refused(NOT_TIDY, s.variables + fault);
     }
     let i = find_variable(sheet, s, x);
     if s.variables <= i {
-        return Admission::Refused(10, 0);
+        return Admission::Refused(NOT_IN_PREFIX, 0);
     }
     let z = Binding {
         row: i,
@@ -46,19 +48,12 @@ fn admit_checked(sheet: &[u8], f: Format, s: Layout, x: usize, ends: &mut [u16])
 
 // Decides tests 1 to 10 for the variable `x` of a sheet, and fills the table of ends of one that passes.
 pub fn admit(sheet: &[u8], f: Format, x: usize, ends: &mut [u16]) -> Admission
-    requires { ⌜ Manageable (format-of f) × (8192 ≤ length (now ends)) ⌝ }
-    ensures { λ r. ⌜ Admits (format-of f) (now (sheet .entry)) x (now (ends .exit)) r ⌝ }
+    requires { ⌜ ROWS ≤ length (now ends) ⌝ }
+    ensures { λ r. ⌜ Admits f (now (sheet .entry)) x (now (ends .exit)) r ⌝ }
 {
-    let c = checking::check_in(sheet, f);
+    let c = checking::check(sheet, f);
     match c {
         Checked::Refused(number, place) => Admission::Refused(number, place),
-        Checked::Accepted(v, n) => {
-            let s = Layout {
-                width: f.width,
-                variables: v,
-                nodes: n,
-            };
-            admit_checked(sheet, f, s, x, ends)
-        }
+        Checked::Accepted(s) => admit_checked(sheet, s, x, ends),
     }
 }

@@ -1,36 +1,26 @@
 // A variable expanded: its raw sheet is written to an output and tidied there ("Expand x").
+use crate::survey::Draft;
+use crate::survey::Survey;
 use changing::table::fill_both;
 use choice::expand::ExpandChoice;
 use prefixes::is_existential;
-use raw::expand::Expansion;
 use raw::expand::write_raw;
-use relevance::Relevant;
-use relevance::Site;
-use relevance::cuts::fill_cuts;
-use relevance::variable::Presence;
 use rows::AND;
-use rows::Format;
 use rows::Layout;
 use rows::NUMBERS;
 use rows::OR;
 use tidying::tidy_in_place;
 ghost use mathlib.Core.Path.{_≡_};
-ghost use Prim.Native.Nat.{_≤_, _<_};
+ghost use Prim.Native.Nat.{_*_, _-_, _≤_, _<_};
 ghost use lib.ListN.{length};
 ghost use Rattle.formula.specs.Expand.{expanded};
 ghost use Rattle.sheet.specs.Sheet.{operator-kind, sheet};
 ghost use Rattle.sheet.specs.Operations.{padded};
-ghost use Rattle.rows.specs.Formats.{format-of};
-ghost use Rattle.rows.specs.Formulas.{Readable, formula-in};
+ghost use Rattle.rows.specs.Layouts.{format-in};
+ghost use Rattle.rows.specs.Formulas.{Readable, formula-in, layout-for};
+ghost use Rattle.rows.specs.Tables.{HIGHEST, NUMBERS};
 ghost use Rattle.prefixes.specs.Places.{binding-in};
-ghost use Rattle.stepping.specs.Expanding.{Priced, Outlined, Prepared, Expands};
-
-// The variable, how many cuts its relevant part's children have, and the expansion that is written.
-pub struct Expanding {
-    pub variable: usize,
-    pub cuts: usize,
-    pub to: Expansion,
-}
+ghost use Rattle.stepping.specs.Expanding.{draft-of, Expands};
 
 // The kind of the operator that joins the copies of prefix row `i`'s variable.
 fn joint_at(b: &[u8], s: Layout, i: usize) -> u8
@@ -43,105 +33,31 @@ fn joint_at(b: &[u8], s: Layout, i: usize) -> u8
     AND
 }
 
-// The expansion of a variable. One without literals has an empty part, of which every child is relevant.
-fn outline(
-    b: &[u8],
-    s: Layout,
-    ends: &[u16],
-    ranges: &[u16],
-    next: &[u16],
-    c: ExpandChoice,
-) -> Expansion
-    requires { ⌜ Priced s (now b) (now ends) (now ranges) (now next) c ⌝ }
-    ensures { λ e. ⌜ Outlined s (now (b .entry)) (c .variable) (c .row) e ⌝ }
+// What is expanded of a variable whose relevant part and price are known, by the first rows of all variables' literals.
+pub fn draft(b: &[u8], s: Layout, ranges: &[u16], c: ExpandChoice) -> Draft
+    requires { ⌜ Readable s (now b) × (c .row < s .variables) × (c .variable ≤ HIGHEST) × (length (now ranges) ≡ 2 * NUMBERS) ⌝ }
+    ensures { λ d. ⌜ d ≡ draft-of s (now (b .entry)) (now (ranges .entry)) c ⌝ }
 {
-    let joint = joint_at(b, s, c.row);
-    let layout = Layout {
-        width: s.width,
-        variables: s.variables - 1,
-        nodes: c.raw,
-    };
-    let found = c.part;
-    match found {
-        Presence::Absent => {
-            let none = Relevant {
-                operator: 0,
-                all: true,
-                rows: 0,
-                children: 0,
-            };
-            Expansion {
-                occurs: false,
-                part: none,
-                end: 0,
-                row: c.row,
-                joint: joint,
-                layout: layout,
-            }
-        }
-        Presence::Present(part) => {
-            let operator = part.operator;
-            let end = ends[operator] as usize;
-            Expansion {
-                occurs: true,
-                part: part,
-                end: end,
-                row: c.row,
-                joint: joint,
-                layout: layout,
-            }
-        }
-    }
-}
-
-// Finds what the writing needs: where the relevant part ends, what joins its copies, and its children's cuts, at the front of `cuts`.
-pub fn prepare(
-    b: &[u8],
-    s: Layout,
-    ends: &[u16],
-    ranges: &[u16],
-    next: &[u16],
-    c: ExpandChoice,
-    cuts: &mut [u16],
-) -> Expanding
-    requires { ⌜ Priced s (now b) (now ends) (now ranges) (now next) c × (s .nodes < length (now cuts)) ⌝ }
-    ensures { λ w. ⌜ Prepared s (now (b .entry)) (c .variable) (c .row) (now (cuts .exit)) w ⌝ }
-{
-    let e = outline(b, s, ends, ranges, next, c);
-    if e.part.all {
-        return Expanding {
-            variable: c.variable,
-            cuts: 0,
-            to: e,
-        };
-    }
-    let site = Site {
-        operator: e.part.operator,
+    let part = c.part;
+    Draft {
+        part: part,
         first: ranges[2 * c.variable] as usize,
-    };
-    let k = fill_cuts(b, s, ends, next, site, cuts);
-    Expanding {
-        variable: c.variable,
-        cuts: k,
-        to: e,
+        raw: c.raw,
+        row: c.row,
+        variables: s.variables - 1,
+        joint: joint_at(b, s, c.row),
     }
 }
 
-// Writes the expanded sheet to the front of `out`, with zeros behind it, and returns its length.
-pub fn expand_into(
-    b: &[u8],
-    f: Format,
-    s: Layout,
-    cuts: &[u16],
-    w: Expanding,
-    out: &mut [u8],
-) -> usize
-    requires { ⌜ Expands (format-of f) s (now b) (now cuts) w (length (now out)) ⌝ }
-    ensures { λ _. ⌜ now (out .exit) ≡ padded (length (now (out .entry))) (sheet (format-of f) (expanded (w .variable) (formula-in s (now (b .entry))))) ⌝ }
-    ensures { λ r. ⌜ r ≡ length (sheet (format-of f) (expanded (w .variable) (formula-in s (now (b .entry))))) ⌝ }
+// Writes the sheet in which `x` is expanded to the front of `out`, with zeros behind it, and returns its layout.
+pub fn expand_into(b: &[u8], s: Layout, x: usize, cuts: &[u16], w: Survey, out: &mut [u8]) -> Layout
+    requires { ⌜ Expands s (now b) x (now cuts) w (length (now out)) ⌝ }
+    ensures { λ _. ⌜ now (out .exit) ≡ padded (length (now (out .entry))) (sheet (format-in s) (expanded x (formula-in s (now (b .entry))))) ⌝ }
+    ensures { λ t. ⌜ t ≡ layout-for (s .format) (expanded x (formula-in s (now (b .entry)))) ⌝ }
+    ensures { λ t. ⌜ (t .variables ≡ s .variables - 1) × (t .nodes ≤ w .to .layout .nodes) ⌝ }
 {
     let mut tables = [0u16; 2 * NUMBERS];
-    fill_both(&mut tables, w.variable);
+    fill_both(&mut tables, x);
     write_raw(b, s, &tables, &cuts[..w.cuts], w.to, out);
-    tidy_in_place(out, f, w.to.layout)
+    tidy_in_place(out, w.to.layout)
 }

@@ -2,3 +2,4 @@
 pub mod admission;
 pub mod expanding;
 pub mod settling;
+pub mod survey;

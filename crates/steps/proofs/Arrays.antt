@@ -9,11 +9,14 @@ use lib.ListN.{length, getD, take, drop, set, length-set, length-map, take-appen
 use lib.Seq.{take-all, paste, paste-zero, paste-suc}
 use Rattle.sheet.specs.Format.{Format}
 use Rattle.sheet.specs.Check.{accepted}
-use Rattle.sheet.specs.Steps.{settling, expanding, Step, call-of, after, fill, filled, given}
+use Rattle.sheet.specs.Steps.{settling, expanding, Step, filled, given}
 use Rattle.sheet.proofs.Steps.{length-filled}
 use Rattle.steps.specs.Numbers.{numbered-operation, numbered-answer, answer-number, answer-value, tabulate, record-count, record-at, numbered, step-number, step-value, over}
-use Rattle.steps.specs.Inner.Turns.{room, Filled}
-use Rattle.steps.proofs.Turning.{going-first, filled-here, going-next}
+use Rattle.steps.specs.Answers.{operation-of, step-of}
+use Rattle.steps.specs.declared.Step as struct
+use Rattle.steps.specs.declared.Turn.{Turn}
+use Rattle.steps.specs.Inner.Turns.{room, Took}
+use Rattle.steps.proofs.Turning.{Going, Untouched, going-first, filled-here, going-next}
 
 -- what is read behind the end
 abbrev pub blank : Step
@@ -91,7 +94,18 @@ pub expands-else : (n : ℕ) → (n ≡ 0 → ⊥) → expanding ≡ numbered-op
 expands-else zero h = absurd (h refl)
 expands-else (suc n) h = refl
 
--- the turns of the records
+-- i turns are taken: the first i answers are written, and the buffers go with them
+pub record Filled (F : Format) (operations variables numbers values first second : List ℕ) (held i : ℕ) (numbers′ values′ first′ second′ : List ℕ) (held′ : ℕ) : Type 0 where
+  pub going : Going F (room first second) (numbered operations variables numbers values) (take held first) i held′ first′ second′
+  pub numbers-are : numbers′
+      ≡ paste numbers 0 (map step-number (filled F (room first second) (numbered operations variables numbers values) (given (take held first)))) i
+  pub values-are : values′
+      ≡ paste values 0 (map step-value (filled F (room first second) (numbered operations variables numbers values) (given (take held first)))) i
+  pub untouched : Untouched i first second first′ second′
+  pub same-numbers : length numbers′ ≡ length numbers
+  pub same-values : length values′ ≡ length values
+  pub same-first : length first′ ≡ length first
+  pub same-second : length second′ ≡ length second
 
 module _ (F : Format) (operations variables numbers values first second : List ℕ) (held : ℕ) where
   abbrev all : List Step
@@ -101,7 +115,7 @@ module _ (F : Format) (operations variables numbers values first second : List �
   done = filled F (room first second) all (given (take held first))
 
   abbrev Turned : ℕ → List ℕ → List ℕ → List ℕ → List ℕ → ℕ → Type 0
-  Turned i numbers′ values′ first′ second′ h = Filled F operations variables numbers values first second i held numbers′ values′ first′ second′ h
+  Turned = Filled F operations variables numbers values first second held
 
   pub turned-none : held ≤ room first second → Turned 0 numbers values first second held
   turned-none l =
@@ -116,23 +130,22 @@ module _ (F : Format) (operations variables numbers values first second : List �
         same-second = refl;
       }
 
-  -- the turn of record i by a record s of the same operation and variable
+  -- the turn of record i by a step s of the same operation and variable
   pub turned-next : {i h j : ℕ} {numbers₁ values₁ first₁ second₁ : List ℕ} → Turned i numbers₁ values₁ first₁ second₁ h
       → i < record-count operations variables numbers values → j ≡ suc i
-      → (s : Step) → s .operation ≡ numbered-operation (getD operations i 0) → s .variable ≡ getD variables i 0
-      → {t : Step} {h₂ : ℕ} {first₂ second₂ : List ℕ} → t ≡ fill F (room first₁ second₁) s (take h first₁)
-      → take h₂ first₂ ≡ (after F (call-of (room first₁ second₁) s) (given (take h first₁))) .sheet → h₂ ≤ room first₁ second₁
-      → length first₂ ≡ length first₁ → length second₂ ≡ length second₁ → {m v : ℕ} → m ≡ step-number t → v ≡ step-value t
-      → Turned j (set numbers₁ i m) (set values₁ i v) first₂ second₂ h₂
-  turned-next {i} {h} {j} {numbers₁} {values₁} {first₁} {second₁} g l next s eo ex {t} {h₂} {first₂} {second₂} et eh short l₁ l₂ {m} {v} em ev =
+      → (s : struct.Step) → operation-of (s .operation) ≡ numbered-operation (getD operations i 0) → s .variable ≡ getD variables i 0
+      → {t : Turn} {first₂ second₂ : List ℕ} → Took F s h first₁ second₁ first₂ t → length first₂ ≡ length first₁ → length second₂ ≡ length second₁
+      → {m v : ℕ} → m ≡ step-number (step-of (t .step)) → v ≡ step-value (step-of (t .step))
+      → Turned j (set numbers₁ i m) (set values₁ i v) first₂ second₂ (t .held)
+  turned-next {i} {numbers₁ = numbers₁} {values₁ = values₁} g l next s eo ex turn l₁ l₂ {m} {v} em ev =
       let here = numbered-at operations variables numbers values i l in
       let inside : i < length all = omega (arith, length-numbered operations variables numbers values) in
       let inside-done : i < length done = omega (arith, length-filled F (room first second) all (given (take held first))) in
       let o = eo ∙ sym (ap (λ (r : Step). r .operation) here) in
       let x = ex ∙ sym (ap (λ (r : Step). r .variable) here) in
-      let is = filled-here F (room first second) all (take held first) (g .going) inside blank s o x et in
+      let is = filled-here F (room first second) all (take held first) (g .going) inside blank s o x turn in
       record {
-        going = going-next F (room first second) all (take held first) (g .going) inside blank s o x next eh short l₁ l₂;
+        going = going-next F (room first second) all (take held first) (g .going) inside blank s o x turn next l₁ l₂;
         numbers-are =
             ap (set numbers₁ i) em ∙ part-next step-number refl numbers done (g .numbers-are) (omega (arith, l)) inside-done is next;
         values-are = ap (set values₁ i) ev ∙ part-next step-value refl values done (g .values-are) (omega (arith, l)) inside-done is next;

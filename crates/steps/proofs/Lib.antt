@@ -4,4 +4,3 @@ pub mod Whole
 pub mod Lending
 pub mod Walking
 pub mod Numbering
-pub mod Entering

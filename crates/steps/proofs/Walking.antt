@@ -9,14 +9,16 @@ use native.Mathlib.Omega.{arith}
 use lib.ListN.{length, getD, take, drop, set, length-set, length-map, drop-of-length-le, List·getD-map}
 use lib.Seq.{take-all, getD-drop, paste, paste-zero, paste-suc, drop-paste}
 use Rattle.sheet.specs.Format.{Bytes, Format}
-use Rattle.sheet.specs.Check.{Answer}
-use Rattle.sheet.specs.Steps.{Step as Record, call-of, after, fill, filled, given, Listed, steps-call}
+use Rattle.sheet.specs.Steps.{Step as Record, filled, given, Listed, steps-call}
 use Rattle.sheet.proofs.Steps.{length-filled}
+use Rattle.checking.specs.Answers.{written-answer}
 use Rattle.checking.specs.declared.Written.{Written}
 use Rattle.steps.specs.declared.Step.{Step}
-use Rattle.steps.specs.Answers.{step-of}
-use Rattle.steps.specs.Inner.Turns.{room, Begins, Finishes, Going, Untouched}
-use Rattle.steps.proofs.Turning.{going-first, filled-here, going-next}
+use Rattle.steps.specs.declared.Begun.{Begun}
+use Rattle.steps.specs.declared.Turn.{Turn}
+use Rattle.steps.specs.Answers.{step-of, left}
+use Rattle.steps.specs.Inner.Turns.{room, Begins, Took, Finishes}
+use Rattle.steps.proofs.Turning.{Going, Untouched, going-first, filled-here, going-next}
 use Rattle.steps.proofs.Whole.{records, held-fits, turns-fit, finished}
 
 -- i turns are taken: the first i records are filled, and the buffers go with them
@@ -68,65 +70,73 @@ module _ (F : Format) (steps : List Step) (first second : Bytes) (held : ℕ) wh
         sym (List·getD-map step-of steps₁ i d) ∙ ap (λ (r : List Record). getD r i (step-of d)) (w .records-are) ∙
         getD-paste all done i (step-of d) (omega (arith, length-done))
 
-    pub walked-next : (t : Step) {j h₂ : ℕ} {first₂ second₂ : Bytes} → j ≡ suc i
-        → step-of t ≡ fill F (room first₁ second₁) (step-of (getD steps₁ i d)) (take h first₁)
-        → take h₂ first₂ ≡ (after F (call-of (room first₁ second₁) (step-of (getD steps₁ i d))) (given (take h first₁))) .sheet → h₂ ≤ room first₁ second₁
-        → length first₂ ≡ length first₁ → length second₂ ≡ length second₁ → Walked F steps first second held j (set steps₁ i t) first₂ second₂ h₂
-    walked-next t {j} {h₂} {first₂} {second₂} next et eh short l₁ l₂ =
+    pub walked-next : {j : ℕ} {first₂ second₂ : Bytes} (t : Turn) → j ≡ suc i → Took F (getD steps₁ i d) h first₁ second₁ first₂ t
+        → length first₂ ≡ length first₁ → length second₂ ≡ length second₁
+        → Walked F steps first second held j (set steps₁ i (t .step)) first₂ second₂ (t .held)
+    walked-next t next turn l₁ l₂ =
         let inside : i < length all = omega (arith, length-map steps step-of) in
         let o = ap (λ (r : Record). r .operation) here in
         let x = ap (λ (r : Record). r .variable) here in
-        let is = filled-here F (room first second) all (take held first) (w .going) inside (step-of d) (step-of (getD steps₁ i d)) o x et in
+        let is = filled-here F (room first second) all (take held first) (w .going) inside (step-of d) (getD steps₁ i d) o x turn in
         record {
-          going = going-next F (room first second) all (take held first) (w .going) inside (step-of d) (step-of (getD steps₁ i d)) o x next eh short l₁ l₂;
+          going = going-next F (room first second) all (take held first) (w .going) inside (step-of d) (getD steps₁ i d) o x turn next l₁ l₂;
           records-are =
-              map-set steps₁ i t ∙ ap₂ (λ (q : List Record) (k : ℕ). set q k (step-of t)) (w .records-are) (sym (zero-add i)) ∙
-              ap (set (paste all 0 done i) (0 + i)) is ∙ paste-suc all 0 done i (step-of d) (omega (arith, length-map steps step-of)) (omega (arith, length-done)) ∙
+              map-set steps₁ i (t .step) ∙ ap₂ (λ (q : List Record) (k : ℕ). set q k (step-of (t .step))) (w .records-are) (sym (zero-add i)) ∙
+              ap (set (paste all 0 done i) (0 + i)) is ∙
+              paste-suc all 0 done i (step-of d) (omega (arith, length-map steps step-of)) (omega (arith, length-done)) ∙
               ap (paste all 0 done) (sym next);
           untouched = λ e. absurd (omega (arith, e, next));
-          same-steps = length-set steps₁ i t ∙ w .same-steps;
+          same-steps = length-set steps₁ i (t .step) ∙ w .same-steps;
           same-first = l₁ ∙ w .same-first;
           same-second = l₂ ∙ w .same-second;
         }
 
 module _ (F : Format) (b : Bytes) (steps : List Step) (first second first₁ second₁ : Bytes) (l₁ : length first₁ ≡ length first)
-    (l₂ : length second₁ ≡ length second) (turns held : ℕ) (a : Written)
-    (begun : Begins F b (length steps) first second first₁ second₁ turns held a) where
+    (l₂ : length second₁ ≡ length second) (g : Begun)
+    (begun : Begins F b (length steps) first second first₁ second₁ (g .turns) (g .held) (g .answer)) where
   abbrev whole : Listed
   whole = steps-call F b (map step-of steps) first second
 
   same : room first₁ second₁ ≡ room first second
   same = ap₂ (λ (p q : ℕ). min p q) l₁ l₂
 
-  begins : Begins F b (length (map step-of steps)) first second first₁ second₁ turns held a
-  begins = subst (λ (k : ℕ). Begins F b k first second first₁ second₁ turns held a) (sym (length-map steps step-of)) begun
+  begins : Begins F b (length (map step-of steps)) first second first₁ second₁ (g .turns) (g .held) (g .answer)
+  begins =
+      subst (λ (k : ℕ). Begins F b k first second first₁ second₁ (g .turns) (g .held) (g .answer)) (sym (length-map steps step-of)) begun
 
-  pub turns-few : turns ≤ length steps
-  turns-few = omega (arith, turns-fit F b (map step-of steps) first second first₁ second₁ turns held same a begins, length-map steps step-of)
+  pub turns-few : g .turns ≤ length steps
+  turns-few =
+      omega (
+        arith,
+        turns-fit F b (map step-of steps) first second first₁ second₁ (g .turns) (g .held) same (g .answer) begins,
+        length-map steps step-of,
+      )
 
-  pub held-short : held ≤ room first₁ second₁
-  held-short = held-fits F b (map step-of steps) first second first₁ second₁ turns held same a begins
+  pub held-short : g .held ≤ room first₁ second₁
+  held-short = held-fits F b (map step-of steps) first second first₁ second₁ (g .turns) (g .held) same (g .answer) begins
 
-  module _ {steps₂ : List Step} {first₂ second₂ : Bytes} {held₂ : ℕ} (w : Walked F steps first₁ second₁ held turns steps₂ first₂ second₂ held₂) where
-    pub held-inside : held₂ ≤ length first₂
-    held-inside = omega (arith, w .going .is-short, w .going .same-room)
+  module _ {steps₂ : List Step} {first₂ second₂ : Bytes} {held₂ i : ℕ} (taken : Walked F steps first₁ second₁ (g .held) i steps₂ first₂ second₂ held₂)
+      (all : i ≡ g .turns) where
+    w : Walked F steps first₁ second₁ (g .held) (g .turns) steps₂ first₂ second₂ held₂
+    w = rw all at taken
 
     records-whole : map step-of steps₂ ≡ whole .steps
-    records-whole = w .records-are ∙ by (records F b (map step-of steps) first second first₁ second₁ turns held same a begins)
+    records-whole = w .records-are ∙ by (records F b (map step-of steps) first second first₁ second₁ (g .turns) (g .held) same (g .answer) begins)
       where
         full : List Record
-        full = filled F (room first₁ second₁) (map step-of steps) (given (take held first₁))
+        full = filled F (room first₁ second₁) (map step-of steps) (given (take (g .held) first₁))
 
-        by : ((turns ≡ 0) × (whole .steps ≡ map step-of steps)) ⊎ ((turns ≡ length (map step-of steps)) × (whole .steps ≡ full))
-            → paste (map step-of steps) 0 full turns ≡ whole .steps
+        by : ((g .turns ≡ 0) × (whole .steps ≡ map step-of steps)) ⊎ ((g .turns ≡ length (map step-of steps)) × (whole .steps ≡ full))
+            → paste (map step-of steps) 0 full (g .turns) ≡ whole .steps
         by (inl e) = ap (paste (map step-of steps) 0 full) (e .0) ∙ sym (paste-zero (map step-of steps) 0 full) ∙ sym (e .1)
         by (inr e) =
-            let size = length-filled F (room first₁ second₁) (map step-of steps) (given (take held first₁)) in
-            ap₂ (λ (p q : List Record). p ++ q) (take-all turns full (omega (arith, size, e .0)))
-            (drop-of-length-le (map step-of steps) {i = 0 + turns} (omega (arith, e .0))) ∙ append-nil full ∙ sym (e .1)
+            let size = length-filled F (room first₁ second₁) (map step-of steps) (given (take (g .held) first₁)) in
+            ap₂ (λ (p q : List Record). p ++ q) (take-all (g .turns) full (omega (arith, size, e .0)))
+            (drop-of-length-le (map step-of steps) {i = 0 + g .turns} (omega (arith, e .0))) ∙ append-nil full ∙ sym (e .1)
 
-    pub equals-whole : {first₃ second₃ : Bytes} {r : Answer ℕ} → Finishes held₂ first₂ second₂ first₃ second₃ r a
-        → _≡_ {A = Listed} (record { answer = r; steps = map step-of steps₂; first = first₃; second = second₃ }) whole
-    equals-whole end =
-        let l = finished F b (map step-of steps) first second first₁ second₁ turns held same (w .going) (w .untouched) (w .same-first ∙ l₁) (w .same-second ∙ l₂) a begins end in
+    pub equals-whole : {first₃ second₃ : Bytes} (r : Written) → Finishes held₂ first₂ second₂ first₃ second₃ (written-answer r) (g .answer)
+        → left r steps₂ first₃ second₃ ≡ whole
+    equals-whole r end =
+        let l = finished F b (map step-of steps) first second first₁ second₁ (g .turns) (g .held) same (w .going) (w .untouched)
+        (w .same-first ∙ l₁) (w .same-second ∙ l₂) (g .answer) begins end in
         λ i. record { answer = l .answers i; steps = records-whole i; first = l .in-first i; second = l .in-second i }

@@ -19,7 +19,8 @@ use Rattle.sheet.proofs.Tests.{passes-++, answer-++, answer-passes, refused-fir
 use Rattle.sheet.proofs.Steps.{reached-last}
 use Rattle.checking.specs.declared.Written.{Written}
 use Rattle.checking.specs.declared.Written.the-variants.{Accepted, Refused}
-use Rattle.steps.specs.Inner.Turns.{room, Begins, Finishes, Going, Untouched}
+use Rattle.steps.specs.Inner.Turns.{room, Begins, Finishes}
+use Rattle.steps.proofs.Turning.{Going, Untouched}
 
 -- the tests of the whole
 

@@ -3,9 +3,13 @@
 use mathlib.Core.List.{List, [], _∷_, _++_, map}
 use Prim.Native.Nat.{ℕ, zero, suc, min}
 use lib.ListN.{length, getD, drop}
+use denote.Ref.{RefT}
+use denote.Triple.Both.{Both}
 use Rattle.sheet.specs.Check.{Answer, refused, accepted}
 use Rattle.sheet.specs.Format.{Bytes, Format}
 use Rattle.sheet.specs.Steps.{Operation, settling, expanding, Step, Listed, steps-call}
+use Rattle.checking.specs.Answers.{written-answer}
+use Rattle.checking.specs.declared.Written.{Written}
 
 -- 0 settles, any other number expands
 abbrev pub numbered-operation : ℕ → Operation
@@ -55,7 +59,43 @@ step-value s = answer-value (s .answer)
 abbrev pub over : (Step → ℕ) → List Step → List ℕ → List ℕ
 over part steps old = map part steps ++ drop (length steps) old
 
--- the call on the records in four arrays
-abbrev pub numbers-call : Format → Bytes → List ℕ → List ℕ → List ℕ → List ℕ → Bytes → Bytes → Listed
-numbers-call F b operations variables numbers values first second =
-    steps-call F b (numbered operations variables numbers values) first second
+-- the answer of the whole, and what the two arrays of answers and both buffers then hold
+pub record Tabled : Type 0 where
+  pub answer : Answer ℕ
+  pub numbers : List ℕ
+  pub values : List ℕ
+  pub first : Bytes
+  pub second : Bytes
+
+-- a list of steps with its records' answers in arrays
+abbrev pub tabled : List ℕ → List ℕ → Listed → Tabled
+tabled numbers values l =
+    record {
+      answer = l .answer;
+      numbers = over step-number (l .steps) numbers;
+      values = over step-value (l .steps) values;
+      first = l .first;
+      second = l .second;
+    }
+
+-- an array or a buffer lent to a call, as it is found and as it is left
+abbrev pub Lent : Type 0
+Lent = Both (RefT (List ℕ)) (RefT (List ℕ))
+
+-- the call on a sheet and four arrays of records, as they are found
+abbrev pub numbers-call : Format → Lent → Lent → Lent → Lent → Lent → Lent → Lent → Tabled
+numbers-call F sheet operations variables numbers values first second =
+    tabled (numbers .entry .now) (values .entry .now)
+    (steps-call F (sheet .entry .now)
+    (numbered (operations .entry .now) (variables .entry .now) (numbers .entry .now) (values .entry .now))
+    (first .entry .now) (second .entry .now))
+
+abbrev pub numbers-left : Written → Lent → Lent → Lent → Lent → Tabled
+numbers-left r numbers values first second =
+    record {
+      answer = written-answer r;
+      numbers = numbers .exit .now;
+      values = values .exit .now;
+      first = first .exit .now;
+      second = second .exit .now;
+    }

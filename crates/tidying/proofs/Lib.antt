@@ -7,6 +7,5 @@ pub mod Combine
 pub mod TidyEach
 pub mod Packed
 pub mod TidyInPlace
-pub mod CopyFront
 pub mod TidyChecked
 pub mod Raw

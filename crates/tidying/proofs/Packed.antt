@@ -14,7 +14,7 @@ use Rattle.sheet.specs.Format.{Bytes, Row, row, number}
 use Rattle.sheet.specs.Sheet.{forest-rows}
 use Rattle.sheet.proofs.Every.{every-take, every-drop}
 use Rattle.sheet.proofs.Numbers.{IsByte, AllBytes, number-bound}
-use Rattle.rows.specs.Layouts.{rows-in, Room, total}
+use Rattle.rows.specs.Layouts.{width, rows-in, Room, total}
 use Rattle.rows.specs.declared.Layout.{Layout}
 use Rattle.rows.proofs.Layouts.{row-in, argument-within}
 use Rattle.buckets.proofs.Prints.{print-few}
@@ -68,7 +68,7 @@ stride-live r e = rw (ne-eqb (r .kind) 0 e)
 
 -- a number of w bytes is below 256 ^ w
 pub argument-fits : {s : Layout} (b : Bytes) → Room s (length b) → AllBytes b → (r : ℕ) → r < total s
-    → (at-row (rows-in s b) r) .argument < 256 ^ s .width
+    → (at-row (rows-in s b) r) .argument < 256 ^ width s
 argument-fits {s} b room h r l =
     rw (row-in b room r l)
     (subst (λ m. number (take w (drop at b)) < 256 ^ m)
@@ -76,7 +76,7 @@ argument-fits {s} b room h r l =
     (number-bound (take w (drop at b)) (every-take IsByte w (drop at b) (every-drop IsByte at b h))))
   where
     w : ℕ
-    w = s .width
+    w = width s
 
     at : ℕ
     at = 2 * w + total s + w * r

@@ -1,93 +1,80 @@
 -- Rows of a formula before they are tidied: a sheet's, and those that a caller has written.
 -- Assumes nothing.
-use mathlib.Core.Path.{_≡_, sym, ap, _∙_, subst}
+use mathlib.Core.Path.{_≡_, sym, ap, _∙_}
 use mathlib.Core.List.{_++_}
-use Prim.Native.Nat.{ℕ, _≤_}
+use Prim.Native.Nat.{ℕ, _+_, _≤_}
 use native.Mathlib.Omega.{arith}
-use lib.ListN.{length, drop, length-append, length-drop, length-map}
+use lib.ListN.{length, drop, length-append, length-drop}
 use Rattle.formula.specs.Tree.{Formula}
 use Rattle.formula.specs.Tidy.{tidied}
-use Rattle.sheet.specs.Format.{Bytes, Format, sheet-length, variables, nodes, prefix-rows}
-use Rattle.sheet.specs.Sheet.{binding, formula, formula-rows, sheet}
+use Rattle.sheet.specs.Format.{Bytes, sheet-length}
+use Rattle.sheet.specs.Sheet.{formula, formula-rows, sheet}
 use Rattle.sheet.specs.Operations.{padded}
-use Rattle.sheet.proofs.CheckTests.{SizesFit, passed, passed-sizes}
-use Rattle.sheet.proofs.Accepted.{length-prefix-rows}
-use Rattle.rows.specs.Layouts.{rows-in, Room}
-use Rattle.rows.specs.Formulas.{formula-in, layout-of}
+use Rattle.sheet.proofs.RoundTrip.{length-sheet}
+use Rattle.rows.specs.Tables.{ROWS, HIGHEST}
+use Rattle.rows.specs.Formats.{format-of}
+use Rattle.rows.specs.Layouts.{format-in, total, rows-in, Room}
+use Rattle.rows.specs.Formulas.{formula-in, layout-for}
+use Rattle.rows.specs.declared.Format.{Format}
 use Rattle.rows.specs.declared.Layout.{Layout}
-use Rattle.rows.proofs.Layouts.{rows-in-++, all-rows-in}
-use Rattle.rows.proofs.Formulas.{formula-written, written-is-formula}
-use Rattle.sheet.proofs.Accepted.{formula-rows-formula}
-use Rattle.checking.specs.Limits.{Countable, Sheet}
-use Rattle.tidying.specs.Limits.{Few, Raw}
+use Rattle.rows.proofs.Limits.{limits}
+use Rattle.rows.proofs.Layouts.{rows-in-++}
+use Rattle.rows.proofs.Formulas.{prefix-length, formula-written, written-is-formula}
+use Rattle.checking.specs.Sheets.{Sheet}
+use Rattle.checking.proofs.CheckedSheets.{sheet-right, sheet-readable, sheet-formula-in}
+use Rattle.tidying.specs.Limits.{Raw}
 
--- so many rows can be counted
-pub few-rows : {F : Format} → Countable F → (s : Layout) → s .width ≡ F .width → s .variables ≤ F .most-variables → s .nodes ≤ F .most-nodes
-    → Few s
-few-rows k s e few-variables few-nodes =
-    record {
-      counted = rw e (omega (arith, k .few-rows));
-      in-tables = omega (arith, k .manageable .few-variables, k .manageable .few-nodes);
-    }
+-- the rows of either format have room in tables
+pub few-rows : (s : Layout) → s .variables ≤ (format-in s) .most-variables → s .nodes ≤ (format-in s) .most-nodes → total s ≤ ROWS + HIGHEST
+few-rows s v n = omega (arith, limits (s .format) .few-variables, limits (s .format) .few-nodes)
+
+-- how long a sheet is, by its layout
+pub layout-length : (f : Format) (g : Formula) {t : Layout} → t ≡ layout-for f g
+    → sheet-length (format-in t) (t .variables) (t .nodes) ≡ length (sheet (format-of f) g)
+layout-length f g e = ap (λ (t : Layout). sheet-length (format-in t) (t .variables) (t .nodes)) e ∙ sym (length-sheet (format-of f) g)
 
 -- These rows are those of a formula g, so what is left of them is the sheet of g tidied.
-module _ (F : Format) (s : Layout) (b : Bytes) (g : Formula) (is : rows-in s b ≡ formula-rows g) (vs : length (g .prefix) ≡ s .variables) where
-  pub raw-rows : s .width ≡ F .width → Room s (length b) → Few s → Raw F s b
-  raw-rows width room few = record { width-is = width; room = room; few-rows = few; is-formula = written-is-formula s b g is vs }
+module _ (s : Layout) (b : Bytes) (g : Formula) (is : rows-in s b ≡ formula-rows g) (vs : length (g .prefix) ≡ s .variables) where
+  pub raw-rows : Room s (length b) → total s ≤ ROWS + HIGHEST → Raw s b
+  raw-rows room few = record { room = room; few-rows = few; is-formula = written-is-formula s b g is vs }
 
-  pub raw-sheet : sheet F (tidied (formula-in s b)) ≡ sheet F (tidied g)
-  raw-sheet = ap (λ h. sheet F (tidied h)) (formula-written s b g is vs)
+  pub raw-output : {new : Bytes} (len : ℕ) → new ≡ padded len (sheet (format-in s) (tidied (formula-in s b)))
+      → new ≡ padded len (sheet (format-in s) (tidied g))
+  raw-output len e = e ∙ ap (λ h. padded len (sheet (format-in s) (tidied h))) (formula-written s b g is vs)
 
-  pub raw-output : {new : Bytes} (len : ℕ) → new ≡ padded len (sheet F (tidied (formula-in s b))) → new ≡ padded len (sheet F (tidied g))
-  raw-output len e = e ∙ ap (padded len) raw-sheet
-
-  pub raw-length : {end : ℕ} → end ≡ length (sheet F (tidied (formula-in s b))) → end ≡ length (sheet F (tidied g))
-  raw-length e = e ∙ ap length raw-sheet
+  pub raw-sizes : {t : Layout} → t ≡ layout-for (s .format) (tidied (formula-in s b)) → t ≡ layout-for (s .format) (tidied g)
+  raw-sizes e = e ∙ ap (λ h. layout-for (s .format) (tidied h)) (formula-written s b g is vs)
 
 -- The rows of a sheet that Check accepts, copied to the front of an output.
-module _ {F : Format} {b : Bytes} {s : Layout} (k : Countable F) (sh : Sheet F b s) (out : Bytes) (l : length b ≤ length out)
+module _ {b : Bytes} {s : Layout} (sh : Sheet (s .format) b s) (out : Bytes) (l : length b ≤ length out)
     {copied : Bytes} (is : copied ≡ b ++ drop (length b) out) where
-  fit : SizesFit F b
-  fit = passed-sizes F b (passed F b (sh .tests-pass) .sizes)
-
-  sheet-room : Room (layout-of F b) (length b)
-  unfolding sheet-length
-  sheet-room = record { few-bytes = k .manageable .few-bytes; holds = omega (arith, fit .right-length) }
-
-  rows-copied : rows-in (layout-of F b) copied ≡ formula-rows (formula F b)
-  rows-copied =
-      ap (rows-in (layout-of F b)) is ∙ rows-in-++ b sheet-room (drop (length b) out) ∙ sym (all-rows-in F b) ∙
-      sym (formula-rows-formula F b (sh .tests-pass))
-
   pub length-copied : length copied ≡ length out
   length-copied = ap length is ∙ length-append b (drop (length b) out) ∙ omega (arith, length-drop (length b) out)
 
-  prefix-count : length ((formula F b) .prefix) ≡ s .variables
-  unfolding formula
-  prefix-count =
-      length-map (prefix-rows F b) binding ∙ length-prefix-rows F b (sh .tests-pass) ∙ ap (λ (t : Layout). t .variables) (sym (sh .layout-is))
+  rows-copied : rows-in s copied ≡ formula-rows (formula (format-in s) b)
+  rows-copied =
+      ap (rows-in s) is ∙ rows-in-++ b (sheet-readable sh .room) (drop (length b) out) ∙ sym (sheet-readable sh .is-formula) ∙
+      ap formula-rows (sheet-formula-in sh)
 
-  rows-are : rows-in s copied ≡ formula-rows (formula F b)
-  rows-are = ap (λ (t : Layout). rows-in t copied) (sh .layout-is) ∙ rows-copied
+  prefix-count : length ((formula (format-in s) b) .prefix) ≡ s .variables
+  unfolding formula-in
+  prefix-count = ap (λ (g : Formula). length (g .prefix)) (sym (sheet-formula-in sh)) ∙ prefix-length b (sheet-readable sh .room)
 
-  pub copied-formula : formula-in s copied ≡ formula F b
-  copied-formula = formula-written s copied (formula F b) rows-are prefix-count
+  pub copied-formula : formula-in s copied ≡ formula (format-in s) b
+  copied-formula = formula-written s copied (formula (format-in s) b) rows-copied prefix-count
 
-  room : Room s (length copied)
-  room =
-      subst (λ (t : Layout). Room t (length copied)) (sym (sh .layout-is))
-      (record { few-bytes = sheet-room .few-bytes; holds = omega (arith, sheet-room .holds, length-copied) })
-
-  pub copied-raw : Raw F s copied
+  pub copied-raw : Raw s copied
   copied-raw =
-      raw-rows F s copied (formula F b) rows-are prefix-count (ap (λ (t : Layout). t .width) (sh .layout-is)) room
-      (few-rows k s (ap (λ (t : Layout). t .width) (sh .layout-is))
-      (omega (arith, ap (λ (t : Layout). t .variables) (sh .layout-is), fit .few-variables))
-      (omega (arith, ap (λ (t : Layout). t .nodes) (sh .layout-is), fit .few-nodes)))
+      raw-rows s copied (formula (format-in s) b) rows-copied prefix-count
+      (record { holds = omega (arith, sheet-readable sh .room .holds, length-copied) })
+      (few-rows s (sheet-right sh .few-variables) (sheet-right sh .few-nodes))
 
-  pub copied-output : {new : Bytes} → new ≡ padded (length copied) (sheet F (tidied (formula-in s copied)))
-      → new ≡ padded (length out) (sheet F (tidied (formula F b)))
-  copied-output e = raw-output F s copied (formula F b) rows-are prefix-count (length copied) e ∙ ap (λ len. padded len (sheet F (tidied (formula F b)))) length-copied
+  pub copied-output : {new : Bytes} → new ≡ padded (length copied) (sheet (format-in s) (tidied (formula-in s copied)))
+      → new ≡ padded (length out) (sheet (format-in s) (tidied (formula (format-in s) b)))
+  copied-output e =
+      raw-output s copied (formula (format-in s) b) rows-copied prefix-count (length copied) e ∙
+      ap (λ len. padded len (sheet (format-in s) (tidied (formula (format-in s) b)))) length-copied
 
-  pub copied-length : {end : ℕ} → end ≡ length (sheet F (tidied (formula-in s copied))) → end ≡ length (sheet F (tidied (formula F b)))
-  copied-length e = raw-length F s copied (formula F b) rows-are prefix-count e
+  pub copied-sizes : {t : Layout} → t ≡ layout-for (s .format) (tidied (formula-in s copied))
+      → t ≡ layout-for (s .format) (tidied (formula (format-in s) b))
+  copied-sizes e = raw-sizes s copied (formula (format-in s) b) rows-copied prefix-count e

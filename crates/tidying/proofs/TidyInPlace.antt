@@ -1,6 +1,6 @@
 -- From the rows of a formula to its tidied sheet.
 -- Assumes nothing.
-use mathlib.Core.Path.{_≡_, sym, ap, ap₂, _∙_, subst}
+use mathlib.Core.Path.{_≡_, refl, sym, ap, ap₂, _∙_, subst}
 use mathlib.Core.Bool.{Bool, true, false}
 use mathlib.Core.List.{List, [], _++_, map, append-assoc, append-nil}
 use Prim.Native.Nat.{ℕ, _+_, _*_, _-_, _≤_}
@@ -16,14 +16,15 @@ use Rattle.sheet.specs.Operations.{padded}
 use Rattle.sheet.proofs.Preorder.{trees-tree, trees-forest}
 use Rattle.sheet.proofs.Parts.{sheet-length-rows}
 use Rattle.sheet.proofs.RoundTrip.{length-formula-rows, length-sheet}
-use Rattle.rows.specs.Layouts.{total, rows-in, Room, sealed}
+use Rattle.rows.specs.Layouts.{format-in, width, total, rows-in, Room, sealed}
 use Rattle.rows.specs.Formulas.{node-rows-in, formula-in}
 use Rattle.rows.specs.declared.Layout.{Layout}
 use Rattle.rows.proofs.Layouts.{length-rows-in}
 use Rattle.rows.proofs.Formulas.{prefix-length, prefix-is, matrix-is}
+use Rattle.tidying.specs.Limits.{Raw}
 use Rattle.tidying.specs.Inner.Operators.{Preorder, Tidies}
 use Rattle.tidying.specs.Inner.Packed.{Packs}
-use Rattle.tidying.specs.Inner.Tables.{RawRows, Leaves}
+use Rattle.tidying.specs.Inner.Tables.{Leaves}
 
 -- the rows of a tree are nodes with their children behind them
 
@@ -56,7 +57,7 @@ mutual
 abbrev laid-out : ℕ → ℕ → ℕ → List Row → ℕ → Bytes
 laid-out w v n rs zeros = digits w v ++ digits w n ++ row-kinds rs ++ row-arguments w rs ++ replicate zeros 0
 
-module _ {s : Layout} (b : Bytes) (raw : RawRows s b) where
+module _ {s : Layout} (b : Bytes) (raw : Raw s b) where
   abbrev g : Formula
   g = formula-in s b
 
@@ -94,7 +95,7 @@ module _ {s : Layout} (b : Bytes) (raw : RawRows s b) where
         ap (λ rs. bound ++ rs) (append-nil (tree-rows (tidy (g .matrix))))
 
     room : Room s (length b′)
-    room = record { few-bytes = raw .room .few-bytes; holds = omega (arith, raw .room .holds, same) }
+    room = record { holds = omega (arith, raw .room .holds, same) }
 
     rows-left : m ≡ s .variables + rows ((tidied g) .matrix)
     unfolding tidied formula-in
@@ -105,27 +106,37 @@ module _ {s : Layout} (b : Bytes) (raw : RawRows s b) where
     pub prefix-left : s .variables ≤ m
     prefix-left = omega (arith, rows-left)
 
-    sheet-end : (F : Format) → s .width ≡ F .width → 2 * s .width + m + s .width * m ≡ length (sheet F (tidied g))
+    nodes-left : m - s .variables ≡ rows ((tidied g) .matrix)
+    nodes-left = omega (arith, rows-left)
+
+    -- the sheet's format
+    abbrev F : Format
+    F = format-in s
+
+    sheet-end : 2 * width s + m + width s * m ≡ length (sheet F (tidied g))
     unfolding tidied formula-in
-    sheet-end F w-is =
+    sheet-end =
         sym
         (length-sheet F (tidied g) ∙ sheet-length-rows F (length (g .prefix)) (rows ((tidied g) .matrix)) ∙
         ap (λ k. header F + (k + rows ((tidied g) .matrix) + F .width * (k + rows ((tidied g) .matrix)))) length-prefix ∙
-        ap (λ k. header F + (k + F .width * k)) (sym rows-left) ∙ regroup (F .width) ∙ ap (λ w. 2 * w + m + w * m) (sym w-is))
+        ap (λ k. header F + (k + F .width * k)) (sym rows-left) ∙ regroup (F .width))
       where
         regroup : (w : ℕ) → 2 * w + (m + w * m) ≡ 2 * w + m + w * m
         regroup w = omega arith
 
-    sheet-is : (F : Format) → s .width ≡ F .width → sealed s m b′ ≡ padded (length b) (sheet F (tidied g))
+    sealed-is : sealed s m b′ ≡ padded (length b) (sheet F (tidied g))
     unfolding sealed padded sheet tidied formula-in
-    sheet-is F w-is =
-        ap (λ len. laid-out (s .width) (s .variables) (m - s .variables) (take m (rows-in s b′)) (len - (2 * s .width + m + s .width * m))) same ∙
-        ap₂ (λ rs k. laid-out (s .width) (s .variables) (m - s .variables) rs (length b - k)) left (sheet-end F w-is) ∙
-        ap₂ (λ v n. laid-out (s .width) v n (formula-rows (tidied g)) (length b - length (sheet F (tidied g)))) (sym length-prefix) nodes-left ∙
-        ap (λ w. laid-out w (length (g .prefix)) (rows ((tidied g) .matrix)) (formula-rows (tidied g)) (length b - length (sheet F (tidied g)))) w-is
-      where
-        nodes-left : m - s .variables ≡ rows ((tidied g) .matrix)
-        nodes-left = omega (arith, rows-left)
+    sealed-is =
+        ap (λ len. laid-out (width s) (s .variables) (m - s .variables) (take m (rows-in s b′)) (len - (2 * width s + m + width s * m))) same ∙
+        ap₂ (λ rs k. laid-out (width s) (s .variables) (m - s .variables) rs (length b - k)) left sheet-end ∙
+        ap₂ (λ v n. laid-out (width s) v n (formula-rows (tidied g)) (length b - length (sheet F (tidied g)))) (sym length-prefix) nodes-left
 
-    pub leaves : {b₂ : Bytes} {end : ℕ} → b₂ ≡ sealed s m b′ → end ≡ 2 * s .width + m + s .width * m → Leaves s b b₂ end
-    leaves e f F w-is = (e ∙ sheet-is F w-is, f ∙ sheet-end F w-is)
+    pub leaves : {b₂ : Bytes} → b₂ ≡ sealed s m b′
+        → Leaves s b b₂ (record { format = s .format; variables = s .variables; nodes = m - s .variables })
+    unfolding tidied formula-in
+    leaves e =
+        record {
+          sheet-is = e ∙ sealed-is;
+          layout-is = ap₂ (λ v n. record { format = s .format; variables = v; nodes = n }) (sym length-prefix) nodes-left;
+          smaller = (refl, omega arith);
+        }

@@ -8,9 +8,10 @@ use rows::write::seal;
 ghost use Prim.Native.Nat.{_≤_};
 ghost use lib.ListN.{length};
 ghost use Rattle.rows.specs.Layouts.{total};
-ghost use Rattle.tidying.specs.Inner.Tables.{RawRows, Leaves};
+ghost use Rattle.tidying.specs.Limits.{Raw};
+ghost use Rattle.tidying.specs.Inner.Tables.{Leaves};
 
-// Tidies the formula whose rows stand in `b`, and returns the tidied sheet's length. The tables may hold anything.
+// Tidies the formula whose rows stand in `b`, and returns the tidied sheet's layout. The tables may hold anything.
 pub fn tidy_by(
     b: &mut [u8],
     s: Layout,
@@ -18,19 +19,25 @@ pub fn tidy_by(
     links: &mut [u16],
     members: &mut [u32],
     known: &mut [u32],
-) -> usize
-    requires { ⌜ RawRows s (now b) × (total s ≤ length (now links)) × (total s ≤ length (now members)) × (total s ≤ length (now known)) ⌝ }
-    ensures { λ end. ⌜ Leaves s (now (b .entry)) (now (b .exit)) end ⌝ }
+) -> Layout
+    requires { ⌜ Raw s (now b) × (total s ≤ length (now links)) × (total s ≤ length (now members)) × (total s ≤ length (now known)) ⌝ }
+    ensures { λ t. ⌜ Leaves s (now (b .entry)) (now (b .exit)) t ⌝ }
 {
     tidy_each(b, s, heads, links, members, known);
     let rows = pack(b, s, known);
-    seal(b, s, rows)
+    seal(b, s, rows);
+    let f = s.format;
+    Layout {
+        format: f,
+        variables: s.variables,
+        nodes: rows - s.variables,
+    }
 }
 
 // The same of 256 rows at most, with tables of zeros.
-fn tidy_256(b: &mut [u8], s: Layout) -> usize
-    requires { ⌜ RawRows s (now b) × (total s ≤ 256) ⌝ }
-    ensures { λ end. ⌜ Leaves s (now (b .entry)) (now (b .exit)) end ⌝ }
+fn tidy_256(b: &mut [u8], s: Layout) -> Layout
+    requires { ⌜ Raw s (now b) × (total s ≤ 256) ⌝ }
+    ensures { λ t. ⌜ Leaves s (now (b .entry)) (now (b .exit)) t ⌝ }
 {
     let mut heads = [0u16; HEADS];
     let mut links = [0u16; 256];
@@ -40,9 +47,9 @@ fn tidy_256(b: &mut [u8], s: Layout) -> usize
 }
 
 // The same of 512 rows at most.
-fn tidy_512(b: &mut [u8], s: Layout) -> usize
-    requires { ⌜ RawRows s (now b) × (total s ≤ 512) ⌝ }
-    ensures { λ end. ⌜ Leaves s (now (b .entry)) (now (b .exit)) end ⌝ }
+fn tidy_512(b: &mut [u8], s: Layout) -> Layout
+    requires { ⌜ Raw s (now b) × (total s ≤ 512) ⌝ }
+    ensures { λ t. ⌜ Leaves s (now (b .entry)) (now (b .exit)) t ⌝ }
 {
     let mut heads = [0u16; HEADS];
     let mut links = [0u16; 512];
@@ -52,9 +59,9 @@ fn tidy_512(b: &mut [u8], s: Layout) -> usize
 }
 
 // The same of 1,024 rows at most.
-fn tidy_1024(b: &mut [u8], s: Layout) -> usize
-    requires { ⌜ RawRows s (now b) × (total s ≤ 1024) ⌝ }
-    ensures { λ end. ⌜ Leaves s (now (b .entry)) (now (b .exit)) end ⌝ }
+fn tidy_1024(b: &mut [u8], s: Layout) -> Layout
+    requires { ⌜ Raw s (now b) × (total s ≤ 1024) ⌝ }
+    ensures { λ t. ⌜ Leaves s (now (b .entry)) (now (b .exit)) t ⌝ }
 {
     let mut heads = [0u16; HEADS];
     let mut links = [0u16; 1024];
@@ -64,9 +71,9 @@ fn tidy_1024(b: &mut [u8], s: Layout) -> usize
 }
 
 // The same of 1,536 rows at most.
-fn tidy_1536(b: &mut [u8], s: Layout) -> usize
-    requires { ⌜ RawRows s (now b) × (total s ≤ 1536) ⌝ }
-    ensures { λ end. ⌜ Leaves s (now (b .entry)) (now (b .exit)) end ⌝ }
+fn tidy_1536(b: &mut [u8], s: Layout) -> Layout
+    requires { ⌜ Raw s (now b) × (total s ≤ 1536) ⌝ }
+    ensures { λ t. ⌜ Leaves s (now (b .entry)) (now (b .exit)) t ⌝ }
 {
     let mut heads = [0u16; HEADS];
     let mut links = [0u16; 1536];
@@ -76,9 +83,9 @@ fn tidy_1536(b: &mut [u8], s: Layout) -> usize
 }
 
 // The same of 2,048 rows at most.
-fn tidy_2048(b: &mut [u8], s: Layout) -> usize
-    requires { ⌜ RawRows s (now b) × (total s ≤ 2048) ⌝ }
-    ensures { λ end. ⌜ Leaves s (now (b .entry)) (now (b .exit)) end ⌝ }
+fn tidy_2048(b: &mut [u8], s: Layout) -> Layout
+    requires { ⌜ Raw s (now b) × (total s ≤ 2048) ⌝ }
+    ensures { λ t. ⌜ Leaves s (now (b .entry)) (now (b .exit)) t ⌝ }
 {
     let mut heads = [0u16; HEADS];
     let mut links = [0u16; 2048];
@@ -88,9 +95,9 @@ fn tidy_2048(b: &mut [u8], s: Layout) -> usize
 }
 
 // The same of 3,072 rows at most.
-fn tidy_3072(b: &mut [u8], s: Layout) -> usize
-    requires { ⌜ RawRows s (now b) × (total s ≤ 3072) ⌝ }
-    ensures { λ end. ⌜ Leaves s (now (b .entry)) (now (b .exit)) end ⌝ }
+fn tidy_3072(b: &mut [u8], s: Layout) -> Layout
+    requires { ⌜ Raw s (now b) × (total s ≤ 3072) ⌝ }
+    ensures { λ t. ⌜ Leaves s (now (b .entry)) (now (b .exit)) t ⌝ }
 {
     let mut heads = [0u16; HEADS];
     let mut links = [0u16; 3072];
@@ -100,9 +107,9 @@ fn tidy_3072(b: &mut [u8], s: Layout) -> usize
 }
 
 // The same of 4,352 rows at most.
-fn tidy_4352(b: &mut [u8], s: Layout) -> usize
-    requires { ⌜ RawRows s (now b) × (total s ≤ 4352) ⌝ }
-    ensures { λ end. ⌜ Leaves s (now (b .entry)) (now (b .exit)) end ⌝ }
+fn tidy_4352(b: &mut [u8], s: Layout) -> Layout
+    requires { ⌜ Raw s (now b) × (total s ≤ 4352) ⌝ }
+    ensures { λ t. ⌜ Leaves s (now (b .entry)) (now (b .exit)) t ⌝ }
 {
     let mut heads = [0u16; HEADS];
     let mut links = [0u16; 4352];
@@ -112,9 +119,9 @@ fn tidy_4352(b: &mut [u8], s: Layout) -> usize
 }
 
 // The same of 9,216 rows at most.
-fn tidy_9216(b: &mut [u8], s: Layout) -> usize
-    requires { ⌜ RawRows s (now b) × (total s ≤ 9216) ⌝ }
-    ensures { λ end. ⌜ Leaves s (now (b .entry)) (now (b .exit)) end ⌝ }
+fn tidy_9216(b: &mut [u8], s: Layout) -> Layout
+    requires { ⌜ Raw s (now b) ⌝ }
+    ensures { λ t. ⌜ Leaves s (now (b .entry)) (now (b .exit)) t ⌝ }
 {
     let mut heads = [0u16; HEADS];
     let mut links = [0u16; 9216];
@@ -124,9 +131,9 @@ fn tidy_9216(b: &mut [u8], s: Layout) -> usize
 }
 
 // The same, with the shortest tables that have an entry for each row.
-pub fn tidy_rows(b: &mut [u8], s: Layout) -> usize
-    requires { ⌜ RawRows s (now b) × (total s ≤ 9216) ⌝ }
-    ensures { λ end. ⌜ Leaves s (now (b .entry)) (now (b .exit)) end ⌝ }
+pub fn tidy_rows(b: &mut [u8], s: Layout) -> Layout
+    requires { ⌜ Raw s (now b) ⌝ }
+    ensures { λ t. ⌜ Leaves s (now (b .entry)) (now (b .exit)) t ⌝ }
 {
     let rows = s.variables + s.nodes;
     if rows <= 256 {

@@ -7,23 +7,23 @@ use Prim.Native.Nat.{ℕ, zero, suc, _+_, _-_, _*_, _^_, _≤_, _<_}
 use native.Mathlib.Numerals.{add-one}
 use native.Mathlib.Omega.{arith}
 use lib.Dec.{eqb}
-use lib.ListN.{length, getD, replicate, take, drop, set, length-set, length-drop, drop-of-length-le, List·getD-map}
+use lib.ListN.{length, getD, replicate, set, length-set, length-drop, drop-of-length-le}
 use lib.Pow.{pow-mono}
-use lib.Seq.{drop-cons, getD-take, getD-set-same, getD-set-other, set-set, set-getD}
+use lib.Seq.{getD-set-same, getD-set-other, set-set, set-getD}
 use borrow.Author.Tests.{eqb-true, eqb-false}
 use Rattle.formula.specs.Tree.{Quantifier, exists, for-all, and, or, dual, same-op}
 use Rattle.formula.specs.Truth.{put, eval}
 use Rattle.formula.specs.Trial.{Tried, stops-at, turn, try}
 use Rattle.formula.proofs.Trial.{try-leaves}
-use Rattle.sheet.specs.Format.{Bytes, row}
-use Rattle.sheet.specs.Sheet.{binding}
-use Rattle.rows.specs.Layouts.{rows-in}
+use Rattle.sheet.specs.Format.{Bytes}
 use Rattle.rows.specs.Formulas.{prefix-in, matrix-in, Readable}
 use Rattle.rows.specs.declared.Layout.{Layout}
 use Rattle.rows.proofs.Formulas.{length-prefix}
+use Rattle.prefixes.specs.Places.{binding-in}
+use Rattle.prefixes.proofs.Places.{prefix-row}
 use Rattle.trial.specs.declared.Outcome.{Outcome}
 use Rattle.trial.specs.Inner.Jumps.{values}
-use Rattle.trial.specs.Inner.Turns.{tried, prefix-row, unread, turns, semantic-tree, Ready, Turned}
+use Rattle.trial.specs.Inner.Turns.{tried, unread, turns, semantic-tree, Ready, Turned}
 
 -- the assignment
 
@@ -49,16 +49,17 @@ turn-goes-on q t₀ t₁ e = rw e
 
 -- the side that owns row i
 abbrev pub owner : Layout → Bytes → ℕ → Quantifier
-owner s b i = cond (eqb ((prefix-row s b i) .kind) 1) exists for-all
+owner s b i = (binding-in s b i) .quantifier
+
+-- the side by whether it is existential
+pub owned-by : (q : Quantifier) {asked u : Bool} → asked ≡ same-op exists q → asked ≡ u → q ≡ cond u exists for-all
+owned-by and h e = rw (← e, h)
+owned-by or h e = rw (← e, h)
 
 module _ (s : Layout) (b : Bytes) (ok : Readable s b) where
-  unread-row : (i : ℕ) → i < s .variables → unread s b i ≡ binding (prefix-row s b i) ∷ unread s b (i + 1)
-  unfolding unread prefix-in
-  unread-row i h =
-      let R = rows-in s b in
-      rw (add-one, drop-cons (prefix-in s b) i (binding (row 0 0)) (omega (arith, length-prefix b ok)))
-      (ap (λ x. x ∷ drop (suc i) (prefix-in s b))
-      (List·getD-map binding (take (s .variables) R) i (row 0 0) ∙ ap binding (getD-take (s .variables) R i (row 0 0) h)))
+  unread-row : (i : ℕ) → i < s .variables → unread s b i ≡ binding-in s b i ∷ unread s b (i + 1)
+  unfolding unread
+  unread-row i h = rw add-one (prefix-row b ok i h)
 
   pub turns-leaf : (table : List Bool) (v : Bool) → v ≡ eval (matrix-in s b) (values table)
       → record { verdict = v; leaves = 1 } ≡ turns s b (s .variables) table
@@ -78,10 +79,10 @@ module _ (s : Layout) (b : Bytes) (ok : Readable s b) where
       omega (arith, try-leaves (unread s b i) (eval (matrix-in s b)) (values table), pow-mono left)
 
   -- what a row's turn makes of the turns on its two values
-  turns-row : (i x : ℕ) (table : List Bool) → i < s .variables → x ≡ (prefix-row s b i) .argument → x < length table
+  turns-row : (i x : ℕ) (table : List Bool) → i < s .variables → x ≡ (binding-in s b i) .variable → x < length table
       → turns s b i table ≡
       turn (owner s b i) (turns s b (i + 1) (set table x false)) (turns s b (i + 1) (set table x true))
-  unfolding turns try binding
+  unfolding turns try
   turns-row i x table h e l = rw (unread-row i h, ← e, put-values table x false l, put-values table x true l)
 
 -- row i is of the side q and binds x
@@ -90,11 +91,11 @@ pub record Own (q : Quantifier) (s : Layout) (b : Bytes) (i x : ℕ) (table : Li
   pub few : s .variables ≤ 20
   pub within : i < s .variables
   pub owned : owner s b i ≡ q
-  pub binds : x ≡ (prefix-row s b i) .argument
+  pub binds : x ≡ (binding-in s b i) .variable
   pub inside : x < length table
 
 pub own-row : {q : Quantifier} {s : Layout} {b : Bytes} {i x : ℕ} {table : List Bool} {high low : List ℕ}
-    → Ready s b high low (length table) → i < s .variables → owner s b i ≡ q → x ≡ (prefix-row s b i) .argument → Own q s b i x table
+    → Ready s b high low (length table) → i < s .variables → owner s b i ≡ q → x ≡ (binding-in s b i) .variable → Own q s b i x table
 own-row {i = i} ready within owned binds =
     record {
       readable = ready .playable .readable;

@@ -1,6 +1,10 @@
 // Trial: decides a formula by trying values, 0 first, along its semantic tree.
 use checking::Checked;
+use prefixes::is_existential;
+use prefixes::variable_at;
+use rows::Format;
 use rows::Layout;
+use rows::refusals::TOO_MANY_TO_TRY;
 use subtrees::ends::fill_ends;
 use subtrees::nodes::argument_at;
 use subtrees::nodes::children_at;
@@ -8,18 +12,17 @@ use subtrees::nodes::kind_at;
 ghost use mathlib.Core.Path.{_≡_};
 ghost use mathlib.Core.Bool.{Bool·beq};
 ghost use Prim.Native.Nat.{_+_, _^_, _≤_, _<_};
-ghost use lib.Dec.{eqb};
 ghost use lib.ListN.{length, getD};
 ghost use Rattle.formula.specs.Truth.{eval};
-ghost use Rattle.sheet.specs.Format.{narrow, wide, row};
+ghost use Rattle.sheet.specs.Format.{row};
 ghost use Rattle.sheet.specs.Operations.{trial-call};
 ghost use Rattle.rows.specs.Formats.{format-of};
 ghost use Rattle.rows.specs.Formulas.{node-rows-in, matrix-in, Readable};
+ghost use Rattle.rows.specs.Tables.{NUMBERS};
 ghost use Rattle.subtrees.specs.Ends.{Indexed};
-ghost use Rattle.checking.specs.Limits.{Manageable};
 ghost use Rattle.trial.specs.Answers.{tried-answer};
 ghost use Rattle.trial.specs.Inner.Jumps.{entry, Parent, Parents, past, Targets, Rooms, values, row-value, next, Jumps};
-ghost use Rattle.trial.specs.Inner.Turns.{tried, prefix-row, turns, semantic-tree, Playable, Ready, Turned};
+ghost use Rattle.trial.specs.Inner.Turns.{tried, turns, semantic-tree, Playable, Ready, Turned};
 
 // What Trial answers: the verdict and the leaves tried, or a refusal's number and place.
 pub enum Tried {
@@ -156,22 +159,6 @@ fn evaluate(sheet: &[u8], s: Layout, high: &[u16], low: &[u16], assignment: &[bo
     i == n
 }
 
-// Whether prefix row `i` is the existential side's.
-fn is_existential(sheet: &[u8], s: Layout, i: usize) -> bool
-    requires { ⌜ Readable s (now sheet) × (i < s .variables) ⌝ }
-    ensures { λ e. ⌜ e ≡ eqb ((prefix-row s (now (sheet .entry)) i) .kind) 1 ⌝ }
-{
-    rows::read::kind_at(sheet, s, i) == rows::EXISTS
-}
-
-// The variable that prefix row `i` binds.
-fn variable_at(sheet: &[u8], s: Layout, i: usize) -> usize
-    requires { ⌜ Readable s (now sheet) × (i < s .variables) ⌝ }
-    ensures { λ x. ⌜ x ≡ (prefix-row s (now (sheet .entry)) i) .argument ⌝ }
-{
-    rows::read::argument_at(sheet, s, i)
-}
-
 // A leaf of the semantic tree: no prefix row is left.
 fn leaf(sheet: &[u8], s: Layout, high: &[u16], low: &[u16], assignment: &[bool]) -> Outcome
     requires { ⌜ Ready s (now sheet) (now high) (now low) (length (now assignment)) ⌝ }
@@ -267,7 +254,7 @@ fn universal(
 
 // Tries the whole semantic tree of a checked sheet, existential turn first; the first assignment is never read.
 fn semantic_tree(sheet: &[u8], s: Layout) -> Outcome
-    requires { ⌜ Playable s (now sheet) 1025 ⌝ }
+    requires { ⌜ Playable s (now sheet) NUMBERS ⌝ }
     ensures { λ o. ⌜ tried o ≡ semantic-tree s (now (sheet .entry)) ⌝ }
 {
     let mut high = [0u16; rows::ROWS];
@@ -277,39 +264,19 @@ fn semantic_tree(sheet: &[u8], s: Layout) -> Outcome
     existential(sheet, s, &high, &low, &mut assignment, 0)
 }
 
-// Tries a sheet of any format within the limits of Check's code: 1 to 8, then 14.
-fn trial_in(sheet: &[u8], f: rows::Format) -> Tried
-    requires { ⌜ Manageable (format-of f) ⌝ }
+// Decides a sheet by trying values: the verdict and the leaves tried, or refused with number and place, 1 to 8, then 14.
+pub fn trial(sheet: &[u8], f: Format) -> Tried
     ensures { λ r. ⌜ tried-answer r ≡ trial-call (format-of f) (now (sheet .entry)) ⌝ }
 {
-    let checked = checking::check_in(sheet, f);
+    let checked = checking::check(sheet, f);
     match checked {
         Checked::Refused(number, place) => Tried::Refused(number, place),
-        Checked::Accepted(v, n) => {
-            if 20 < v {
-                return Tried::Refused(14, 0);
+        Checked::Accepted(s) => {
+            if 20 < s.variables {
+                return Tried::Refused(TOO_MANY_TO_TRY, 0);
             }
-            let s = Layout {
-                width: f.width,
-                variables: v,
-                nodes: n,
-            };
             let o = semantic_tree(sheet, s);
             Tried::Answered(o.verdict, o.leaves)
         }
     }
-}
-
-// Decides a sheet of document 01 by trying values: the verdict and the leaves tried, or refused with number and place.
-pub fn trial(sheet: &[u8]) -> Tried
-    ensures { λ r. ⌜ tried-answer r ≡ trial-call narrow (now (sheet .entry)) ⌝ }
-{
-    trial_in(sheet, rows::narrow())
-}
-
-// Decides a wide sheet (N11) by trying values.
-pub fn trial_wide(sheet: &[u8]) -> Tried
-    ensures { λ r. ⌜ tried-answer r ≡ trial-call wide (now (sheet .entry)) ⌝ }
-{
-    trial_in(sheet, rows::wider())
 }

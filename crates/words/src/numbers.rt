@@ -1,5 +1,5 @@
 // Numbers in digits.
-use rows::wide;
+use rows::from_byte;
 ghost use mathlib.Core.Path.{_≡_};
 ghost use mathlib.Core.Bool.{true};
 ghost use Prim.Native.Nat.{_+_, _*_, _-_, _≤_};
@@ -38,7 +38,7 @@ fn with_digit(value: usize, c: u8) -> usize
     requires { ⌜ digit c ≡ true ⌝ }
     ensures { λ r. ⌜ Capped largest (10 * value + (c - 48)) r × (r ≤ largest) ⌝ }
 {
-    let d = wide(c) - 48;
+    let d = from_byte(c) - 48;
     if (18446744073709551615 - d) / 10 < value {
         return 18446744073709551615;
     }

@@ -5,7 +5,7 @@ use crate::command::{Answer, Command, Failure};
 use crate::format::DEFAULT;
 use crate::formula::{Row, POSITIVE};
 use crate::input::{self, Input};
-use crate::library::{Sheet, Solved};
+use crate::library::{foreign::refusals, Sheet, Solved};
 use crate::names::Names;
 use crate::refusal::Refusal;
 use crate::rule::{next_move, Move, Reason};
@@ -128,7 +128,7 @@ impl<'a> Run<'a> {
 
     fn expand(&mut self, held: &Sheet, row: Row, raw: usize) -> Result<Option<Sheet>, Refusal> {
         let next = match held.expand(row.argument, self.room) {
-            Err(Refusal { number: 13, .. }) => {
+            Err(Refusal { number: refusals::NO_ROOM, .. }) => {
                 self.stop(held, row, raw)?;
                 return Ok(None);
             }

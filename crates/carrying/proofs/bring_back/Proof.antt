@@ -1,21 +1,14 @@
 -- `carrying::bring_back` meets its contract. Assumes nothing.
-use mathlib.Core.Path.{sym, ap, _∙_}
 use borrow.Author.Needs.{needs}
-use Rattle.sheet.specs.Check.{check}
 use Rattle.sheet.proofs.Carrying.{bring-back-unchecked}
-use Rattle.checking.specs.Answers.{checked-answer}
-use Rattle.checking.proofs.CheckedSheets.{wide-manageable, sheet-checked}
+use Rattle.sheet.proofs.Writing.{written}
+use Rattle.rows.specs.declared.Format.the-variants.{Wide}
+use Rattle.checking.proofs.CheckedSheets.{sheet-checked, sheet-refused}
 use Rattle.carrying.proofs.bring_back.Statement.{statement}
 use Rattle.carrying.proofs.bring_back.Tie as tie
 
-wider-requires : tie.Need-wider-requires
-wider-requires c κs = search needs
-
-narrow-requires : tie.Need-narrow-requires
-narrow-requires c κs = search needs
-
-check-in-requires : tie.Need-check-in-requires
-check-in-requires c κs = rw (c .before .wider .ensures) wide-manageable
+check-requires : tie.Need-check-requires
+check-requires c κs = search needs
 
 enum-known-c : tie.Need-enum-known-c
 enum-known-c c = search needs
@@ -23,9 +16,7 @@ enum-known-c c = search needs
 bring-back-checked-requires : tie.Need-bring-back-checked-requires
 bring-back-checked-requires c κs =
     let told = c .before .before in
-    let checked = told .before .before in
-    let formats = checked .before in
-    (formats .before .wider .ensures, formats .narrow .ensures, sheet-checked (told .c .given .1) (checked .check-in .ensures))
+    sheet-checked (told .c .given .1) (told .before .before .check .ensures)
 
 enum-known-c-2 : tie.Need-enum-known-c-2
 enum-known-c-2 c = search needs
@@ -40,18 +31,15 @@ returns-2 : tie.Need-returns-2
 returns-2 c =
     let told = c .before in
     let checked = told .before .before in
-    let format = checked .before .before in
-    let a = format .before .before .before .args in
-    bring-back-unchecked (a .sheet .now) (a .out .now)
-    (sym (ap checked-answer (told .c2 .given .1)) ∙ checked .check-in .ensures ∙ ap (λ F. check F (a .sheet .now)) (format .wider .ensures))
+    let a = checked .before .before .before .args in
+    written
+    (bring-back-unchecked (a .sheet .now) (a .out .now) (sheet-refused Wide (a .sheet .now) (told .c2 .given .1) (checked .check .ensures)))
 
 pub bring-back-spec : {M : Type 1} → statement M
 bring-back-spec =
     tie.close
     (tie.spec
-    wider-requires
-    narrow-requires
-    check-in-requires
+    check-requires
     enum-known-c
     bring-back-checked-requires
     enum-known-c-2

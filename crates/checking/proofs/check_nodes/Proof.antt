@@ -8,6 +8,7 @@ use Rattle.sheet.specs.Format.{row}
 use Rattle.rows.specs.Layouts.{total, rows-in}
 use Rattle.rows.specs.Formulas.{node-rows-in}
 use Rattle.rows.proofs.Layouts.{length-rows-in}
+use Rattle.checking.specs.Answers.{checked-as}
 use Rattle.checking.specs.Inner.Stages.{sizes, bound-in, node}
 use Rattle.checking.proofs.Turn.{Noded, nodes-none, nodes-all, node-kind, node-unbound, node-turn}
 use Rattle.checking.proofs.check_nodes.Statement.{statement}
@@ -56,7 +57,7 @@ unfolding node-rows-in
 returns c =
     let k = c .before .before in
     let turn = k .before .before in
-    node-kind _ _ _ _ (more turn) (turn .before .loop .inv) (kind-here k ∙ not-true _ (c .if1 .taken))
+    ap (checked-as _) (node-kind _ _ _ _ (more turn) (turn .before .loop .inv) (kind-here k ∙ not-true _ (c .if1 .taken)))
 
 returns-2 : tie.Need-returns-2 Inv-loop μ-loop
 unfolding node-rows-in
@@ -64,8 +65,8 @@ returns-2 c =
     let u = c .before .before in
     let turn = u .before .before .before in
     let start = turn .before .before .before .before in
-    node-unbound _ _ _ _ (more turn) (turn .before .loop .inv) (kind-here (u .before) ∙ not-false _ (c .before .if1 .left))
-    (start .args .bound .now) (start .pre .1) (sym (u .is-unbound .ensures) ∙ c .if2 .taken)
+    ap (checked-as _) (node-unbound _ _ _ _ (more turn) (turn .before .loop .inv) (kind-here (u .before) ∙ not-false _ (c .before .if1 .left))
+    (start .args .bound .now) (start .pre .1) (sym (u .is-unbound .ensures) ∙ c .if2 .taken))
 
 add-r : tie.Need-add-r Inv-loop μ-loop
 add-r c = omega arith
@@ -83,7 +84,7 @@ loop-again c =
 
 returns-3 : tie.Need-returns-3 Inv-loop μ-loop
 unfolding node-rows-in
-returns-3 c = nodes-all _ _ _ _ (omega (arith, all (c .before .before .before .before))) (c .before .loop .inv)
+returns-3 c = ap (checked-as _) (nodes-all _ _ _ _ (omega (arith, all (c .before .before .before .before))) (c .before .loop .inv))
 
 pub check-nodes-spec : {M : Type 1} → statement M
 check-nodes-spec =

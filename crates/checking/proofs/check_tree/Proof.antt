@@ -1,5 +1,5 @@
 -- `checking::check_tree` meets its contract. Assumes nothing.
-use mathlib.Core.Path.{_≡_}
+use mathlib.Core.Path.{_≡_, ap}
 use Prim.Native.Nat.{_+_}
 use borrow.Author.Needs.{needs}
 use native.Mathlib.Omega.{arith}
@@ -7,6 +7,7 @@ use lib.ListN.{length, length-drop}
 use Rattle.rows.specs.Layouts.{total, rows-in}
 use Rattle.rows.specs.Formulas.{node-rows-in}
 use Rattle.rows.proofs.Layouts.{length-rows-in}
+use Rattle.checking.specs.Answers.{checked-as}
 use Rattle.checking.proofs.Debt.{tree-owed, tree-early, tree-whole}
 use Rattle.checking.proofs.check_tree.Statement.{statement}
 use Rattle.checking.proofs.check_tree.Tie as tie
@@ -27,19 +28,19 @@ returns : tie.Need-returns
 unfolding node-rows-in
 returns c =
     let w = c .before .before in
-    tree-owed _ _ _ _ (end (w .before .before .before)) (w .walk .result) (w .walk .ensures) (c .if1 .taken)
+    ap (checked-as _) (tree-owed _ _ _ _ (end (w .before .before .before)) (w .walk .result) (w .walk .ensures) (c .if1 .taken))
 
 returns-2 : tie.Need-returns-2
 unfolding node-rows-in
 returns-2 c =
     let w = c .before .before .before .before in
-    tree-early _ _ _ _ (end (w .before .before .before)) (w .walk .result) (w .walk .ensures) (c .before .before .if1 .left) (c .if2 .taken)
+    ap (checked-as _) (tree-early _ _ _ _ (end (w .before .before .before)) (w .walk .result) (w .walk .ensures) (c .before .before .if1 .left) (c .if2 .taken))
 
 returns-3 : tie.Need-returns-3
 unfolding node-rows-in
 returns-3 c =
     let w = c .before .before .before .before in
-    tree-whole _ _ _ _ (end (w .before .before .before)) (w .walk .result) (w .walk .ensures) (c .before .before .if1 .left) (c .if2 .left)
+    ap (checked-as _) (tree-whole _ _ _ _ (end (w .before .before .before)) (w .walk .result) (w .walk .ensures) (c .before .before .if1 .left) (c .if2 .left))
 
 pub check-tree-spec : {M : Type 1} → statement M
 check-tree-spec = tie.close (tie.spec add-end walk-requires returns returns-2 returns-3)

@@ -6,10 +6,13 @@ use mathlib.Core.List.{List, [], _∷_}
 use Prim.Native.Nat.{ℕ, zero, suc, _+_, _^_, _<_}
 use lib.Dec.{eqb, ltb, leb}
 use lib.ListN.{length, getD, take}
-use Rattle.sheet.specs.Format.{Bytes, Format, Row, children}
+use Rattle.sheet.specs.Format as sheet
+use Rattle.sheet.specs.Format.{Bytes, Row, children}
 use Rattle.sheet.specs.Check.{Answer, Sizes, answer, size-tests, member, quantifier-tests, node-tests, tree-test, arguments}
-use Rattle.rows.specs.Layouts.{total, rows-in, Room}
+use Rattle.rows.specs.Formats.{format-of}
+use Rattle.rows.specs.Layouts.{format-in, total, rows-in, Room}
 use Rattle.rows.specs.Formulas.{node-rows-in, layout-of}
+use Rattle.rows.specs.declared.Format.{Format}
 use Rattle.rows.specs.declared.Layout.{Layout}
 use Rattle.checking.specs.declared.Reached.{Reached}
 
@@ -31,10 +34,10 @@ bound-in s b = arguments (prefix-rows-in s b)
 
 -- the answers of the stages
 abbrev pub size-answer : Format → Bytes → Answer Sizes
-size-answer F b = answer (size-tests F b) (sizes (layout-of F b))
+size-answer f b = answer (size-tests (format-of f) b) (sizes (layout-of f b))
 
-abbrev pub prefix-answer : Format → Layout → Bytes → Answer Sizes
-prefix-answer F s b = answer (quantifier-tests F 0 [] (prefix-rows-in s b)) (sizes s)
+abbrev pub prefix-answer : Layout → Bytes → Answer Sizes
+prefix-answer s b = answer (quantifier-tests (format-in s) 0 [] (prefix-rows-in s b)) (sizes s)
 
 abbrev pub node-answer : Layout → Bytes → Answer Sizes
 node-answer s b = answer (node-tests (s .variables) (bound-in s b) (node-rows-in s b)) (sizes s)
@@ -43,7 +46,7 @@ abbrev pub tree-answer : Layout → Bytes → Answer Sizes
 tree-answer s b = answer (tree-test 1 (s .variables) (node-rows-in s b) ∷ []) (sizes s)
 
 -- the tests in Check's own words: a size outside its limits; kinds 1 and 2; a quantifier number outside 1 to the most; kinds 3 to 6
-abbrev pub outside : Format → ℕ → ℕ → Bool
+abbrev pub outside : sheet.Format → ℕ → ℕ → Bool
 outside F v n = ltb (F .most-variables) v || eqb n 0 || ltb (F .most-nodes) n
 
 abbrev pub quantifier : ℕ → Bool

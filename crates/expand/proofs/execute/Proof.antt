@@ -1,28 +1,85 @@
 -- `expand::execute` meets its contract. Assumes nothing.
-use mathlib.Core.Path.{ap, _∙_}
+use mathlib.Core.Path.{sym, ap, _∙_, subst}
 use borrow.Author.Needs.{needs}
 use Rattle.sheet.specs.Operations.{execute-call}
-use Rattle.checking.proofs.CheckedSheets.{narrow-countable}
+use Rattle.rows.specs.Formats.{format-of}
+use Rattle.expand.specs.Inner.Plan.{Plans}
+use Rattle.expand.specs.declared.plan.Plan.the-variants.{Expands}
+use Rattle.expand.proofs.Deciding.{refused-execution, above-ceiling, within-ceiling}
 use Rattle.expand.proofs.execute.Statement.{statement}
 use Rattle.expand.proofs.execute.Tie as tie
 
-narrow-requires : tie.Need-narrow-requires
-narrow-requires c κs = search needs
+slice-aggregate-plan-expand : tie.Need-slice-aggregate-plan-expand
+slice-aggregate-plan-expand c = search needs
 
-execute-in-requires : tie.Need-execute-in-requires
-execute-in-requires c κs = rw (c .before .narrow .ensures) narrow-countable
+plan-expand-requires : tie.Need-plan-expand-requires
+plan-expand-requires c κs = search needs
+
+enum-known-p : tie.Need-enum-known-p
+enum-known-p c = search needs
+
+enum-known-p-2 : tie.Need-enum-known-p-2
+enum-known-p-2 c = search needs
+
+abbrev start : tie.After-plan-expand → tie.Start
+start c = c .before .before .before .before
+
+abbrev plan : tie.After-p2 → tie.After-plan-expand
+plan c = c .before .before .before
+
+planned : (c : tie.After-p2)
+    → let a = start (plan c) .args in
+    Plans (a .f) (a .sheet .now) (a .x) (plan c .plan-expand .last .1 .1 .1 .0) (Expands (c .p2 .given .0 .0) (c .p2 .given .0 .1 .0))
+planned c =
+    let a = start (plan c) .args in
+    subst (Plans (a .f) (a .sheet .now) (a .x) (plan c .plan-expand .last .1 .1 .1 .0)) (c .p2 .given .1) (plan c .plan-expand .ensures)
+
+returns : tie.Need-returns
+returns c =
+    let told = c .before .before .before in
+    let a = start (plan told) .args in
+    let is = planned told in
+    above-ceiling (is .1) (a .ceiling) (a .out .now) (c .if1 .taken) ∙
+    ap (λ f. execute-call (format-of f) (a .sheet .now) (a .x) (a .ceiling) (a .out .now)) (is .0)
+
+slice-aggregate-expand-planned : tie.Need-slice-aggregate-expand-planned
+slice-aggregate-expand-planned c = search needs
+
+expand-planned-requires : tie.Need-expand-planned-requires
+expand-planned-requires c κs = planned (c .before .before .before .before .before) .1
+
+returns-2 : tie.Need-returns-2
+returns-2 c =
+    let told = c .before in
+    let plan = told .before .before .before in
+    let a = start plan .args in
+    refused-execution (format-of (a .f)) (a .sheet .now) (a .x) (a .ceiling) (a .out .now)
+    (subst (Plans (a .f) (a .sheet .now) (a .x) _) (told .p .given .1) (plan .plan-expand .ensures))
 
 same-length : tie.Need-same-length
 same-length c = search needs
 
-returns : tie.Need-returns
-returns c =
-    let call = c .before .before in
-    let format = call .before .before in
-    let a = format .before .before .before .args in (
-      call .execute-in .ensures .0 ∙ ap (λ F. (execute-call F (a .sheet .now) (a .x) (a .ceiling) (a .out .now)) .answer) (format .narrow .ensures),
-      call .execute-in .ensures .1 ∙ ap (λ F. (execute-call F (a .sheet .now) (a .x) (a .ceiling) (a .out .now)) .output) (format .narrow .ensures),
-    )
+returns-3 : tie.Need-returns-3
+returns-3 c =
+    let carried = c .before .before in
+    let within = carried .before .before .before in
+    let told = within .before .before .before in
+    let a = start (plan told) .args in
+    let is = planned told in
+    carried .expand-planned .ensures ∙ sym (within-ceiling (is .1) (a .ceiling) (a .out .now) (within .if1 .left)) ∙
+    ap (λ f. execute-call (format-of f) (a .sheet .now) (a .x) (a .ceiling) (a .out .now)) (is .0)
 
 pub execute-spec : {M : Type 1} → statement M
-execute-spec = tie.close (tie.spec narrow-requires execute-in-requires same-length returns)
+execute-spec =
+    tie.close
+    (tie.spec
+    slice-aggregate-plan-expand
+    plan-expand-requires
+    enum-known-p
+    enum-known-p-2
+    returns
+    slice-aggregate-expand-planned
+    expand-planned-requires
+    returns-2
+    same-length
+    returns-3)

@@ -1,28 +1,75 @@
 -- `expand::expand` meets its contract. Assumes nothing.
-use mathlib.Core.Path.{ap, _∙_}
+use mathlib.Core.Path.{ap, _∙_, subst}
 use borrow.Author.Needs.{needs}
+use lib.ListN.{length}
 use Rattle.sheet.specs.Operations.{expand-call}
-use Rattle.checking.proofs.CheckedSheets.{narrow-countable}
+use Rattle.rows.specs.Formats.{format-of}
+use Rattle.expand.specs.Inner.Plan.{Plans}
+use Rattle.expand.specs.declared.plan.Plan.the-variants.{Expands}
+use Rattle.expand.proofs.Deciding.{refused-quote, refused-call}
 use Rattle.expand.proofs.expand.Statement.{statement}
 use Rattle.expand.proofs.expand.Tie as tie
 
-narrow-requires : tie.Need-narrow-requires
-narrow-requires c κs = search needs
+slice-aggregate-plan-expand : tie.Need-slice-aggregate-plan-expand
+slice-aggregate-plan-expand c = search needs
 
-expand-in-requires : tie.Need-expand-in-requires
-expand-in-requires c κs = rw (c .before .narrow .ensures) narrow-countable
+plan-expand-requires : tie.Need-plan-expand-requires
+plan-expand-requires c κs = search needs
+
+enum-known-p : tie.Need-enum-known-p
+enum-known-p c = search needs
+
+enum-known-p-2 : tie.Need-enum-known-p-2
+enum-known-p-2 c = search needs
+
+slice-aggregate-expand-planned : tie.Need-slice-aggregate-expand-planned
+slice-aggregate-expand-planned c = search needs
+
+abbrev start : tie.After-plan-expand → tie.Start
+start c = c .before .before .before .before
+
+abbrev plan : tie.After-p2 → tie.After-plan-expand
+plan c = c .before .before .before
+
+planned : (c : tie.After-p2)
+    → let a = start (plan c) .args in
+    Plans (a .f) (a .sheet .now) (a .x) (plan c .plan-expand .last .1 .1 .1 .0) (Expands (c .p2 .given .0 .0) (c .p2 .given .0 .1 .0))
+planned c =
+    let a = start (plan c) .args in
+    subst (Plans (a .f) (a .sheet .now) (a .x) (plan c .plan-expand .last .1 .1 .1 .0)) (c .p2 .given .1) (plan c .plan-expand .ensures)
+
+expand-planned-requires : tie.Need-expand-planned-requires
+expand-planned-requires c κs = planned (c .before .before .before) .1
+
+returns : tie.Need-returns
+returns c =
+    let told = c .before in
+    let plan = told .before .before .before in
+    let a = start plan .args in
+    refused-call (format-of (a .f)) (a .sheet .now) (a .x) (a .out .now)
+    (refused-quote (format-of (a .f)) (a .sheet .now) (a .x) (length (a .out .now))
+    (subst (Plans (a .f) (a .sheet .now) (a .x) _) (told .p .given .1) (plan .plan-expand .ensures)))
 
 same-length : tie.Need-same-length
 same-length c = search needs
 
-returns : tie.Need-returns
-returns c =
-    let call = c .before .before in
-    let format = call .before .before in
-    let a = format .before .before .before .args in (
-      call .expand-in .ensures .0 ∙ ap (λ F. (expand-call F (a .sheet .now) (a .x) (a .out .now)) .answer) (format .narrow .ensures),
-      call .expand-in .ensures .1 ∙ ap (λ F. (expand-call F (a .sheet .now) (a .x) (a .out .now)) .output) (format .narrow .ensures),
-    )
+returns-2 : tie.Need-returns-2
+returns-2 c =
+    let carried = c .before .before in
+    let told = carried .before .before .before .before in
+    let a = start (plan told) .args in
+    carried .expand-planned .ensures ∙ ap (λ f. expand-call (format-of f) (a .sheet .now) (a .x) (a .out .now)) (planned told .0)
 
 pub expand-spec : {M : Type 1} → statement M
-expand-spec = tie.close (tie.spec narrow-requires expand-in-requires same-length returns)
+expand-spec =
+    tie.close
+    (tie.spec
+    slice-aggregate-plan-expand
+    plan-expand-requires
+    enum-known-p
+    enum-known-p-2
+    slice-aggregate-expand-planned
+    expand-planned-requires
+    returns
+    same-length
+    returns-2)

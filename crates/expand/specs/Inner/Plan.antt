@@ -4,27 +4,29 @@ use mathlib.Core.Path.{_≡_}
 use mathlib.Core.Bool.{true}
 use mathlib.Core.List.{List}
 use Prim.Native.Nat.{ℕ}
-use Rattle.sheet.specs.Format.{Bytes, Format}
+use Rattle.sheet.specs.Format.{Bytes}
 use Rattle.sheet.specs.Sheet.{formula}
 use Rattle.sheet.specs.Check.{refused, answer, passes}
 use Rattle.sheet.specs.Operations.{quote-tests}
+use Rattle.rows.specs.Formats.{format-of}
+use Rattle.rows.specs.Layouts.{format-in}
 use Rattle.rows.specs.Formulas.{formula-in}
+use Rattle.rows.specs.declared.Format.{Format}
 use Rattle.rows.specs.declared.Layout.{Layout}
 use Rattle.stepping.specs.Steps.{Steppable, Named}
 use Rattle.stepping.specs.Expanding.{Prepared}
-use Rattle.stepping.specs.declared.expanding.Expanding.{Expanding}
+use Rattle.stepping.specs.declared.survey.Survey.{Survey}
 use Rattle.expand.specs.declared.plan.Plan as plan
 use Rattle.expand.specs.declared.plan.Plan.{Plan}
 
 -- every test short of 13 passes, and what is written is the expansion of x, with its cuts at the front of a table
-pub record Planned (F : Format) (b : Bytes) (x : ℕ) (table : List ℕ) (s : Layout) (w : Expanding) : Type 0 where
-  pub tests-pass : passes (quote-tests F b x) ≡ true
-  pub variable-is : w .variable ≡ x
-  pub from : Steppable F s b
-  pub named : Named s b (w .variable) (w .to .row)
-  pub prepared : Prepared s b (w .variable) (w .to .row) table w
-  pub same-formula : formula-in s b ≡ formula F b
+pub record Planned (b : Bytes) (x : ℕ) (table : List ℕ) (s : Layout) (w : Survey) : Type 0 where
+  pub tests-pass : passes (quote-tests (format-in s) b x) ≡ true
+  pub from : Steppable s b
+  pub named : Named s b x (w .to .row)
+  pub prepared : Prepared s b x (w .to .row) table w
+  pub same-formula : formula-in s b ≡ formula (format-in s) b
 
 abbrev pub Plans : Format → Bytes → ℕ → List ℕ → Plan → Type 0
-Plans F b x table (plan.the-variants.Refused n i) = refused n i ≡ answer (quote-tests F b x) x
-Plans F b x table (plan.the-variants.Expands s w) = Planned F b x table s w
+Plans f b x table (plan.the-variants.Refused n i) = refused n i ≡ answer (quote-tests (format-of f) b x) x
+Plans f b x table (plan.the-variants.Expands s w) = (s .format ≡ f) × Planned b x table s w

@@ -1,17 +1,39 @@
 -- `force::force` meets its contract. Assumes nothing.
 use mathlib.Core.Path.{ap, _∙_}
 use Rattle.sheet.specs.Force.{force-call}
-use Rattle.checking.proofs.CheckedSheets.{narrow-countable}
+use Rattle.rows.specs.Formats.{format-of}
+use Rattle.checking.specs.Sheets.{Sheet}
+use Rattle.checking.proofs.CheckedSheets.{sheet-checked, sheet-refused, sheet-format, sheet-own}
+use Rattle.force.proofs.Answering.{unchecked-call}
 use borrow.Author.Needs.{needs}
 use Rattle.force.proofs.force.Statement.{statement}
 use Rattle.force.proofs.force.Tie as tie
 
-narrow-requires : tie.Need-narrow-requires
-narrow-requires c κs = search needs
+abbrev start : tie.After-check → tie.Start
+start c = c .before .before .before .before .before
 
-force-in-requires : tie.Need-force-in-requires
-force-in-requires c κs =
-    rw (c .before .before .narrow .ensures) narrow-countable
+accepted : (c : tie.After-c2) → let a = start (c .before .before) .args in Sheet (a .f) (a .sheet .now) (c .c2 .given .0 .0)
+accepted c = sheet-checked (c .c2 .given .1) (c .before .before .check .ensures)
+
+check-requires : tie.Need-check-requires
+check-requires c κs = search needs
+
+enum-known-c : tie.Need-enum-known-c
+enum-known-c c = search needs
+
+enum-known-c-2 : tie.Need-enum-known-c-2
+enum-known-c-2 c = search needs
+
+force-checked-requires : tie.Need-force-checked-requires
+force-checked-requires c κs = sheet-own (accepted (c .before .before .before))
+
+returns : tie.Need-returns
+returns c =
+    let told = c .before in
+    let checked = told .before .before in
+    let a = start checked .args in
+    unchecked-call (format-of (a .f)) (a .sheet .now) (a .values .now) (a .first .now) (a .second .now)
+    (sheet-refused (a .f) (a .sheet .now) (told .c .given .1) (checked .check .ensures))
 
 same-length : tie.Need-same-length
 same-length c = search needs
@@ -19,19 +41,23 @@ same-length c = search needs
 same-length-2 : tie.Need-same-length-2
 same-length-2 c = search needs
 
-returns : tie.Need-returns
-returns c =
+returns-2 : tie.Need-returns-2
+returns-2 c =
     let call = c .before .before .before .before in
-    let format = call .before .before .before in
-    let a = format .before .before .before .before .before .args in
-    let e = format .narrow .ensures in (
-      call .force-in .ensures .0 ∙ ap (λ F. (force-call F (a .sheet .now) (a .values .now) (a .first .now) (a .second .now)) .answer) e,
-      (
-        call .force-in .ensures .1 .0 ∙ ap (λ F. (force-call F (a .sheet .now) (a .values .now) (a .first .now) (a .second .now)) .first) e,
-        call .force-in .ensures .1 .1 ∙ ap (λ F. (force-call F (a .sheet .now) (a .values .now) (a .first .now) (a .second .now)) .second) e,
-      ),
-    )
+    let told = call .before .before .before .before in
+    let a = start (told .before .before) .args in
+    call .force-checked .ensures ∙
+    ap (λ g. force-call (format-of g) (a .sheet .now) (a .values .now) (a .first .now) (a .second .now)) (sheet-format (accepted told))
 
 pub force-spec : {M : Type 1} → statement M
 force-spec =
-    tie.close (tie.spec narrow-requires force-in-requires same-length same-length-2 returns)
+    tie.close
+    (tie.spec
+    check-requires
+    enum-known-c
+    enum-known-c-2
+    force-checked-requires
+    returns
+    same-length
+    same-length-2
+    returns-2)

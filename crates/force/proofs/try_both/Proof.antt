@@ -1,15 +1,41 @@
 -- `force::try_both` meets its contract. Assumes nothing.
-use mathlib.Core.Path.{sym, ap, ap₂, _∙_}
+use mathlib.Core.Path.{_≡_, sym, ap, ap₂, _∙_}
+use mathlib.Core.Bool.{Bool, true, false}
 use Prim.Native.Nat.{ℕ, min}
-use mathlib.Core.Bool.{true}
-use lib.ListN.{replicate}
-use Rattle.rows.specs.Formats.{format-of}
+use Rattle.formula.specs.Solve.{End, ended}
+use Rattle.sheet.specs.Trace.{room}
+use Rattle.solve.specs.Answers.{verdict-of}
 use borrow.Author.Needs.{needs}
 use Rattle.force.specs.Inner.Judging.{end-of, end-in}
 use Rattle.force.proofs.Judging.{readable}
 use Rattle.force.proofs.Answering.{stopped-0, stopped-1, both-ended}
 use Rattle.force.proofs.try_both.Statement.{statement}
 use Rattle.force.proofs.try_both.Tie as tie
+
+-- where the function begins, and the two runs
+abbrev start : tie.After-judge → tie.Start
+start c = c .before .before .before .before .before .before .before .before
+
+abbrev first-run : tie.After-j2 → tie.After-judge
+first-run c = c .before .before .before .before .before .before
+
+abbrev between : tie.After-judge2 → tie.After-j2
+between c = c .before .before .before .before
+
+-- the end of a value's run, by the definition
+abbrev right : tie.Start → Bool → End
+right a v = end-in (a .args .s) (a .args .sheet .now) (a .args .values .now) v (room (a .args .first .now) (a .args .second .now))
+
+zero-ended : (c : tie.After-j2) → ended (verdict-of (c .j2 .given .0 .0)) ≡ right (start (first-run c)) false
+zero-ended c = sym (ap end-of (c .j2 .given .1)) ∙ first-run c .judge .ensures
+
+-- the buffers are as long as they were
+one-judged : (c : tie.After-judge2) → end-of (c .judge2 .result) ≡ right (start (first-run (between c))) true
+one-judged c =
+    let run = first-run (between c) in
+    let a = start run .args in
+    c .judge2 .ensures ∙
+    ap₂ (λ (n m : ℕ). end-in (a .s) (a .sheet .now) (a .values .now) true (min n m)) (run .judge .kept .1 .1 .1 .1 .0) (run .judge .kept .1 .1 .1 .1 .1 .0)
 
 is-existential-requires : tie.Need-is-existential-requires
 is-existential-requires c κs =
@@ -51,11 +77,9 @@ same-length-2 c = search needs
 
 returns : tie.Need-returns
 returns c =
-    let judged = c .before .before .before .before .before .before .before in
-    let a = judged .before .before .before .before .before .before .before .before in (
-      stopped-0 (a .pre) (sym (ap end-of (c .before .j .given .1)) ∙ judged .judge .ensures .0),
-      (judged .judge .ensures .1 .0, judged .judge .ensures .1 .1),
-    )
+    let told = c .before in
+    let run = told .before .before .before .before .before .before in
+    stopped-0 (start run .pre) (sym (ap end-of (told .j .given .1)) ∙ run .judge .ensures)
 
 same-length-3 : tie.Need-same-length-3
 same-length-3 c = search needs
@@ -65,20 +89,10 @@ same-length-4 c = search needs
 
 returns-2 : tie.Need-returns-2
 returns-2 c =
-    let again = c .before .before .before .before .before .before .before in
-    let told = again .before .before .before .before in
-    let judged = told .before .before .before .before .before .before in
-    let a = judged .before .before .before .before .before .before .before .before in
-    let first = judged .judge .kept .1 .1 .1 .0 in
-    let second = judged .judge .kept .1 .1 .1 .1 .0 in (
-      stopped-1 (a .pre) (sym (ap end-of (told .j2 .given .1)) ∙ judged .judge .ensures .0)
-          (sym (ap end-of (c .before .k .given .1)) ∙ again .judge2 .ensures .0 ∙
-          ap₂ (λ (n m : ℕ). end-in (format-of (a .args .f)) (a .args .sheet .now) (a .args .values .now) true (min n m)) first second),
-      (
-        again .judge2 .ensures .1 .0 ∙ ap (λ (n : ℕ). replicate n 0) first,
-        again .judge2 .ensures .1 .1 ∙ ap (λ (n : ℕ). replicate n 0) second,
-      ),
-    )
+    let told = c .before in
+    let run = told .before .before .before .before .before .before in
+    let zero = between run in
+    stopped-1 (start (first-run zero) .pre) (zero-ended zero) (sym (ap end-of (told .k .given .1)) ∙ one-judged run)
 
 same-length-5 : tie.Need-same-length-5
 same-length-5 c = search needs
@@ -88,24 +102,13 @@ same-length-6 c = search needs
 
 returns-3 : tie.Need-returns-3
 returns-3 c =
-    let again-told = c .before .before .before .before in
-    let again = again-told .before .before .before .before .before .before in
-    let told = again .before .before .before .before in
-    let judged = told .before .before .before .before .before .before in
-    let asked = judged .before .before .before in
-    let a = asked .before .before .before .before .before in
-    let first = judged .judge .kept .1 .1 .1 .0 in
-    let second = judged .judge .kept .1 .1 .1 .1 .0 in (
-      c .outcome-for .ensures ∙
-          both-ended (a .pre) (asked .is-existential .ensures) (sym (ap end-of (told .j2 .given .1)) ∙ judged .judge .ensures .0)
-          (sym (ap end-of (again-told .k2 .given .1)) ∙ again .judge2 .ensures .0 ∙
-          ap₂ (λ (n m : ℕ). end-in (format-of (a .args .f)) (a .args .sheet .now) (a .args .values .now) true (min n m)) first second)
-          (c .before .before .is-wanted .ensures) (c .before .is-wanted2 .ensures),
-      (
-        again .judge2 .ensures .1 .0 ∙ ap (λ (n : ℕ). replicate n 0) first,
-        again .judge2 .ensures .1 .1 ∙ ap (λ (n : ℕ). replicate n 0) second,
-      ),
-    )
+    let told = c .before .before .before .before in
+    let run = told .before .before .before .before .before .before in
+    let zero = between run in
+    let asked = first-run zero .before .before .before in
+    c .outcome-for .ensures ∙
+    both-ended (start (first-run zero) .pre) (asked .is-existential .ensures) (zero-ended zero)
+    (sym (ap end-of (told .k2 .given .1)) ∙ one-judged run) (c .before .before .is-wanted .ensures) (c .before .is-wanted2 .ensures)
 
 pub try-both-spec : {M : Type 1} → statement M
 try-both-spec =

@@ -1,22 +1,36 @@
 -- `guards::after_run` meets its contract. Assumes nothing.
 use mathlib.Core.Path.{_≡_, refl, sym, ap, _∙_}
-use lib.ListN.{length}
-use Rattle.formula.specs.Solve.{solve}
-use Rattle.sheet.specs.Format.{fits}
+use Prim.Native.Nat.{ℕ}
+use Rattle.formula.specs.Solve.{Run}
 use Rattle.sheet.specs.Operations.{is-ended}
 use Rattle.sheet.specs.Trace.{room}
-use Rattle.sheet.specs.Guards.{guards-answer, guards-output}
 use Rattle.sheet.proofs.Refusals.{solved-not-refused}
-use Rattle.rows.specs.Formats.{format-of}
-use Rattle.rows.specs.Formulas.{formula-in}
 use Rattle.solve.specs.Answers.{verdict-of, solved-answer}
+use Rattle.solve.specs.Inner.Running.{answered}
 use Rattle.solve.specs.declared.Verdict.{Verdict}
 use Rattle.solve.specs.declared.Verdict.the-variants.{True, False}
 use Rattle.solve.proofs.Answering.{all-zeros}
-use Rattle.guards.proofs.Deciding.{stopped-itself, true-itself, false-sifts}
+use Rattle.guards.specs.Inner.Sieves.{initial, telling}
+use Rattle.guards.proofs.Deciding.{stopped-told, true-told, false-sifts}
 use borrow.Author.Needs.{needs}
 use Rattle.guards.proofs.after_run.Statement.{statement}
 use Rattle.guards.proofs.after_run.Tie as tie
+
+abbrev start : tie.After-answer3 → tie.Start
+start c = c .before .before .before .before .before .before
+
+abbrev most : tie.Start → ℕ
+most a = room (a .args .first .now) (a .args .second .now)
+
+abbrev first-run : tie.Start → Run
+first-run a = initial (a .args .s) (a .args .sheet .now) (most a)
+
+-- what the initial run answered, if it ended with the verdict v
+ended-with : (c : tie.After-answer3) (v : Verdict) → c .answer3 .given .0 .0 ≡ v
+    → is-ended (verdict-of v) (c .answer3 .given .0 .1 .0) (c .answer3 .given .0 .1 .1 .0) ≡ answered (first-run (start c))
+ended-with c v e =
+    let told = c .answer3 .given in
+    ap (λ (w : Verdict). is-ended (verdict-of w) (told .0 .1 .0) (told .0 .1 .1 .0)) (sym e) ∙ sym (ap solved-answer (told .1)) ∙ start c .pre .2
 
 enum-known-answer : tie.Need-enum-known-answer
 enum-known-answer c = search needs
@@ -45,31 +59,32 @@ keep-requires c κs = search needs
 returns : tie.Need-returns
 returns c =
     let a = c .before .before .before .before .before .before .before in
-    let r = solve (fits (format-of (a .args .f)) (room (a .args .first .now) (a .args .second .now))) (formula-in (a .args .s) (a .args .sheet .now)) in
-    absurd (solved-not-refused (r .end) (r .state) (sym (a .pre .2) ∙ ap solved-answer (c .before .answer .given .1)))
+    absurd (solved-not-refused (first-run a .end) (first-run a .state) (sym (a .pre .2) ∙ ap solved-answer (c .before .answer .given .1)))
 
 same-length : tie.Need-same-length
 same-length c = search needs
 
 returns-2 : tie.Need-returns-2
 returns-2 c =
-    let told = c .before .before .before .before .before .answer2 .given in
-    let a = c .before .before .before .before .before .before .before .before .before .before .before in
-    let it = stopped-itself (format-of (a .args .f)) (a .args .s) (a .args .sheet .now) (room (a .args .first .now) (a .args .second .now)) (told .0 .0) (told .0 .1 .0)
-    (told .0 .1 .1 .0) (sym (ap solved-answer (told .1)) ∙ a .pre .2) in
-    (it .answers, c .before .before .clear .ensures ∙ all-zeros (a .args .out .now) refl ∙ it .zeros (length (a .args .out .now)))
+    let cleared = c .before .before in
+    let named = cleared .before .before .before in
+    let a = named .before .before .before .before .before .before in
+    let told = named .answer2 .given in
+    stopped-told (a .args .s) (a .args .sheet .now) (most a) (told .0 .0) (told .0 .1 .0) (told .0 .1 .1 .0) (a .args .out .now)
+    (sym (ap solved-answer (told .1)) ∙ a .pre .2) (cleared .clear .ensures ∙ all-zeros (a .args .out .now) refl)
 
 same-length-2 : tie.Need-same-length-2
 same-length-2 c = search needs
 
 returns-3 : tie.Need-returns-3
 returns-3 c =
-    let told = c .before .before .before .before .before .before .before .answer3 .given in
-    let a = c .before .before .before .before .before .before .before .before .before .before .before .before .before in
+    let cleared = c .before .before in
+    let named = cleared .before .before .before .before .before in
+    let a = start named in
+    let told = named .answer3 .given in
     let e : told .0 .0 ≡ True = search needs in
-    let it = true-itself (format-of (a .args .f)) (a .args .s) (a .args .sheet .now) (room (a .args .first .now) (a .args .second .now)) (told .0 .1 .0)
-    (told .0 .1 .1 .0) (ap (λ (v : Verdict). is-ended (verdict-of v) (told .0 .1 .0) (told .0 .1 .1 .0)) (sym e) ∙ sym (ap solved-answer (told .1)) ∙ a .pre .2) in
-    (it .answers, c .before .before .clear2 .ensures ∙ all-zeros (a .args .out .now) refl ∙ it .zeros (length (a .args .out .now)))
+    true-told (a .args .s) (a .args .sheet .now) (most a) (told .0 .1 .0) (told .0 .1 .1 .0) (a .args .out .now) (ended-with named True e)
+    (cleared .clear2 .ensures ∙ all-zeros (a .args .out .now) refl)
 
 same-length-3 : tie.Need-same-length-3
 same-length-3 c = search needs
@@ -82,15 +97,14 @@ same-length-5 c = search needs
 
 returns-4 : tie.Need-returns-4
 returns-4 c =
-    let told = c .before .before .before .before .before .before .before .before .before .before .before .before .before .answer3 .given in
-    let a = c .before .before .before .before .before .before .before .before .before .before .before .before .before .before .before .before .before .before .before in
-    let kept = c .before .before .before .before .before .before .keep in
+    let kept = c .before .before .before .before .before .before in
+    let named = kept .before .before .before .before .before .before .before in
+    let a = start named in
+    let told = named .answer3 .given in
     let e : told .0 .0 ≡ False = search needs in
-    let same = false-sifts (format-of (a .args .f)) (a .args .s) (a .args .sheet .now) (room (a .args .first .now) (a .args .second .now)) (told .0 .1 .0)
-    (told .0 .1 .1 .0) (ap (λ (v : Verdict). is-ended (verdict-of v) (told .0 .1 .0) (told .0 .1 .1 .0)) (sym e) ∙ sym (ap solved-answer (told .1)) ∙ a .pre .2) in (
-      kept .ensures .0 ∙ ap (guards-answer (format-of (a .args .f))) same,
-      kept .ensures .1 ∙ ap (guards-output (format-of (a .args .f)) (length (a .args .out .now))) same,
-    )
+    kept .keep .ensures ∙
+    ap (telling (a .args .s) (a .args .out .now))
+    (false-sifts (a .args .s) (a .args .sheet .now) (most a) (told .0 .1 .0) (told .0 .1 .1 .0) (ended-with named False e))
 
 pub after-run-spec : {M : Type 1} → statement M
 after-run-spec =

@@ -1,17 +1,39 @@
 -- `guards::guards` meets its contract. Assumes nothing.
 use mathlib.Core.Path.{ap, _∙_}
-use Rattle.sheet.specs.Format.{Format}
-use Rattle.sheet.specs.Guards.{Guarding, guards-call}
-use Rattle.checking.proofs.CheckedSheets.{narrow-countable}
+use Rattle.sheet.specs.Guards.{guards-call}
+use Rattle.rows.specs.Formats.{format-of}
+use Rattle.checking.specs.Sheets.{Sheet}
+use Rattle.checking.proofs.CheckedSheets.{sheet-checked, sheet-refused, sheet-format, sheet-own}
+use Rattle.guards.proofs.Deciding.{unchecked-call}
 use borrow.Author.Needs.{needs}
 use Rattle.guards.proofs.guards.Statement.{statement}
 use Rattle.guards.proofs.guards.Tie as tie
 
-narrow-requires : tie.Need-narrow-requires
-narrow-requires c κs = search needs
+abbrev start : tie.After-check → tie.Start
+start c = c .before .before .before .before .before
 
-guards-in-requires : tie.Need-guards-in-requires
-guards-in-requires c κs = rw (c .before .before .before .narrow .ensures) narrow-countable
+accepted : (c : tie.After-c2) → let a = start (c .before .before) .args in Sheet (a .f) (a .sheet .now) (c .c2 .given .0 .0)
+accepted c = sheet-checked (c .c2 .given .1) (c .before .before .check .ensures)
+
+check-requires : tie.Need-check-requires
+check-requires c κs = search needs
+
+enum-known-c : tie.Need-enum-known-c
+enum-known-c c = search needs
+
+enum-known-c-2 : tie.Need-enum-known-c-2
+enum-known-c-2 c = search needs
+
+guards-checked-requires : tie.Need-guards-checked-requires
+guards-checked-requires c κs = sheet-own (accepted (c .before .before .before .before))
+
+returns : tie.Need-returns
+returns c =
+    let told = c .before in
+    let checked = told .before .before in
+    let a = start checked .args in
+    unchecked-call (format-of (a .f)) (a .sheet .now) (a .out .now) (a .first .now) (a .second .now)
+    (sheet-refused (a .f) (a .sheet .now) (told .c .given .1) (checked .check .ensures))
 
 same-length : tie.Need-same-length
 same-length c = search needs
@@ -22,21 +44,24 @@ same-length-2 c = search needs
 same-length-3 : tie.Need-same-length-3
 same-length-3 c = search needs
 
-returns : tie.Need-returns
-returns c =
+returns-2 : tie.Need-returns-2
+returns-2 c =
     let call = c .before .before .before .before .before .before in
-    let format = call .before .before .before .before in
-    let a = c .before .before .before .before .before .before .before .before .before .before .before .before .before .before .before .args in
-    let e = format .narrow .ensures in
-    let w : Format → Guarding = λ F. guards-call F (a .sheet .now) (a .out .now) (a .first .now) (a .second .now) in (
-      call .guards-in .ensures .0 ∙ ap (λ F. (w F) .answer) e,
-      (
-        call .guards-in .ensures .1 .0 ∙ ap (λ F. (w F) .output) e,
-        (call .guards-in .ensures .1 .1 .0 ∙ ap (λ F. (w F) .first) e, call .guards-in .ensures .1 .1 .1 ∙ ap (λ F. (w F) .second) e),
-      ),
-    )
+    let told = call .before .before .before .before .before in
+    let a = start (told .before .before) .args in
+    call .guards-checked .ensures ∙
+    ap (λ g. guards-call (format-of g) (a .sheet .now) (a .out .now) (a .first .now) (a .second .now)) (sheet-format (accepted told))
 
 pub guards-spec : {M : Type 1} → statement M
 guards-spec =
     tie.close
-    (tie.spec narrow-requires guards-in-requires same-length same-length-2 same-length-3 returns)
+    (tie.spec
+    check-requires
+    enum-known-c
+    enum-known-c-2
+    guards-checked-requires
+    returns
+    same-length
+    same-length-2
+    same-length-3
+    returns-2)

@@ -1,29 +1,49 @@
 -- `guards::guards_checked` meets its contract. Assumes nothing.
-use mathlib.Core.Path.{_∙_}
+use mathlib.Core.Path.{_≡_, _∙_}
+use mathlib.Core.Bool.{true}
+use Prim.Native.Nat.{_≤_}
 use native.Mathlib.Omega.{arith}
-use Rattle.rows.specs.Formats.{format-of}
+use lib.ListN.{length}
+use Rattle.formula.specs.Guards.{is-and}
+use Rattle.sheet.specs.Guards.{least-room}
 use Rattle.rows.specs.Formulas.{matrix-in}
 use Rattle.checking.proofs.CheckedSheets.{sheet-readable}
 use Rattle.subtrees.specs.Subtrees.{forest-in, subtree-in}
 use Rattle.solve.proofs.Answering.{all-zeros}
-use Rattle.guards.proofs.Deciding.{and-kind, other-kind, sheet-size, other-root, short-call, found-call}
+use Rattle.guards.proofs.Deciding.{and-kind, other-kind, sheet-size, other-root, short-call, told-call}
 use borrow.Author.Needs.{needs}
 use Rattle.guards.proofs.guards_checked.Statement.{statement}
 use Rattle.guards.proofs.guards_checked.Tie as tie
 
+abbrev start : tie.After-kind-at → tie.Start
+start c = c .before .before .before .before .before
+
+abbrev tested : tie.Else2 → tie.Else1
+tested c = c .before .before .before
+
+-- what the tests that passed tell
+root-and : (c : tie.Else1) → let a = start (c .before) .args in is-and (matrix-in (a .s) (a .sheet .now)) ≡ true
+unfolding matrix-in subtree-in forest-in
+root-and c =
+    let a = start (c .before) .args in
+    and-kind (subtree-in (a .s) (a .sheet .now) 0) (omega (arith, c .before .kind-at .ensures, c .if1 .left))
+
+has-place : (c : tie.Else2)
+    → let a = start (tested c .before) .args in
+    length (a .sheet .now) ≤ least-room (a .out .now) (a .first .now) (a .second .now)
+has-place c = omega (arith, c .before .before .shorter .ensures, c .before .shorter2 .ensures, c .if2 .left)
+
 kind-at-requires : tie.Need-kind-at-requires
 kind-at-requires c κs =
-    let a = c .before .before .before .before in
-    let r = sheet-readable (a .pre .1) (a .pre .0 .manageable) in
+    let r = sheet-readable (c .before .before .before .before .pre) in
     (r, r .some-nodes)
 
 returns : tie.Need-returns
 unfolding matrix-in subtree-in forest-in
 returns c =
-    let a = c .before .before .before .before .before .before in
-    let l = other-root (format-of (a .args .f)) (a .args .sheet .now) (a .args .out .now) (a .args .first .now) (a .args .second .now) (a .pre .1)
-    (other-kind (subtree-in (a .args .s) (a .args .sheet .now) 0) (λ e. omega (arith, c .before .kind-at .ensures))) in
-    (l .answers, (l .in-output, (l .in-first, l .in-second)))
+    let a = start (c .before) in
+    other-root (a .pre) (a .args .out .now) (a .args .first .now) (a .args .second .now)
+    (other-kind (subtree-in (a .args .s) (a .args .sheet .now) 0) (λ e. omega (arith, c .before .kind-at .ensures)))
 
 shorter-requires : tie.Need-shorter-requires
 shorter-requires c κs = search needs
@@ -32,25 +52,22 @@ shorter-requires-2 : tie.Need-shorter-requires-2
 shorter-requires-2 c κs = search needs
 
 returns-2 : tie.Need-returns-2
-unfolding matrix-in subtree-in forest-in
 returns-2 c =
-    let a = c .before .before .before .before .before .before .before .before .before in
-    let l = short-call (format-of (a .args .f)) (a .args .sheet .now) (a .args .out .now) (a .args .first .now) (a .args .second .now) (a .pre .1)
-    (and-kind (subtree-in (a .args .s) (a .args .sheet .now) 0) (omega (arith, c .before .before .before .before .kind-at .ensures)))
-    (omega (arith, c .before .before .shorter .ensures, c .before .shorter2 .ensures)) in
-    (l .answers, (l .in-output, (l .in-first, l .in-second)))
+    let rooted = c .before .before .before in
+    let a = start (rooted .before) in
+    short-call (a .pre) (a .args .out .now) (a .args .first .now) (a .args .second .now) (root-and rooted)
+    (omega (arith, c .before .before .shorter .ensures, c .before .shorter2 .ensures, c .if2 .taken))
 
 find-requires : tie.Need-find-requires
-unfolding matrix-in subtree-in forest-in
 find-requires c κs =
-    let a = c .before .before .before .before .before .before .before .before .before .before .before .before in (
+    let passed = c .before .before .before in
+    let h = start (tested passed .before) .pre in (
       record {
-        countable = a .pre .0;
-        sheet = a .pre .1;
-        root-is-and = and-kind (subtree-in (a .args .s) (a .args .sheet .now) 0) (omega (arith, c .before .before .before .before .before .before .before .kind-at .ensures));
-        has-room = omega (arith, c .before .before .before .before .before .shorter .ensures, c .before .before .before .before .shorter2 .ensures, sheet-size (a .pre .1));
+        sheet = h;
+        root-is-and = root-and (tested passed);
+        has-room = omega (arith, has-place passed, sheet-size h);
       },
-      omega (arith, c .before .before .before .before .before .shorter .ensures, c .before .before .before .before .shorter2 .ensures, sheet-size (a .pre .1)),
+      omega (arith, has-place passed, sheet-size h),
     )
 
 clear-requires : tie.Need-clear-requires
@@ -69,16 +86,15 @@ same-length-3 : tie.Need-same-length-3
 same-length-3 c = search needs
 
 returns-3 : tie.Need-returns-3
-unfolding matrix-in subtree-in forest-in
 returns-3 c =
-    let found = c .before .before .before .before .before .before .before .before .before .before .before .before .before .before .find in
-    let a = c .before .before .before .before .before .before .before .before .before .before .before .before .before .before .before .before .before .before .before .before .before .before .before .before .before .before .before in
-    let l = found-call (format-of (a .args .f)) (a .args .sheet .now) (a .args .out .now) (a .args .first .now) (a .args .second .now) (a .pre .1)
-    (and-kind (subtree-in (a .args .s) (a .args .sheet .now) 0) (omega (arith, c .before .before .before .before .before .before .before .before .before .before .before .before .before .before .before .before .before .before .before .before .before .before .kind-at .ensures, c .before .before .before .before .before .before .before .before .before .before .before .before .before .before .before .before .before .before .before .before .before .if1 .left)))
-    (omega (arith, c .before .before .before .before .before .before .before .before .before .before .before .before .before .before .before .before .before .before .before .before .shorter .ensures, c .before .before .before .before .before .before .before .before .before .before .before .before .before .before .before .before .before .before .before .shorter2 .ensures, c .before .before .before .before .before .before .before .before .before .before .before .before .before .before .before .before .before .before .if2 .left)) (found .ensures .0) (found .ensures .1)
-    (c .before .before .before .before .before .before .clear .ensures ∙ all-zeros (found .last .1 .1 .1 .1 .0) (found .kept .1 .1 .1 .1 .0))
-    (c .before .before .clear2 .ensures ∙ all-zeros (found .last .1 .1 .1 .1 .1 .0) (found .kept .1 .1 .1 .1 .1 .0)) in
-    (l .answers, (l .in-output, (l .in-first, l .in-second)))
+    let first = c .before .before .before .before .before .before in
+    let done = first .before .before .before .before .before .before .before .before in
+    let passed = done .before .before .before .before in
+    let a = start (tested passed .before) in
+    let found = done .find in
+    told-call (a .pre) (a .args .out .now) (a .args .first .now) (a .args .second .now) (root-and (tested passed)) (has-place passed) (found .ensures)
+    (first .clear .ensures ∙ all-zeros (found .last .1 .1 .1 .0) (found .kept .1 .1 .1 .0))
+    (c .before .before .clear2 .ensures ∙ all-zeros (found .last .1 .1 .1 .1 .0) (found .kept .1 .1 .1 .1 .0))
 
 pub guards-checked-spec : {M : Type 1} → statement M
 guards-checked-spec =

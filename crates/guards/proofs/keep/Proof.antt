@@ -4,18 +4,26 @@ use native.Mathlib.Omega.{arith}
 use lib.Seq.{length-take-le}
 use Rattle.rows.specs.declared.Layout.{Layout}
 use Rattle.checking.proofs.CheckedSheets.{sheet-readable}
-use Rattle.guards.proofs.Deciding.{kept-room, kept-answer, kept-output}
+use Rattle.guards.proofs.Deciding.{kept-room, kept-told}
 use borrow.Author.Needs.{needs}
 use Rattle.guards.proofs.keep.Statement.{statement}
 use Rattle.guards.proofs.keep.Tie as tie
+
+abbrev start : tie.After-fill-ends → tie.Start
+start c = c .before .before .before .before .before .before
+
+abbrev filled : tie.After-sift → tie.After-fill-ends
+filled c = c .before .before .before .before .before .before
+
+abbrev sifted : tie.After-write-part → tie.After-sift
+sifted c = c .before .before .before .before .before .before .before .before .before
 
 slice-aggregate-fill-ends : tie.Need-slice-aggregate-fill-ends
 slice-aggregate-fill-ends c = search needs
 
 fill-ends-requires : tie.Need-fill-ends-requires
 fill-ends-requires c κs =
-    let a = c .before .before .before .before .before in
-    let r = sheet-readable (a .pre .0 .sheet) (a .pre .0 .countable .manageable) in
+    let r = sheet-readable (c .before .before .before .before .before .pre .0 .sheet) in
     (r, omega (arith, r .few-nodes))
 
 slice-aggregate-sift : tie.Need-slice-aggregate-sift
@@ -35,23 +43,26 @@ array-share-prefix-kept c = search needs
 
 slice-aggregate-write-part-2 : tie.Need-slice-aggregate-write-part-2
 slice-aggregate-write-part-2 c =
-    let sifted = c .before .before .before .before .before .before .before .sift in
-    sym (length-take-le (sifted .result .guards) (sifted .last .1 .1 .1 .1 .0) (search needs))
+    let made = c .before .before .before .before .before .before .before .sift in
+    sym (length-take-le (made .result .guards) (made .last .1 .1 .1 .0) (search needs))
 
 write-part-requires : tie.Need-write-part-requires
 write-part-requires c κs = search needs
 
 add-seal : tie.Need-add-seal
 add-seal c =
-    let e = c .before .before .before .before .write-part .ensures .0 in
-    let z = c .before .before .before .before .before .before .before .before .before .before .before .before .before .sift .ensures .chosen in
+    let wrote = c .before .before .before .before in
+    let e = wrote .write-part .ensures .0 in
+    let z = sifted wrote .sift .ensures .chosen in
     omega (arith, ap (λ (l : Layout). l .variables) e, ap (λ (l : Layout). l .nodes) e, z .no-more, z .readable .few-variables, z .readable .few-nodes)
 
 seal-requires : tie.Need-seal-requires
 seal-requires c κs =
-    let written = c .before .before .before .before .write-part in
-    let a = c .before .before .before .before .before .before .before .before .before .before .before .before .before .before .before .before .before .before .before .before .before .before .before .before .before in (
-      kept-room (a .pre .0) (c .before .before .before .before .before .before .before .before .before .before .before .before .before .sift .ensures) (written .result) (written .ensures .0) (written .last .1 .1 .1 .1 .1 .0) (a .args .out .now) (written .kept .1 .1 .1 .1 .1 .0) (a .pre .1),
+    let wrote = c .before .before .before .before in
+    let a = start (filled (sifted wrote)) in
+    let part = wrote .write-part in (
+      kept-room (sifted wrote .sift .ensures) (part .result) (part .ensures .0) (part .last .1 .1 .1 .1 .1 .0) (a .args .out .now)
+          (part .kept .1 .1 .1 .1 .1 .0) (a .pre .1),
       omega arith,
       omega arith,
     )
@@ -67,15 +78,12 @@ same-length-3 c = search needs
 
 returns : tie.Need-returns
 returns c =
-    let sealing = c .before .before .seal in
-    let written = c .before .before .before .before .before .before .before .write-part in
-    let a = c .before .before .before .before .before .before .before .before .before .before .before .before .before .before .before .before .before .before .before .before .before .before .before .before .before .before .before .before in
-    let z = c .before .before .before .before .before .before .before .before .before .before .before .before .before .before .before .before .sift .ensures in (
-      kept-answer (a .pre .0) z (written .result) (written .ensures .0) _ (a .args .out .now) (written .kept .1 .1 .1 .1 .1 .0) (a .pre .1)
-          (written .ensures .1) (sealing .ensures .1),
-      kept-output (a .pre .0) z (written .result) (written .ensures .0) _ (a .args .out .now) (written .kept .1 .1 .1 .1 .1 .0) (a .pre .1)
-          (written .ensures .1) (sealing .ensures .0),
-    )
+    let sealed = c .before .before in
+    let wrote = sealed .before .before .before .before .before in
+    let a = start (filled (sifted wrote)) in
+    let part = wrote .write-part in
+    kept-told (sifted wrote .sift .ensures) (part .result) (part .ensures .0) _ (a .args .out .now) (part .kept .1 .1 .1 .1 .1 .0) (a .pre .1)
+    (part .ensures .1) (sealed .seal .ensures .1) (sealed .seal .ensures .0)
 
 pub keep-spec : {M : Type 1} → statement M
 keep-spec =

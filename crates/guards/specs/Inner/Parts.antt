@@ -2,18 +2,17 @@
 -- Assumes nothing.
 use mathlib.Core.Path.{_≡_}
 use mathlib.Core.List.{List, [], _∷_, _++_}
-use Prim.Native.Nat.{ℕ, _+_, _^_, _≤_, _<_}
+use Prim.Native.Nat.{ℕ, _+_, _≤_, _<_}
 use lib.ListN.{length, getD}
 use lib.Seq.{slice}
 use Rattle.formula.specs.Tree.{Forest, rows-all, count}
 use Rattle.formula.specs.Guards.{conjoined}
-use Rattle.sheet.specs.Format.{Bytes, Format, Row}
+use Rattle.sheet.specs.Format.{Bytes, Row}
 use Rattle.sheet.specs.Sheet.{trees, forest-rows}
 use Rattle.sheet.specs.Limits.{Within}
-use Rattle.rows.specs.Layouts.{total, size}
+use Rattle.rows.specs.Layouts.{format-in, Fits, total, size}
 use Rattle.rows.specs.Formulas.{prefix-in, node-rows-in, Readable}
 use Rattle.rows.specs.declared.Layout.{Layout}
-use Rattle.checking.specs.Limits.{Countable}
 use Rattle.changing.specs.Output.{Ready}
 use Rattle.guards.specs.declared.part.Part.{Part}
 
@@ -40,7 +39,7 @@ guards-in s b ends ks rest = trees (part-rows s b ends ks rest)
 
 -- the layout of the prefix and the root over these children
 abbrev pub part-layout : Layout → Part → Layout
-part-layout s p = record { width = s .width; variables = s .variables; nodes = p .rows + 1 }
+part-layout s p = record { format = s .format; variables = s .variables; nodes = p .rows + 1 }
 
 -- children of a readable sheet, and an output with room for them from row at on
 pub record Copyable (s : Layout) (b : Bytes) (ends ks : List ℕ) (t : Layout) (out : Bytes) (at : ℕ) : Type 0 where
@@ -53,7 +52,6 @@ pub record Copyable (s : Layout) (b : Bytes) (ends ks : List ℕ) (t : Layout) (
 -- so many children of a readable sheet, of so many rows, and not the root's
 pub record Chosen (s : Layout) (b : Bytes) (ends ks : List ℕ) (p : Part) : Type 0 where
   pub readable : Readable s b
-  pub two-bytes : 2 ≤ s .width
   pub holds : s .nodes ≤ length ends
   pub placed : Placed ends 0 ks (p .rest)
   pub rest-within : p .rest ≤ s .nodes
@@ -61,12 +59,10 @@ pub record Chosen (s : Layout) (b : Bytes) (ends ks : List ℕ) (p : Part) : Typ
   pub counted : p .guards ≡ count (guards-in s b ends ks (p .rest))
   pub long : p .rows ≡ rows-all (guards-in s b ends ks (p .rest))
   pub no-more : p .rows < s .nodes
-  pub fit : p .guards < 256 ^ s .width
+  pub fit : Fits s (p .guards)
 
 -- children that a run can be entered with, in two buffers that both have so much room
-pub record Tried (F : Format) (s : Layout) (b : Bytes) (ends ks : List ℕ) (p : Part) (most : ℕ) : Type 0 where
-  pub countable : Countable F
-  pub width-is : s .width ≡ F .width
+pub record Tried (s : Layout) (b : Bytes) (ends ks : List ℕ) (p : Part) (most : ℕ) : Type 0 where
   pub chosen : Chosen s b ends ks p
-  pub within : Within F (conjoined (prefix-in s b) (guards-in s b ends ks (p .rest)))
+  pub within : Within (format-in s) (conjoined (prefix-in s b) (guards-in s b ends ks (p .rest)))
   pub has-room : size s ≤ most

@@ -4,15 +4,17 @@ use mathlib.Core.Path.{_≡_}
 use mathlib.Core.Bool.{true, false}
 use mathlib.Core.List.{List}
 use Prim.Native.Nat.{ℕ, _+_, _-_, _≤_}
-use lib.ListN.{take}
-use Rattle.formula.specs.Solve.{End, ended, stopped, solve}
-use Rattle.formula.specs.Guards.{is-and, conjoined, Kept, clashing, clash}
+use lib.ListN.{length, take}
+use Rattle.formula.specs.Solve.{End, ended, stopped, Run, solve}
+use Rattle.formula.specs.Guards.{is-and, conjoined, Kept, clashing, clash, guarded}
 use Rattle.formula.specs.Guards.{Guarded as Finding}
-use Rattle.sheet.specs.Format.{Bytes, Format, fits}
-use Rattle.rows.specs.Layouts.{size}
+use Rattle.sheet.specs.Format.{Bytes, fits}
+use Rattle.sheet.specs.Guards.{Guards, guards-answer, guards-output}
+use Rattle.rows.specs.Tables.{ROWS}
+use Rattle.rows.specs.Layouts.{format-in, size}
 use Rattle.rows.specs.Formulas.{prefix-in, matrix-in, formula-in}
 use Rattle.rows.specs.declared.Layout.{Layout}
-use Rattle.checking.specs.Limits.{Countable, Sheet}
+use Rattle.checking.specs.Sheets.{Sheet}
 use Rattle.solve.specs.Answers.{solved-answer}
 use Rattle.solve.specs.Inner.Running.{answered}
 use Rattle.solve.specs.declared.Verdict as verdict
@@ -46,18 +48,17 @@ judged-by g Stopped end =
     record { at = end; left = g .left - 1; guards = g .guards + 1; rows = g .rows + (end - g .at); stops = g .stops + 1 }
 
 -- a sheet with AND at its root, and room for it in both buffers
-pub record Siftable (F : Format) (s : Layout) (b : Bytes) (most : ℕ) : Type 0 where
-  pub countable : Countable F
-  pub sheet : Sheet F b s
+pub record Siftable (s : Layout) (b : Bytes) (most : ℕ) : Type 0 where
+  pub sheet : Sheet (s .format) b s
   pub root-is-and : is-and (matrix-in s b) ≡ true
   pub has-room : size s ≤ most
 
 -- what the sifting comes to
-abbrev pub clashing-in : Format → Layout → Bytes → ℕ → Kept
-clashing-in F s b most = clashing (fits F most) (formula-in s b)
+abbrev pub clashing-in : Layout → Bytes → ℕ → Kept
+clashing-in s b most = clashing (fits (format-in s) most) (formula-in s b)
 
-abbrev pub clashed : Format → Layout → Bytes → ℕ → Finding
-clashed F s b most = clash (conjoined (prefix-in s b) ((clashing-in F s b most) .those)) ((clashing-in F s b most) .stops)
+abbrev pub clashed : Layout → Bytes → ℕ → Finding
+clashed s b most = clash (conjoined (prefix-in s b) ((clashing-in s b most) .those)) ((clashing-in s b most) .stops)
 
 -- the first entries of the table: where the children kept begin
 abbrev pub starts : List ℕ → Sieve → List ℕ
@@ -66,12 +67,32 @@ starts table g = take (g .guards) table
 abbrev pub kept-part : Layout → Sieve → Part
 kept-part s g = record { guards = g .guards; rows = g .rows; rest = s .nodes }
 
-pub record Sifted (F : Format) (s : Layout) (b : Bytes) (most : ℕ) (ends table : List ℕ) (g : Sieve) : Type 0 where
+pub record Sifted (s : Layout) (b : Bytes) (most : ℕ) (ends table : List ℕ) (g : Sieve) : Type 0 where
   pub chosen : Chosen s b ends (starts table g) (kept-part s g)
-  pub those-are : guards-in s b ends (starts table g) (s .nodes) ≡ (clashing-in F s b most) .those
-  pub stops-are : g .stops ≡ (clashing-in F s b most) .stops
-  pub fewer-kept : g .guards ≤ 8192
+  pub those-are : guards-in s b ends (starts table g) (s .nodes) ≡ (clashing-in s b most) .those
+  pub stops-are : g .stops ≡ (clashing-in s b most) .stops
+  pub fewer-kept : g .guards ≤ ROWS
 
--- the answer of the initial run
-abbrev pub Said : Format → Layout → Bytes → ℕ → Solved → Type 0
-Said F s b most a = solved-answer a ≡ answered (solve (fits F most) (formula-in s b))
+-- the initial run, what it answers, and what is found after it
+abbrev pub initial : Layout → Bytes → ℕ → Run
+initial s b most = solve (fits (format-in s) most) (formula-in s b)
+
+abbrev pub Said : Layout → Bytes → ℕ → Solved → Type 0
+Said s b most a = solved-answer a ≡ answered (initial s b most)
+
+abbrev pub found : Layout → Bytes → ℕ → Finding
+found s b most = guarded (fits (format-in s) most) (formula-in s b)
+
+-- a finding told, and the output that shows it
+pub record Telling : Type 0 where
+  pub answer : Guards
+  pub output : Bytes
+
+unfoldable pub telling : Layout → Bytes → Finding → Telling
+telling s out x = record { answer = guards-answer (format-in s) x; output = guards-output (format-in s) (length out) x }
+
+abbrev pub kept-call : Layout → Bytes → Bytes → ℕ → Telling
+kept-call s b out most = telling s out (clashed s b most)
+
+abbrev pub found-call : Layout → Bytes → Bytes → ℕ → Telling
+found-call s b out most = telling s out (found s b most)

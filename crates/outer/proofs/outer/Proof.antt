@@ -1,27 +1,84 @@
 -- `outer::outer` meets its contract. Assumes nothing.
-use mathlib.Core.Path.{ap, _∙_}
-use lib.ListN.{length}
-use Rattle.sheet.specs.Outer.{outer-call, outer-answer}
-use Rattle.checking.proofs.CheckedSheets.{narrow-countable}
+use mathlib.Core.Path.{ap₂, _∙_, subst}
+use Prim.Native.Nat.{ℕ}
 use borrow.Author.Needs.{needs}
+use Rattle.rows.specs.Formats.{format-of}
+use Rattle.rows.specs.declared.Format.{Format}
+use Rattle.outer.specs.Answers.{outer-written}
+use Rattle.outer.specs.Inner.Plan.{Plans}
+use Rattle.outer.specs.declared.plan.Plan.the-variants.{Copies}
+use Rattle.outer.proofs.Sheets.{refused-plan}
 use Rattle.outer.proofs.outer.Statement.{statement}
 use Rattle.outer.proofs.outer.Tie as tie
 
-narrow-requires : tie.Need-narrow-requires
-narrow-requires c κs = search needs
+abbrev start : tie.After-plan-outer → tie.Start
+start c = c .before .before .before .before .before
 
-outer-in-requires : tie.Need-outer-in-requires
-outer-in-requires c κs = rw (c .before .narrow .ensures) narrow-countable
+-- what is written is planned
+planned : (c : tie.After-p2)
+    → let k = c .before .before .before .before in
+    let a = start k .args in
+    Plans (a .f) (a .sheet .now) (a .x) (k .plan-outer .last .1 .1 .1 .0) (k .plan-outer .last .1 .1 .1 .1 .0) (Copies (c .p2 .given .0 .0))
+planned c =
+    let plan = c .before .before .before .before in
+    let a = start plan .args in
+    subst (Plans (a .f) (a .sheet .now) (a .x) _ _) (c .p2 .given .1) (plan .plan-outer .ensures)
+
+slice-aggregate-plan-outer : tie.Need-slice-aggregate-plan-outer
+slice-aggregate-plan-outer c = search needs
+
+slice-aggregate-plan-outer-2 : tie.Need-slice-aggregate-plan-outer-2
+slice-aggregate-plan-outer-2 c = search needs
+
+plan-outer-requires : tie.Need-plan-outer-requires
+plan-outer-requires c κs = search needs
+
+enum-known-p : tie.Need-enum-known-p
+enum-known-p c = search needs
+
+enum-known-p-2 : tie.Need-enum-known-p-2
+enum-known-p-2 c = search needs
+
+slice-aggregate-outer-planned : tie.Need-slice-aggregate-outer-planned
+slice-aggregate-outer-planned c = search needs
+
+slice-aggregate-outer-planned-2 : tie.Need-slice-aggregate-outer-planned-2
+slice-aggregate-outer-planned-2 c = search needs
+
+outer-planned-requires : tie.Need-outer-planned-requires
+outer-planned-requires c κs = planned (c .before .before .before .before) .2
+
+returns : tie.Need-returns
+returns c =
+    let told = c .before in
+    let plan = told .before .before .before .before in
+    let a = start plan .args in
+    refused-plan (format-of (a .f)) (a .sheet .now) (a .x) (a .out .now)
+    (subst (Plans (a .f) (a .sheet .now) (a .x) _ _) (told .p .given .1) (plan .plan-outer .ensures))
 
 same-length : tie.Need-same-length
 same-length c = search needs
 
-returns : tie.Need-returns
-returns c =
-    let a = c .before .before .before .before .before .before .before .args in (
-      c .before .before .outer-in .ensures .0 ∙ ap (λ F. outer-answer F (a .sheet .now) (a .x) (length (a .out .now))) (c .before .before .before .before .narrow .ensures),
-      c .before .before .outer-in .ensures .1 ∙ ap (λ F. (outer-call F (a .sheet .now) (a .x) (a .out .now)) .output) (c .before .before .before .before .narrow .ensures),
-    )
+returns-2 : tie.Need-returns-2
+returns-2 c =
+    let carried = c .before .before in
+    let told = carried .before .before .before .before .before in
+    let a = start (told .before .before .before .before) .args in
+    let is = planned told in
+    carried .outer-planned .ensures ∙ ap₂ (λ (g : Format) (y : ℕ). outer-written (format-of g) (a .sheet .now) y (a .out .now)) (is .0) (is .1)
 
 pub outer-spec : {M : Type 1} → statement M
-outer-spec = tie.close (tie.spec narrow-requires outer-in-requires same-length returns)
+outer-spec =
+    tie.close
+    (tie.spec
+    slice-aggregate-plan-outer
+    slice-aggregate-plan-outer-2
+    plan-outer-requires
+    enum-known-p
+    enum-known-p-2
+    slice-aggregate-outer-planned
+    slice-aggregate-outer-planned-2
+    outer-planned-requires
+    returns
+    same-length
+    returns-2)

@@ -1,10 +1,18 @@
 -- `outer::outer_into` meets its contract. Assumes nothing.
 use mathlib.Core.Path.{refl, sym}
+use native.Mathlib.Omega.{arith}
 use lib.Seq.{length-take-le}
-use Rattle.outer.proofs.Sheets.{writes, raw-written, sheet-written, length-written}
 use borrow.Author.Needs.{needs}
+use Rattle.outer.proofs.Sheets.{few-raw, writes, raw-written, sheet-written, length-written}
 use Rattle.outer.proofs.outer_into.Statement.{statement}
 use Rattle.outer.proofs.outer_into.Tie as tie
+
+-- the raw sheet is written, then tidied
+abbrev start : tie.After-write-outer → tie.Start
+start c = c .before .before .before .before .before .before .before .before .before
+
+abbrev raw : tie.After-tidy-in-place → tie.After-write-outer
+raw c = c .before .before .before .before
 
 slice-aggregate-write-outer : tie.Need-slice-aggregate-write-outer
 slice-aggregate-write-outer c =
@@ -18,18 +26,26 @@ write-outer-requires c κs =
 
 tidy-in-place-requires : tie.Need-tidy-in-place-requires
 tidy-in-place-requires c κs =
-    let a = c .before .before .before .before .before .before .before .before .before .before .before .before in
-    raw-written (a .pre) refl (c .before .before .before .write-outer .kept .1 .1 .1 .1 .1 .0) (c .before .before .before .write-outer .ensures)
+    let k = c .before .before .before in
+    raw-written (start k .pre) refl (k .write-outer .kept .1 .1 .1 .1 .1 .0) (k .write-outer .ensures)
+
+sheet-length-requires : tie.Need-sheet-length-requires
+sheet-length-requires c κs =
+    let tidied = c .before .before in
+    let few = few-raw (start (raw tidied) .pre .planned) in
+    let sizes = tidied .tidy-in-place .ensures .1 .1 in
+    (omega (arith, few .0, sizes .0), omega (arith, few .1, sizes .1))
 
 same-length : tie.Need-same-length
 same-length c = search needs
 
 returns : tie.Need-returns
 returns c =
-    let a = c .before .before .before .before .before .before .before .before .before .before .before .before .before .before .before in
-    let same = c .before .before .before .before .before .before .write-outer .kept .1 .1 .1 .1 .1 .0 in (
-      sheet-written (a .pre) refl same (c .before .before .before .before .before .before .write-outer .ensures) (c .before .before .tidy-in-place .ensures .0),
-      length-written (a .pre) refl same (c .before .before .before .before .before .before .write-outer .ensures) (c .before .before .tidy-in-place .ensures .1),
+    let tidied = c .before .before .before in
+    let k = raw tidied in
+    let same = k .write-outer .kept .1 .1 .1 .1 .1 .0 in (
+      sheet-written (start k .pre) refl same (k .write-outer .ensures) (tidied .tidy-in-place .ensures .0),
+      length-written (start k .pre) refl same (k .write-outer .ensures) (tidied .tidy-in-place .ensures .1 .0) (c .sheet-length .ensures),
     )
 
 pub outer-into-spec : {M : Type 1} → statement M
@@ -39,5 +55,6 @@ outer-into-spec =
     slice-aggregate-write-outer
     write-outer-requires
     tidy-in-place-requires
+    sheet-length-requires
     same-length
     returns)

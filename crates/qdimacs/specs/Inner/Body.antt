@@ -1,15 +1,16 @@
 -- What is read of the words below a header, and the sheet that they are.
 -- Assumes nothing.
 use mathlib.Core.Path.{_≡_}
-use mathlib.Core.Bool.{Bool, true, false}
+use mathlib.Core.Bool.{false}
 use mathlib.Core.List.{List, _∷_, _++_, map}
 use Prim.Native.Nat.{ℕ, suc, _+_, _*_, _-_, _^_, _≤_, _<_}
 use lib.ListN.{length, replicate}
 use Rattle.sheet.specs.Format.{Bytes, Format, Row, row, digits}
 use Rattle.sheet.specs.Sheet.{binding-row, row-kinds, row-arguments}
-use Rattle.sheet.specs.Qdimacs.{text-header, tokens-below, well-listed, qdimacs-call}
+use Rattle.sheet.specs.Check.{Answer}
+use Rattle.sheet.specs.Qdimacs.{text-header, tokens-below, qdimacs-call}
 use Rattle.sheet.proofs.Qdimacs.Answers.{bad-header, bad-counts}
-use Rattle.rows.specs.Layouts.{total, Room}
+use Rattle.rows.specs.Layouts.{width, Fits, total, Room}
 use Rattle.rows.specs.declared.Layout.{Layout}
 use Rattle.checking.specs.Answers.{written-answer}
 use Rattle.checking.specs.declared.Written.{Written}
@@ -38,18 +39,14 @@ pub record Placeable (b : Bytes) (m : List ℕ) (k : Body) (s : Layout) (len : �
   pub variables-are : s .variables ≡ length (frees m (k .most)) + length (bindings-in b)
   pub nodes-are : s .nodes ≡ suc (k .words)
   pub room : Room s len
-  pub numbers-fit : 1024 < 256 ^ s .width
-  pub nodes-fit : s .nodes < 256 ^ s .width
+  pub nodes-fit : Fits s (s .nodes)
   pub few-rows : total s < 2 ^ 32
 
 -- rows as a sheet, with zeros behind it
-abbrev pub laid-rows : Layout → List Row → ℕ → Bytes
-laid-rows s rs len =
-    digits (s .width) (s .variables) ++ digits (s .width) (total s - s .variables) ++ row-kinds rs ++ row-arguments (s .width) rs ++
-    replicate (len - (2 * s .width + total s + s .width * total s)) 0
-
 abbrev pub laid : Layout → List Row → ℕ → Bytes
-laid s rs len = laid-rows s rs len
+laid s rs len =
+    digits (width s) (s .variables) ++ digits (width s) (total s - s .variables) ++ row-kinds rs ++ row-arguments (width s) rs ++
+    replicate (len - (2 * width s + total s + width s * total s)) 0
 
 -- a text with these words below a header that is as it should be
 pub record Below (F : Format) (t b : Bytes) (n : ℕ) : Type 0 where
@@ -57,11 +54,14 @@ pub record Below (F : Format) (t b : Bytes) (n : ℕ) : Type 0 where
   pub header-good : bad-header F (text-header t) ≡ false
   pub variables-are : (text-header t) .variable-count ≡ n
 
-abbrev pub CallAnswers : Format → Bytes → Bytes → Written → Bytes → Type 0
-CallAnswers F t out r new = (written-answer r ≡ (qdimacs-call F t out) .answer) × (new ≡ (qdimacs-call F t out) .output)
+-- the call of a text answers so, and leaves such an output
+abbrev pub CallAnswers : Format → Bytes → Bytes → Answer ℕ → Bytes → Type 0
+CallAnswers F t out a new = record { answer = a; output = new } ≡ qdimacs-call F t out
 
 pub record CountedAnswers (F : Format) (b : Bytes) (k : Body) (out : Bytes) (r : Written) (new : Bytes) : Type 0 where
-  pub answers : (t : Bytes) → Below F t b (k .most) → bad-counts (text-header t) (tokens-below t) ≡ false → CallAnswers F t out r new
+  pub answers : (t : Bytes) → Below F t b (k .most) → bad-counts (text-header t) (tokens-below t) ≡ false
+      → CallAnswers F t out (written-answer r) new
 
 pub record Answers (F : Format) (b : Bytes) (h : Header) (out : Bytes) (r : Written) (new : Bytes) : Type 0 where
-  pub answers : (t : Bytes) → Below F t b (h .variables) → Capped largest ((text-header t) .clause-count) (h .clauses) → CallAnswers F t out r new
+  pub answers : (t : Bytes) → Below F t b (h .variables) → Capped largest ((text-header t) .clause-count) (h .clauses)
+      → CallAnswers F t out (written-answer r) new

@@ -2,7 +2,7 @@
 -- Assumes nothing.
 use mathlib.Core.Path.{_≡_}
 use mathlib.Core.Bool.{Bool, true, false, not, _&&_, cond}
-use mathlib.Core.List.{List, [], _∷_, _++_}
+use mathlib.Core.List.{List, _++_}
 use Prim.Native.Nat.{ℕ, _+_, _^_, _≤_, _<_}
 use lib.Dec.{eqb, ltb}
 use lib.ListN.{length, take, drop, set}
@@ -11,7 +11,7 @@ use Rattle.sheet.specs.Sheet.{forest-rows}
 use Rattle.sheet.specs.Qdimacs.{Token, all, clause-trees}
 use Rattle.sheet.proofs.Qdimacs.Accepted.{up-to}
 use Rattle.sheet.proofs.Qdimacs.Answers.{lists}
-use Rattle.rows.specs.Layouts.{total, Room}
+use Rattle.rows.specs.Layouts.{Fits, total, Room}
 use Rattle.rows.specs.declared.Layout.{Layout}
 use Rattle.words.specs.Numbers.{largest}
 use Rattle.words.specs.Literals.{literal, kind}
@@ -44,7 +44,7 @@ pub record Openable (b : Bytes) (p : Place) (k : ℕ) (s : Layout) (len : ℕ) :
   pub inside : p .at ≤ length b
   pub has-row : begins p k ≡ true → p .row < total s
   pub few : p .row < largest
-  pub fits : first-length (tokens-at b (p .at)) < 256 ^ s .width
+  pub fits : Fits s (first-length (tokens-at b (p .at)))
 
 -- a word's row
 abbrev pub word-place : code.Token → Place → Place
@@ -57,7 +57,7 @@ word-rows t p rs =
     cond (eqb (t .class) 6) rs
     (cond (ltb (t .class) 6) rs (set rs (p .row) (row (kind (literal (eqb (t .class) 8) (t .magnitude))) (number-said t))))
 
--- whole clauses, each row with its place and each number with its bytes
+-- whole clauses, each row with its place and each length with its bytes
 pub record Writable (b : Bytes) (from : ℕ) (s : Layout) (len r : ℕ) : Type 0 where
   pub inside : from ≤ length b
   pub whole : whole-lists false (tokens-at b from) ≡ true
@@ -65,5 +65,4 @@ pub record Writable (b : Bytes) (from : ℕ) (s : Layout) (len r : ℕ) : Type 0
   pub room : Room s len
   pub has-rows : r + length (tokens-at b from) ≤ total s
   pub few-rows : total s < 2 ^ 32
-  pub numbers-fit : 1024 < 256 ^ s .width
-  pub lengths-fit : length (tokens-at b from) < 256 ^ s .width
+  pub lengths-fit : Fits s (length (tokens-at b from))

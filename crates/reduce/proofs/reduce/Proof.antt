@@ -1,28 +1,75 @@
 -- `reduce::reduce` meets its contract. Assumes nothing.
 use borrow.Author.Needs.{needs}
-use mathlib.Core.Path.{ap, _∙_}
+use mathlib.Core.Path.{_≡_, sym, ap, _∙_, subst}
+use lib.ListN.{length}
 use Rattle.sheet.specs.Operations.{reduce-call}
-use Rattle.checking.proofs.CheckedSheets.{narrow-countable}
+use Rattle.rows.specs.Formats.{format-of}
+use Rattle.checking.proofs.CheckedSheets.{sheet-format}
+use Rattle.reduce.specs.Inner.Plan.{Planned, Plans}
+use Rattle.reduce.proofs.Deciding.{refused-call, reduced-call}
 use Rattle.reduce.proofs.reduce.Statement.{statement}
 use Rattle.reduce.proofs.reduce.Tie as tie
 
-narrow-requires : tie.Need-narrow-requires
-narrow-requires c κs = search needs
+plan-reduce-requires : tie.Need-plan-reduce-requires
+plan-reduce-requires c κs = search needs
 
-reduce-in-requires : tie.Need-reduce-in-requires
-reduce-in-requires c κs = rw (c .before .narrow .ensures) narrow-countable
+enum-known-p : tie.Need-enum-known-p
+enum-known-p c = search needs
+
+enum-known-p-2 : tie.Need-enum-known-p-2
+enum-known-p-2 c = search needs
+
+abbrev start : tie.After-plan-reduce → tie.Start
+start c = c .before .before .before
+
+planned : (c : tie.After-p2)
+    → let a = start (c .before .before) .args in
+    Planned (a .f) (a .sheet .now) (length (a .out .now)) (c .p2 .given .0 .0)
+planned c =
+    let a = start (c .before .before) .args in
+    subst (Plans (a .f) (a .sheet .now) (length (a .out .now))) (c .p2 .given .1) (c .before .before .plan-reduce .ensures)
+
+-- the layout's own format
+same-format : (c : tie.After-p2) → c .p2 .given .0 .0 .format ≡ start (c .before .before) .args .f
+same-format c = sheet-format (planned c .sheet)
+
+own : (c : tie.After-p2)
+    → let a = start (c .before .before) .args in
+    Planned (c .p2 .given .0 .0 .format) (a .sheet .now) (length (a .out .now)) (c .p2 .given .0 .0)
+own c =
+    let a = start (c .before .before) .args in
+    subst (λ g. Planned g (a .sheet .now) (length (a .out .now)) (c .p2 .given .0 .0)) (sym (same-format c)) (planned c)
+
+reduce-into-requires : tie.Need-reduce-into-requires
+reduce-into-requires c κs = own (c .before .before)
+
+returns : tie.Need-returns
+returns c =
+    let told = c .before in
+    let plan = told .before .before in
+    let a = start plan .args in
+    refused-call (format-of (a .f)) (a .sheet .now) (a .out .now)
+    (subst (Plans (a .f) (a .sheet .now) (length (a .out .now))) (told .p .given .1) (plan .plan-reduce .ensures))
 
 same-length : tie.Need-same-length
 same-length c = search needs
 
-returns : tie.Need-returns
-returns c =
-    let call = c .before .before in
-    let format = call .before .before in
-    let a = format .before .before .before .args in (
-      call .reduce-in .ensures .0 ∙ ap (λ F. (reduce-call F (a .sheet .now) (a .out .now)) .answer) (format .narrow .ensures),
-      call .reduce-in .ensures .1 ∙ ap (λ F. (reduce-call F (a .sheet .now) (a .out .now)) .output) (format .narrow .ensures),
-    )
+returns-2 : tie.Need-returns-2
+returns-2 c =
+    let reduced = c .before .before in
+    let told = reduced .before .before .before in
+    let a = start (told .before .before) .args in
+    reduced-call (a .out .now) (own told) (reduced .reduce-into .ensures .1) (reduced .reduce-into .ensures .0) ∙
+    ap (λ g. reduce-call (format-of g) (a .sheet .now) (a .out .now)) (same-format told)
 
 pub reduce-spec : {M : Type 1} → statement M
-reduce-spec = tie.close (tie.spec narrow-requires reduce-in-requires same-length returns)
+reduce-spec =
+    tie.close
+    (tie.spec
+    plan-reduce-requires
+    enum-known-p
+    enum-known-p-2
+    reduce-into-requires
+    returns
+    same-length
+    returns-2)

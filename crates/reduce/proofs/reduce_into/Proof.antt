@@ -1,6 +1,7 @@
 -- `reduce::reduce_into` meets its contract. Assumes nothing.
 use borrow.Author.Needs.{needs}
-use mathlib.Core.Path.{refl, _∙_}
+use mathlib.Core.Path.{_≡_, refl, _∙_}
+use lib.ListN.{length}
 use Rattle.reduce.proofs.Deciding.{sheet-numbered, sheet-clausal, copied, blanked-raw, reduced-output, reduced-length}
 use Rattle.reduce.proofs.reduce_into.Statement.{statement}
 use Rattle.reduce.proofs.reduce_into.Tie as tie
@@ -9,9 +10,7 @@ slice-aggregate-fill-places : tie.Need-slice-aggregate-fill-places
 slice-aggregate-fill-places c = search needs
 
 fill-places-requires : tie.Need-fill-places-requires
-fill-places-requires c κs =
-    let a = c .before .before .before in
-    (sheet-numbered (a .pre .0 .manageable) (a .pre .1), refl)
+fill-places-requires c κs = (sheet-numbered (c .before .before .before .pre), refl)
 
 copy-front-requires : tie.Need-copy-front-requires
 copy-front-requires c κs = search needs
@@ -19,33 +18,45 @@ copy-front-requires c κs = search needs
 slice-aggregate-blank-clauses : tie.Need-slice-aggregate-blank-clauses
 slice-aggregate-blank-clauses c = search needs
 
+abbrev places-of : tie.After-copy-front → tie.After-fill-places
+places-of c = c .before .before .before
+
+abbrev start : tie.After-copy-front → tie.Start
+start c = places-of c .before .before .before .before
+
 blank-clauses-requires : tie.Need-blank-clauses-requires
 blank-clauses-requires c κs =
-    let a = c .before .before .before .before .before .before .before .before .before .before .before in
-    let copy = copied (a .pre .0) (a .args .out .now) (a .pre .1) (c .before .before .before .before .copy-front .ensures) in
-    (sheet-clausal (a .pre .0 .manageable) (a .pre .1) (c .before .before .before .before .before .before .before .fill-places .ensures), copy .0, copy .1)
+    let copy = c .before .before .before .before in
+    let a = start copy in
+    let same = copied (a .args .out .now) (a .pre) (copy .copy-front .ensures) in
+    (sheet-clausal (a .pre) (places-of copy .fill-places .ensures), same .0, same .1)
+
+abbrev copy-of : tie.After-blank-clauses → tie.After-copy-front
+copy-of c = c .before .before .before .before .before
+
+same-room : (c : tie.After-blank-clauses) → length (c .blank-clauses .last .1 .1 .1 .0) ≡ length (start (copy-of c) .args .out .now)
+same-room c = c .blank-clauses .kept .1 .1 .1 .0 ∙ copy-of c .copy-front .kept .1 .0
 
 tidy-in-place-requires : tie.Need-tidy-in-place-requires
 tidy-in-place-requires c κs =
     let blank = c .before .before .before in
-    let copy = blank .before .before .before .before .before in
-    let a = copy .before .before .before .before .before .before .before in
-    blanked-raw (a .pre .0) (a .args .out .now) (a .pre .1) _
-    (blank .blank-clauses .kept .1 .1 .1 .0 ∙ copy .copy-front .kept .1 .0)
-    (blank .blank-clauses .ensures)
+    let a = start (copy-of blank) in
+    blanked-raw (a .args .out .now) (a .pre) _ (same-room blank) (blank .blank-clauses .ensures)
+
+sheet-length-requires : tie.Need-sheet-length-requires
+sheet-length-requires c κs = search needs
 
 same-length : tie.Need-same-length
 same-length c = search needs
 
 returns : tie.Need-returns
 returns c =
-    let tidy = c .before .before in
+    let tidy = c .before .before .before in
     let blank = tidy .before .before .before .before in
-    let copy = blank .before .before .before .before .before in
-    let a = copy .before .before .before .before .before .before .before in
-    let len = blank .blank-clauses .kept .1 .1 .1 .0 ∙ copy .copy-front .kept .1 .0 in (
-      reduced-output (a .pre .0) (a .args .out .now) (a .pre .1) _ len (blank .blank-clauses .ensures) (tidy .tidy-in-place .ensures .0),
-      reduced-length (a .pre .0) (a .args .out .now) (a .pre .1) _ len (blank .blank-clauses .ensures) (tidy .tidy-in-place .ensures .1),
+    let a = start (copy-of blank) in
+    let t = tidy .tidy-in-place .ensures in (
+      reduced-output (a .args .out .now) (a .pre) _ (same-room blank) (blank .blank-clauses .ensures) (t .0),
+      c .sheet-length .ensures ∙ reduced-length (a .args .out .now) (a .pre) _ (same-room blank) (blank .blank-clauses .ensures) (t .1 .0),
     )
 
 pub reduce-into-spec : {M : Type 1} → statement M
@@ -58,5 +69,6 @@ reduce-into-spec =
     slice-aggregate-blank-clauses
     blank-clauses-requires
     tidy-in-place-requires
+    sheet-length-requires
     same-length
     returns)

@@ -5,22 +5,24 @@ use mathlib.Core.Bool.{true}
 use Prim.Native.Nat.{ℕ, _≤_}
 use lib.ListN.{length}
 use Rattle.formula.specs.Reduce.{in-profile}
-use Rattle.sheet.specs.Format.{Bytes, Format}
+use Rattle.sheet.specs.Format.{Bytes}
 use Rattle.sheet.specs.Sheet.{formula}
 use Rattle.sheet.specs.Check.{refused, answer, passes}
 use Rattle.sheet.specs.Operations.{reduce-tests}
+use Rattle.rows.specs.Formats.{format-of}
+use Rattle.rows.specs.declared.Format.{Format}
 use Rattle.rows.specs.declared.Layout.{Layout}
-use Rattle.checking.specs.Limits.{Sheet}
+use Rattle.checking.specs.Sheets.{Sheet}
 use Rattle.reduce.specs.declared.plan.Plan as plan
 use Rattle.reduce.specs.declared.plan.Plan.{Plan}
 
 -- every test passes
-pub record Planned (F : Format) (b : Bytes) (room : ℕ) (s : Layout) : Type 0 where
-  pub sheet : Sheet F b s
-  pub tests-pass : passes (reduce-tests F b room) ≡ true
-  pub profile : in-profile ((formula F b) .matrix) ≡ true
+pub record Planned (f : Format) (b : Bytes) (room : ℕ) (s : Layout) : Type 0 where
+  pub sheet : Sheet f b s
+  pub tests-pass : passes (reduce-tests (format-of f) b room) ≡ true
+  pub profile : in-profile ((formula (format-of f) b) .matrix) ≡ true
   pub room-is : length b ≤ room
 
 abbrev pub Plans : Format → Bytes → ℕ → Plan → Type 0
-Plans F b room (plan.the-variants.Refused n i) = refused n i ≡ answer (reduce-tests F b room) room
-Plans F b room (plan.the-variants.Reduces s) = Planned F b room s
+Plans f b room (plan.the-variants.Refused n i) = refused n i ≡ answer (reduce-tests (format-of f) b room) room
+Plans f b room (plan.the-variants.Reduces s) = Planned f b room s

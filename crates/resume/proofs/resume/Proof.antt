@@ -1,21 +1,14 @@
 -- `resume::resume` meets its contract. Assumes nothing.
-use mathlib.Core.Path.{sym, ap, _∙_}
 use borrow.Author.Needs.{needs}
-use Rattle.sheet.specs.Format.{Format}
-use Rattle.sheet.specs.Check.{check}
-use Rattle.sheet.specs.Operations.{Solving}
-use Rattle.sheet.proofs.Resume.{resume-unchecked}
-use Rattle.checking.specs.Answers.{checked-answer}
-use Rattle.checking.proofs.CheckedSheets.{sheet-checked}
-use Rattle.resume.proofs.Answered.{named-manageable, named-sheet, named-placed, leaves, resume-checked}
+use Rattle.rows.specs.declared.Layout.{Layout}
+use Rattle.checking.specs.Sheets.{Sheet}
+use Rattle.checking.proofs.CheckedSheets.{sheet-checked, sheet-refused}
+use Rattle.resume.proofs.Answered.{sheet-placed, resume-checked, resume-refused}
 use Rattle.resume.proofs.resume.Statement.{statement}
 use Rattle.resume.proofs.resume.Tie as tie
 
-named-format-requires : tie.Need-named-format-requires
-named-format-requires c κs = search needs
-
-check-in-requires : tie.Need-check-in-requires
-check-in-requires c κs = rw (c .named-format .ensures) (named-manageable (c .before .before .before .before .args .narrow))
+check-requires : tie.Need-check-requires
+check-requires c κs = search needs
 
 enum-known-checked : tie.Need-enum-known-checked
 enum-known-checked c = search needs
@@ -23,25 +16,28 @@ enum-known-checked c = search needs
 enum-known-checked-2 : tie.Need-enum-known-checked-2
 enum-known-checked-2 c = search needs
 
+abbrev start : tie.After-check → tie.Start
+start c = c .before .before .before .before
+
+-- the sheet that Check accepted
+abbrev layout : tie.After-checked2 → Layout
+layout c = c .checked2 .given .0 .0
+
+accepted : (c : tie.After-checked2)
+    → let a = start (c .before .before) .args in
+    Sheet (a .f) (a .sheet .now) (layout c)
+accepted c = sheet-checked (c .checked2 .given .1) (c .before .before .check .ensures)
+
 resume-checked-requires : tie.Need-resume-checked-requires
-resume-checked-requires c κs =
-    let told = c .before .before .before in
-    let checked = told .before .before in
-    let format = checked .before in
-    let a = format .before .before .before .before .args in
-    named-placed (a .narrow) (a .sheet .now)
-    (named-sheet (a .narrow) (format .named-format .ensures) (sheet-checked (told .checked2 .given .1) (checked .check-in .ensures)))
+resume-checked-requires c κs = sheet-placed (accepted (c .before .before .before))
 
 returns : tie.Need-returns
 returns c =
     let told = c .before in
     let checked = told .before .before in
-    let format = checked .before in
-    let a = format .before .before .before .before .args in
-    let l = leaves _ (resume-unchecked (a .c .started) (a .c .settled) (a .c .expanded) (a .sheet .now) (a .narrow) (a .first .now) (a .second .now)
-    (sym (ap checked-answer (told .checked .given .1)) ∙ checked .check-in .ensures ∙
-    ap (λ (F : Format). check F (a .sheet .now)) (format .named-format .ensures))) in
-    (l .answers, (l .in-first, l .in-second))
+    let a = start checked .args in
+    resume-refused (a .c) (a .sheet .now) (a .f) (a .first .now) (a .second .now)
+    (sheet-refused (a .f) (a .sheet .now) (told .checked .given .1) (checked .check .ensures))
 
 same-length : tie.Need-same-length
 same-length c = search needs
@@ -53,21 +49,14 @@ returns-2 : tie.Need-returns-2
 returns-2 c =
     let went = c .before .before .before .before in
     let told = went .before .before .before .before in
-    let checked = told .before .before in
-    let format = checked .before in
-    let a = format .before .before .before .before .args in
-    let same = resume-checked _ (a .c) (a .sheet .now) (a .first .now) (a .second .now) (a .narrow)
-    (named-sheet (a .narrow) (format .named-format .ensures) (sheet-checked (told .checked2 .given .1) (checked .check-in .ensures))) in (
-      went .resume-checked .ensures .0 ∙ ap (λ (w : Solving). w .answer) same,
-      (went .resume-checked .ensures .1 .0 ∙ ap (λ (w : Solving). w .first) same, went .resume-checked .ensures .1 .1 ∙ ap (λ (w : Solving). w .second) same),
-    )
+    let a = start (told .before .before) .args in
+    resume-checked _ (a .c) (a .sheet .now) (a .first .now) (a .second .now) (accepted told) (went .resume-checked .ensures)
 
 pub resume-spec : {M : Type 1} → statement M
 resume-spec =
     tie.close
     (tie.spec
-    named-format-requires
-    check-in-requires
+    check-requires
     enum-known-checked
     enum-known-checked-2
     resume-checked-requires

@@ -6,6 +6,7 @@ use Prim.Native.Nat.{ℕ, _+_, _^_, _≤_, _<_}
 use lib.Dec.{eqb, ltb}
 use Rattle.formula.specs.Solve.{Run, solve}
 use Rattle.sheet.specs.Format.{Bytes, wide, sheet-length, fits}
+use Rattle.sheet.specs.Refusals.{no-room, wrong-counts}
 use Rattle.sheet.specs.Check.{accepted, test, answer}
 use Rattle.sheet.specs.Operations.{Solving, solving}
 use Rattle.sheet.specs.Limits.{Within}
@@ -27,9 +28,12 @@ pub record Widenable (s : Layout) (b first second : Bytes) : Type 0 where
   pub placed : Placed s b
   pub has-room : sheet-length wide (s .variables) (s .nodes) ≤ room first second
 
--- Solve's run on it
+-- Solve's run on it, and what that answers and leaves
 abbrev pub wide-run : Layout → Bytes → Bytes → Bytes → Run
 wide-run s b first second = solve (fits wide (room first second)) (formula-in s b)
+
+abbrev pub wide-call : Layout → Bytes → Bytes → Bytes → Solving
+wide-call s b first second = solving wide first second (accepted (wide-run s b first second))
 
 -- the counts of an answer, added to those given, are numbers of the machine
 abbrev pub Addable : ℕ → ℕ → Solved → Type 0
@@ -42,7 +46,7 @@ abbrev pub resumed : Layout → Counts → Bytes → Bytes → Bytes → Solving
 resumed s c b first second =
     resuming first second
     (answer
-    (test (not (eqb (c .settled + c .expanded + s .variables) (c .started))) 25 0 ∷
-    test (ltb (room first second) (sheet-length wide (s .variables) (s .nodes))) 13 0 ∷
+    (test (not (eqb (c .settled + c .expanded + s .variables) (c .started))) wrong-counts 0 ∷
+    test (ltb (room first second) (sheet-length wide (s .variables) (s .nodes))) no-room 0 ∷
     [])
-    (with-counts (c .settled) (c .expanded) (solving wide first second (accepted (wide-run s b first second)))))
+    (with-counts (c .settled) (c .expanded) (wide-call s b first second)))

@@ -6,11 +6,14 @@ use mathlib.Core.List.{List}
 use mathlib.Core.Option.{some}
 use Prim.Native.Nat.{ℕ}
 use Rattle.formula.specs.Settle.{may-settle}
-use Rattle.sheet.specs.Format.{Bytes, Format}
+use Rattle.sheet.specs.Format.{Bytes}
 use Rattle.sheet.specs.Sheet.{formula}
 use Rattle.sheet.specs.Check.{refused, answer, passes}
 use Rattle.sheet.specs.Operations.{settle-tests}
+use Rattle.rows.specs.Formats.{format-of}
+use Rattle.rows.specs.Layouts.{format-in}
 use Rattle.rows.specs.Formulas.{formula-in}
+use Rattle.rows.specs.declared.Format.{Format}
 use Rattle.rows.specs.declared.Layout.{Layout}
 use Rattle.stepping.specs.Admission.{Admitted}
 use Rattle.stepping.specs.Steps.{Puts}
@@ -19,17 +22,17 @@ use Rattle.settle.specs.declared.plan.Plan as plan
 use Rattle.settle.specs.declared.plan.Plan.{Plan}
 
 -- tests 1 to 10 admit x, whose prefix row is row i
-abbrev pub Admissible : Format → Bytes → ℕ → Layout → ℕ → Type 0
-Admissible F b x s i = (ends : List ℕ) × Admitted F b x s i ends
+abbrev pub Admissible : Bytes → ℕ → Layout → ℕ → Type 0
+Admissible b x s i = (ends : List ℕ) × Admitted b x s i ends
 
 -- every test passes, and the value that is put in for x is the one it may be settled by
-pub record Planned (F : Format) (b : Bytes) (x room : ℕ) (s : Layout) (p : Put) : Type 0 where
-  pub tests-pass : passes (settle-tests F b x room) ≡ true
-  pub puts : Puts F s b p room
+pub record Planned (b : Bytes) (x room : ℕ) (s : Layout) (p : Put) : Type 0 where
+  pub tests-pass : passes (settle-tests (format-in s) b x room) ≡ true
+  pub puts : Puts s b p room
   pub variable-is : p .variable ≡ x
-  pub value-is : may-settle x (formula F b) ≡ some (p .value)
-  pub same-formula : formula-in s b ≡ formula F b
+  pub value-is : may-settle x (formula (format-in s) b) ≡ some (p .value)
+  pub same-formula : formula-in s b ≡ formula (format-in s) b
 
 abbrev pub Plans : Format → Bytes → ℕ → ℕ → Plan → Type 0
-Plans F b x room (plan.the-variants.Refused n i) = refused n i ≡ answer (settle-tests F b x room) x
-Plans F b x room (plan.the-variants.Settles s p) = Planned F b x room s p
+Plans f b x room (plan.the-variants.Refused n i) = refused n i ≡ answer (settle-tests (format-of f) b x room) x
+Plans f b x room (plan.the-variants.Settles s p) = (s .format ≡ f) × Planned b x room s p

@@ -3,7 +3,6 @@ use mathlib.Core.Path.{_≡_, refl, sym, subst, _∙_}
 use native.Mathlib.Omega.{arith}
 use borrow.Author.Needs.{needs}
 use lib.ListN.{length}
-use Rattle.rows.specs.Formats.{format-of}
 use Rattle.solve.specs.Inner.Running.{Stepped}
 use Rattle.solve.specs.declared.step.Step.{Step}
 use Rattle.solve.proofs.Turning.{Turn, turn-first, turn-next, turn-ended, turn-stopped}
@@ -11,11 +10,11 @@ use Rattle.solve.proofs.go.Statement.{statement}
 use Rattle.solve.proofs.go.Tie as tie
 
 abbrev Inv-loop : tie.InvT-loop
-Inv-loop first₀ second₀ f room s₀ ends₀ first second s ends =
-    Turn (format-of f) room s₀ s first₀ first × (length second ≡ length second₀) × (length ends ≡ 8192)
+Inv-loop first₀ second₀ room s₀ ends₀ first second s ends =
+    Turn room s₀ s first₀ first × (length second ≡ length second₀) × (length ends ≡ 8192)
 
 abbrev μ-loop : tie.MeasureT-loop
-μ-loop first₀ second₀ f room s₀ ends₀ first second s ends = s .sheet .variables
+μ-loop first₀ second₀ room s₀ ends₀ first second s ends = s .sheet .variables
 
 abbrev turn : tie.After-take-step Inv-loop μ-loop → tie.At-loop Inv-loop μ-loop
 turn c = c .before .before .before .before
@@ -26,10 +25,10 @@ start c = turn c .before .before .before
 -- the step, once it is known
 stepped : (c : tie.After-take-step Inv-loop μ-loop) (r : Step) → c .take-step .result ≡ r →
     let a = start c .args in
-    Stepped (format-of (a .f)) (a .room) (turn c .loop .s) (turn c .loop .first) (turn c .loop .second) (c .take-step .last .0) (c .take-step .last .1 .0) r
+    Stepped (a .room) (turn c .loop .s) (turn c .loop .first) (turn c .loop .second) (c .take-step .last .0) (c .take-step .last .1 .0) r
 stepped c r e =
     let a = start c .args in
-    subst (λ r. Stepped (format-of (a .f)) (a .room) (turn c .loop .s) (turn c .loop .first) (turn c .loop .second) (c .take-step .last .0) (c .take-step .last .1 .0) r) e (c .take-step .ensures)
+    subst (λ r. Stepped (a .room) (turn c .loop .s) (turn c .loop .first) (turn c .loop .second) (c .take-step .last .0) (c .take-step .last .1 .0) r) e (c .take-step .ensures)
 
 loop-holds : tie.Need-loop-holds Inv-loop μ-loop
 loop-holds c =
@@ -45,7 +44,6 @@ take-step-requires c κs =
     let p = l .before .before .before .pre in
     let u = l .loop .inv in (
       record {
-        countable = p .countable;
         held = u .0 .held;
         first-room = omega (arith, u .0 .same-length, p .first-room);
         second-room = omega (arith, u .1, p .second-room);
@@ -102,7 +100,7 @@ loop-again : tie.Need-loop-again Inv-loop μ-loop
 loop-again c =
     let t = c .before .before .before .before .before .before .before .before in
     let u = turn t .loop .inv in
-    (turn-next (u .0) (turn t .loop .second) (stepped t _ (c .before .t3 .given .1)) (t .take-step .kept .0), t .take-step .kept .1 .0 ∙ u .1, t .take-step .kept .1 .1 .1 .1 .1 .0 ∙ u .2)
+    (turn-next (u .0) (turn t .loop .second) (stepped t _ (c .before .t3 .given .1)) (t .take-step .kept .0), t .take-step .kept .1 .0 ∙ u .1, t .take-step .kept .1 .1 .1 .1 .0 ∙ u .2)
 
 pub go-spec : {M : Type 1} → statement M
 go-spec =

@@ -1,7 +1,9 @@
 -- `solve::run` meets its contract. Assumes nothing.
 use mathlib.Core.Path.{_∙_}
 use borrow.Author.Needs.{needs}
-use Rattle.solve.proofs.Answering.{all-zeros}
+use Rattle.sheet.specs.Operations.{solving}
+use Rattle.solve.specs.Inner.Running.{run-call}
+use Rattle.solve.proofs.Answering.{all-zeros, left}
 use Rattle.solve.proofs.run.Statement.{statement}
 use Rattle.solve.proofs.run.Tie as tie
 
@@ -18,9 +20,12 @@ same-length-2 : tie.Need-same-length-2
 same-length-2 c = search needs
 
 returns : tie.Need-returns
+unfolding run-call solving
 returns c =
     let gone = c .before .before .before .before .before .before .before .before in
-    (gone .go .ensures .0, (gone .go .ensures .1, c .before .before .clear .ensures ∙ all-zeros (gone .go .last .1 .0) (gone .go .kept .1 .0)))
+    let went = gone .go .ensures in
+    let zeros = c .before .before .clear .ensures ∙ all-zeros (gone .go .last .1 .0) (gone .go .kept .1 .0) in
+    left (went .answers) (went .shows) zeros
 
 pub run-spec : {M : Type 1} → statement M
 run-spec = tie.close (tie.spec go-requires clear-requires same-length same-length-2 returns)

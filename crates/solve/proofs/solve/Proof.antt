@@ -2,15 +2,38 @@
 use mathlib.Core.Path.{ap, _∙_}
 use borrow.Author.Needs.{needs}
 use Rattle.sheet.specs.Operations.{solve-call}
-use Rattle.checking.proofs.CheckedSheets.{narrow-countable}
+use Rattle.rows.specs.Formats.{format-of}
+use Rattle.checking.specs.Sheets.{Sheet}
+use Rattle.checking.proofs.CheckedSheets.{sheet-checked, sheet-refused, sheet-format, sheet-own}
+use Rattle.solve.proofs.Answering.{unchecked-call}
 use Rattle.solve.proofs.solve.Statement.{statement}
 use Rattle.solve.proofs.solve.Tie as tie
 
-narrow-requires : tie.Need-narrow-requires
-narrow-requires c κs = search needs
+check-requires : tie.Need-check-requires
+check-requires c κs = search needs
 
-solve-in-requires : tie.Need-solve-in-requires
-solve-in-requires c κs = rw (c .before .before .narrow .ensures) narrow-countable
+enum-known-c : tie.Need-enum-known-c
+enum-known-c c = search needs
+
+enum-known-c-2 : tie.Need-enum-known-c-2
+enum-known-c-2 c = search needs
+
+abbrev start : tie.After-check → tie.Start
+start c = c .before .before .before .before
+
+checked : (c : tie.After-c2) → let a = start (c .before .before) .args in Sheet (a .f) (a .sheet .now) (c .c2 .given .0 .0)
+checked c = sheet-checked (c .c2 .given .1) (c .before .before .check .ensures)
+
+solve-checked-requires : tie.Need-solve-checked-requires
+solve-checked-requires c κs = sheet-own (checked (c .before .before .before))
+
+returns : tie.Need-returns
+returns c =
+    let told = c .before in
+    let check = told .before .before in
+    let a = start check .args in
+    unchecked-call (format-of (a .f)) (a .sheet .now) (a .first .now) (a .second .now)
+    (sheet-refused (a .f) (a .sheet .now) (told .c .given .1) (check .check .ensures))
 
 same-length : tie.Need-same-length
 same-length c = search needs
@@ -18,19 +41,23 @@ same-length c = search needs
 same-length-2 : tie.Need-same-length-2
 same-length-2 c = search needs
 
-returns : tie.Need-returns
-returns c =
-    let call = c .before .before .before .before in
-    let format = call .before .before .before in
-    let a = format .before .before .before .before .args in
-    let e = format .narrow .ensures in (
-      call .solve-in .ensures .0 ∙ ap (λ F. (solve-call F (a .sheet .now) (a .first .now) (a .second .now)) .answer) e,
-      (
-        call .solve-in .ensures .1 .0 ∙ ap (λ F. (solve-call F (a .sheet .now) (a .first .now) (a .second .now)) .first) e,
-        call .solve-in .ensures .1 .1 ∙ ap (λ F. (solve-call F (a .sheet .now) (a .first .now) (a .second .now)) .second) e,
-      ),
-    )
+returns-2 : tie.Need-returns-2
+returns-2 c =
+    let solved = c .before .before .before .before in
+    let told = solved .before .before .before .before in
+    let a = start (told .before .before) .args in
+    solved .solve-checked .ensures ∙
+    ap (λ f. solve-call (format-of f) (a .sheet .now) (a .first .now) (a .second .now)) (sheet-format (checked told))
 
 pub solve-spec : {M : Type 1} → statement M
 solve-spec =
-    tie.close (tie.spec narrow-requires solve-in-requires same-length same-length-2 returns)
+    tie.close
+    (tie.spec
+    check-requires
+    enum-known-c
+    enum-known-c-2
+    solve-checked-requires
+    returns
+    same-length
+    same-length-2
+    returns-2)

@@ -1,7 +1,10 @@
 -- `solve::solve_checked` meets its contract. Assumes nothing.
+use mathlib.Core.Path.{_∙_}
+use Prim.Native.Nat.{_≤_}
 use borrow.Author.Needs.{needs}
 use native.Mathlib.Omega.{arith}
-use Rattle.rows.specs.Formats.{format-of}
+use lib.ListN.{length}
+use Rattle.sheet.specs.Trace.{room}
 use Rattle.solve.proofs.Answering.{short-call, raw-ready, solved-call}
 use Rattle.solve.proofs.solve_checked.Statement.{statement}
 use Rattle.solve.proofs.solve_checked.Tie as tie
@@ -9,22 +12,29 @@ use Rattle.solve.proofs.solve_checked.Tie as tie
 shorter-requires : tie.Need-shorter-requires
 shorter-requires c κs = search needs
 
+abbrev start : tie.After-shorter → tie.Start
+start c = c .before .before .before .before
+
 returns : tie.Need-returns
 returns c =
-    let a = c .before .before .before .before .before in
-    let l = short-call (format-of (a .args .f)) (a .args .sheet .now) (a .args .first .now) (a .args .second .now) (a .pre .1)
-    (omega (arith, c .before .shorter .ensures, c .if1 .taken)) in
-    (l .answers, (l .in-first, l .in-second))
+    let a = start (c .before) in
+    short-call (a .pre) (a .args .first .now) (a .args .second .now) (omega (arith, c .before .shorter .ensures, c .if1 .taken))
 
 copy-front-requires : tie.Need-copy-front-requires
 copy-front-requires c κs = search needs
 
+-- the sheet fits, and is copied
+abbrev before : tie.After-copy-front → tie.Start
+before c = start (c .before .before .before)
+
+has-room : (c : tie.After-copy-front) → let a = before c .args in length (a .sheet .now) ≤ room (a .first .now) (a .second .now)
+has-room c = omega (arith, c .before .before .before .shorter .ensures, c .before .before .if1 .left)
+
 run-raw-requires : tie.Need-run-raw-requires
 run-raw-requires c κs =
     let copied = c .before .before .before .before in
-    let a = copied .before .before .before .before .before .before .before in
-    raw-ready (format-of (a .args .f)) (a .args .sheet .now) (a .args .first .now) (a .args .second .now) (a .pre .1) (a .pre .0)
-    (omega (arith, copied .before .before .before .shorter .ensures, copied .before .before .if1 .left)) (copied .copy-front .ensures)
+    let a = before copied in
+    raw-ready (a .pre) (a .args .first .now) (a .args .second .now) (has-room copied) (copied .copy-front .ensures)
 
 same-length : tie.Need-same-length
 same-length c = search needs
@@ -36,11 +46,8 @@ returns-2 : tie.Need-returns-2
 returns-2 c =
     let ran = c .before .before .before .before in
     let copied = ran .before .before .before .before .before in
-    let a = copied .before .before .before .before .before .before .before in
-    let l = solved-call (format-of (a .args .f)) (a .args .sheet .now) (a .args .first .now) (a .args .second .now) (a .pre .1) (a .pre .0)
-    (omega (arith, copied .before .before .before .shorter .ensures, copied .before .before .if1 .left)) (copied .copy-front .ensures)
-    (ran .run-raw .ensures .0) (ran .run-raw .ensures .1 .0) (ran .run-raw .ensures .1 .1) in
-    (l .answers, (l .in-first, l .in-second))
+    let a = before copied in
+    ran .run-raw .ensures ∙ solved-call (a .pre) (a .args .first .now) (a .args .second .now) (has-room copied) (copied .copy-front .ensures)
 
 pub solve-checked-spec : {M : Type 1} → statement M
 solve-checked-spec =

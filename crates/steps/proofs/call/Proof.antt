@@ -1,6 +1,6 @@
 -- `steps::call` meets its contract. Assumes nothing.
 use mathlib.Core.Path.{sym, ap, _∙_}
-use Rattle.sheet.specs.Operations.{Written as Writing}
+use Rattle.sheet.specs.Operations.{Written}
 use Rattle.sheet.specs.Calls.{perform}
 use Rattle.sheet.specs.Steps.{single}
 use Rattle.rows.specs.Formats.{format-of}
@@ -10,17 +10,21 @@ use borrow.Author.Needs.{needs}
 use Rattle.steps.proofs.call.Statement.{statement}
 use Rattle.steps.proofs.call.Tie as tie
 
+-- the call of an operation
+abbrev does : tie.Start → Operation → Written
+does c o = perform (format-of (c .args .f)) (single (operation-of o) (c .args .x) (c .args .out .now)) (c .args .sheet .now)
+
 enum-told : tie.Need-enum-told
 enum-told c = search needs
 
-settle-in-requires : tie.Need-settle-in-requires
-settle-in-requires c κs = search needs
+settle-requires : tie.Need-settle-requires
+settle-requires c κs = search needs
 
 enum-told-2 : tie.Need-enum-told-2
 enum-told-2 c = search needs
 
-expand-in-requires : tie.Need-expand-in-requires
-expand-in-requires c κs = search needs
+expand-requires : tie.Need-expand-requires
+expand-requires c κs = search needs
 
 same-length : tie.Need-same-length
 same-length c = search needs
@@ -30,11 +34,7 @@ unfolding perform
 returns c =
     let call = c .before .before in
     let told = call .before .before in
-    let a = told .before .before .before .before .args in
-    let does : Operation → Writing = λ o. perform (format-of (a .f)) (single (operation-of o) (a .x) (a .out .now)) (a .sheet .now) in (
-      call .settle-in .ensures .0 ∙ ap (λ o. (does o) .answer) (sym (told .enum-told .given .1)),
-      call .settle-in .ensures .1 ∙ ap (λ o. (does o) .output) (sym (told .enum-told .given .1)),
-    )
+    call .settle .ensures ∙ ap (does (told .before .before .before .before)) (sym (told .enum-told .given .1))
 
 same-length-2 : tie.Need-same-length-2
 same-length-2 c = search needs
@@ -44,20 +44,16 @@ unfolding perform
 returns-2 c =
     let call = c .before .before in
     let told = call .before .before in
-    let a = told .before .before .before .before .args in
-    let does : Operation → Writing = λ o. perform (format-of (a .f)) (single (operation-of o) (a .x) (a .out .now)) (a .sheet .now) in (
-      call .expand-in .ensures .0 ∙ ap (λ o. (does o) .answer) (sym (told .enum-told2 .given .1)),
-      call .expand-in .ensures .1 ∙ ap (λ o. (does o) .output) (sym (told .enum-told2 .given .1)),
-    )
+    call .expand .ensures ∙ ap (does (told .before .before .before .before)) (sym (told .enum-told2 .given .1))
 
 pub call-spec : {M : Type 1} → statement M
 call-spec =
     tie.close
     (tie.spec
     enum-told
-    settle-in-requires
+    settle-requires
     enum-told-2
-    expand-in-requires
+    expand-requires
     same-length
     returns
     same-length-2

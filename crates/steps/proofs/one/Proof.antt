@@ -3,8 +3,7 @@ use mathlib.Core.Path.{refl, sym}
 use native.Mathlib.Omega.{arith}
 use lib.Seq.{length-take-le}
 use Rattle.rows.specs.Formats.{format-of}
-use Rattle.steps.specs.Answers.{operation-of, step-of}
-use Rattle.steps.proofs.Turning.{can-keep, answered, held-then, held-short}
+use Rattle.steps.proofs.Turning.{can-keep, took}
 use borrow.Author.Needs.{needs}
 use Rattle.steps.proofs.one.Statement.{statement}
 use Rattle.steps.proofs.one.Tie as tie
@@ -18,7 +17,7 @@ slice-reshare-prefix-call c = search needs
 slice-aggregate-call : tie.Need-slice-aggregate-call
 slice-aggregate-call c =
     let a = c .before .before .before .before in
-    sym (length-take-le (a .args .held) (a .args .first .now) (omega (arith, a .pre .1)))
+    sym (length-take-le (a .args .held) (a .args .first .now) (omega (arith, a .pre)))
 
 slice-relend-prefix-call : tie.Need-slice-relend-prefix-call
 slice-relend-prefix-call c = search needs
@@ -37,8 +36,8 @@ keep-requires c κs =
     let called = c .before .before .before .before in
     let n = called .before .before .before in
     let a = n .before .before .before .args in
-    can-keep (format-of (a .f)) (operation-of (a .s .operation)) (a .s .variable) (a .first .now) (a .second .now) (a .held) (n .shorter .result) (n .shorter .ensures)
-    (called .call .result) (called .call .ensures .0) (called .call .ensures .1) (called .call .kept .1 .1 .1 .1 .0) refl
+    can-keep (format-of (a .f)) (a .s) (a .first .now) (a .second .now) (a .held) (n .shorter .result) (n .shorter .ensures)
+    (called .call .result) (called .call .ensures) (called .call .kept .1 .1 .1 .1 .0) refl
 
 same-length : tie.Need-same-length
 same-length c = search needs
@@ -53,23 +52,8 @@ returns c =
     let n = called .before .before .before in
     let start = n .before .before .before in
     let a = start .args in
-    let F = format-of (a .f) in
-    let o = operation-of (a .s .operation) in
-    let x = a .s .variable in
-    let room = n .shorter .result in
-    let is = n .shorter .ensures in
-    let r = called .call .result in
-    let answers = called .call .ensures .0 in
-    let writes = called .call .ensures .1 in
-    let same = called .call .kept .1 .1 .1 .1 .0 in (
-      answered F o x (a .first .now) (a .second .now) (a .held) room is r answers writes same refl (step-of (a .s)) refl refl,
-      (
-        held-then F o x (a .first .now) (a .second .now) (a .held) room is r answers writes same refl (step-of (a .s)) refl refl (kept .keep .result) _
-            (kept .keep .ensures),
-        held-short F o x (a .first .now) (a .second .now) (a .held) room is r answers writes same refl (start .pre .1) (kept .keep .result) _
-            (kept .keep .ensures),
-      ),
-    )
+    took (format-of (a .f)) (a .s) (a .first .now) (a .second .now) (a .held) (n .shorter .result) (n .shorter .ensures)
+    (called .call .result) (called .call .ensures) (called .call .kept .1 .1 .1 .1 .0) refl (kept .keep .result) _ (kept .keep .ensures) (start .pre)
 
 pub one-spec : {M : Type 1} → statement M
 one-spec =

@@ -1,16 +1,31 @@
 -- `tidying::tidy` meets its contract. Assumes nothing.
 use mathlib.Core.Path.{ap, _∙_}
 use Rattle.sheet.specs.Operations.{tidy-call}
-use Rattle.checking.proofs.CheckedSheets.{narrow-countable}
+use Rattle.rows.specs.Formats.{format-of}
+use Rattle.checking.specs.Sheets.{Sheet}
+use Rattle.checking.proofs.CheckedSheets.{sheet-checked, sheet-refused, sheet-format, sheet-own}
+use Rattle.tidying.proofs.TidyChecked.{unchecked-call}
 use borrow.Author.Needs.{needs}
 use Rattle.tidying.proofs.tidy.Statement.{statement}
 use Rattle.tidying.proofs.tidy.Tie as tie
 
-narrow-requires : tie.Need-narrow-requires
-narrow-requires c κs = search needs
+check-requires : tie.Need-check-requires
+check-requires c κs = search needs
 
-tidy-in-requires : tie.Need-tidy-in-requires
-tidy-in-requires c κs = rw (c .before .narrow .ensures) narrow-countable
+enum-known-c : tie.Need-enum-known-c
+enum-known-c c = search needs
+
+abbrev start : tie.After-check → tie.Start
+start c = c .before .before .before
+
+accepted : (c : tie.After-c) → Sheet (start (c .before .before) .args .f) (start (c .before .before) .args .sheet .now) (c .c .given .0 .0)
+accepted c = sheet-checked (c .c .given .1) (c .before .before .check .ensures)
+
+tidy-checked-requires : tie.Need-tidy-checked-requires
+tidy-checked-requires c κs = sheet-own (accepted (c .before .before))
+
+enum-known-c-2 : tie.Need-enum-known-c-2
+enum-known-c-2 c = search needs
 
 same-length : tie.Need-same-length
 same-length c = search needs
@@ -18,11 +33,25 @@ same-length c = search needs
 returns : tie.Need-returns
 returns c =
     let call = c .before .before in
-    let format = call .before .before in
-    let a = format .before .before .before .args in (
-      call .tidy-in .ensures .0 ∙ ap (λ F. (tidy-call F (a .sheet .now) (a .out .now)) .answer) (format .narrow .ensures),
-      call .tidy-in .ensures .1 ∙ ap (λ F. (tidy-call F (a .sheet .now) (a .out .now)) .output) (format .narrow .ensures),
-    )
+    let told = call .before .before .before in
+    let a = start (told .before .before) .args in
+    call .tidy-checked .ensures ∙ ap (λ g. tidy-call (format-of g) (a .sheet .now) (a .out .now)) (sheet-format (accepted told))
+
+returns-2 : tie.Need-returns-2
+returns-2 c =
+    let told = c .before in
+    let checked = told .before .before in
+    let a = start checked .args in
+    unchecked-call (format-of (a .f)) (a .sheet .now) (a .out .now) (sheet-refused (a .f) (a .sheet .now) (told .c2 .given .1) (checked .check .ensures))
 
 pub tidy-spec : {M : Type 1} → statement M
-tidy-spec = tie.close (tie.spec narrow-requires tidy-in-requires same-length returns)
+tidy-spec =
+    tie.close
+    (tie.spec
+    check-requires
+    enum-known-c
+    tidy-checked-requires
+    enum-known-c-2
+    same-length
+    returns
+    returns-2)

@@ -11,8 +11,8 @@ same-length c = search needs
 
 returns : tie.Need-returns
 returns c =
-    let called = c .before .before in
-    called .tidy-rows .ensures _ (called .before .before .before .pre .width-is)
+    let left = c .before .before .tidy-rows .ensures in
+    (left .sheet-is, (left .layout-is, left .smaller))
 
 pub tidy-in-place-spec : {M : Type 1} → statement M
 tidy-in-place-spec = tie.close (tie.spec tidy-rows-requires same-length returns)

@@ -1,16 +1,15 @@
 -- The proof of the cycle of calls {existential, universal}. With each row read the rows left fall; a turn that hands its row over has one
 -- call more before it than the side that owns the row.
 -- Assumes nothing.
-use mathlib.Core.Bool.{Bool, cond}
-use mathlib.Core.Path.{refl, sym, ap, _∙_}
+use mathlib.Core.Path.{refl, ap}
 use Prim.Native.Nat.{ℕ, _<_}
 use native.Mathlib.Omega.{arith}
 use lib.ListN.{length, length-set}
 use borrow.Author.Tests.{not-true, not-false}
 use borrow.Fn.Kinds.{In}
 use borrow.Fn.PlainCycle.{Measures, is, falls, and}
-use Rattle.formula.specs.Tree.{Quantifier, exists, for-all}
-use Rattle.trial.proofs.Turns.{turned-leaf, Own, own-row, restored-one, inside-one, kept-one, turn-stopped}
+use Rattle.formula.specs.Tree.{exists, for-all}
+use Rattle.trial.proofs.Turns.{owned-by, turned-leaf, Own, own-row, restored-one, inside-one, kept-one, turn-stopped}
 use Rattle.trial.proofs.Turns.{leaves-fit, restored-both, inside-both, turn-went-on, calls, hands-over, next-turn}
 use Rattle.trial.proofs.existential.Reads as existential
 use Rattle.trial.proofs.existential.Kinds as existential-kinds
@@ -19,16 +18,12 @@ use Rattle.trial.proofs.universal.Reads as universal
 use Rattle.trial.proofs.universal.Kinds as universal-kinds
 use Rattle.trial.proofs.+existential+universal.Lts-universal as universal-lts
 use Rattle.trial.proofs.both.Reads as both-reads
-use Rattle.trial.proofs.is_existential.Reads as is-existential-reads
+use Rattle.prefixes.proofs.is_existential.Reads as is-existential-reads
 use Rattle.trial.proofs.leaf.Reads as leaf-reads
 use Rattle.trial.proofs.stops.Reads as stops-reads
-use Rattle.trial.proofs.variable_at.Reads as variable-at-reads
+use Rattle.prefixes.proofs.variable_at.Reads as variable-at-reads
 use Rattle.trial.proofs.+existential+universal.{statement}
 use Rattle.trial.proofs.+existential+universal.Tie.{close}
-
--- the side of a row, by whether it is existential
-abbrev side : Bool → Quantifier
-side u = cond u exists for-all
 
 abbrev μ-existential : Measures 4 existential-kinds.ps ℕ
 μ-existential κs a = calls exists (a .1 .0) (a .0 .now) (a .1 .1 .1 .1 .1 .0)
@@ -108,8 +103,8 @@ existential-is-existential-requires t c κs = (c .before .before .before .before
 existential-universal-requires : (t : ℕ) → existential-lts.Need-universal-requires (existential-callees t) (existential-at t) existential.Post
 existential-universal-requires t c κs =
     let a = c .before .before .before .before .before .before .before .before .before in
-    let e = sym (c .before .before .is-existential .ensures) ∙ not-true _ (c .before .if2 .taken) in
-    (omega (arith, hands-over exists (a .args .s) (a .args .sheet .now) (a .args .i) (ap side e), a .pre .0), a .pre .1)
+    let hands = hands-over exists (a .args .s) (a .args .sheet .now) (a .args .i) (owned-by _ (c .before .before .is-existential .ensures) (not-true _ (c .before .if2 .taken))) in
+    (omega (arith, hands, a .pre .0), a .pre .1)
 
 existential-same-length-2 : (t : ℕ) → existential-lts.Need-same-length-2 (existential-callees t) (existential-at t) existential.Post
 existential-same-length-2 t c = c .before .before .universal .kept .1 .1 .1 .1 .0
@@ -135,7 +130,7 @@ existential-own : (t : ℕ) (c : existential-row t)
 existential-own t c =
     let a = existential-start t c in
     own-row (a .pre .1 .0) (omega (arith, a .pre .1 .1, c .before .before .before .if1 .left))
-    (ap side (sym (c .before .before .is-existential .ensures) ∙ not-false _ (c .before .if2 .left))) (c .variable-at .ensures)
+    (owned-by _ (c .before .before .is-existential .ensures) (not-false _ (c .before .if2 .left))) (c .variable-at .ensures .0)
 
 existential-slice-read-old : (t : ℕ) → existential-lts.Need-slice-read-old (existential-callees t) (existential-at t) existential.Post
 existential-slice-read-old t c = existential-own t (c .before) .inside
@@ -244,8 +239,8 @@ universal-is-existential-requires t c κs = (c .before .before .before .before .
 universal-existential-requires : (t : ℕ) → universal-lts.Need-existential-requires (universal-callees t) (universal-at t) universal.Post
 universal-existential-requires t c κs =
     let a = c .before .before .before .before .before .before .before .before .before in
-    let e = sym (c .before .before .is-existential .ensures) ∙ (c .before .if2 .taken) in
-    (omega (arith, hands-over for-all (a .args .s) (a .args .sheet .now) (a .args .i) (ap side e), a .pre .0), a .pre .1)
+    let hands = hands-over for-all (a .args .s) (a .args .sheet .now) (a .args .i) (owned-by _ (c .before .before .is-existential .ensures) (c .before .if2 .taken)) in
+    (omega (arith, hands, a .pre .0), a .pre .1)
 
 universal-same-length-2 : (t : ℕ) → universal-lts.Need-same-length-2 (universal-callees t) (universal-at t) universal.Post
 universal-same-length-2 t c = c .before .before .existential .kept .1 .1 .1 .1 .0
@@ -271,7 +266,7 @@ universal-own : (t : ℕ) (c : universal-row t)
 universal-own t c =
     let a = universal-start t c in
     own-row (a .pre .1 .0) (omega (arith, a .pre .1 .1, c .before .before .before .if1 .left))
-    (ap side (sym (c .before .before .is-existential .ensures) ∙ c .before .if2 .left)) (c .variable-at .ensures)
+    (owned-by _ (c .before .before .is-existential .ensures) (c .before .if2 .left)) (c .variable-at .ensures .0)
 
 universal-slice-read-old : (t : ℕ) → universal-lts.Need-slice-read-old (universal-callees t) (universal-at t) universal.Post
 universal-slice-read-old t c = universal-own t (c .before) .inside

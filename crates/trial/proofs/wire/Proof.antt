@@ -158,8 +158,9 @@ loop-again c =
       known = parents-more ends (head .loop .parents) i (up .result) (omega (arith, inv .parents-room)) (up .ensures) (inv .known);
       targets =
           wire-row (R a) ends (head .loop .high) (head .loop .low) i (up .result) (kind .result) (c .before .before .past .result) (c .past2 .result)
-          (inv .started) (omega (arith, inv .high-room)) (omega (arith, inv .low-room)) (up .ensures) (kind-row (a .args .sheet .now) (a .pre .0 .readable) (up .result) (omega arith) (kind .ensures)) (c .before .before .past .ensures)
-          (c .past2 .ensures) (inv .targets);
+          (inv .started) (omega (arith, inv .high-room)) (omega (arith, inv .low-room)) (up .ensures)
+          (kind-row (a .args .sheet .now) (a .pre .0 .readable) (up .result) (omega arith) (kind .ensures))
+          (c .before .before .past .ensures) (c .past2 .ensures) (inv .targets);
     }
 
 same-length : tie.Need-same-length Inv-loop μ-loop

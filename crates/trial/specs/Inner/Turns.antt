@@ -4,14 +4,14 @@ use mathlib.Core.Path.{_≡_}
 use mathlib.Core.Bool.{Bool, false}
 use mathlib.Core.List.{List}
 use Prim.Native.Nat.{ℕ, _≤_, _<_}
-use lib.ListN.{getD, drop}
+use lib.ListN.{drop}
 use Rattle.formula.specs.Tree.{Prefix}
 use Rattle.formula.specs.Truth.{eval}
 use Rattle.formula.specs.Trial.{Tried, try}
-use Rattle.sheet.specs.Format.{Bytes, Row, row}
-use Rattle.rows.specs.Layouts.{rows-in}
+use Rattle.sheet.specs.Format.{Bytes}
 use Rattle.rows.specs.Formulas.{prefix-in, node-rows-in, matrix-in, Readable}
 use Rattle.rows.specs.declared.Layout.{Layout}
+use Rattle.prefixes.specs.Places.{binding-in}
 use Rattle.trial.specs.declared.Outcome.{Outcome}
 use Rattle.trial.specs.Inner.Jumps.{Rooms, values, Jumps}
 
@@ -19,10 +19,7 @@ use Rattle.trial.specs.Inner.Jumps.{Rooms, values, Jumps}
 abbrev pub tried : Outcome → Tried
 tried o = record { verdict = o .verdict; leaves = o .leaves }
 
--- prefix row i, and the prefix from it on: the rows not yet read
-abbrev pub prefix-row : Layout → Bytes → ℕ → Row
-prefix-row s b i = getD (rows-in s b) i (row 0 0)
-
+-- the prefix from row i on: the rows not yet read
 unfoldable pub unread : Layout → Bytes → ℕ → Prefix
 unread s b i = drop i (prefix-in s b)
 
@@ -35,7 +32,7 @@ semantic-tree s b = try (prefix-in s b) (eval (matrix-in s b)) (λ _. false)
 
 -- the bound numbers have an entry in the assignment
 abbrev pub Numbered : Layout → Bytes → ℕ → Type 0
-Numbered s b numbers = (i : ℕ) → i < s .variables → (prefix-row s b i) .argument < numbers
+Numbered s b numbers = (i : ℕ) → i < s .variables → (binding-in s b i) .variable < numbers
 
 -- a sheet that can be tried: of few variables, each in the assignment
 pub record Playable (s : Layout) (b : Bytes) (numbers : ℕ) : Type 0 where

@@ -64,13 +64,13 @@ turn-there : (p : tie.After-splice-at Inv-loop μ-loop)
     → Turn (start-of (test-of p .before) .args .w .sheet) (p .splice-at .last .0) (test-of p .before .loop .at) (total (start-of (test-of p .before) .args .w .sheet))
 turn-there p = face-turn (p .splice-at .last .0) (room-there p) (faced p) (start-of (test-of p .before) .pre .there)
 
-wide-requires : tie.Need-wide-requires Inv-loop μ-loop
-wide-requires c κs = search needs
+from-byte-requires : tie.Need-from-byte-requires Inv-loop μ-loop
+from-byte-requires c κs = search needs
 
 loop-holds : tie.Need-loop-holds Inv-loop μ-loop
 unfolding mixes
 loop-holds c =
-    let k = c .wide .ensures in
+    let k = c .from-byte .ensures in
     (gather-none _, linked-none _ _ _, omega arith, refl, refl, refl, refl, k .0, omega (arith, k .1))
 
 mul-large : tie.Need-mul-large Inv-loop μ-loop
@@ -257,7 +257,7 @@ gather-spec =
     (tie.spec
     Inv-loop
     μ-loop
-    wide-requires
+    from-byte-requires
     loop-holds
     mul-large
     shared-slice-read-large

@@ -33,7 +33,7 @@ rows-of a = rows-in (a .args .s) (a .args .b .now)
 print-is : (g : tie.After-literal-print)
     → g .literal-print .result ≡ literal-mix (4 - start-of g .args .c .kind) (g .before .before .before .argument-at .result)
 print-is g =
-    g .literal-print .ensures .0 ∙ ap (λ s. literal-mix s (g .before .before .before .argument-at .result)) (g .before .wide .ensures .0)
+    g .literal-print .ensures .0 ∙ ap (λ s. literal-mix s (g .before .before .before .argument-at .result)) (g .before .from-byte .ensures .0)
 
 start-is : (f : tie.After-find)
     → f .before .before .before .before .first .result ≡ last (start-of (printed f) .args .members .now) (bucket (printed f .literal-print .result)) (start-of (printed f) .args .c .before)
@@ -53,11 +53,11 @@ found-there e =
 argument-at-requires : tie.Need-argument-at-requires
 argument-at-requires c κs = (c .before .before .before .before .before .pre .0 .room, inside (c .before .before .before .before .before))
 
-sub-wide : tie.Need-sub-wide
-sub-wide c = search needs
+sub-from-byte : tie.Need-sub-from-byte
+sub-from-byte c = search needs
 
-wide-requires : tie.Need-wide-requires
-wide-requires c κs = search needs
+from-byte-requires : tie.Need-from-byte-requires
+from-byte-requires c κs = search needs
 
 literal-print-requires : tie.Need-literal-print-requires
 literal-print-requires c κs = search needs
@@ -237,8 +237,8 @@ judge-literal-spec =
     tie.close
     (tie.spec
     argument-at-requires
-    sub-wide
-    wide-requires
+    sub-from-byte
+    from-byte-requires
     literal-print-requires
     bucket-of-requires
     first-requires

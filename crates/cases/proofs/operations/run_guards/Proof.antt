@@ -22,11 +22,14 @@ array-borrow-prefix-space c = search needs
 slice-aggregate-first : tie.Need-slice-aggregate-first
 slice-aggregate-first c = sym (length-take-le _ _ (omega arith))
 
-guards-beside-requires : tie.Need-guards-beside-requires
-guards-beside-requires c κs = search needs
+guards-in-buffers-requires : tie.Need-guards-in-buffers-requires
+guards-in-buffers-requires c κs = search needs
 
 same-length : tie.Need-same-length
 same-length c = search needs
+
+same-length-2 : tie.Need-same-length-2
+same-length-2 c = search needs
 
 returns-3 : tie.Need-returns-3
 returns-3 c = search needs
@@ -40,6 +43,7 @@ run-guards-spec =
     returns-2
     array-borrow-prefix-space
     slice-aggregate-first
-    guards-beside-requires
+    guards-in-buffers-requires
     same-length
+    same-length-2
     returns-3)

@@ -18,11 +18,11 @@ loop-holds c = search needs
 mul-so-far : tie.Need-mul-so-far Inv-loop μ-loop
 mul-so-far c = search needs
 
-shared-slice-read-wide : tie.Need-shared-slice-read-wide Inv-loop μ-loop
-shared-slice-read-wide c = search needs
+shared-slice-read-from-byte : tie.Need-shared-slice-read-from-byte Inv-loop μ-loop
+shared-slice-read-from-byte c = search needs
 
-wide-requires : tie.Need-wide-requires Inv-loop μ-loop
-wide-requires c κs = search needs
+from-byte-requires : tie.Need-from-byte-requires Inv-loop μ-loop
+from-byte-requires c κs = search needs
 
 add-so-far : tie.Need-add-so-far Inv-loop μ-loop
 add-so-far c = search needs
@@ -47,8 +47,8 @@ sum-spec =
     μ-loop
     loop-holds
     mul-so-far
-    shared-slice-read-wide
-    wide-requires
+    shared-slice-read-from-byte
+    from-byte-requires
     add-so-far
     add-i
     loop-less

@@ -8,7 +8,7 @@ use Rattle.sheet.specs.Format.{Row, row}
 use Rattle.rows.specs.Layouts.{rows-in}
 use Rattle.changing.specs.Changes.{entry, chosen-row}
 use Rattle.changing.proofs.Changed.{row-stays, row-changes, row-renamed, row-put}
-use Rattle.changing.proofs.Fits.{number-fits}
+use Rattle.rows.proofs.Limits.{number-fits}
 use borrow.Author.Needs.{needs}
 use Rattle.changing.proofs.change.change_row.Statement.{statement}
 use Rattle.changing.proofs.change.change_row.Tie as tie
@@ -59,7 +59,7 @@ entry-requires c κs = search needs
 set-row-requires : tie.Need-set-row-requires
 set-row-requires c κs =
     let a = start (c .before .before) in
-    (a .pre .0, a .pre .2, number-fits (a .pre .1) (omega arith))
+    (a .pre .0, a .pre .1, number-fits (a .args .s .format) (omega arith))
 
 same-length-2 : tie.Need-same-length-2
 same-length-2 c = search needs
@@ -81,7 +81,7 @@ cast-if3 c = search needs
 set-row-requires-2 : tie.Need-set-row-requires-2
 set-row-requires-2 c κs =
     let a = start (c .before .before .before) in
-    (a .pre .0, a .pre .2, number-fits (a .pre .1) (omega arith))
+    (a .pre .0, a .pre .1, number-fits (a .args .s .format) (omega arith))
 
 same-length-3 : tie.Need-same-length-3
 same-length-3 c = search needs
@@ -101,7 +101,7 @@ returns-3 c =
 set-row-requires-3 : tie.Need-set-row-requires-3
 set-row-requires-3 c κs =
     let a = start (c .before .before .before) in
-    (a .pre .0, a .pre .2, number-fits (a .pre .1) (omega arith))
+    (a .pre .0, a .pre .1, number-fits (a .args .s .format) (omega arith))
 
 same-length-4 : tie.Need-same-length-4
 same-length-4 c = search needs

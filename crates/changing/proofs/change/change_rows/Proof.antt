@@ -14,13 +14,13 @@ abbrev μ-loop : tie.MeasureT-loop
 loop-holds : tie.Need-loop-holds Inv-loop μ-loop
 loop-holds c =
     let a = c .before .before in
-    changed-none _ _ _ (a .pre .0) _ _ (a .pre .2 .inside) (a .pre .2 .ordered)
+    changed-none _ _ _ (a .pre .0) _ _ (a .pre .1 .inside) (a .pre .1 .ordered)
 
 change-row-requires : tie.Need-change-row-requires Inv-loop μ-loop
 change-row-requires c κs =
     let turn = c .before in
     let a = turn .before .before .before .before in
-    (room-left _ _ _ (a .pre .0) _ _ (a .pre .2 .inside) (turn .loop-test .taken) (turn .before .loop .inv), a .pre .1, omega (arith, a .pre .2 .inside))
+    (room-left _ _ _ (a .pre .0) _ _ (a .pre .1 .inside) (turn .loop-test .taken) (turn .before .loop .inv), omega (arith, a .pre .1 .inside))
 
 add-i : tie.Need-add-i Inv-loop μ-loop
 add-i c = omega arith
@@ -33,7 +33,7 @@ loop-again c =
     let done = c .before .before in
     let turn = done .before .before in
     let a = turn .before .before .before .before in
-    changed-next _ _ _ (a .pre .0) _ _ (a .pre .2 .inside) (turn .loop-test .taken) (turn .before .loop .inv) (done .change-row .ensures .0)
+    changed-next _ _ _ (a .pre .0) _ _ (a .pre .1 .inside) (turn .loop-test .taken) (turn .before .loop .inv) (done .change-row .ensures .0)
     (done .change-row .ensures .1) (done .change-row .kept .0)
 
 same-length : tie.Need-same-length Inv-loop μ-loop
@@ -42,7 +42,7 @@ same-length c = c .before .loop .inv .same-length
 returns : tie.Need-returns Inv-loop μ-loop
 returns c =
     let a = c .before .before .before .before in
-    changed-all _ _ _ (a .pre .0) _ _ (a .pre .2 .inside) (c .loop-test .left) (c .before .loop .inv)
+    changed-all _ _ _ (a .pre .0) _ _ (a .pre .1 .inside) (c .loop-test .left) (c .before .loop .inv)
 
 pub change-rows-spec : {M : Type 1} → statement M
 change-rows-spec =

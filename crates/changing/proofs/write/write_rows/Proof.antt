@@ -1,10 +1,10 @@
 -- `changing::write::write_rows` meets its contract. Assumes nothing.
-use mathlib.Core.Path.{refl, ap, _∙_}
-use Prim.Native.Nat.{ℕ, _*_, _<_}
+use mathlib.Core.Path.{refl, ap, ap₂, _∙_}
+use Prim.Native.Nat.{ℕ, _+_, _*_, _≤_, _<_}
 use native.Mathlib.Omega.{arith}
-use lib.ListN.{getD, take, drop}
+use lib.ListN.{length, getD, take, drop}
 use lib.Seq.{slice}
-use Rattle.rows.specs.Layouts.{rows-in}
+use Rattle.rows.specs.Layouts.{width, argument-place, rows-in}
 use Rattle.changing.specs.Output.{extent, spliced}
 use Rattle.changing.proofs.Fits.{slice-fits}
 use Rattle.changing.proofs.Spans.{kinds-within, arguments-within, length-span, span-kinds, span-arguments}
@@ -12,6 +12,24 @@ use Rattle.changing.proofs.Splice.{arguments-room, copied-laid}
 use borrow.Author.Needs.{needs}
 use Rattle.changing.proofs.write.write_rows.Statement.{statement}
 use Rattle.changing.proofs.write.write_rows.Tie as tie
+
+abbrev start : tie.After-argument-place → tie.Start
+start c = c .before .before .before .before .before .before
+
+abbrev placed : tie.After-write-bytes → tie.After-argument-place
+placed c = c .before .before .before
+
+abbrev written : tie.After-argument-place2 → tie.After-write-bytes
+written c = c .before .before .before
+
+-- the bytes of the arguments are within the source, and have their place in the output
+source-within : (a : tie.Start)
+    → argument-place (a .args .s) (a .args .span .from) + width (a .args .s) * extent (a .args .span) ≤ length (a .args .b .now)
+source-within a = arguments-within (a .args .s) (a .args .b .now) (a .pre .0 .source) (a .args .span) (a .pre .1)
+
+output-within : (a : tie.Start)
+    → argument-place (a .args .to .layout) (a .args .to .at) + width (a .args .s) * extent (a .args .span) ≤ length (a .args .out .now)
+output-within a = arguments-room (a .pre .0) (a .args .to .at) (extent (a .args .span)) (a .pre .2)
 
 sub-count : tie.Need-sub-count
 sub-count c = search needs
@@ -21,10 +39,8 @@ kind-place-requires c κs = search needs
 
 argument-place-requires : tie.Need-argument-place-requires
 argument-place-requires c κs =
-    let a = c .before .before .before .before .before in (
-      omega (arith, arguments-room (a .pre .0) (a .args .to .at) (extent (a .args .span)) (a .pre .2), a .good),
-      a .pre .0 .room .few-bytes,
-    )
+    let a = c .before .before .before .before .before in
+    omega (arith, output-within a, a .good)
 
 kind-place-requires-2 : tie.Need-kind-place-requires-2
 kind-place-requires-2 c κs = search needs
@@ -32,7 +48,7 @@ kind-place-requires-2 c κs = search needs
 write-bytes-requires : tie.Need-write-bytes-requires
 write-bytes-requires c κs =
     let places = c .before .before in
-    let a = places .before .before .before .before .before .before in (
+    let a = start places in (
       rw (c .before .kind-place2 .ensures)
           (kinds-within (a .args .s) (a .args .b .now) (a .pre .0 .source) (a .args .span) (a .pre .1)),
       omega (arith, places .before .kind-place .ensures, a .pre .0 .room .holds, a .pre .2),
@@ -40,26 +56,26 @@ write-bytes-requires c κs =
 
 argument-place-requires-2 : tie.Need-argument-place-requires-2
 argument-place-requires-2 c κs =
-    let a = c .before .before .before .before .before .before .before .before .before .before .before in (
-      omega (arith, arguments-within (a .args .s) (a .args .b .now) (a .pre .0 .source) (a .args .span) (a .pre .1), a .good),
-      a .pre .0 .source .few-bytes,
-    )
+    let a = start (placed (c .before .before)) in
+    omega (arith, source-within a, a .good)
+
+width-requires : tie.Need-width-requires
+width-requires c κs = search needs
 
 mul-write-bytes : tie.Need-mul-write-bytes
 mul-write-bytes c =
-    let a = c .before .before .before .before .before .before .before .before .before .before .before .before .before in
-    omega (arith, arguments-within (a .args .s) (a .args .b .now) (a .pre .0 .source) (a .args .span) (a .pre .1), a .good)
+    let a = start (placed (written (c .before))) in
+    rw (c .width .ensures .0) (omega (arith, source-within a, a .good))
 
 write-bytes-requires-2 : tie.Need-write-bytes-requires-2
 write-bytes-requires-2 c κs =
-    let read = c .before .before in
-    let first = read .before .before .before in
-    let places = first .before .before .before in
-    let a = places .before .before .before .before .before .before in (
-      rw (read .argument-place2 .ensures)
-          (arguments-within (a .args .s) (a .args .b .now) (a .pre .0 .source) (a .args .span) (a .pre .1)),
-      rw (first .write-bytes .kept .1 .1 .1 .0, places .argument-place .ensures)
-          (arguments-room (a .pre .0) (a .args .to .at) (extent (a .args .span)) (a .pre .2)),
+    let sized = c .before in
+    let read = sized .before in
+    let first = written read in
+    let places = placed first in (
+      rw (read .argument-place2 .ensures, sized .width .ensures .0) (source-within (start places)),
+      rw (sized .width .ensures .0)
+          (omega (arith, output-within (start places), first .write-bytes .kept .1 .1 .1 .0, places .argument-place .ensures)),
     )
 
 add-result : tie.Need-add-result
@@ -71,9 +87,10 @@ same-length c = search needs
 returns : tie.Need-returns
 returns c =
     let second = c .before .before in
-    let read = second .before .before .before in
-    let first = read .before .before .before in
-    let places = first .before .before .before in
+    let sized = second .before .before in
+    let read = sized .before in
+    let first = written read in
+    let places = placed first in
     let known = places .before .before .before .before .before in
     let a = known .before in
     let s = a .args .s in
@@ -89,7 +106,8 @@ returns c =
           (ap (λ n. take (extent span) (drop n b)) (first .before .before .kind-place2 .ensures) ∙ span-kinds s b (a .pre .0 .source) span (a .pre .1)))
           (second .write-bytes2 .ensures ∙
           ap (λ l. spliced (places .argument-place .result) l (first .write-bytes .last .1 .1 .1 .0))
-          (ap (λ n. take (s .width * extent span) (drop n b)) (read .argument-place2 .ensures) ∙ span-arguments s b (a .pre .0 .source) span (a .pre .1) bytes)),
+          (ap₂ (λ w n. take (w * extent span) (drop n b)) (sized .width .ensures .0) (read .argument-place2 .ensures) ∙
+          span-arguments s b (a .pre .0 .source) span (a .pre .1) bytes)),
       refl,
     )
 
@@ -103,6 +121,7 @@ write-rows-spec =
     kind-place-requires-2
     write-bytes-requires
     argument-place-requires-2
+    width-requires
     mul-write-bytes
     write-bytes-requires-2
     add-result

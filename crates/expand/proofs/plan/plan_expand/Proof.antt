@@ -1,9 +1,9 @@
 -- `expand::plan::plan_expand` meets its contract. Assumes nothing.
-use mathlib.Core.Path.{subst}
-use Prim.Native.Nat.{ℕ}
+use mathlib.Core.Path.{subst, subst₂}
 use borrow.Author.Needs.{needs}
 use Rattle.rows.specs.Formats.{format-of}
 use Rattle.stepping.specs.Admission.{Admits}
+use Rattle.stepping.specs.declared.admission.Admission.the-variants.{Admitted}
 use Rattle.expand.specs.Inner.Plan.{Plans}
 use Rattle.expand.proofs.Deciding.{refused-before}
 use Rattle.expand.proofs.plan.plan_expand.Statement.{statement}
@@ -24,23 +24,32 @@ enum-known-a-2 c = search needs
 slice-aggregate-plan-admitted : tie.Need-slice-aggregate-plan-admitted
 slice-aggregate-plan-admitted c = search needs
 
+abbrev start : tie.After-admit → tie.Start
+start c = c .before .before .before .before
+
+-- tests 1 to 10 admit the variable
+abbrev told : tie.After-a2 → tie.After-admit
+told c = c .before .before .before
+
+admitted : (c : tie.After-a2)
+    → let a = start (told c) .args in
+    Admits (a .f) (a .sheet .now) (a .x) (told c .admit .last .1 .1 .1 .0) (Admitted (c .a2 .given .0 .0) (c .a2 .given .0 .1 .0))
+admitted c =
+    let a = start (told c) .args in
+    subst (Admits (a .f) (a .sheet .now) (a .x) (told c .admit .last .1 .1 .1 .0)) (c .a2 .given .1) (told c .admit .ensures)
+
 plan-admitted-requires : tie.Need-plan-admitted-requires
 plan-admitted-requires c κs =
-    let told = c .before .before .before in
-    let admitted = told .before .before .before in
-    let a = admitted .before .before .before .before in (
-      a .pre .0,
-      subst (Admits (format-of (a .args .f)) (a .args .sheet .now) (a .args .x) _) (told .a2 .given .1) (admitted .admit .ensures) .1,
-      a .pre .1,
-    )
+    let found = c .before .before .before in
+    (admitted found .2, start (told found) .pre)
 
 returns : tie.Need-returns
 returns c =
-    let told = c .before in
-    let admitted = told .before .before .before in
-    let a = admitted .before .before .before .before in
-    refused-before (format-of (a .args .f)) (a .args .sheet .now) (a .args .x)
-    (subst (Admits (format-of (a .args .f)) (a .args .sheet .now) (a .args .x) _) (told .a .given .1) (admitted .admit .ensures))
+    let refused = c .before in
+    let admit = refused .before .before .before in
+    let a = start admit .args in
+    refused-before (format-of (a .f)) (a .sheet .now) (a .x)
+    (subst (Admits (a .f) (a .sheet .now) (a .x) (admit .admit .last .1 .1 .1 .0)) (refused .a .given .1) (admit .admit .ensures))
 
 same-length : tie.Need-same-length
 same-length c = search needs
@@ -48,11 +57,10 @@ same-length c = search needs
 returns-2 : tie.Need-returns-2
 returns-2 c =
     let planned = c .before .before in
-    let told = planned .before .before .before .before in
-    let admitted = told .before .before .before in
-    let a = admitted .before .before .before .before in
-    subst (λ (y : ℕ). Plans (format-of (a .args .f)) (a .args .sheet .now) y (planned .plan-admitted .last .1 .1 .1 .1 .1 .0) (planned .plan-admitted .result))
-    (subst (Admits (format-of (a .args .f)) (a .args .sheet .now) (a .args .x) _) (told .a2 .given .1) (admitted .admit .ensures) .0)
+    let found = planned .before .before .before .before in
+    let a = start (told found) .args in
+    let is = admitted found in
+    subst₂ (λ f y. Plans f (a .sheet .now) y (planned .plan-admitted .last .1 .1 .1 .1 .0) (planned .plan-admitted .result)) (is .0) (is .1)
     (planned .plan-admitted .ensures)
 
 pub plan-expand-spec : {M : Type 1} → statement M

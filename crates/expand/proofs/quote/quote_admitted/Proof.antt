@@ -2,7 +2,7 @@
 use mathlib.Core.Path.{subst}
 use borrow.Author.Needs.{needs}
 use native.Mathlib.Omega.{arith}
-use Rattle.rows.specs.Formats.{format-of}
+use Rattle.rows.specs.Layouts.{format-in}
 use Rattle.stepping.proofs.Admitting.{sheet-bound}
 use Rattle.expand.specs.Inner.Price.{Prices}
 use Rattle.expand.proofs.Deciding.{not-innermost, refused-quote-call, counted}
@@ -22,8 +22,8 @@ start c = c .before .before .before .before .before
 find-price-requires : tie.Need-find-price-requires
 find-price-requires c κs =
     let a = c .before .before .before .before in
-    let d = a .pre .1 in (
-      (d .indexed, sheet-bound (d .sheet) (a .pre .0 .manageable), d .named),
+    let d = a .pre in (
+      (d .indexed, sheet-bound (d .sheet), d .named),
       (search needs, omega (arith, d .indexed .readable .few-nodes)),
     )
 
@@ -37,8 +37,8 @@ returns : tie.Need-returns
 returns c =
     let found = c .before .before .before .before in
     let a = start found in
-    refused-quote-call (format-of (a .args .f)) (a .args .sheet .now) (a .args .z .variable)
-    (not-innermost (a .pre .0) (a .pre .1)
+    refused-quote-call (format-in (a .args .s)) (a .args .sheet .now) (a .args .z .variable)
+    (not-innermost (a .pre)
     (subst (Prices (a .args .s) (a .args .sheet .now) (a .args .z) _ _) (c .enum-told .given .1) (found .find-price .ensures)))
 
 returns-2 : tie.Need-returns-2
@@ -47,7 +47,7 @@ returns-2 c =
     let found = told .before .before .before .before in
     let a = start found in
     let inside = subst (Prices (a .args .s) (a .args .sheet .now) (a .args .z) _ _) (told .p .given .1) (found .find-price .ensures) in
-    counted (a .pre .0) (a .pre .1) (inside .1) (inside .0)
+    counted (a .pre) (inside .1) (inside .0)
 
 pub quote-admitted-spec : {M : Type 1} → statement M
 quote-admitted-spec =

@@ -4,7 +4,6 @@ use native.Mathlib.Omega.{arith}
 use lib.ListN.{length, getD}
 use Rattle.changing.proofs.Splice.{ready-on}
 use Rattle.guards.proofs.Copying.{Written, none-written, all-written, child-ends, child-within, child-room, next-written}
-use borrow.Author.Needs.{needs}
 use Rattle.guards.proofs.part.write_kept.Statement.{statement}
 use Rattle.guards.proofs.part.write_kept.Tie as tie
 
@@ -14,25 +13,24 @@ Inv-loop b s ends kept out₀ t v at₀ i₀ out at i = Written s b ends kept t 
 abbrev μ-loop : tie.MeasureT-loop
 μ-loop b s ends kept out₀ t v at₀ i₀ out at i = length kept - i
 
+abbrev start : tie.At-loop Inv-loop μ-loop → tie.Start Inv-loop μ-loop
+start c = c .before .before .before .before .before .before
+
 -- the child at hand is one of the sheet's, and all numbers are small
 small : (c : tie.In-loop Inv-loop μ-loop)
-    → let a = c .before .before .before .before .before .before .before in
-    let from = getD (a .args .kept .now) (c .before .loop .i) 0 in
-    (from < getD (a .args .ends .now) from 0) × (getD (a .args .ends .now) from 0 ≤ a .args .s .nodes) × (a .args .s .nodes ≤ length (a .args .ends .now)) ×
-    (a .args .s .nodes ≤ 8192) × (a .args .s .variables ≤ 1024)
+    → let a = start (c .before) .args in
+    let from = getD (a .kept .now) (c .before .loop .i) 0 in
+    (from < getD (a .ends .now) from 0) × (getD (a .ends .now) from 0 ≤ a .s .nodes) × (a .s .nodes ≤ length (a .ends .now)) ×
+    (a .s .nodes ≤ 8192) × (a .s .variables ≤ 1024)
 small c =
-    let a = c .before .before .before .before .before .before .before in
-    let e = child-ends (a .args .s) (a .args .b .now) (a .pre .readable) (a .args .ends .now) (a .args .kept .now) (a .args .to .layout) (a .args .out .now)
-    (a .args .to .at)
-    (a .pre .room) (c .loop-test .taken) (c .before .loop .inv) in
-    (e .0, e .1, a .pre .holds, a .pre .readable .few-nodes, a .pre .readable .few-variables)
+    let h = start (c .before) .pre in
+    let e = child-ends (h .readable) (h .room) (c .loop-test .taken) (c .before .loop .inv) in
+    (e .0, e .1, h .holds, h .readable .few-nodes, h .readable .few-variables)
 
 loop-holds : tie.Need-loop-holds Inv-loop μ-loop
 loop-holds c =
-    let a = c .before .before .before .before .before in
-    none-written (a .args .s) (a .args .b .now) (a .pre .readable) (a .args .ends .now) (a .args .kept .now) (a .args .to .layout) (a .args .out .now)
-    (a .args .to .at)
-    (a .pre .placed)
+    let h = c .before .before .before .before .before .pre in
+    none-written (h .readable) (h .placed)
 
 mul-row : tie.Need-mul-row Inv-loop μ-loop
 mul-row c = omega arith
@@ -58,20 +56,14 @@ cast-t20 c = omega (arith, small (c .before .before))
 add-t21 : tie.Need-add-t21 Inv-loop μ-loop
 add-t21 c = omega (arith, small (c .before .before))
 
-slice-aggregate-write-copy : tie.Need-slice-aggregate-write-copy Inv-loop μ-loop
-slice-aggregate-write-copy c = search needs
-
-write-copy-requires : tie.Need-write-copy-requires Inv-loop μ-loop
-write-copy-requires c κs =
-    let turn = c .before .before .before .before in
-    let a = turn .before .before .before .before .before .before .before in (
-      ready-on (a .pre .ready) (turn .before .loop .inv .same-length),
-      child-within (a .args .s) (a .args .b .now) (a .pre .readable) (a .args .ends .now) (a .args .kept .now) (a .args .to .layout) (a .args .out .now)
-          (a .args .to .at)
-          (a .pre .room) (turn .loop-test .taken) (turn .before .loop .inv),
-      child-room (a .args .s) (a .args .b .now) (a .pre .readable) (a .args .ends .now) (a .args .kept .now) (a .args .to .layout) (a .args .out .now)
-          (a .args .to .at)
-          (a .pre .room) (turn .loop-test .taken) (turn .before .loop .inv),
+write-rows-requires : tie.Need-write-rows-requires Inv-loop μ-loop
+write-rows-requires c κs =
+    let turn = c .before .before .before in
+    let h = start (turn .before) .pre in
+    let w = turn .before .loop .inv in (
+      ready-on (h .ready) (w .same-length),
+      child-within (h .readable) (h .room) (turn .loop-test .taken) w,
+      child-room (h .readable) (h .room) (turn .loop-test .taken) w,
     )
 
 add-i : tie.Need-add-i Inv-loop μ-loop
@@ -82,22 +74,17 @@ loop-less c = omega arith
 
 loop-again : tie.Need-loop-again Inv-loop μ-loop
 loop-again c =
-    let turn = c .before .before .before .before .before .before .before in
-    let a = turn .before .before .before .before .before .before .before in
-    next-written (a .args .s) (a .args .b .now) (a .pre .readable) (a .args .ends .now) (a .args .kept .now) (a .args .to .layout) (a .args .out .now)
-    (a .args .to .at)
-    (a .pre .room) (turn .loop-test .taken) (turn .before .loop .inv) (c .before .before .write-copy .ensures .0)
-    (c .before .before .write-copy .kept .1 .1 .1 .1 .0)
+    let wrote = c .before .before in
+    let turn = wrote .before .before .before .before in
+    let h = start (turn .before) .pre in
+    next-written (h .readable) (h .room) (turn .loop-test .taken) (turn .before .loop .inv) (wrote .write-rows .ensures .0)
+    (wrote .write-rows .kept .1 .1 .1 .0)
 
 same-length : tie.Need-same-length Inv-loop μ-loop
 same-length c = c .before .loop .inv .same-length
 
 returns : tie.Need-returns Inv-loop μ-loop
-returns c =
-    let a = c .before .before .before .before .before .before .before in
-    all-written (a .args .s) (a .args .b .now) (a .pre .readable) (a .args .ends .now) (a .args .kept .now) (a .args .to .layout) (a .args .out .now)
-    (a .args .to .at)
-    (c .loop-test .left) (c .before .loop .inv)
+returns c = all-written (start (c .before) .pre .readable) (c .loop-test .left) (c .before .loop .inv)
 
 pub write-kept-spec : {M : Type 1} → statement M
 write-kept-spec =
@@ -114,8 +101,7 @@ write-kept-spec =
     shared-slice-read-t17
     cast-t20
     add-t21
-    slice-aggregate-write-copy
-    write-copy-requires
+    write-rows-requires
     add-i
     loop-less
     loop-again

@@ -8,9 +8,10 @@ use Rattle.formula.specs.Tree.{Forest}
 use Rattle.formula.specs.Guards.{says}
 use Rattle.sheet.specs.Format.{fits}
 use Rattle.sheet.specs.Trace.{room}
-use Rattle.rows.specs.Formats.{format-of}
+use Rattle.rows.specs.Layouts.{format-in}
 use Rattle.rows.specs.Formulas.{prefix-in}
 use Rattle.subtrees.proofs.Siblings.{Walked}
+use Rattle.guards.specs.declared.part.Part.{Part}
 use Rattle.guards.specs.declared.sift.Sieve.{Sieve}
 use Rattle.guards.specs.Inner.Parts.{Tried}
 use Rattle.guards.specs.Inner.Sieves.{starts, Says}
@@ -21,80 +22,102 @@ use Rattle.guards.proofs.sift.sift.Statement.{statement}
 use Rattle.guards.proofs.sift.sift.Tie as tie
 
 abbrev Inv-loop : tie.InvT-loop
-Inv-loop b f s ends kept₀ first₀ second₀ g₀ kept first second g =
-    Sifting (format-of f) s b (room first₀ second₀) ends kept g × (length kept ≡ length kept₀) × (length first ≡ length first₀) ×
+Inv-loop b s ends kept₀ first₀ second₀ g₀ kept first second g =
+    Sifting s b (room first₀ second₀) ends kept g × (length kept ≡ length kept₀) × (length first ≡ length first₀) ×
     (length second ≡ length second₀)
 
 abbrev μ-loop : tie.MeasureT-loop
-μ-loop b f s ends kept₀ first₀ second₀ g₀ kept first second g = g .left
+μ-loop b s ends kept₀ first₀ second₀ g₀ kept first second g = g .left
 
--- a child is left
-more : (c : tie.Then1 Inv-loop μ-loop) → 0 < c .before .before .loop .g .left
+-- where the function begins, and a turn: a child is left, the rows of its try are written, the run is heard
+abbrev start : tie.At-loop Inv-loop μ-loop → tie.Start Inv-loop μ-loop
+start c = c .before .before .before .before .before .before .before
+
+abbrev head : tie.Then1 Inv-loop μ-loop → tie.At-loop Inv-loop μ-loop
+head c = c .before .before
+
+abbrev turn : tie.After-write-part Inv-loop μ-loop → tie.Then1 Inv-loop μ-loop
+turn c = c .before .before .before .before .before .before .before
+
+abbrev wrote : tie.After-run-raw Inv-loop μ-loop → tie.After-write-part Inv-loop μ-loop
+wrote c = c .before .before .before .before .before
+
+abbrev ran : tie.After-heard Inv-loop μ-loop → tie.After-run-raw Inv-loop μ-loop
+ran c = c .before .before .before .before .before
+
+abbrev most : tie.Start Inv-loop μ-loop → ℕ
+most a = room (a .args .first .now) (a .args .second .now)
+
+-- where the child at hand ends
+abbrev end : tie.At-loop Inv-loop μ-loop → ℕ
+end c = getD (start c .args .ends .now) (c .loop .g .at) 0
+
+more : (c : tie.Then1 Inv-loop μ-loop) → 0 < head c .loop .g .left
 more c = omega (arith, c .if1 .taken)
 
--- the turn at hand: the child and where it ends, and how small all numbers are
 walk : (c : tie.Then1 Inv-loop μ-loop)
-    → let a = c .before .before .before .before .before .before .before .before .before in
-    Walked (a .args .s) (a .args .b .now) (a .args .ends .now) (c .before .before .loop .g .at) (c .before .before .loop .g .left)
+    → let a = start (head c) .args in
+    Walked (a .s) (a .b .now) (a .ends .now) (head c .loop .g .at) (head c .loop .g .left)
 walk c =
-    let a = c .before .before .before .before .before .before .before .before .before in
-    walked (format-of (a .args .f)) (a .args .s) (a .args .b .now) (room (a .args .first .now) (a .args .second .now)) (a .pre .0) (a .pre .1)
-    (more c) (c .before .before .loop .inv .0)
+    let a = start (head c) in
+    walked (a .args .s) (a .args .b .now) (most a) (a .pre .0) (a .pre .1) (more c) (head c .loop .inv .0)
 
+-- all numbers are small
 small : (c : tie.Then1 Inv-loop μ-loop)
-    → let a = c .before .before .before .before .before .before .before .before .before in
-    let g = c .before .before .loop .g in
-    let end = getD (a .args .ends .now) (g .at) 0 in
-    (g .at < length (a .args .ends .now)) × (g .at ≤ end) × (end ≤ a .args .s .nodes) × (a .args .s .nodes ≤ 8192) × (g .guards < a .args .s .nodes) ×
-    (g .rows < g .at) × (g .stops ≤ g .guards) × (g .left ≤ a .args .s .nodes + 1) × (length (c .before .before .loop .kept) ≡ length (a .args .kept .now)) ×
-    (8192 ≤ length (a .args .kept .now)) × (0 < g .left)
+    → let a = start (head c) .args in
+    let g = head c .loop .g in
+    (g .at < length (a .ends .now)) × (g .at ≤ end (head c)) × (end (head c) ≤ a .s .nodes) × (a .s .nodes ≤ 8192) × (g .guards < a .s .nodes) ×
+    (g .rows < g .at) × (g .stops ≤ g .guards) × (g .left ≤ a .s .nodes + 1) × (length (head c .loop .kept) ≡ length (a .kept .now)) ×
+    (8192 ≤ length (a .kept .now)) × (0 < g .left)
 small c =
-    let a = c .before .before .before .before .before .before .before .before .before in
-    let F = format-of (a .args .f) in
-    let most = room (a .args .first .now) (a .args .second .now) in
-    let i = c .before .before .loop .inv in
+    let a = start (head c) in
+    let i = head c .loop .inv in
     let w = walk c in (
       omega (arith, w .inside, a .pre .1 .holds),
       omega (arith, w .next),
       w .next-within,
       a .pre .1 .readable .few-nodes,
-      kept-few F (a .args .s) (a .args .b .now) most (a .pre .0) (i .0),
+      kept-few (a .args .s) (a .args .b .now) (most a) (a .pre .0) (i .0),
       i .0 .below,
       i .0 .few-stops,
-      left-few F (a .args .s) (a .args .b .now) most (a .pre .0) (a .pre .1) (more c) (i .0),
+      left-few (a .args .s) (a .args .b .now) (most a) (a .pre .0) (a .pre .1) (more c) (i .0),
       i .1,
       a .pre .2,
       more c,
     )
 
 -- the work buffers are as long as they were
-same-room : (c : tie.Then1 Inv-loop μ-loop)
-    → let a = c .before .before .before .before .before .before .before .before .before in
-    room (c .before .before .loop .first) (c .before .before .loop .second) ≡ room (a .args .first .now) (a .args .second .now)
-same-room c = ap₂ min (c .before .before .loop .inv .2) (c .before .before .loop .inv .3)
+same-room : (c : tie.Then1 Inv-loop μ-loop) → room (head c .loop .first) (head c .loop .second) ≡ most (start (head c))
+same-room c = ap₂ min (head c .loop .inv .2) (head c .loop .inv .3)
 
 -- the children kept and those behind the child at hand
+abbrev others : tie.At-loop Inv-loop μ-loop → Part
+others c =
+    let g = c .loop .g in
+    record { guards = g .guards + (g .left - 1); rows = g .rows + (start c .args .s .nodes - end c); rest = end c }
+
 without : (c : tie.Then1 Inv-loop μ-loop)
-    → let a = c .before .before .before .before .before .before .before .before .before in
-    let g = c .before .before .loop .g in
-    let end = getD (a .args .ends .now) (g .at) 0 in
-    Tried (format-of (a .args .f)) (a .args .s) (a .args .b .now) (a .args .ends .now) (starts (c .before .before .loop .kept) g)
-    (record { guards = g .guards + (g .left - 1); rows = g .rows + (a .args .s .nodes - end); rest = end })
-    (room (c .before .before .loop .first) (c .before .before .loop .second))
+    → let a = start (head c) .args in
+    Tried (a .s) (a .b .now) (a .ends .now) (starts (head c .loop .kept) (head c .loop .g)) (others (head c))
+    (room (head c .loop .first) (head c .loop .second))
 without c =
-    let a = c .before .before .before .before .before .before .before .before .before in
-    subst (Tried (format-of (a .args .f)) (a .args .s) (a .args .b .now) (a .args .ends .now) _ _) (sym (same-room c))
-    (tried (format-of (a .args .f)) (a .args .s) (a .args .b .now) (room (a .args .first .now) (a .args .second .now)) (a .pre .0) (a .pre .1)
-    (more c) (c .before .before .loop .inv .0))
+    let a = start (head c) in
+    subst (Tried (a .args .s) (a .args .b .now) (a .args .ends .now) _ _) (sym (same-room c))
+    (tried (a .args .s) (a .args .b .now) (most a) (a .pre .0) (a .pre .1) (more c) (head c .loop .inv .0))
+
+-- the first work buffer is as long after a try's rows are written
+room-left : (c : tie.After-write-part Inv-loop μ-loop)
+    → let l = head (turn c) .loop in
+    room (c .write-part .last .1 .1 .1 .1 .1 .0) (l .second) ≡ room (l .first) (l .second)
+room-left c = ap (λ (n : ℕ). min n (length (head (turn c) .loop .second))) (c .write-part .kept .1 .1 .1 .1 .1 .0)
 
 children-at-requires : tie.Need-children-at-requires Inv-loop μ-loop
-children-at-requires c κs = let a = c .before .before .before .before .before in (a .pre .1 .readable, a .pre .1 .readable .some-nodes)
+children-at-requires c κs = let h = c .before .before .before .before .before .pre .1 .readable in (h, h .some-nodes)
 
 loop-holds : tie.Need-loop-holds Inv-loop μ-loop
 loop-holds c =
     let a = c .before .before .before .before .before .before in (
-      first-turn (format-of (a .args .f)) (a .args .s) (a .args .b .now) (room (a .args .first .now) (a .args .second .now)) (a .pre .0)
-          (a .args .ends .now) (a .args .kept .now) (c .children-at .ensures .0),
+      first-turn (a .args .s) (a .args .b .now) (most a) (a .pre .0) (a .args .ends .now) (a .args .kept .now) (c .children-at .ensures .0),
       refl,
       refl,
       refl,
@@ -109,11 +132,11 @@ shared-slice-read-end c = small (c .before) .0
 cast-end : tie.Need-cast-end Inv-loop μ-loop
 cast-end c = omega (arith, small (c .before))
 
-sub-t18 : tie.Need-sub-t18 Inv-loop μ-loop
-sub-t18 c = omega (arith, small (c .before .before))
+sub-t17 : tie.Need-sub-t17 Inv-loop μ-loop
+sub-t17 c = omega (arith, small (c .before .before))
 
-add-t21 : tie.Need-add-t21 Inv-loop μ-loop
-add-t21 c = omega (arith, small (c .before .before))
+add-t20 : tie.Need-add-t20 Inv-loop μ-loop
+add-t20 c = omega (arith, small (c .before .before))
 
 sub-kept : tie.Need-sub-kept Inv-loop μ-loop
 sub-kept c = small (c .before .before .before) .2
@@ -125,71 +148,72 @@ slice-reshare-prefix-write-part : tie.Need-slice-reshare-prefix-write-part Inv-l
 slice-reshare-prefix-write-part c = omega (arith, small (c .before .before .before .before))
 
 slice-aggregate-write-part : tie.Need-slice-aggregate-write-part Inv-loop μ-loop
-slice-aggregate-write-part c = sym (length-take-le _ (c .before .before .before .before .before .before .before .loop .kept) (omega (arith, small (c .before .before .before .before .before))))
+slice-aggregate-write-part c =
+    let turn = c .before .before .before .before .before in
+    sym (length-take-le _ (head turn .loop .kept) (omega (arith, small turn)))
 
 write-part-requires : tie.Need-write-part-requires Inv-loop μ-loop
 write-part-requires c κs =
     let w = without (c .before .before .before .before .before .before) in
-    (w .chosen, record { few-bytes = w .chosen .readable .room .few-bytes; holds = omega (arith, w .has-room) })
+    (w .chosen, record { holds = omega (arith, w .has-room) })
 
 run-raw-requires : tie.Need-run-raw-requires Inv-loop μ-loop
 run-raw-requires c κs =
-    let turn = c .before .before .before .before .before .before .before .before .before .before .before in
-    let written = c .before .before .before .before .write-part in
-    let second = turn .before .before .loop .second in
-    part-raw (without turn) (written .result) _ second (written .ensures .0) (written .ensures .1)
-    (ap (λ (n : ℕ). min n (length second)) (written .kept .1 .1 .1 .1 .1 .0))
+    let w = c .before .before .before .before in
+    let part = w .write-part in
+    part-raw (without (turn w)) (part .result) _ (head (turn w) .loop .second) (part .ensures .0) (part .ensures .1) (room-left w)
 
 heard-requires : tie.Need-heard-requires Inv-loop μ-loop
 heard-requires c κs = search needs
 
 cast-kept : tie.Need-cast-kept Inv-loop μ-loop
-cast-kept c = omega (arith, small (c .before .before .before .before .before .before .before .before .before .before .before .before .before .before .before .before .before))
+cast-kept c = omega (arith, small (turn (wrote (ran c))))
 
 mul-kept : tie.Need-mul-kept Inv-loop μ-loop
-mul-kept c = omega (arith, small (c .before .before .before .before .before .before .before .before .before .before .before .before .before .before .before .before .before))
+mul-kept c = omega (arith, small (turn (wrote (ran c))))
 
 slice-write-kept : tie.Need-slice-write-kept Inv-loop μ-loop
-slice-write-kept c = omega (arith, small (c .before .before .before .before .before .before .before .before .before .before .before .before .before .before .before .before .before))
+slice-write-kept c = omega (arith, small (turn (wrote (ran c))))
 
 judge-requires : tie.Need-judge-requires Inv-loop μ-loop
 judge-requires c κs =
-    let l = small (c .before .before .before .before .before .before .before .before .before .before .before .before .before .before .before .before .before) in
+    let l = small (turn (wrote (ran c))) in
     (l .1, l .10, omega (arith, l), omega (arith, l), omega (arith, l), omega (arith, l))
 
 loop-less : tie.Need-loop-less Inv-loop μ-loop
 loop-less c =
-    let turn = c .before .before .before .before .before .before .before .before .before .before .before .before .before .before .before .before .before .before in
-    let a = turn .before .before .before .before .before .before .before .before .before in
-    let g = turn .before .before .loop .g in
-    omega (arith, ap (λ (g : Sieve). g .left) (c .judge .ensures), judged-left g (c .before .heard .result) (getD (a .args .ends .now) (g .at) 0), more turn)
+    let heard = c .before in
+    let now = turn (wrote (ran heard)) in
+    omega (
+      arith,
+      ap (λ (g : Sieve). g .left) (c .judge .ensures),
+      judged-left (head now .loop .g) (heard .heard .result) (end (head now)),
+      more now,
+    )
 
 loop-again : tie.Need-loop-again Inv-loop μ-loop
 loop-again c =
-    let turn = c .before .before .before .before .before .before .before .before .before .before .before .before .before .before .before .before .before .before in
-    let a = turn .before .before .before .before .before .before .before .before .before in
-    let F = format-of (a .args .f) in
+    let heard = c .before in
+    let run = ran heard in
+    let w = wrote run in
+    let now = turn w in
+    let l = head now .loop in
+    let a = start (head now) in
+    let F = format-in (a .args .s) in
     let s = a .args .s in
     let b = a .args .b .now in
-    let most = room (a .args .first .now) (a .args .second .now) in
-    let g = turn .before .before .loop .g in
-    let kept = turn .before .before .loop .kept in
-    let second = turn .before .before .loop .second in
-    let i = turn .before .before .loop .inv in
-    let left = more turn in
-    let written = c .before .before .before .before .before .before .before .before .before .before .before .write-part in
-    let run = c .before .before .before .before .before .before .run-raw in
-    let word = c .before .heard in
-    let said : Says (word .result) (says (fits F most) (prefix-in s b) _)
-    = subst₂ (λ (m : ℕ) (us : Forest). Says (word .result) (says (fits F m) (prefix-in s b) us)) (same-room turn)
-    (tried-read F s b most (a .pre .0) (a .pre .1) left (i .0))
-    (part-said (without turn) (written .result) _ second (written .ensures .0) (written .ensures .1)
-    (ap (λ (n : ℕ). min n (length second)) (written .kept .1 .1 .1 .1 .1 .0)) (run .result) (word .ensures) (run .ensures .0)) in (
-      subst (Sifting F s b most (a .args .ends .now) _) (sym (c .judge .ensures))
-          (next-turn F s b most (a .pre .0) (a .pre .1) left (i .0) _ refl (omega (arith, small turn)) (word .result) said),
-      length-set kept (g .guards) (g .at) ∙ i .1,
-      run .kept .0 ∙ written .kept .1 .1 .1 .1 .1 .0 ∙ i .2,
-      run .kept .1 .0 ∙ i .3,
+    let part = w .write-part in
+    let word = heard .heard in
+    let said : Says (word .result) (says (fits F (most a)) (prefix-in s b) _)
+    = subst₂ (λ (m : ℕ) (us : Forest). Says (word .result) (says (fits F m) (prefix-in s b) us)) (same-room now)
+    (tried-read s b (most a) (a .pre .0) (a .pre .1) (more now) (l .inv .0))
+    (part-said (without now) (part .result) _ (l .second) (part .ensures .0) (part .ensures .1) (room-left w) (run .run-raw .result) (word .ensures)
+    (run .run-raw .ensures)) in (
+      subst (Sifting s b (most a) (a .args .ends .now) _) (sym (c .judge .ensures))
+          (next-turn s b (most a) (a .pre .0) (a .pre .1) (more now) (l .inv .0) _ refl (omega (arith, small now)) (word .result) said),
+      length-set (l .kept) (l .g .guards) (l .g .at) ∙ l .inv .1,
+      run .run-raw .kept .0 ∙ part .kept .1 .1 .1 .1 .1 .0 ∙ l .inv .2,
+      run .run-raw .kept .1 .0 ∙ l .inv .3,
     )
 
 same-length : tie.Need-same-length Inv-loop μ-loop
@@ -203,9 +227,9 @@ same-length-3 c = c .before .before .loop .inv .3
 
 returns : tie.Need-returns Inv-loop μ-loop
 returns c =
-    let a = c .before .before .before .before .before .before .before .before .before in
-    last-turn (format-of (a .args .f)) (a .args .s) (a .args .b .now) (room (a .args .first .now) (a .args .second .now)) (a .pre .0) (a .pre .1 .holds)
-    (omega (arith, c .if1 .left)) (c .before .before .loop .inv .0)
+    let at = c .before .before in
+    let a = start at in
+    last-turn (a .args .s) (a .args .b .now) (most a) (a .pre .0) (a .pre .1 .holds) (omega (arith, c .if1 .left)) (at .loop .inv .0)
 
 pub sift-spec : {M : Type 1} → statement M
 sift-spec =
@@ -218,8 +242,8 @@ sift-spec =
     mul-end
     shared-slice-read-end
     cast-end
-    sub-t18
-    add-t21
+    sub-t17
+    add-t20
     sub-kept
     add-kept
     slice-reshare-prefix-write-part

@@ -1,16 +1,16 @@
 -- `order::compare::compare` meets its contract. Assumes nothing.
-use mathlib.Core.Path.{ap, _∙_}
-use Rattle.sheet.specs.Order.{compare-call}
-use Rattle.checking.proofs.CheckedSheets.{narrow-manageable}
+use mathlib.Core.Path.{sym, _∙_}
+use Rattle.rows.specs.Formats.{format-of}
+use Rattle.order.proofs.Compares.{call-refuses, call-orders}
 use borrow.Author.Needs.{needs}
 use Rattle.order.proofs.compare.compare.Statement.{statement}
 use Rattle.order.proofs.compare.compare.Tie as tie
 
-narrow-requires : tie.Need-narrow-requires
-narrow-requires c κs = search needs
+judge-requires : tie.Need-judge-requires
+judge-requires c κs = search needs
 
-compare-in-requires : tie.Need-compare-in-requires
-compare-in-requires c κs = rw (c .before .before .narrow .ensures) narrow-manageable
+is-refused-requires : tie.Need-is-refused-requires
+is-refused-requires c κs = search needs
 
 same-length : tie.Need-same-length
 same-length c = search needs
@@ -18,18 +18,49 @@ same-length c = search needs
 same-length-2 : tie.Need-same-length-2
 same-length-2 c = search needs
 
+abbrev start : tie.After-judge → tie.Start
+start c = c .before .before .before .before .before .before .before
+
 returns : tie.Need-returns
 returns c =
-    let call = c .before .before .before .before in
-    let format = call .before .before .before in
-    let a = format .before .before .before .before .before .args in (
-      call .compare-in .ensures .0 ∙ ap (λ F. (compare-call F (a .a .now) (a .b .now) (a .first .now) (a .second .now)) .answer) (format .narrow .ensures),
-      (
-        call .compare-in .ensures .1 .0 ∙ ap (λ F. (compare-call F (a .a .now) (a .b .now) (a .first .now) (a .second .now)) .first) (format .narrow .ensures),
-        call .compare-in .ensures .1 .1 ∙ ap (λ F. (compare-call F (a .a .now) (a .b .now) (a .first .now) (a .second .now)) .second) (format .narrow .ensures),
-      ),
-    )
+    let j = c .before .before in
+    let a = start j .args in
+    call-refuses (a .first .now) (a .second .now) (format-of (a .f)) (a .a .now) (a .b .now) (j .judge .ensures)
+    (sym (c .before .is-refused .ensures) ∙ c .if1 .taken)
+
+clear-requires : tie.Need-clear-requires
+clear-requires c κs = search needs
+
+clear-requires-2 : tie.Need-clear-requires-2
+clear-requires-2 c κs = search needs
+
+same-length-3 : tie.Need-same-length-3
+same-length-3 c = search needs
+
+same-length-4 : tie.Need-same-length-4
+same-length-4 c = search needs
+
+returns-2 : tie.Need-returns-2
+returns-2 c =
+    let second = c .before .before in
+    let first = second .before .before .before .before in
+    let ordered = first .before .before in
+    let j = ordered .before .before in
+    let a = start j .args in
+    call-orders (a .first .now) (a .second .now) (format-of (a .f)) (a .a .now) (a .b .now) (j .judge .ensures)
+    (sym (ordered .before .is-refused .ensures) ∙ ordered .if1 .left) (first .clear .ensures) (second .clear2 .ensures)
 
 pub compare-spec : {M : Type 1} → statement M
 compare-spec =
-    tie.close (tie.spec narrow-requires compare-in-requires same-length same-length-2 returns)
+    tie.close
+    (tie.spec
+    judge-requires
+    is-refused-requires
+    same-length
+    same-length-2
+    returns
+    clear-requires
+    clear-requires-2
+    same-length-3
+    same-length-4
+    returns-2)

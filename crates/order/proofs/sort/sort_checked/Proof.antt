@@ -1,5 +1,5 @@
 -- `order::sort::sort_checked` meets its contract. Assumes nothing.
-use Rattle.rows.specs.Formats.{format-of}
+use Rattle.rows.specs.Layouts.{format-in}
 use Rattle.order.proofs.Sorts.{short-sort, long-sort}
 use borrow.Author.Needs.{needs}
 use Rattle.order.proofs.sort.sort_checked.Statement.{statement}
@@ -8,7 +8,7 @@ use Rattle.order.proofs.sort.sort_checked.Tie as tie
 returns : tie.Need-returns
 returns c =
     let a = c .before .before .before in
-    short-sort (format-of (a .args .f)) (a .args .sheet .now) (a .args .out .now) (a .pre .1 .tests-pass) (c .if1 .taken)
+    short-sort (format-in (a .args .s)) (a .args .sheet .now) (a .args .out .now) (a .pre .tests-pass) (c .if1 .taken)
 
 sort-into-requires : tie.Need-sort-into-requires
 sort-into-requires c κs = search needs
@@ -21,7 +21,7 @@ returns-2 c =
     let wrote = c .before .before in
     let test = wrote .before .before in
     let a = test .before .before .before in
-    long-sort (format-of (a .args .f)) (a .args .sheet .now) (a .args .out .now) (a .pre .1 .tests-pass) (test .if1 .left)
+    long-sort (format-in (a .args .s)) (a .args .sheet .now) (a .args .out .now) (a .pre .tests-pass) (test .if1 .left)
     (wrote .sort-into .ensures .1) (wrote .sort-into .ensures .0)
 
 pub sort-checked-spec : {M : Type 1} → statement M

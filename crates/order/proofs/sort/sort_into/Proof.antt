@@ -2,45 +2,54 @@
 use borrow.Author.Needs.{needs}
 use mathlib.Core.Path.{sym}
 use native.Mathlib.Omega.{arith}
-use Rattle.order.proofs.Written.{part-length, copied-room, source-readable, new-room, sorted-sealed}
+use Rattle.rows.specs.Formulas.{Readable}
+use Rattle.checking.proofs.CheckedSheets.{sheet-readable}
+use Rattle.order.proofs.Written.{part-length, copied-room, new-room, sorted-sealed}
 use Rattle.order.proofs.sort.sort_into.Statement.{statement}
 use Rattle.order.proofs.sort.sort_into.Tie as tie
 
 copy-front-requires : tie.Need-copy-front-requires
-copy-front-requires c κs = c .before .before .before .pre .2
+copy-front-requires c κs = c .before .before .before .pre .1
+
+abbrev start : tie.After-copy-front → tie.Start
+start c = c .before .before .before .before
+
+readable : (c : tie.After-copy-front) → Readable (start c .args .s) (start c .args .source .now)
+readable c = sheet-readable (start c .pre .0)
 
 array-borrow-prefix-table : tie.Need-array-borrow-prefix-table
-array-borrow-prefix-table c =
-    let d = c .before .before in
-    let a = d .before .before .before .before in
-    source-readable (a .pre .0) (a .pre .1) (a .args .out .now) (a .pre .2) (d .copy-front .ensures) .few-nodes
+array-borrow-prefix-table c = readable (c .before .before) .few-nodes
 
 slice-aggregate-write-sorted : tie.Need-slice-aggregate-write-sorted
-slice-aggregate-write-sorted c =
-    let d = c .before .before .before in
-    let a = d .before .before .before .before in
-    sym (part-length 8192 _ (source-readable (a .pre .0) (a .pre .1) (a .args .out .now) (a .pre .2) (d .copy-front .ensures) .few-nodes))
+slice-aggregate-write-sorted c = sym (part-length 8192 _ (readable (c .before .before .before) .few-nodes))
 
 write-sorted-requires : tie.Need-write-sorted-requires
 write-sorted-requires c κs =
     let d = c .before .before .before .before in
-    let a = d .before .before .before .before in
-    let readable = source-readable (a .pre .0) (a .pre .1) (a .args .out .now) (a .pre .2) (d .copy-front .ensures) in
-    (readable, part-length 8192 _ (readable .few-nodes), copied-room (a .pre .0) (a .pre .1) (a .args .out .now) (a .pre .2) (d .copy-front .ensures))
+    let a = start d in (
+      readable d,
+      part-length 8192 _ (readable d .few-nodes),
+      copied-room (a .pre .0) (a .args .out .now) (a .pre .1) (d .copy-front .ensures),
+    )
+
+abbrev copied : tie.After-write-sorted → tie.After-copy-front
+copied c = c .before .before .before .before .before
 
 add-seal : tie.Need-add-seal
 add-seal c =
-    let d = c .before .before .before .before .before .before .before .before .before .before in
-    let a = d .before .before .before .before in
-    let readable = source-readable (a .pre .0) (a .pre .1) (a .args .out .now) (a .pre .2) (d .copy-front .ensures) in
-    omega (arith, readable .few-nodes, readable .few-variables)
+    let ok = readable (copied (c .before .before .before .before .before)) in
+    omega (arith, ok .few-nodes, ok .few-variables)
 
 seal-requires : tie.Need-seal-requires
 seal-requires c κs =
     let w = c .before .before .before .before .before in
-    let d = w .before .before .before .before .before in
-    let a = d .before .before .before .before in
-    (new-room (a .pre .0) (a .pre .1) (a .args .out .now) (a .pre .2) (d .copy-front .ensures) (w .write-sorted .last .1 .1 .1 .0) (w .write-sorted .ensures) (w .write-sorted .kept .1 .1 .1 .0), omega arith, omega arith)
+    let d = copied w in
+    let a = start d in (
+      new-room (a .pre .0) (a .args .out .now) (a .pre .1) (d .copy-front .ensures) (w .write-sorted .last .1 .1 .1 .0) (w .write-sorted .ensures)
+          (w .write-sorted .kept .1 .1 .1 .0),
+      omega arith,
+      omega arith,
+    )
 
 same-length : tie.Need-same-length
 same-length c = search needs
@@ -48,9 +57,11 @@ same-length c = search needs
 returns : tie.Need-returns
 returns c =
     let w = c .before .before .before .before .before .before .before .before in
-    let d = w .before .before .before .before .before in
-    let a = d .before .before .before .before in
-    sorted-sealed (a .pre .0) (a .pre .1) (a .args .out .now) (a .pre .2) (d .copy-front .ensures) (w .write-sorted .last .1 .1 .1 .0) (w .write-sorted .ensures) (w .write-sorted .kept .1 .1 .1 .0) (c .before .before .seal .ensures .0) (c .before .before .seal .ensures .1)
+    let d = copied w in
+    let a = start d in
+    let sealed = c .before .before .seal .ensures in
+    sorted-sealed (a .pre .0) (a .args .out .now) (a .pre .1) (d .copy-front .ensures) (w .write-sorted .last .1 .1 .1 .0) (w .write-sorted .ensures)
+    (w .write-sorted .kept .1 .1 .1 .0) (sealed .0) (sealed .1)
 
 pub sort-into-spec : {M : Type 1} → statement M
 sort-into-spec =

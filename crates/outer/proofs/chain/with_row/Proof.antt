@@ -13,12 +13,14 @@ returns c =
 returns-2 : tie.Need-returns-2
 unfolding with-row
 returns-2 c =
-    rw (not-false (c .before .before .before .args .chosen) (c .before .before .if1 .left), eq-eqb (c .before .before .before .args .r .last) (c .before .before .before .args .none) (c .if2 .taken)) refl
+    let a = c .before .before .before .args in
+    rw (not-false (a .chosen) (c .before .before .if1 .left), eq-eqb (a .r .last) (a .none) (c .if2 .taken)) refl
 
 returns-3 : tie.Need-returns-3
 unfolding with-row
 returns-3 c =
-    rw (not-false (c .before .before .before .args .chosen) (c .before .before .if1 .left), ne-eqb (c .before .before .before .args .r .last) (c .before .before .before .args .none) (c .if2 .left)) refl
+    let a = c .before .before .before .args in
+    rw (not-false (a .chosen) (c .before .before .if1 .left), ne-eqb (a .r .last) (a .none) (c .if2 .left)) refl
 
 pub with-row-spec : {M : Type 1} → statement M
 with-row-spec = tie.close (tie.spec returns returns-2 returns-3)

@@ -39,7 +39,10 @@ same-length c = search needs
 
 returns-2 : tie.Need-returns-2
 returns-2 c =
-    (sym (not-false (c .before .before .before .before .before .before .before .one-block-out .result) (c .before .before .before .before .before .before .if1 .left)) ∙ c .before .before .before .before .before .before .before .one-block-out .ensures, λ h. c .before .before .fill-dependents .ensures)
+    let fill = c .before .before in
+    let out = fill .before .before .before .before in
+    let test = out .before .one-block-out in
+    (sym (not-false (test .result) (out .if1 .left)) ∙ test .ensures, λ h. fill .fill-dependents .ensures)
 
 pub find-dependents-spec : {M : Type 1} → statement M
 find-dependents-spec =

@@ -1,11 +1,25 @@
 -- `outer::plan::plan_outer` meets its contract. Assumes nothing.
-use mathlib.Core.Path.{subst}
+use mathlib.Core.Path.{subst, subst₂}
+use borrow.Author.Needs.{needs}
 use Rattle.rows.specs.Formats.{format-of}
 use Rattle.stepping.specs.Admission.{Admits}
-use Rattle.outer.proofs.Deciding.{refused-before, admitted-as}
-use borrow.Author.Needs.{needs}
+use Rattle.stepping.specs.declared.admission.Admission.the-variants.{Admitted}
+use Rattle.outer.specs.Inner.Plan.{Plans}
+use Rattle.outer.proofs.Deciding.{refused-before}
 use Rattle.outer.proofs.plan.plan_outer.Statement.{statement}
 use Rattle.outer.proofs.plan.plan_outer.Tie as tie
+
+abbrev start : tie.After-admit → tie.Start
+start c = c .before .before .before .before .before
+
+-- tests 1 to 10 admit the variable
+admitted : (c : tie.After-a2)
+    → let k = c .before .before .before in
+    let a = start k .args in
+    Admits (a .f) (a .sheet .now) (a .x) (k .admit .last .1 .1 .1 .0) (Admitted (c .a2 .given .0 .0) (c .a2 .given .0 .1 .0))
+admitted c =
+    let a = start (c .before .before .before) .args in
+    subst (Admits (a .f) (a .sheet .now) (a .x) _) (c .a2 .given .1) (c .before .before .before .admit .ensures)
 
 slice-aggregate-admit : tie.Need-slice-aggregate-admit
 slice-aggregate-admit c = search needs
@@ -24,19 +38,16 @@ slice-aggregate-plan-admitted c = search needs
 
 plan-admitted-requires : tie.Need-plan-admitted-requires
 plan-admitted-requires c κs =
-    let a = c .before .before .before .before .before .before .before .before .before .before .before .before in
-    let admitted = subst (Admits (format-of (a .args .f)) (a .args .sheet .now) (a .args .x) _) (c .before .before .before .before .a2 .given .1) (c .before .before .before .before .before .before .before .admit .ensures) in (
-      a .pre .0,
-      admitted-as (admitted .0) (admitted .1),
-      a .pre .1,
-      a .pre .2,
-    )
+    let told = c .before .before .before .before in
+    let a = start (told .before .before .before) in
+    (admitted told .2, a .pre .0, a .pre .1)
 
 returns : tie.Need-returns
 returns c =
-    let a = c .before .before .before .before .before .before .before .before .before in
-    refused-before (format-of (a .args .f)) (a .args .sheet .now) (a .args .x)
-    (subst (Admits (format-of (a .args .f)) (a .args .sheet .now) (a .args .x) _) (c .before .a .given .1) (c .before .before .before .before .admit .ensures))
+    let told = c .before in
+    let a = start (told .before .before .before) .args in
+    refused-before (format-of (a .f)) (a .sheet .now) (a .x)
+    (subst (Admits (a .f) (a .sheet .now) (a .x) _) (told .a .given .1) (told .before .before .before .admit .ensures))
 
 same-length : tie.Need-same-length
 same-length c = search needs
@@ -45,7 +56,13 @@ same-length-2 : tie.Need-same-length-2
 same-length-2 c = search needs
 
 returns-2 : tie.Need-returns-2
-returns-2 c = search needs
+returns-2 c =
+    let plan = c .before .before .before .before in
+    let told = plan .before .before .before .before .before in
+    let b = start (told .before .before .before) .args .sheet .now in
+    let is = admitted told in
+    let r = plan .plan-admitted in
+    subst₂ (λ f y. Plans f b y (r .last .1 .1 .1 .0) (r .last .1 .1 .1 .1 .0) (r .result)) (is .0) (is .1) (r .ensures)
 
 pub plan-outer-spec : {M : Type 1} → statement M
 plan-outer-spec =

@@ -2,16 +2,23 @@
 use mathlib.Core.Path.{_≡_, ap, _∙_, subst}
 use native.Mathlib.Omega.{arith}
 use lib.ListN.{length}
+use borrow.Author.Needs.{needs}
 use Rattle.rows.specs.Formulas.{prefix-in}
 use Rattle.changing.specs.Output.{Laid}
 use Rattle.changing.proofs.Splice.{laid-on}
 use Rattle.raw.proofs.Raws.{room-on, laid-to}
 use Rattle.raw.proofs.Plans.{ready-raw, copyable-on, rest-of}
 use Rattle.renaming.specs.Prefixes.{rows-from}
-use Rattle.outer.proofs.Written.{numbers-fit, written-by}
-use borrow.Author.Needs.{needs}
+use Rattle.outer.proofs.Written.{written-by}
 use Rattle.outer.proofs.writing.write_outer.Statement.{statement}
 use Rattle.outer.proofs.writing.write_outer.Tie as tie
+
+-- the prefix is written, then the rows of the copies
+abbrev start : tie.After-write-prefix → tie.Start
+start c = c .before .before .before .before .before .before .before
+
+abbrev closing : tie.After-write-all-copied → tie.After-write-prefix
+closing c = c .before .before .before .before .before
 
 write-prefix-requires : tie.Need-write-prefix-requires
 write-prefix-requires c κs =
@@ -19,45 +26,44 @@ write-prefix-requires c κs =
     (a .pre .copyable .readable, ready-raw (a .pre .copyable), a .pre .in-prefix, omega (arith, a .pre .variables-are))
 
 sub-write-all-copied : tie.Need-sub-write-all-copied
-sub-write-all-copied c =
-    let a = c .before .before .before .before .before .before .before .before .before in
-    omega (arith, a .pre .copyable .two-tables)
+sub-write-all-copied c = omega (arith, start (c .before .before) .pre .copyable .two-tables)
 
 part-write-all-copied-start : tie.Need-part-write-all-copied-start
-part-write-all-copied-start c =
-    let a = c .before .before .before .before .before .before .before .before .before in
-    omega (arith, a .pre .copyable .two-tables)
+part-write-all-copied-start c = omega (arith, start (c .before .before) .pre .copyable .two-tables)
 
 part-write-all-copied-end : tie.Need-part-write-all-copied-end
 part-write-all-copied-end c = search needs
 
 write-all-copied-requires : tie.Need-write-all-copied-requires
 write-all-copied-requires c κs =
-    let a = c .before .before .before .before .before .before .before .before .before .before .before in
-    let x = a .pre .copyable in (
-      x .readable,
-      room-on (x .room) (c .before .before .before .before .write-prefix .kept .1 .1 .1 .0),
-      numbers-fit (a .pre),
-      omega (arith, c .before .before .before .before .write-prefix .ensures .1, a .pre .variables-are, ap (λ t. length (rows-from t (prefix-in (a .args .s) (a .args .b .now)))) (rest-of 1025 (a .args .tables .now))),
+    let front = c .before .before .before .before in
+    let a = start front in
+    let copies = ap (λ t. length (rows-from t (prefix-in (a .args .s) (a .args .b .now)))) (rest-of 1025 (a .args .tables .now)) in (
+      a .pre .copyable .readable,
+      room-on (a .pre .copyable .room) (front .write-prefix .kept .1 .1 .1 .0),
+      omega (arith, front .write-prefix .ensures .1, a .pre .variables-are, copies),
     )
 
 write-matrix-requires : tie.Need-write-matrix-requires
 write-matrix-requires c κs =
-    let a = c .before .before .before .before .before .before .before .before .before .before .before .before .before .before .before in
-    (copyable-on (a .pre .copyable) (c .before .before .before .write-all-copied .kept .1 .1 .1 .0 ∙ c .before .before .before .before .before .before .before .before .write-prefix .kept .1 .1 .1 .0), a .pre .told)
+    let closed = c .before .before .before in
+    let front = closing closed in
+    (copyable-on (start front .pre .copyable) (closed .write-all-copied .kept .1 .1 .1 .0 ∙ front .write-prefix .kept .1 .1 .1 .0), start front .pre .told)
 
 same-length : tie.Need-same-length
 same-length c = search needs
 
 returns : tie.Need-returns
 returns c =
-    let a = c .before .before .before .before .before .before .before .before .before .before .before .before .before .before .before .before .before .before in
-    let p = prefix-in (a .args .s) (a .args .b .now) in
-    let at : c .before .before .before .before .before .before .write-all-copied .result ≡ a .args .e .layout .variables
-    = omega (arith, c .before .before .before .before .before .before .write-all-copied .ensures .next-row, c .before .before .before .before .before .before .before .before .before .before .before .write-prefix .ensures .1, a .pre .variables-are, ap (λ t. length (rows-from t p)) (rest-of 1025 (a .args .tables .now))) in
-    subst (Laid (a .args .e .layout) (a .args .out .now) _ 0 _)
-    (written-by (a .args .s) (a .args .b .now) (a .args .tables .now) (a .args .e))
-    (laid-on (c .before .before .before .before .before .before .before .before .before .before .before .write-prefix .ensures .0) (laid-on (laid-to at (c .before .before .before .before .before .before .write-all-copied .ensures)) (c .before .before .write-matrix .ensures)))
+    let matrix = c .before .before in
+    let closed = matrix .before .before .before .before in
+    let front = closing closed in
+    let a = start front in
+    let copies = ap (λ t. length (rows-from t (prefix-in (a .args .s) (a .args .b .now)))) (rest-of 1025 (a .args .tables .now)) in
+    let at : closed .write-all-copied .result ≡ a .args .e .layout .variables
+    = omega (arith, closed .write-all-copied .ensures .next-row, front .write-prefix .ensures .1, a .pre .variables-are, copies) in
+    subst (Laid (a .args .e .layout) (a .args .out .now) _ 0 _) (written-by (a .args .s) (a .args .b .now) (a .args .tables .now) (a .args .e))
+    (laid-on (front .write-prefix .ensures .0) (laid-on (laid-to at (closed .write-all-copied .ensures)) (matrix .write-matrix .ensures)))
 
 pub write-outer-spec : {M : Type 1} → statement M
 write-outer-spec =

@@ -1,12 +1,11 @@
 -- `qdimacs::body::write_sheet` meets its contract. Assumes nothing.
-use mathlib.Core.Path.{_≡_, refl, sym, ap, _∙_}
-use Prim.Native.Nat.{_+_, _-_, _≤_, _<_}
+use mathlib.Core.Path.{_≡_, sym, ap, ap₂, _∙_}
+use Prim.Native.Nat.{_+_}
 use native.Mathlib.Omega.{arith}
 use borrow.Author.Needs.{needs}
-use mathlib.Core.Path.{ap₂}
-use mathlib.Core.Bool.{false}
+use mathlib.Core.Bool.{true, false}
 use mathlib.Core.List.{map}
-use lib.ListN.{length, length-map}
+use lib.ListN.{length, take, length-map}
 use Rattle.formula.proofs.Booleans.{and-parts}
 use Rattle.sheet.specs.Format.{row}
 use Rattle.sheet.specs.Sheet.{binding-row}
@@ -20,92 +19,144 @@ use Rattle.qdimacs.specs.Inner.Lists.{between, ordered, clause-tokens, w
 use Rattle.qdimacs.specs.Inner.Cursor.{tokens-at}
 use Rattle.qdimacs.specs.Inner.Marks.{bindings-in, frees}
 use Rattle.qdimacs.specs.Inner.Rows.{clause-rows}
-use Rattle.qdimacs.specs.Inner.Body.{Placeable, laid-rows}
+use Rattle.qdimacs.specs.Inner.Body.{body-rows, laid}
 use Rattle.qdimacs.proofs.Reading.{rows-lists}
 use Rattle.qdimacs.proofs.Composing.{composed, clauses-all, ends-few}
 use Rattle.qdimacs.proofs.body.write_sheet.Statement.{statement}
 use Rattle.qdimacs.proofs.body.write_sheet.Tie as tie
 
 write-free-requires : tie.Need-write-free-requires
-write-free-requires c κs = let q = c .before .before .before .pre in (q .room, q .scanned .most-is, q .numbers-fit, omega (arith, q .variables-are))
+write-free-requires c κs =
+    let q = c .before .before .before .pre in
+    (q .room, q .scanned .most-is, omega (arith, q .variables-are))
+
+-- one call after the other: where each stands, and that the output keeps its length
+abbrev start : tie.After-write-free → tie.Start
+start c = c .before .before .before .before
+
+freed : (c : tie.After-write-free) → length (c .write-free .last .1 .1 .0) ≡ length (start c .args .out .now)
+freed c = c .write-free .kept .1 .1 .0
 
 write-bound-requires : tie.Need-write-bound-requires
 write-bound-requires c κs =
-    let a = c .before .before .before .before .before .before .before in
-    let q = a .pre in (
+    let f = c .before .before .before in
+    let q = start f .pre in (
       q .scanned .listed,
-      record { few-bytes = q .room .few-bytes; holds = omega (arith, q .room .holds, c .before .before .before .write-free .kept .1 .1 .0) },
-      q .numbers-fit,
-      omega (arith, q .variables-are, c .before .before .before .write-free .ensures .1),
+      record { holds = omega (arith, q .room .holds, freed f) },
+      omega (arith, q .variables-are, f .write-free .ensures .1),
       q .few-rows,
     )
 
+abbrev free-by : tie.After-write-bound → tie.After-write-free
+free-by c = c .before .before .before .before
+
+abbrev begun : tie.After-write-bound → tie.Start
+begun c = start (free-by c)
+
+bounded : (c : tie.After-write-bound) → length (c .write-bound .last .1 .0) ≡ length (begun c .args .out .now)
+bounded c = c .write-bound .kept .1 .0 ∙ freed (free-by c)
+
+room-bound : (c : tie.After-write-bound) → Room (begun c .args .s) (length (c .write-bound .last .1 .0))
+room-bound c = record { holds = omega (arith, begun c .pre .room .holds, bounded c) }
+
+-- AND stands behind the variables
+root-at : (c : tie.After-write-bound) → c .write-bound .result ≡ begun c .args .s .variables
+root-at c = omega (arith, begun c .pre .variables-are, free-by c .write-free .ensures .1, c .write-bound .ensures .1)
+
 set-row-requires : tie.Need-set-row-requires
 set-row-requires c κs =
-    let q = c .before .before .before .before .before .before .before .before .before .before .before .pre in (
-      record { few-bytes = q .room .few-bytes; holds = omega (arith, q .room .holds, c .before .before .before .before .before .before .before .write-free .kept .1 .1 .0, c .before .before .before .write-bound .kept .1 .0) },
-      omega (arith, q .variables-are, q .nodes-are, c .before .before .before .before .before .before .before .write-free .ensures .1, c .before .before .before .write-bound .ensures .1),
-      omega (arith, q .scanned .clauses-are, q .scanned .words-are, q .nodes-are, q .nodes-fit, ends-few (tokens-at (c .before .before .before .before .before .before .before .before .before .before .before .args .b .now) (c .before .before .before .before .before .before .before .before .before .before .before .args .k .from))),
+    let v = c .before .before .before in
+    let a = begun v in
+    let q = a .pre in
+    let few = ends-few (tokens-at (a .args .b .now) (a .args .k .from)) in (
+      room-bound v,
+      omega (arith, root-at v, q .nodes-are),
+      omega (arith, q .scanned .clauses-are, q .scanned .words-are, q .nodes-are, q .nodes-fit, few),
     )
 
+abbrev bound-by : tie.After-set-row → tie.After-write-bound
+bound-by c = c .before .before .before .before
+
+rooted : (c : tie.After-set-row) → length (c .set-row .last .0) ≡ length (begun (bound-by c) .args .out .now)
+rooted c = c .set-row .kept .0 ∙ bounded (bound-by c)
+
 add-write-clauses : tie.Need-add-write-clauses
-add-write-clauses c = let q = c .before .before .before .before .before .before .before .before .before .before .before .before .before .before .before .pre in omega (arith, q .variables-are, q .few-rows, c .before .before .before .before .before .before .before .before .before .before .before .write-free .ensures .1, c .before .before .before .before .before .before .before .write-bound .ensures .1)
+add-write-clauses c =
+    let v = bound-by (c .before .before .before) in
+    omega (arith, root-at v, begun v .pre .few-rows)
+
+whole : (a : tie.Start) → whole-lists false (tokens-at (a .args .b .now) (a .args .k .from)) ≡ true
+whole a =
+    let ts = tokens-at (a .args .b .now) 0 in
+    let q = a .pre .scanned in
+    ap (whole-lists false) (q .clauses-from) ∙ and-parts (ordered between ts) (whole-lists false (clause-tokens between ts)) (q .listed .well) .1
 
 write-clauses-requires : tie.Need-write-clauses-requires
 write-clauses-requires c κs =
-    let a = c .before .before .before .before .before .before .before .before .before .before .before .before .before .before .before in
+    let r = c .before .before .before in
+    let v = bound-by r in
+    let a = begun v in
     let q = a .pre in
-    let same = q .scanned .clauses-from in
+    let ts = tokens-at (a .args .b .now) 0 in
     record {
       inside = q .scanned .inside;
-      whole = ap (whole-lists false) same ∙ and-parts (ordered between (tokens-at (a .args .b .now) 0)) (whole-lists false (clause-tokens between (tokens-at (a .args .b .now) 0))) (q .scanned .listed .well) .1;
-      below = ap (all (up-to 1024)) same ∙ clauses-all (up-to 1024) between (tokens-at (a .args .b .now) 0) (q .scanned .listed .below);
-      room = record { few-bytes = q .room .few-bytes; holds = omega (arith, q .room .holds, c .before .before .before .before .before .before .before .before .before .before .before .write-free .kept .1 .1 .0, c .before .before .before .before .before .before .before .write-bound .kept .1 .0, c .before .before .before .set-row .kept .0) };
-      has-rows = omega (arith, q .variables-are, q .nodes-are, q .scanned .words-are, c .before .before .before .before .before .before .before .before .before .before .before .write-free .ensures .1, c .before .before .before .before .before .before .before .write-bound .ensures .1);
+      whole = whole a;
+      below = ap (all (up-to 1024)) (q .scanned .clauses-from) ∙ clauses-all (up-to 1024) between ts (q .scanned .listed .below);
+      room = record { holds = omega (arith, q .room .holds, rooted r) };
+      has-rows = omega (arith, root-at v, q .nodes-are, q .scanned .words-are);
       few-rows = q .few-rows;
-      numbers-fit = q .numbers-fit;
       lengths-fit = omega (arith, q .nodes-are, q .scanned .words-are, q .nodes-fit);
     }
 
+abbrev root-by : tie.After-write-clauses → tie.After-set-row
+root-by c = c .before .before .before .before
+
+written : (c : tie.After-write-clauses) → length (c .write-clauses .last .1 .1 .0) ≡ length (begun (bound-by (root-by c)) .args .out .now)
+written c = c .write-clauses .kept .1 .1 .0 ∙ rooted (root-by c)
+
+abbrev clauses-by : tie.After-struct-known → tie.After-write-clauses
+clauses-by c = c .before .before .before .before
+
 add-seal : tie.Need-add-seal
-add-seal c = omega (arith, c .before .before .before .before .before .before .before .before .before .before .before .before .before .before .before .before .before .before .before .before .pre .few-rows)
+add-seal c = omega (arith, begun (bound-by (root-by (clauses-by c))) .pre .few-rows)
 
 seal-requires : tie.Need-seal-requires
 seal-requires c κs =
-    let q = c .before .before .before .before .before .before .before .before .before .before .before .before .before .before .before .before .before .before .before .before .pre in (
-      record { few-bytes = q .room .few-bytes; holds = omega (arith, q .room .holds, c .before .before .before .before .before .before .before .before .before .before .before .before .before .before .before .before .write-free .kept .1 .1 .0, c .before .before .before .before .before .before .before .before .before .before .before .before .write-bound .kept .1 .0, c .before .before .before .before .before .before .before .before .set-row .kept .0, c .before .before .before .before .write-clauses .kept .1 .1 .0) },
-      omega arith,
-      omega arith,
-    )
+    let w = clauses-by c in
+    let q = begun (bound-by (root-by w)) .pre in
+    (record { holds = omega (arith, q .room .holds, written w) }, omega arith, omega arith)
 
 same-length : tie.Need-same-length
 same-length c = search needs
 
+-- all rows, each part behind the one before it
+rows-are : (c : tie.After-write-clauses)
+    → let a = begun (bound-by (root-by c)) .args in
+    take (total (a .s)) (rows-in (a .s) (c .write-clauses .last .1 .1 .0)) ≡ body-rows (a .b .now) (a .marks .now) (a .k)
+rows-are c =
+    let r = root-by c in
+    let v = bound-by r in
+    let f = free-by v in
+    let a = start f in
+    let q = a .pre in
+    let s = a .args .s in
+    let ts = tokens-at (a .args .b .now) (a .args .k .from) in
+    let free = frees (a .args .marks .now) (a .args .k .most) in
+    let bindings = bindings-in (a .args .b .now) in
+    let long = length-forest-rows (clause-trees (lists ts)) ∙ rows-lists false ts (whole a) in
+    composed (rows-in s (a .args .out .now)) _ _ _ _ (map binding-row free) (map binding-row bindings) (clause-rows ts) (row 5 (a .args .k .clauses))
+    (f .write-free .result) (v .write-bound .result) (total s)
+    (f .write-free .ensures .0) (f .write-free .ensures .1 ∙ sym (length-map free binding-row))
+    (v .write-bound .ensures .0) (v .write-bound .ensures .1 ∙ ap (λ n. f .write-free .result + n) (sym (length-map bindings binding-row)))
+    (omega (arith, length-rows-in (v .write-bound .last .1 .0) (room-bound v), root-at v, q .nodes-are))
+    (r .set-row .ensures .0) (c .write-clauses .ensures) (omega (arith, root-at v, q .nodes-are, q .scanned .words-are, long))
+
 returns : tie.Need-returns
 unfolding sealed
 returns c =
-    let a = c .before .before .before .before .before .before .before .before .before .before .before .before .before .before .before .before .before .before .before .before .before .before .before in
-    let q = a .pre in
-    let s = a .args .s in
-    let b = a .args .b .now in
-    let k = a .args .k in
-    let m = a .args .marks .now in
-    let same = c .before .before .before .before .before .before .before .write-clauses .kept .1 .1 .0 ∙ c .before .before .before .before .before .before .before .before .before .before .before .set-row .kept .0 ∙ c .before .before .before .before .before .before .before .before .before .before .before .before .before .before .before .write-bound .kept .1 .0 ∙ c .before .before .before .before .before .before .before .before .before .before .before .before .before .before .before .before .before .before .before .write-free .kept .1 .1 .0 in
-    let room₂ : Room s (length (c .before .before .before .before .before .before .before .before .before .before .before .before .before .before .before .write-bound .last .1 .0)) = record { few-bytes = q .room .few-bytes; holds = omega (arith, q .room .holds, c .before .before .before .before .before .before .before .before .before .before .before .before .before .before .before .before .before .before .before .write-free .kept .1 .1 .0, c .before .before .before .before .before .before .before .before .before .before .before .before .before .before .before .write-bound .kept .1 .0) } in
-    let whole = ap (whole-lists false) (q .scanned .clauses-from) ∙ and-parts (ordered between (tokens-at b 0)) (whole-lists false (clause-tokens between (tokens-at b 0))) (q .scanned .listed .well) .1 in
-    let long = length-forest-rows (clause-trees (lists (tokens-at b (k .from)))) ∙ rows-lists false (tokens-at b (k .from)) whole in (
-      c .before .before .seal .ensures .0 ∙
-          ap₂ (laid-rows s)
-          (composed (rows-in s (a .args .out .now)) _ _ _ _ (map binding-row (frees m (k .most))) (map binding-row (bindings-in b)) (clause-rows (tokens-at b (k .from)))
-          (row 5 (k .clauses)) (c .before .before .before .before .before .before .before .before .before .before .before .before .before .before .before .before .before .before .before .write-free .result) (c .before .before .before .before .before .before .before .before .before .before .before .before .before .before .before .write-bound .result) (total s) (c .before .before .before .before .before .before .before .before .before .before .before .before .before .before .before .before .before .before .before .write-free .ensures .0)
-          (c .before .before .before .before .before .before .before .before .before .before .before .before .before .before .before .before .before .before .before .write-free .ensures .1 ∙ sym (length-map (frees m (k .most)) binding-row)) (c .before .before .before .before .before .before .before .before .before .before .before .before .before .before .before .write-bound .ensures .0)
-          (c .before .before .before .before .before .before .before .before .before .before .before .before .before .before .before .write-bound .ensures .1 ∙ ap (λ n. c .before .before .before .before .before .before .before .before .before .before .before .before .before .before .before .before .before .before .before .write-free .result + n) (sym (length-map (bindings-in b) binding-row)))
-          (omega (arith, length-rows-in (c .before .before .before .before .before .before .before .before .before .before .before .before .before .before .before .write-bound .last .1 .0) room₂, q .variables-are, q .nodes-are, c .before .before .before .before .before .before .before .before .before .before .before .before .before .before .before .before .before .before .before .write-free .ensures .1, c .before .before .before .before .before .before .before .before .before .before .before .before .before .before .before .write-bound .ensures .1)) (c .before .before .before .before .before .before .before .before .before .before .before .set-row .ensures .0)
-          (c .before .before .before .before .before .before .before .write-clauses .ensures)
-          (omega (arith, q .variables-are, q .nodes-are, q .scanned .words-are, long, c .before .before .before .before .before .before .before .before .before .before .before .before .before .before .before .before .before .before .before .write-free .ensures .1, c .before .before .before .before .before .before .before .before .before .before .before .before .before .before .before .write-bound .ensures .1)))
-          same,
-      c .before .before .seal .ensures .1,
-    )
+    let sealing = c .before .before in
+    let w = clauses-by (sealing .before) in
+    (sealing .seal .ensures .0 ∙ ap₂ (laid (begun (bound-by (root-by w)) .args .s)) (rows-are w) (written w), sealing .seal .ensures .1)
 
 pub write-sheet-spec : {M : Type 1} → statement M
 write-sheet-spec =

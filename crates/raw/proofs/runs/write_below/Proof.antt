@@ -8,7 +8,7 @@ use Rattle.raw.proofs.runs.write_below.Tie as tie
 write-row-requires : tie.Need-write-row-requires
 write-row-requires c κs =
     let a = c .before .before .before .before .before .before in
-    (a .pre .0 .ready .room, omega (arith, a .pre .0 .room), rw (a .pre .0 .ready .same-width) (a .pre .1))
+    (a .pre .0 .ready .room, omega (arith, a .pre .0 .room), rw (a .pre .0 .ready .same-format) (a .pre .1))
 
 write-runs-requires : tie.Need-write-runs-requires
 write-runs-requires c κs =

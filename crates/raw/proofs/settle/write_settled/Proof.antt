@@ -7,11 +7,11 @@ use borrow.Author.Needs.{needs}
 use Rattle.raw.proofs.settle.write_settled.Statement.{statement}
 use Rattle.raw.proofs.settle.write_settled.Tie as tie
 
-sub-t10 : tie.Need-sub-t10
-sub-t10 c = search needs
+sub-t11 : tie.Need-sub-t11
+sub-t11 c = search needs
 
-add-t10 : tie.Need-add-t10
-add-t10 c = search needs
+add-t11 : tie.Need-add-t11
+add-t11 c = search needs
 
 write-prefix-requires : tie.Need-write-prefix-requires
 write-prefix-requires c κs = search needs
@@ -22,12 +22,11 @@ write-copy-requires c κs =
     let a = first .before .before .before .before .before .before .before in (
       record {
         source = a .pre .0 .room;
-        room = room-on (a .pre .3) (first .write-prefix .kept .1 .1 .1 .0);
-        same-width = refl;
-        two-bytes = a .pre .1;
+        room = room-on (a .pre .2) (first .write-prefix .kept .1 .1 .1 .0);
+        same-format = refl;
       },
       record { ordered = omega arith; inside = omega arith },
-      omega (arith, first .write-prefix .ensures .1, a .pre .2),
+      omega (arith, first .write-prefix .ensures .1, a .pre .1),
     )
 
 same-length : tie.Need-same-length
@@ -37,11 +36,11 @@ returns : tie.Need-returns
 returns c =
     let first = c .before .before .before .before .before .before in
     let a = first .before .before .before .before .before .before .before in
-    raw-laid (omega (arith, first .write-prefix .ensures .1, c .before .before .write-copy .ensures .1, a .pre .2))
+    raw-laid (omega (arith, first .write-prefix .ensures .1, c .before .before .write-copy .ensures .1, a .pre .1))
     (laid-on (first .write-prefix .ensures .0) (c .before .before .write-copy .ensures .0)) (search needs)
     (settled-rows (a .args .s) (a .args .b .now) (a .pre .0) (a .args .table .now) (a .args .i))
 
 pub write-settled-spec : {M : Type 1} → statement M
 write-settled-spec =
     tie.close
-    (tie.spec sub-t10 add-t10 write-prefix-requires write-copy-requires same-length returns)
+    (tie.spec sub-t11 add-t11 write-prefix-requires write-copy-requires same-length returns)

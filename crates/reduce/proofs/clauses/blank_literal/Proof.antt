@@ -2,7 +2,7 @@
 use borrow.Author.Needs.{needs}
 use native.Mathlib.Omega.{arith}
 use native.Mathlib.Nat.{one-le-pow}
-use Rattle.rows.specs.Layouts.{rows-in}
+use Rattle.rows.specs.Layouts.{width, rows-in}
 use Rattle.rows.specs.Formulas.{prefix-in}
 use Rattle.reduce.proofs.Turn.{literal-goes, literal-stays}
 use Rattle.reduce.proofs.clauses.blank_literal.Statement.{statement}
@@ -14,7 +14,7 @@ goes-at-requires c κs = search needs
 set-row-requires : tie.Need-set-row-requires
 set-row-requires c κs =
     let a = c .before .before .before .before .before .before in
-    (a .pre .2 .room, a .pre .1 .inside, one-le-pow (a .args .s .width) 256 (omega arith))
+    (a .pre .2 .room, a .pre .1 .inside, one-le-pow (width (a .args .s)) 256 (omega arith))
 
 same-length : tie.Need-same-length
 same-length c = search needs

@@ -13,7 +13,7 @@ slice-aggregate-fill-ends c = search needs
 fill-ends-requires : tie.Need-fill-ends-requires
 fill-ends-requires c κs =
     let a = c .before .before in
-    let ok = sheet-readable (a .pre .1) (a .pre .0) in
+    let ok = sheet-readable (a .pre) in
     (ok, omega (arith, ok .few-nodes))
 
 slice-aggregate-first-fault : tie.Need-slice-aggregate-first-fault
@@ -22,12 +22,15 @@ slice-aggregate-first-fault c = search needs
 first-fault-requires : tie.Need-first-fault-requires
 first-fault-requires c κs = search needs
 
+abbrev start : tie.After-first-fault → tie.Start
+start c = c .before .before .before .before .before .before
+
 add-place : tie.Need-add-place
 add-place c =
     let fault = c .before in
-    let a = fault .before .before .before .before .before .before in
-    let ok = sheet-readable (a .pre .1) (a .pre .0) in
-    omega (arith, ok .few-variables, ok .few-nodes, fault-most (a .pre .0) (a .pre .1) (a .args .room) (fault .first-fault .ensures))
+    let a = start fault in
+    let ok = sheet-readable (a .pre) in
+    omega (arith, ok .few-variables, ok .few-nodes, fault-most (a .pre) (a .args .room) (fault .first-fault .ensures))
 
 has-inner-and-requires : tie.Need-has-inner-and-requires
 has-inner-and-requires c κs = search needs
@@ -36,31 +39,31 @@ returns : tie.Need-returns
 returns c =
     let inner = c .before in
     let fault = inner .before .before .before in
-    let a = fault .before .before .before .before .before .before in
-    not-tidy (a .pre .0) (a .pre .1) (a .args .room) (fault .first-fault .ensures) (ltb-true _ _ (c .if1 .taken))
+    let a = start fault in
+    not-tidy (a .pre) (a .args .room) (fault .first-fault .ensures) (ltb-true _ _ (c .if1 .taken))
 
 returns-2 : tie.Need-returns-2
 returns-2 c =
     let inner = c .before .before in
     let fault = inner .before .before .before in
-    let a = fault .before .before .before .before .before .before in
-    not-clauses (a .pre .0) (a .pre .1) (a .args .room) (fault .first-fault .ensures) (ltb-false _ _ (c .before .if1 .left))
+    let a = start fault in
+    not-clauses (a .pre) (a .args .room) (fault .first-fault .ensures) (ltb-false _ _ (c .before .if1 .left))
     (inner .has-inner-and .ensures) (c .if2 .taken)
 
 returns-3 : tie.Need-returns-3
 returns-3 c =
     let inner = c .before .before .before in
     let fault = inner .before .before .before in
-    let a = fault .before .before .before .before .before .before in
-    no-room (a .pre .0) (a .pre .1) (a .args .room) (fault .first-fault .ensures) (ltb-false _ _ (c .before .before .if1 .left))
+    let a = start fault in
+    no-room (a .pre) (a .args .room) (fault .first-fault .ensures) (ltb-false _ _ (c .before .before .if1 .left))
     (inner .has-inner-and .ensures) (c .before .if2 .left) (c .if3 .taken)
 
 returns-4 : tie.Need-returns-4
 returns-4 c =
     let inner = c .before .before .before in
     let fault = inner .before .before .before in
-    let a = fault .before .before .before .before .before .before in
-    planned (a .pre .0) (a .pre .1) (a .args .room) (fault .first-fault .ensures) (ltb-false _ _ (c .before .before .if1 .left))
+    let a = start fault in
+    planned (a .pre) (a .args .room) (fault .first-fault .ensures) (ltb-false _ _ (c .before .before .if1 .left))
     (inner .has-inner-and .ensures) (c .before .if2 .left) (c .if3 .left)
 
 pub plan-checked-spec : {M : Type 1} → statement M

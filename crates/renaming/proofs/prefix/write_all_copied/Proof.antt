@@ -27,8 +27,8 @@ write-copied-requires c κs =
     let a = c .before .before .before .before .before .before .before .before in
     let l = c .before .before .before .loop in (
       room-on (a .pre .1) (l .inv .0 .same-length),
-      a .pre .2,
-      copying-room (a .args .b .now) (a .pre .0) (a .args .table .now) (a .args .to .layout) (a .args .out .now) (a .args .to .at) (omega arith) (l .inv .0) (c .before .variable-at .ensures .0) (a .pre .3),
+      copying-room (a .args .b .now) (a .pre .0) (a .args .table .now) (a .args .to .layout) (a .args .out .now) (a .args .to .at) (omega arith)
+          (l .inv .0) (c .before .variable-at .ensures .0) (a .pre .2),
     )
 
 add-j : tie.Need-add-j Inv-loop μ-loop

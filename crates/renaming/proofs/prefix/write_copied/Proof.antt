@@ -3,6 +3,7 @@ use mathlib.Core.Path.{sym, ap, subst}
 use native.Mathlib.Omega.{arith}
 use lib.ListN.{length}
 use Rattle.changing.specs.Output.{Laid}
+use Rattle.rows.proofs.Limits.{number-fits}
 use Rattle.renaming.proofs.Copied.{same-row, put-row, new-row, laid-none}
 use borrow.Author.Needs.{needs}
 use Rattle.renaming.proofs.prefix.write_copied.Statement.{statement}
@@ -26,7 +27,7 @@ write-row-requires : tie.Need-write-row-requires
 write-row-requires c κs =
     let a = c .before .before .before .before .before .before in
     let is = new-row (a .args .table .now) (a .args .v) (c .before .before .before .entry .ensures) (c .before .before .if1 .left) (c .before .if2 .left) in
-    (a .pre .0, omega (arith, a .pre .2, ap length is), omega (arith, a .pre .1, c .before .if2 .left))
+    (a .pre .0, omega (arith, a .pre .1, ap length is), number-fits (a .args .to .layout .format) (omega arith))
 
 same-length : tie.Need-same-length
 same-length c = search needs

@@ -1,14 +1,18 @@
 -- `rows::write::seal` meets its contract. Assumes nothing.
-use mathlib.Core.Path.{refl}
+use Prim.Native.Nat.{_+_, _*_, _≤_}
 use native.Mathlib.Omega.{arith}
 use Rattle.rows.proofs.Sealing.{all-bytes, seal-within}
 use Rattle.rows.proofs.Sealing.{sealed as sealed-rows}
-use Rattle.rows.proofs.Flat.{rows-in as flat-rows}
-use Rattle.rows.specs.Layouts.{rows-in, sealed}
+use lib.ListN.{length}
+use Rattle.rows.proofs.Flat.{rows-in as flat-rows, Room}
+use Rattle.rows.specs.Layouts.{total, rows-in, sealed}
 use Rattle.rows.proofs.Layouts.{room-of}
 use borrow.Author.Needs.{needs}
 use Rattle.rows.proofs.write.seal.Statement.{statement}
 use Rattle.rows.proofs.write.seal.Tie as tie
+
+width-requires : tie.Need-width-requires
+width-requires c κs = search needs
 
 mul-move-down : tie.Need-mul-move-down
 mul-move-down c = search needs
@@ -25,15 +29,21 @@ add-move-down-2 c = search needs
 add-move-down-3 : tie.Need-add-move-down-3
 add-move-down-3 c = search needs
 
+-- the rows and the first m of them, with the width that was asked for
+held : (c : tie.After-width) → let a = c .before .before .args in Room (c .width .result) (total (a .s)) (length (a .b .now))
+held c = rw (c .width .ensures .0) (room-of (c .before .before .pre .0))
+
+within : (c : tie.After-width) → let a = c .before .before .args in
+    2 * c .width .result + total (a .s) + c .width .result * a .m ≤ length (a .b .now)
+within c = seal-within (held c) (c .before .before .pre .1)
+
 mul-move-down-3 : tie.Need-mul-move-down-3
-mul-move-down-3 c =
-    let a = c .before .before .before in
-    omega (arith, seal-within (room-of (a .pre .0)) (a .pre .1))
+mul-move-down-3 c = omega (arith, within (c .before .before))
 
 move-down-requires : tie.Need-move-down-requires
 move-down-requires c κs =
-    let a = c .before .before .before in
-    (omega (arith, a .pre .1), seal-within (room-of (a .pre .0)) (a .pre .1))
+    let w = c .before .before in
+    (omega (arith, w .before .before .pre .1), within w)
 
 mul-end : tie.Need-mul-end
 mul-end c = search needs
@@ -42,19 +52,16 @@ add-end : tie.Need-add-end
 add-end c = search needs
 
 mul-end-2 : tie.Need-mul-end-2
-mul-end-2 c =
-    let a = c .before .before .before .before .before .before in
-    omega (arith, seal-within (room-of (a .pre .0)) (a .pre .1))
+mul-end-2 c = omega (arith, within (c .before .before .before .before .before))
 
 add-end-2 : tie.Need-add-end-2
-add-end-2 c =
-    let a = c .before .before .before .before .before .before in
-    omega (arith, seal-within (room-of (a .pre .0)) (a .pre .1))
+add-end-2 c = omega (arith, within (c .before .before .before .before .before))
 
 clear-requires : tie.Need-clear-requires
 clear-requires c κs =
-    let a = c .before .before .before .before .before .before .before in
-    omega (arith, c .before .before .before .move-down .kept .0, seal-within (room-of (a .pre .0)) (a .pre .1), a .pre .1)
+    let move = c .before .before .before in
+    let w = move .before .before .before in
+    omega (arith, move .move-down .kept .0, within w, w .before .before .pre .1)
 
 put-number-requires : tie.Need-put-number-requires
 put-number-requires c κs = search needs
@@ -71,17 +78,24 @@ same-length c = search needs
 returns : tie.Need-returns
 unfolding sealed rows-in flat-rows
 returns c =
-    let a = c .before .before .before .before .before .before .before .before .before .before .before .before .before .before .before .before .before .before .before in
-    let bytes = all-bytes (a .args .b .now) (λ i. omega (arith, c .before .before .before .before .before .before .before .before .before .before .before .before .before .before .before .before .before .before .slice-known .given i)) in (
-      sealed-rows (a .args .b .now) (room-of (a .pre .0)) bytes (a .pre .1) _ _ (c .before .before .before .before .before .before .before .before .before .before .before .before .before .before .before .move-down .ensures) (c .before .before .before .before .before .before .before .before .before .before .before .clear .ensures)
-          (c .before .before .before .before .before .before .before .put-number .ensures) (c .before .before .put-number2 .ensures),
-      refl,
+    let second = c .before .before in
+    let first = second .before .before .before .before .before in
+    let clear = first .before .before .before .before in
+    let move = clear .before .before .before .before in
+    let w = move .before .before .before in
+    let a = w .before .before in
+    let e = w .width .ensures .0 in
+    let bytes = all-bytes (a .args .b .now) (λ i. omega (arith, w .before .slice-known .given i)) in (
+      sealed-rows (a .args .b .now) (room-of (a .pre .0)) bytes (a .pre .1) _ _ (rw e at (move .move-down .ensures))
+          (rw e at (clear .clear .ensures)) (first .put-number .ensures) (rw e at (second .put-number2 .ensures)),
+      rw e,
     )
 
 pub seal-spec : {M : Type 1} → statement M
 seal-spec =
     tie.close
     (tie.spec
+    width-requires
     mul-move-down
     add-move-down
     mul-move-down-2

@@ -1,4 +1,5 @@
 -- `settle::plan::plan_admitted` meets its contract: 12 and 13 in this order. Assumes nothing.
+use mathlib.Core.Path.{refl}
 use borrow.Author.Needs.{needs}
 use mathlib.Core.Bool.{false}
 use native.Mathlib.Omega.{arith}
@@ -16,9 +17,8 @@ slice-aggregate-fill-signs c = search needs
 fill-signs-requires : tie.Need-fill-signs-requires
 fill-signs-requires c κs =
     let a = c .before .before in
-    let k = a .pre .0 .manageable in
-    let sheet = a .pre .1 .1 .sheet in
-    (sheet-readable sheet k, unmarked 4100, numbered-covers (sheet-numbered sheet k) (omega (arith, length-replicate 4100 false)))
+    let sheet = a .pre .1 .sheet in
+    (sheet-readable sheet, unmarked 4100, numbered-covers (sheet-numbered sheet) (omega (arith, length-replicate 4100 false)))
 
 slice-aggregate-value-at : tie.Need-slice-aggregate-value-at
 slice-aggregate-value-at c = search needs
@@ -26,7 +26,7 @@ slice-aggregate-value-at c = search needs
 value-at-requires : tie.Need-value-at-requires
 value-at-requires c κs =
     let a = c .before .before .before .before .before in
-    (sheet-readable (a .pre .1 .1 .sheet) (a .pre .0 .manageable), a .pre .1 .1 .named .inside, c .before .before .fill-signs .ensures)
+    (sheet-readable (a .pre .1 .sheet), a .pre .1 .named .inside, c .before .before .fill-signs .ensures)
 
 enum-known-v : tie.Need-enum-known-v
 enum-known-v c = search needs
@@ -38,7 +38,7 @@ returns : tie.Need-returns
 returns c =
     let value = c .before .before in
     let a = value .before .before .before .before .before .before in
-    not-settled (a .pre .0) (a .pre .1 .1) (a .args .room) (value .value-at .result) (value .value-at .ensures) (c .enum-told .given .1)
+    not-settled (a .pre .1) (a .args .room) (value .value-at .result) (value .value-at .ensures) (c .enum-told .given .1)
 
 sub-sheet-length : tie.Need-sub-sheet-length
 sub-sheet-length c = search needs
@@ -50,15 +50,17 @@ returns-2 : tie.Need-returns-2
 returns-2 c =
     let value = c .before .before .before .before .before .before in
     let a = value .before .before .before .before .before .before in
-    no-room (a .pre .0) (a .pre .1 .1) (a .args .room) (value .value-at .result) (value .value-at .ensures) (c .before .before .before .before .v .given .1)
+    no-room (a .pre .1) (a .args .room) (value .value-at .result) (value .value-at .ensures) (c .before .before .before .before .v .given .1)
     (omega (arith, c .before .sheet-length .ensures, c .if1 .taken))
 
 returns-3 : tie.Need-returns-3
 returns-3 c =
     let value = c .before .before .before .before .before .before in
-    let a = value .before .before .before .before .before .before in
-    planned (a .pre .0) (a .pre .1 .1) (a .args .room) (value .value-at .result) (value .value-at .ensures) _ (c .before .before .before .before .v .given .1)
-    (omega (arith, c .before .sheet-length .ensures, c .if1 .left))
+    let a = value .before .before .before .before .before .before in (
+      refl,
+      planned (a .pre .1) (a .args .room) (value .value-at .result) (value .value-at .ensures) _ (c .before .before .before .before .v .given .1)
+          (omega (arith, c .before .sheet-length .ensures, c .if1 .left)),
+    )
 
 pub plan-admitted-spec : {M : Type 1} → statement M
 plan-admitted-spec =

@@ -14,15 +14,16 @@ slice-relend-prefix-fetch : tie.Need-slice-relend-prefix-fetch
 slice-relend-prefix-fetch c = search needs
 
 slice-aggregate-fetch : tie.Need-slice-aggregate-fetch
-slice-aggregate-fetch c = let a = c .before .before .before .before in sym (length-take-le (c .before .longer .result) (a .args .first .now) (omega (arith, c .before .longer .ensures, a .pre .0 .in-first, a .pre .1 .inside)))
+slice-aggregate-fetch c =
+    let a = c .before .before .before .before in
+    sym (length-take-le (c .before .longer .result) (a .args .first .now)
+    (omega (arith, c .before .longer .ensures, a .pre .0 .in-first, a .pre .1 .inside)))
 
 fetch-requires : tie.Need-fetch-requires
 fetch-requires c κs =
     let a = c .before .before .before .before in
     let part = length-take-le (c .before .longer .result) (a .args .first .now) (omega (arith, c .before .longer .ensures, a .pre .0 .in-first, a .pre .1 .inside)) in
     record {
-      few-bytes = a .pre .0 .few-bytes;
-      header = a .pre .0 .header;
       in-first = omega (arith, part, c .before .longer .ensures);
       in-second = a .pre .0 .in-second;
     }
@@ -34,12 +35,10 @@ returns : tie.Need-returns
 returns c =
     let fetched = c .before .before in
     let part = fetched .before .before in
-    let a = part .before .before .before in (
-      cleared-part (a .args .second .now) (a .args .first .now) (a .args .bytes) (part .longer .result) (a .args .old) (a .pre .0 .in-second)
-          (omega (arith, part .longer .ensures)) (omega (arith, part .longer .ensures))
-          (omega (arith, part .longer .ensures, a .pre .0 .in-first, a .pre .1 .inside)) (a .pre .1) (fetched .fetch .ensures .0) refl,
-      fetched .fetch .ensures .1,
-    )
+    let a = part .before .before .before in
+    cleared-part (a .args .second .now) (a .args .first .now) (a .args .bytes) (part .longer .result) (a .args .old) (a .pre .0 .in-second)
+    (omega (arith, part .longer .ensures)) (omega (arith, part .longer .ensures))
+    (omega (arith, part .longer .ensures, a .pre .0 .in-first, a .pre .1 .inside)) (a .pre .1) (fetched .fetch .ensures) refl
 
 pub bring-spec : {M : Type 1} → statement M
 bring-spec =

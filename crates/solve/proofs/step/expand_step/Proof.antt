@@ -1,14 +1,27 @@
 -- `solve::step::expand_step` meets its contract. Assumes nothing.
-use mathlib.Core.Path.{refl, sym, ap, _∙_}
+use mathlib.Core.Path.{_≡_, refl, sym, ap, _∙_, subst}
+use mathlib.Core.Bool.{true}
+use mathlib.Core.List.{_++_}
+use Prim.Native.Nat.{_-_, _≤_}
 use borrow.Author.Needs.{needs}
 use borrow.Author.Tests.{not-true, not-false}
 use native.Mathlib.Omega.{arith}
-use lib.ListN.{length, take, drop}
+use lib.ListN.{length, take, drop, replicate}
 use lib.Seq.{length-take-le}
+use Rattle.formula.specs.Tree.{of}
+use Rattle.formula.specs.Expand.{expanded}
+use Rattle.sheet.specs.Format.{fits}
+use Rattle.sheet.specs.Sheet.{sheet}
+use Rattle.rows.specs.Layouts.{format-in}
+use Rattle.rows.specs.Formulas.{formula-in}
 use Rattle.rows.specs.declared.Layout.{Layout}
+use Rattle.stepping.specs.Survey.{Drafts, Surveyed}
+use Rattle.stepping.specs.Expanding.{Priced, Prepared}
+use Rattle.stepping.proofs.Expansions.{drafts, prepared}
 use Rattle.solve.proofs.Holding.{bound}
 use Rattle.solve.proofs.Carrying.{in-front}
-use Rattle.solve.proofs.Arriving.{some-left, few-rows, zeros-behind, fetchable, arrived-formula, arrived-held, raw-small, expand-stops, expand-named, few-and-short, expand-expands, prepared-arrives, prepared-next}
+use Rattle.solve.proofs.Arriving.{some-left, few-rows, zeros-behind, fetchable, taken}
+use Rattle.solve.proofs.Arriving.{raw-small, expand-stops, expand-named, few-and-short, expand-expands, expand-arrives, expand-next}
 use Rattle.solve.proofs.step.expand_step.Statement.{statement}
 use Rattle.solve.proofs.step.expand_step.Tie as tie
 
@@ -27,138 +40,217 @@ slice-aggregate-choose-expand c = search needs
 slice-aggregate-choose-expand-2 : tie.Need-slice-aggregate-choose-expand-2
 slice-aggregate-choose-expand-2 c = search needs
 
+-- the tables are filled, then a variable is chosen
+abbrev start : tie.After-fill-occurrences → tie.Start
+start c = c .before .before .before .before .before .before .before .before
+
+abbrev tables : tie.After-choose-expand → tie.After-fill-occurrences
+tables c = c .before .before .before .before .before .before
+
 choose-expand-requires : tie.Need-choose-expand-requires
 choose-expand-requires c κs =
-    let a = c .before .before .before .before .before .before .before .before .before .before .before .before .before in
-    let r = a .pre .0 in
-    (a .pre .3, bound (r .countable) (r .held), c .before .before .before .before .before .fill-occurrences .ensures, some-left r (a .pre .1), a .pre .2)
+    let filled = c .before .before .before .before .before in
+    let p = start filled .pre in
+    (p .3, bound (p .0 .held), filled .fill-occurrences .ensures, some-left (p .0) (p .1), p .2)
 
 sub-fits : tie.Need-sub-fits
 sub-fits c = search needs
 
+small : (c : tie.After-choose-expand) → c .choose-expand .result .raw ≤ 16386
+small c = let p = start (tables c) .pre in raw-small (p .0) (p .1) (p .2) (c .choose-expand .ensures)
+
 fits-requires : tie.Need-fits-requires
 fits-requires c κs =
     let chosen = c .before in
-    let a = chosen .before .before .before .before .before .before .before .before .before .before .before .before .before .before in
-    let r = a .pre .0 in (
-      r .countable .manageable .few-bytes,
-      omega (arith, r .held .within .few-variables, r .few),
-      omega (arith, raw-small r (a .pre .1) (a .pre .2) (chosen .choose-expand .ensures)),
-    )
+    let r = start (tables chosen) .pre .0 in
+    (omega (arith, r .held .within .few-variables, r .few), omega (arith, small chosen))
+
+abbrev chosen : tie.After-fits2 → tie.After-choose-expand
+chosen c = c .before .before
 
 same-length : tie.Need-same-length
 same-length c = search needs
 
 returns : tie.Need-returns
 returns c =
-    let chosen = c .before .before .before in
-    let a = chosen .before .before .before .before .before .before .before .before .before .before .before .before .before .before in
-    let fit = c .before .fits2 in
-    (expand-stops (a .pre .0) (a .pre .1) (a .pre .2) (chosen .choose-expand .ensures) (sym (fit .ensures) ∙ not-true _ (c .if1 .taken)), refl, refl)
+    let fit = c .before in
+    let p = start (tables (chosen fit)) .pre in
+    (expand-stops (p .0) (p .1) (p .2) (chosen fit .choose-expand .ensures) (sym (fit .fits2 .ensures) ∙ not-true _ (c .if1 .taken)), refl, refl)
 
-slice-aggregate-prepare : tie.Need-slice-aggregate-prepare
-slice-aggregate-prepare c = search needs
+slice-aggregate-draft : tie.Need-slice-aggregate-draft
+slice-aggregate-draft c = search needs
 
-slice-aggregate-prepare-2 : tie.Need-slice-aggregate-prepare-2
-slice-aggregate-prepare-2 c = search needs
+-- the raw sheet fits
+abbrev pick : tie.Else1 → tie.After-choose-expand
+pick c = chosen (c .before)
 
-slice-aggregate-prepare-3 : tie.Need-slice-aggregate-prepare-3
-slice-aggregate-prepare-3 c = search needs
+abbrev begin : tie.Else1 → tie.Start
+begin c = start (tables (pick c))
 
-prepare-requires : tie.Need-prepare-requires
-prepare-requires c κs =
-    let chosen = c .before .before .before .before .before .before .before in
-    let a = chosen .before .before .before .before .before .before .before .before .before .before .before .before .before .before in
-    let here = chosen .choose-expand .ensures in (
-      record {
-        indexed = a .pre .3;
-        occurrences = chosen .before .before .before .before .before .before .fill-occurrences .ensures;
-        named = expand-named (a .pre .0) (a .pre .1) (a .pre .2) here;
-        part-is = here .part-is;
-        raw-is = here .raw-is;
-      },
-      omega (arith, a .pre .3 .readable .few-nodes),
-    )
+fit : (c : tie.Else1)
+    → let s = begin c .args .s .sheet in
+    fits (format-in s) (begin c .args .room) (s .variables - 1) (pick c .choose-expand .result .raw) ≡ true
+fit c = sym (c .before .fits2 .ensures) ∙ not-false _ (c .if1 .left)
+
+priced : (c : tie.Else1)
+    → let a = begin c .args in
+    let filled = tables (pick c) .fill-occurrences in
+    Priced (a .s .sheet) (a .first .now) (a .ends .now) (filled .last .1 .1 .0) (filled .last .1 .1 .1 .0) (pick c .choose-expand .result)
+priced c =
+    let p = begin c .pre in
+    let here = pick c .choose-expand .ensures in
+    record {
+      indexed = p .3;
+      occurrences = tables (pick c) .fill-occurrences .ensures;
+      named = expand-named (p .0) (p .1) (p .2) here;
+      part-is = here .part-is;
+      raw-is = here .raw-is;
+    }
+
+draft-requires : tie.Need-draft-requires
+draft-requires c κs =
+    let k = priced (c .before .before) in
+    (k .indexed .readable, k .named .inside, k .named .few, k .occurrences .holds)
+
+slice-aggregate-survey-draft : tie.Need-slice-aggregate-survey-draft
+slice-aggregate-survey-draft c = search needs
+
+slice-aggregate-survey-draft-2 : tie.Need-slice-aggregate-survey-draft-2
+slice-aggregate-survey-draft-2 c = search needs
+
+-- it is drafted and surveyed
+abbrev fitting : tie.After-draft → tie.Else1
+fitting c = c .before .before .before
+
+drafted : (c : tie.After-draft)
+    → let a = begin (fitting c) .args in
+    let k = pick (fitting c) in
+    Drafts (of (k .choose-expand .result .variable)) (a .s .sheet) (a .first .now) (a .ends .now)
+    (tables k .fill-occurrences .last .1 .1 .1 .0) (c .draft .result)
+drafted c =
+    let a = begin (fitting c) .args in
+    let k = pick (fitting c) in
+    subst
+    (Drafts (of (k .choose-expand .result .variable)) (a .s .sheet) (a .first .now) (a .ends .now) (tables k .fill-occurrences .last .1 .1 .1 .0))
+    (sym (c .draft .ensures)) (drafts (priced (fitting c)))
+
+survey-draft-requires : tie.Need-survey-draft-requires
+survey-draft-requires c κs =
+    let d = c .before .before .before in
+    ((_, drafted d), omega (arith, begin (fitting d) .pre .3 .readable .few-nodes))
+
+abbrev draft : tie.After-survey-draft → tie.After-draft
+draft c = c .before .before .before .before
+
+surveyed : (c : tie.After-survey-draft)
+    → let d = fitting (draft c) in
+    let a = begin d .args in
+    let k = pick d .choose-expand .result in
+    Prepared (a .s .sheet) (a .first .now) (k .variable) (k .row) (c .survey-draft .last .1 .1 .1 .1 .1 .0) (c .survey-draft .result)
+surveyed c =
+    let d = draft c in
+    let a = begin (fitting d) .args in
+    let x = pick (fitting d) .choose-expand .result .variable in
+    prepared (priced (fitting d))
+    (subst (λ e. Surveyed (of x) (a .s .sheet) (a .first .now) e (c .survey-draft .last .1 .1 .1 .1 .1 .0) (c .survey-draft .result)) (d .draft .ensures)
+    (c .survey-draft .ensures (of x) (drafted d)))
+
+abbrev ready : tie.After-survey-draft → tie.Start
+ready c = begin (fitting (draft c))
 
 sheet-length-requires : tie.Need-sheet-length-requires
-sheet-length-requires c κs =
-    few-rows (c .before .before .before .before .before .before .before .before .before .before .before .before .before .before .before .before .before .before .before .before .before .before .before .pre .0)
+sheet-length-requires c κs = few-rows (ready (c .before) .pre .0)
 
 sub-sheet-length : tie.Need-sub-sheet-length
 sub-sheet-length c = search needs
 
+-- the old sheet's length is known, then that of the raw sheet, which has its place in the second buffer
+abbrev survey : tie.After-sheet-length → tie.After-survey-draft
+survey c = c .before .before
+
+abbrev old : tie.After-sheet-length2 → tie.After-sheet-length
+old c = c .before .before
+
 sheet-length-requires-2 : tie.Need-sheet-length-requires-2
 sheet-length-requires-2 c κs =
-    let chosen = c .before .before .before .before .before .before .before .before .before .before .before in
-    let a = chosen .before .before .before .before .before .before .before .before .before .before .before .before .before .before in
-    let r = a .pre .0 in
-    let few = few-rows r in
-    (few .0, omega (arith, few .1), omega (arith, raw-small r (a .pre .1) (a .pre .2) (chosen .choose-expand .ensures)))
+    let v = survey (c .before) in
+    let few = few-rows (ready v .pre .0) in
+    (omega (arith, few .0), omega (arith, small (pick (fitting (draft v)))))
+
+abbrev base : tie.After-sheet-length2 → tie.Start
+base c = ready (survey (old c))
+
+enough : (c : tie.After-sheet-length2) → c .sheet-length2 .result ≤ length (base c .args .second .now)
+enough c =
+    let d = fitting (draft (survey (old c))) in
+    let p = base c .pre in
+    omega (arith, c .sheet-length2 .ensures, few-and-short (p .0) (p .1) (p .2) (pick d .choose-expand .ensures) (fit d) .1, p .0 .second-room)
+
+part-length : (c : tie.After-sheet-length2) → length (take (c .sheet-length2 .result) (base c .args .second .now)) ≡ c .sheet-length2 .result
+part-length c = length-take-le (c .sheet-length2 .result) (base c .args .second .now) (enough c)
 
 slice-aggregate-expand-into : tie.Need-slice-aggregate-expand-into
 slice-aggregate-expand-into c = search needs
 
 slice-relend-prefix-expand-into : tie.Need-slice-relend-prefix-expand-into
-slice-relend-prefix-expand-into c =
-    let need = c .before .before in
-    let prepared = need .before .before .before .before in
-    let chosen = prepared .before .before .before .before .before .before .before .before in
-    let a = chosen .before .before .before .before .before .before .before .before .before .before .before .before .before .before in
-    let r = a .pre .0 in
-    let here = chosen .choose-expand .ensures in
-    let fit = sym (prepared .before .before .before .before .before .before .fits2 .ensures) ∙ not-false _ (prepared .before .before .before .before .before .if1 .left) in
-    let enough = few-and-short r (a .pre .1) (a .pre .2) here fit .1 in
-    omega (arith, need .sheet-length2 .ensures, enough, r .second-room)
+slice-relend-prefix-expand-into c = enough (c .before .before)
 
 slice-aggregate-expand-into-2 : tie.Need-slice-aggregate-expand-into-2
-slice-aggregate-expand-into-2 c =
-    let need = c .before .before .before in
-    let prepared = need .before .before .before .before in
-    let chosen = prepared .before .before .before .before .before .before .before .before in
-    let a = chosen .before .before .before .before .before .before .before .before .before .before .before .before .before .before in
-    let r = a .pre .0 in
-    let here = chosen .choose-expand .ensures in
-    let fit = sym (prepared .before .before .before .before .before .before .fits2 .ensures) ∙ not-false _ (prepared .before .before .before .before .before .if1 .left) in
-    let enough = few-and-short r (a .pre .1) (a .pre .2) here fit .1 in
-    sym (length-take-le (need .sheet-length2 .result) (a .args .second .now) (omega (arith, need .sheet-length2 .ensures, enough, r .second-room)))
+slice-aggregate-expand-into-2 c = sym (part-length (c .before .before .before))
 
 expand-into-requires : tie.Need-expand-into-requires
 expand-into-requires c κs =
     let need = c .before .before .before in
-    let prepared = need .before .before .before .before in
-    let chosen = prepared .before .before .before .before .before .before .before .before in
-    let a = chosen .before .before .before .before .before .before .before .before .before .before .before .before .before .before in
-    let r = a .pre .0 in
-    let here = chosen .choose-expand .ensures in
-    let fit = sym (prepared .before .before .before .before .before .before .fits2 .ensures) ∙ not-false _ (prepared .before .before .before .before .before .if1 .left) in
-    let enough = few-and-short r (a .pre .1) (a .pre .2) here fit .1 in
-    let part = length-take-le (need .sheet-length2 .result) (a .args .second .now) (omega (arith, need .sheet-length2 .ensures, enough, r .second-room)) in
-    expand-expands r (a .pre .1) (a .pre .2) here fit (prepared .prepare .ensures) (omega (arith, need .sheet-length2 .ensures, part))
+    let v = survey (old need) in
+    let d = fitting (draft v) in
+    let p = base need .pre in
+    expand-expands (p .0) (p .1) (p .2) (pick d .choose-expand .ensures) (fit d) (surveyed v)
+    (omega (arith, need .sheet-length2 .ensures, part-length need))
 
-sub-bring : tie.Need-sub-bring
-sub-bring c =
-    let a = c .before .before .before .before .before .before .before .before .before .before .before .before .before .before .before .before .before .before .before .before .before .before .before .before .before .before .before .before .before .before .before .before .before .before .before in
-    omega (arith, some-left (a .pre .0) (a .pre .1))
+abbrev need : tie.After-expand-into → tie.After-sheet-length2
+need c = c .before .before .before .before
+
+sheet-length-requires-3 : tie.Need-sheet-length-requires-3
+sheet-length-requires-3 c κs =
+    let expanded = c .before .before in
+    let v = survey (old (need expanded)) in
+    let d = fitting (draft v) in
+    let few = few-rows (ready v .pre .0) in
+    let sizes = expanded .expand-into .ensures .1 .1 in
+    let raw = ap (λ (l : Layout). l .nodes) (surveyed v .layout-is) ∙ sym (pick d .choose-expand .ensures .raw-is) in
+    (omega (arith, few .0, sizes .0), omega (arith, sizes .1, raw, small (pick d)))
+
+-- the expanded sheet stands at the front of the second buffer
+in-second : (c : tie.After-expand-into)
+    → let a = base (need c) .args in
+    let k = pick (fitting (draft (survey (old (need c))))) .choose-expand .result in
+    let n = need c .sheet-length2 .result in
+    let g = expanded (k .variable) (formula-in (a .s .sheet) (a .first .now)) in
+    (c .expand-into .last .1 .1 .1 .1 .1 .0 ++ drop n (a .second .now)) ≡
+    sheet (format-in (a .s .sheet)) g ++
+    (replicate (length (take n (a .second .now)) - length (sheet (format-in (a .s .sheet)) g)) 0 ++ drop n (a .second .now))
+in-second c =
+    let a = base (need c) .args in
+    in-front (format-in (a .s .sheet)) (expanded _ (formula-in (a .s .sheet) (a .first .now))) _ _ (c .expand-into .ensures .0) refl
 
 bring-requires : tie.Need-bring-requires
 bring-requires c κs =
-    let expanded = c .before .before .before .before .before in
-    let need = expanded .before .before .before .before in
-    let old = need .before .before in
-    let prepared = old .before .before in
-    let chosen = prepared .before .before .before .before .before .before .before .before in
-    let a = chosen .before .before .before .before .before .before .before .before .before .before .before .before .before .before in
-    let r = a .pre .0 in
-    let here = chosen .choose-expand .ensures in
-    let fit = sym (prepared .before .before .before .before .before .before .fits2 .ensures) ∙ not-false _ (prepared .before .before .before .before .before .if1 .left) in
-    let arrives = prepared-arrives r (a .pre .1) (a .pre .2) here fit (prepared .prepare .ensures) in
-    let in-second = in-front _ _ (length (take (need .sheet-length2 .result) (a .args .second .now))) (drop (need .sheet-length2 .result) (a .args .second .now))
-    (expanded .expand-into .ensures .0) refl in
-    (fetchable (r .countable) arrives _ in-second (expanded .expand-into .ensures .1) (r .first-room), zeros-behind r (old .sheet-length .ensures))
+    let long = c .before .before in
+    let grown = long .before .before .before in
+    let before = old (need grown) in
+    let d = fitting (draft (survey before)) in
+    let a = base (need grown) in
+    let p = a .pre in
+    let arrives = expand-arrives (p .0) (p .1) (p .2) (pick d .choose-expand .ensures) (fit d) in (
+      fetchable (a .args .s .sheet .format) arrives _ (in-second grown) (grown .expand-into .ensures .1 .0) (long .sheet-length3 .ensures) (p .0 .first-room),
+      zeros-behind (p .0) (before .sheet-length .ensures),
+    )
 
-add-t31 : tie.Need-add-t31
-add-t31 c =
-    record { fits = omega (arith, c .before .before .before .before .before .before .before .before .before .before .before .before .before .before .before .before .before .before .before .before .before .before .before .before .before .before .before .before .before .before .before .before .before .before .before .before .before .before .before .pre .0 .few) }
+add-t32 : tie.Need-add-t32
+add-t32 c =
+    let brought = c .before .before .before in
+    let grown = brought .before .before .before .before .before .before in
+    record { fits = omega (arith, base (need grown) .pre .0 .few) }
 
 same-length-2 : tie.Need-same-length-2
 same-length-2 c = search needs
@@ -169,29 +261,17 @@ same-length-3 c = search needs
 returns-2 : tie.Need-returns-2
 returns-2 c =
     let brought = c .before .before .before in
-    let expanded = brought .before .before .before .before .before .before in
-    let need = expanded .before .before .before .before in
-    let prepared = need .before .before .before .before in
-    let chosen = prepared .before .before .before .before .before .before .before .before in
-    let a = chosen .before .before .before .before .before .before .before .before .before .before .before .before .before .before in
-    let r = a .pre .0 in
-    let here = chosen .choose-expand .ensures in
-    let fit = sym (prepared .before .before .before .before .before .before .fits2 .ensures) ∙ not-false _ (prepared .before .before .before .before .before .if1 .left) in
-    let arrives = prepared-arrives r (a .pre .1) (a .pre .2) here fit (prepared .prepare .ensures) in
-    let in-second = in-front _ _ (length (take (need .sheet-length2 .result) (a .args .second .now))) (drop (need .sheet-length2 .result) (a .args .second .now))
-    (expanded .expand-into .ensures .0) refl in
-    let as-long = expanded .expand-into .ensures .1 in
-    let old = length (a .args .first .now) in
-    let in-first = brought .bring .ensures .0 in
-    let at = brought .bring .ensures .1 in
-    let some = some-left r (a .pre .1) in
-    let less = ap (λ (t : Layout). t .variables) at in (
-      prepared-next r (a .pre .1) (a .pre .2) here fit (prepared .prepare .ensures) _ _
-          (arrived-formula (r .countable) arrives _ in-second as-long old (r .first-room) in-first at),
-      arrived-held (r .countable) arrives _ in-second as-long old (r .first-room) in-first at,
-      omega (arith, some, less),
-      omega (arith, some, less),
-    )
+    let long = brought .before .before .before in
+    let grown = long .before .before .before in
+    let d = fitting (draft (survey (old (need grown)))) in
+    let a = base (need grown) in
+    let p = a .pre in
+    let here = pick d .choose-expand .ensures in
+    let less = grown .expand-into .ensures .1 .1 .0 in
+    let some = some-left (p .0) (p .1) in
+    taken (a .args .s) _ (a .args .first .now) (expand-arrives (p .0) (p .1) (p .2) here (fit d)) _ (in-second grown) (grown .expand-into .ensures .1 .0) (long .sheet-length3 .ensures)
+    (length (a .args .first .now)) (p .0 .first-room) (brought .bring .ensures) (expand-next (p .0) (p .1) (p .2) here (fit d) _ _)
+    (omega (arith, some, less)) (omega (arith, some, less)) (a .args .second .now)
 
 pub expand-step-spec : {M : Type 1} → statement M
 expand-step-spec =
@@ -207,10 +287,11 @@ expand-step-spec =
     fits-requires
     same-length
     returns
-    slice-aggregate-prepare
-    slice-aggregate-prepare-2
-    slice-aggregate-prepare-3
-    prepare-requires
+    slice-aggregate-draft
+    draft-requires
+    slice-aggregate-survey-draft
+    slice-aggregate-survey-draft-2
+    survey-draft-requires
     sheet-length-requires
     sub-sheet-length
     sheet-length-requires-2
@@ -218,9 +299,9 @@ expand-step-spec =
     slice-relend-prefix-expand-into
     slice-aggregate-expand-into-2
     expand-into-requires
-    sub-bring
+    sheet-length-requires-3
     bring-requires
-    add-t31
+    add-t32
     same-length-2
     same-length-3
     returns-2)

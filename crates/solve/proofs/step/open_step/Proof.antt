@@ -8,12 +8,15 @@ use Rattle.solve.proofs.step.open_step.Statement.{statement}
 use Rattle.solve.proofs.step.open_step.Tie as tie
 
 abbrev start : tie.After-choose-settle → tie.Start
-start c = c .before .before .before .before .before .before
+start c = c .before .before .before .before .before .before .before
+
+most-variables-requires : tie.Need-most-variables-requires
+most-variables-requires c κs = search needs
 
 choose-settle-requires : tie.Need-choose-settle-requires
 choose-settle-requires c κs =
-    let r = c .before .before .before .before .before .pre .0 in
-    (readable (r .countable) (r .held), bound (r .countable) (r .held), numbered-to (r .countable) (r .held))
+    let r = c .before .before .before .before .before .before .pre .0 in
+    (readable (r .held), bound (r .held), rw (c .most-variables .ensures) (numbered-to (r .held)))
 
 enum-known-c : tie.Need-enum-known-c
 enum-known-c c = search needs
@@ -31,7 +34,7 @@ enum-told c = search needs
 fill-ends-requires : tie.Need-fill-ends-requires
 fill-ends-requires c κs =
     let a = start (c .before .before .before .before) in
-    let ok = readable (a .pre .0 .countable) (a .pre .0 .held) in
+    let ok = readable (a .pre .0 .held) in
     (ok, omega (arith, ok .few-nodes, a .pre .2))
 
 expand-step-requires : tie.Need-expand-step-requires
@@ -71,6 +74,7 @@ pub open-step-spec : {M : Type 1} → statement M
 open-step-spec =
     tie.close
     (tie.spec
+    most-variables-requires
     choose-settle-requires
     enum-known-c
     settle-step-requires

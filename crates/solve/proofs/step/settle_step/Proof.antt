@@ -1,14 +1,17 @@
 -- `solve::step::settle_step` meets its contract. Assumes nothing.
-use mathlib.Core.Path.{refl, sym, ap, _∙_}
+use mathlib.Core.Path.{_≡_, refl, sym}
 use mathlib.Core.List.{_++_}
-use Prim.Native.Nat.{_-_}
+use Prim.Native.Nat.{_-_, _≤_}
 use native.Mathlib.Omega.{arith}
 use lib.ListN.{length, take, drop, replicate}
 use lib.Seq.{length-take-le}
 use Rattle.sheet.specs.Sheet.{sheet}
-use Rattle.rows.specs.declared.Layout.{Layout}
+use Rattle.rows.specs.Layouts.{format-in}
+use Rattle.rows.specs.Formulas.{formula-in}
+use Rattle.stepping.specs.Steps.{settled-by}
+use Rattle.solve.proofs.Holding.{readable}
 use Rattle.solve.proofs.Carrying.{in-front}
-use Rattle.solve.proofs.Arriving.{some-left, few-rows, zeros-behind, fetchable, arrived-formula, arrived-held, settle-room, settle-puts, settle-arrives, settle-next}
+use Rattle.solve.proofs.Arriving.{some-left, few-rows, zeros-behind, fetchable, taken, settle-room, settle-puts, settle-arrives, settle-next}
 use borrow.Author.Needs.{needs}
 use Rattle.solve.proofs.step.settle_step.Statement.{statement}
 use Rattle.solve.proofs.step.settle_step.Tie as tie
@@ -22,42 +25,69 @@ sub-sheet-length c = search needs
 sheet-length-requires-2 : tie.Need-sheet-length-requires-2
 sheet-length-requires-2 c κs =
     let few = few-rows (c .before .before .before .before .before .pre .0) in
-    (few .0, omega (arith, few .1), few .2)
+    (omega (arith, few .0), few .1)
+
+-- the old sheet's length is known, then that of the raw sheet, which has its place in the second buffer
+abbrev start : tie.After-sheet-length → tie.Start
+start c = c .before .before .before .before
+
+abbrev old : tie.After-sheet-length2 → tie.After-sheet-length
+old c = c .before .before
+
+enough : (c : tie.After-sheet-length2) → c .sheet-length2 .result ≤ length (start (old c) .args .second .now)
+enough c =
+    let p = start (old c) .pre in
+    omega (arith, c .sheet-length2 .ensures, settle-room (p .0) (p .1) (p .2), p .0 .second-room)
+
+part-length : (c : tie.After-sheet-length2)
+    → length (take (c .sheet-length2 .result) (start (old c) .args .second .now)) ≡ c .sheet-length2 .result
+part-length c = length-take-le (c .sheet-length2 .result) (start (old c) .args .second .now) (enough c)
 
 slice-relend-prefix-settle-into : tie.Need-slice-relend-prefix-settle-into
-slice-relend-prefix-settle-into c =
-    let a = c .before .before .before .before .before .before .before in
-    omega (arith, c .before .sheet-length2 .ensures, settle-room (a .pre .0) (a .pre .1) (a .pre .2), a .pre .0 .second-room)
+slice-relend-prefix-settle-into c = enough (c .before)
 
 slice-aggregate-settle-into : tie.Need-slice-aggregate-settle-into
-slice-aggregate-settle-into c =
-    let need = c .before .before in
-    let a = need .before .before .before .before .before .before in
-    sym (length-take-le (need .sheet-length2 .result) (a .args .second .now)
-    (omega (arith, need .sheet-length2 .ensures, settle-room (a .pre .0) (a .pre .1) (a .pre .2), a .pre .0 .second-room)))
+slice-aggregate-settle-into c = sym (part-length (c .before .before))
 
 settle-into-requires : tie.Need-settle-into-requires
 settle-into-requires c κs =
     let need = c .before .before in
-    let a = need .before .before .before .before .before .before in
-    let part = length-take-le (need .sheet-length2 .result) (a .args .second .now)
-    (omega (arith, need .sheet-length2 .ensures, settle-room (a .pre .0) (a .pre .1) (a .pre .2), a .pre .0 .second-room)) in
-    settle-puts (a .pre .0) (a .pre .1) (a .pre .2) (omega (arith, need .sheet-length2 .ensures, part))
+    let p = start (old need) .pre in
+    settle-puts (p .0) (p .1) (p .2) (omega (arith, need .sheet-length2 .ensures, part-length need))
 
-sub-bring : tie.Need-sub-bring
-sub-bring c = search needs
+abbrev need : tie.After-settle-into → tie.After-sheet-length2
+need c = c .before .before .before
+
+sheet-length-requires-3 : tie.Need-sheet-length-requires-3
+sheet-length-requires-3 c κs =
+    let settled = c .before .before in
+    let few = few-rows (start (old (need settled)) .pre .0) in
+    let sizes = settled .settle-into .ensures .1 .1 in
+    (omega (arith, few .0, sizes .0), omega (arith, few .1, sizes .1))
+
+-- the settled sheet stands at the front of the second buffer
+in-second : (c : tie.After-settle-into)
+    → let a = start (old (need c)) .args in
+    let n = need c .sheet-length2 .result in
+    let g = settled-by (a .p) (formula-in (a .s .sheet) (a .first .now)) in
+    (c .settle-into .last .1 .1 .1 .0 ++ drop n (a .second .now)) ≡
+    sheet (format-in (a .s .sheet)) g ++
+    (replicate (length (take n (a .second .now)) - length (sheet (format-in (a .s .sheet)) g)) 0 ++ drop n (a .second .now))
+in-second c =
+    let a = start (old (need c)) .args in
+    in-front (format-in (a .s .sheet)) (settled-by (a .p) (formula-in (a .s .sheet) (a .first .now))) _ _ (c .settle-into .ensures .0) refl
 
 bring-requires : tie.Need-bring-requires
 bring-requires c κs =
-    let settled = c .before .before .before .before .before in
-    let need = settled .before .before .before in
-    let old = need .before .before in
-    let a = old .before .before .before .before in
-    let r = a .pre .0 in
-    let arrives = settle-arrives r (a .pre .1) (a .pre .2) in
-    let in-second = in-front _ _ (length (take (need .sheet-length2 .result) (a .args .second .now))) (drop (need .sheet-length2 .result) (a .args .second .now))
-    (settled .settle-into .ensures .0) refl in
-    (fetchable (r .countable) arrives _ in-second (settled .settle-into .ensures .1) (r .first-room), zeros-behind r (old .sheet-length .ensures))
+    let long = c .before .before in
+    let settled = long .before .before .before in
+    let before = old (need settled) in
+    let p = start before .pre in
+    let arrives = settle-arrives (p .0) (p .1) (p .2) in (
+      fetchable (start before .args .s .sheet .format) arrives _ (in-second settled) (settled .settle-into .ensures .1 .0) (long .sheet-length3 .ensures)
+          (p .0 .first-room),
+      zeros-behind (p .0) (before .sheet-length .ensures),
+    )
 
 add-t12 : tie.Need-add-t12
 add-t12 c = search needs
@@ -71,24 +101,15 @@ same-length-2 c = search needs
 returns : tie.Need-returns
 returns c =
     let brought = c .before .before .before in
-    let settled = brought .before .before .before .before .before .before in
-    let need = settled .before .before .before in
-    let a = need .before .before .before .before .before .before in
-    let r = a .pre .0 in
-    let arrives = settle-arrives r (a .pre .1) (a .pre .2) in
-    let old = length (a .args .first .now) in
-    let in-second = in-front _ _ (length (take (need .sheet-length2 .result) (a .args .second .now))) (drop (need .sheet-length2 .result) (a .args .second .now))
-    (settled .settle-into .ensures .0) refl in
-    let as-long = settled .settle-into .ensures .1 in
-    let in-first = brought .bring .ensures .0 in
-    let at = brought .bring .ensures .1 in
-    let some = some-left r (a .pre .1) in
-    let less = ap (λ (t : Layout). t .variables) at in (
-      settle-next r (a .pre .1) (a .pre .2) _ _ (arrived-formula (r .countable) arrives _ in-second as-long old (r .first-room) in-first at),
-      arrived-held (r .countable) arrives _ in-second as-long old (r .first-room) in-first at,
-      omega (arith, some, less),
-      omega (arith, some, less),
-    )
+    let long = brought .before .before .before in
+    let settled = long .before .before .before in
+    let a = start (old (need settled)) in
+    let p = a .pre in
+    let less = settled .settle-into .ensures .1 .1 .0 in
+    let some = some-left (p .0) (p .1) in
+    taken (a .args .s) _ (a .args .first .now) (settle-arrives (p .0) (p .1) (p .2)) _ (in-second settled) (settled .settle-into .ensures .1 .0) (long .sheet-length3 .ensures)
+    (length (a .args .first .now)) (p .0 .first-room) (brought .bring .ensures) (settle-next (p .0) (p .1) (p .2) _ _)
+    (omega (arith, some, less)) (omega (arith, some, less)) (a .args .second .now)
 
 pub settle-step-spec : {M : Type 1} → statement M
 settle-step-spec =
@@ -100,7 +121,7 @@ settle-step-spec =
     slice-relend-prefix-settle-into
     slice-aggregate-settle-into
     settle-into-requires
-    sub-bring
+    sheet-length-requires-3
     bring-requires
     add-t12
     same-length

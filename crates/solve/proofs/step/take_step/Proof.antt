@@ -9,8 +9,7 @@ use Rattle.solve.proofs.step.take_step.Tie as tie
 
 decide-requires : tie.Need-decide-requires
 decide-requires c κs =
-    let r = c .before .before .before .before .pre .0 in
-    readable (r .countable) (r .held)
+    readable (c .before .before .before .before .pre .0 .held)
 
 enum-known-d : tie.Need-enum-known-d
 enum-known-d c = search needs

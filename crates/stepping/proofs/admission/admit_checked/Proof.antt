@@ -10,14 +10,14 @@ use Rattle.stepping.proofs.admission.admit_checked.Tie as tie
 fill-ends-requires : tie.Need-fill-ends-requires
 fill-ends-requires c κs =
     let a = c .before .before .before in
-    let ok = sheet-readable (a .pre .1) (a .pre .0) in
-    (ok, omega (arith, ok .few-nodes, a .pre .2))
+    let ok = sheet-readable (a .pre .0) in
+    (ok, omega (arith, ok .few-nodes, a .pre .1))
 
 first-fault-requires : tie.Need-first-fault-requires
 first-fault-requires c κs = search needs
 
-add-t15 : tie.Need-add-t15
-add-t15 c = search needs
+add-t14 : tie.Need-add-t14
+add-t14 c = search needs
 
 same-length : tie.Need-same-length
 same-length c = search needs
@@ -26,7 +26,7 @@ returns : tie.Need-returns
 returns c =
     let fault = c .before .before .before in
     let a = fault .before .before .before .before .before .before .before .before in
-    not-tidy (a .pre .0) (a .pre .1) (a .args .x) (fault .first-fault .ensures) (c .before .if1 .taken)
+    not-tidy (a .pre .0) (a .args .x) (fault .first-fault .ensures) (c .before .if1 .taken)
 
 find-variable-requires : tie.Need-find-variable-requires
 find-variable-requires c κs = search needs
@@ -39,7 +39,7 @@ returns-2 c =
     let found = c .before .before in
     let fault = found .before .before .before in
     let a = fault .before .before .before .before .before .before .before .before in
-    not-bound (a .pre .0) (a .pre .1) (a .args .x) (fault .first-fault .ensures) (found .before .if1 .left) (found .find-variable .ensures)
+    not-bound (a .pre .0) (a .args .x) (fault .first-fault .ensures) (found .before .if1 .left) (found .find-variable .ensures)
     (c .if2 .taken)
 
 same-length-3 : tie.Need-same-length-3
@@ -51,7 +51,8 @@ returns-3 c =
     let fault = found .before .before .before in
     let a = fault .before .before .before .before .before .before .before .before in (
       refl,
-      admitted (a .pre .0) (a .pre .1) (a .args .x) (fault .first-fault .ensures) (found .before .if1 .left) (found .find-variable .ensures)
+      refl,
+      admitted (a .pre .0) (a .args .x) (fault .first-fault .ensures) (found .before .if1 .left) (found .find-variable .ensures)
           (c .if2 .left) (fault .before .before .before .before .fill-ends .ensures .0),
     )
 
@@ -61,7 +62,7 @@ admit-checked-spec =
     (tie.spec
     fill-ends-requires
     first-fault-requires
-    add-t15
+    add-t14
     same-length
     returns
     find-variable-requires

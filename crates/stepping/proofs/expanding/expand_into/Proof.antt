@@ -2,7 +2,7 @@
 use mathlib.Core.Path.{refl, sym}
 use borrow.Author.Needs.{needs}
 use lib.Seq.{length-take-le}
-use Rattle.stepping.proofs.Copies.{expandable, occurs, found, raw-written, sheet-written, length-written}
+use Rattle.stepping.proofs.Copies.{expandable, occurs, found, raw-written, sheet-written, layout-written, sizes-written}
 use Rattle.stepping.proofs.expanding.expand_into.Statement.{statement}
 use Rattle.stepping.proofs.expanding.expand_into.Tie as tie
 
@@ -20,18 +20,24 @@ slice-aggregate-write-raw-2 c =
     let a = c .before .before .before .before .before .before .before .before in
     sym (length-take-le (a .args .w .cuts) (a .args .cuts .now) (a .pre .prepared .few-cuts))
 
+abbrev start : tie.After-fill-both → tie.Start
+start c = c .before .before .before .before .before
+
+abbrev filled : tie.After-write-raw → tie.After-fill-both
+filled c = c .before .before .before .before .before
+
 write-raw-requires : tie.Need-write-raw-requires
 write-raw-requires c κs =
     let tables = c .before .before .before .before in
-    let a = tables .before .before .before .before .before in
+    let a = start tables in
     let is = tables .fill-both .ensures in
     (expandable (a .pre) is (a .args .out .now) refl, occurs (a .pre) is, found (a .pre) is)
 
 tidy-in-place-requires : tie.Need-tidy-in-place-requires
 tidy-in-place-requires c κs =
     let wrote = c .before .before .before in
-    let tables = wrote .before .before .before .before .before in
-    let a = tables .before .before .before .before .before in
+    let tables = filled wrote in
+    let a = start tables in
     raw-written (a .pre) (tables .fill-both .ensures) refl (wrote .write-raw .kept .1 .1 .1 .1 .1 .0) (wrote .write-raw .ensures)
 
 same-length : tie.Need-same-length
@@ -41,12 +47,16 @@ returns : tie.Need-returns
 returns c =
     let tidied = c .before .before in
     let wrote = tidied .before .before .before .before in
-    let tables = wrote .before .before .before .before .before in
-    let a = tables .before .before .before .before .before in
+    let tables = filled wrote in
+    let a = start tables in
     let is = tables .fill-both .ensures in
-    let same = wrote .write-raw .kept .1 .1 .1 .1 .1 .0 in (
-      sheet-written (a .pre) is refl same (wrote .write-raw .ensures) (tidied .tidy-in-place .ensures .0),
-      length-written (a .pre) is refl same (wrote .write-raw .ensures) (tidied .tidy-in-place .ensures .1),
+    let same = wrote .write-raw .kept .1 .1 .1 .1 .1 .0 in
+    let e = tidied .tidy-in-place .ensures in (
+      sheet-written (a .pre) is refl same (wrote .write-raw .ensures) (e .0),
+      (
+        layout-written (a .pre) is refl same (wrote .write-raw .ensures) (e .1 .0),
+        sizes-written (a .pre) is refl same (wrote .write-raw .ensures) (tidied .tidy-in-place .result) (e .1 .1),
+      ),
     )
 
 pub expand-into-spec : {M : Type 1} → statement M

@@ -10,11 +10,10 @@ use Rattle.formula.specs.Tidy.{tidied}
 use Rattle.formula.specs.Settle.{settled}
 use Rattle.sheet.specs.Sheet.{sheet}
 use Rattle.sheet.specs.Operations.{padded}
-use Rattle.rows.specs.Formats.{format-of}
-use Rattle.rows.specs.Formulas.{formula-in}
-use Rattle.rows.proofs.Widths.{at-least-two}
+use Rattle.rows.specs.Layouts.{format-in}
+use Rattle.rows.specs.Formulas.{formula-in, layout-for}
 use Rattle.raw.specs.Formulas.{settled-raw}
-use Rattle.stepping.proofs.RawSheets.{raw-room, prefix-without, put-formula, written-raw, written-sheet, written-length}
+use Rattle.stepping.proofs.RawSheets.{raw-room, prefix-without, put-formula, written-raw, written-sheet, written-layout}
 use Rattle.stepping.proofs.settling.settle_into.Statement.{statement}
 use Rattle.stepping.proofs.settling.settle_into.Tie as tie
 
@@ -39,11 +38,18 @@ fill-requires c κs =
     let found = c .before .before .entries-for .ensures in
     (omega (arith, entries (found .1), found .0), omega (arith, entries (found .1), found .1))
 
+-- the table is filled, and the raw sheet is written
+abbrev start : tie.After-fill → tie.Start
+start c = c .before .before .before .before .before .before
+
+abbrev filled : tie.After-write-settled → tie.After-fill
+filled c = c .before .before .before .before .before
+
 write-settled-requires : tie.Need-write-settled-requires
 write-settled-requires c κs =
-    let a = c .before .before .before .before .before .before .before .before .before .before in
+    let a = start (c .before .before .before .before) in
     let st = a .pre .from in
-    (st .readable, omega (arith, st .width-is, at-least-two (st .countable .manageable .few-bytes)), a .pre .named .inside, raw-room st (a .args .s .nodes) (a .pre .room))
+    (st .readable, a .pre .named .inside, raw-room st (a .args .s .nodes) (a .pre .room))
 
 sub-t18 : tie.Need-sub-t18
 sub-t18 c = search needs
@@ -52,7 +58,7 @@ tidy-in-place-requires : tie.Need-tidy-in-place-requires
 unfolding settled-raw formula-in
 tidy-in-place-requires c κs =
     let wrote = c .before .before .before .before .before in
-    let a = wrote .before .before .before .before .before .before .before .before .before .before .before in
+    let a = start (filled wrote) in
     let st = a .pre .from in
     written-raw st (a .pre .named) (settled-raw (a .args .p .row) _ (formula-in (a .args .s) (a .args .b .now))) (prefix-without st (a .pre .named))
     (st .few-nodes) (wrote .write-settled .kept .1 .1 .1 .1 .0) (a .pre .room) (wrote .write-settled .ensures)
@@ -64,21 +70,24 @@ returns : tie.Need-returns
 unfolding settled-raw formula-in tidied settled
 returns c =
     let tidied-it = c .before .before in
+    let e = tidied-it .tidy-in-place .ensures in
     let wrote = tidied-it .before .before .before .before .before .before in
-    let filled = wrote .before .before .before .before .before in
-    let a = filled .before .before .before .before .before .before in
-    let F = format-of (a .args .f) in
+    let same = wrote .write-settled .kept .1 .1 .1 .1 .0 in
+    let table = filled wrote in
+    let a = start table in
+    let s = a .args .s in
     let st = a .pre .from in
-    let f = formula-in (a .args .s) (a .args .b .now) in
-    let g = settled-raw (a .args .p .row) (filled .fill .last .0) f in
-    let found = filled .before .before .before .entries-for .ensures in
-    let is = put-formula st (a .pre .named) (a .args .p .value) (omega (arith, entries (found .1), found .0)) (filled .fill .ensures) in (
-      written-sheet st (a .pre .named) g (prefix-without st (a .pre .named)) (st .few-nodes) (wrote .write-settled .kept .1 .1 .1 .1 .0) (a .pre .room)
-          (wrote .write-settled .ensures) (tidied-it .tidy-in-place .ensures .0) ∙
-          ap (λ (h : Formula). padded (length (a .args .out .now)) (sheet F (tidied h))) is,
-      written-length st (a .pre .named) g (prefix-without st (a .pre .named)) (st .few-nodes) (wrote .write-settled .kept .1 .1 .1 .1 .0) (a .pre .room)
-          (wrote .write-settled .ensures) (tidied-it .tidy-in-place .ensures .1) ∙
-          ap (λ (h : Formula). length (sheet F (tidied h))) is,
+    let nm = a .pre .named in
+    let g = settled-raw (a .args .p .row) (table .fill .last .0) (formula-in s (a .args .b .now)) in
+    let found = table .before .before .before .entries-for .ensures in
+    let is = put-formula st nm (a .args .p .value) (omega (arith, entries (found .1), found .0)) (table .fill .ensures) in (
+      written-sheet st nm g (prefix-without st nm) (st .few-nodes) same (a .pre .room) (wrote .write-settled .ensures) (e .0) ∙
+          ap (λ (h : Formula). padded (length (a .args .out .now)) (sheet (format-in s) (tidied h))) is,
+      (
+        written-layout st nm g (prefix-without st nm) (st .few-nodes) same (a .pre .room) (wrote .write-settled .ensures) (e .1 .0) ∙
+            ap (λ (h : Formula). layout-for (s .format) (tidied h)) is,
+        e .1 .1,
+      ),
     )
 
 pub settle-into-spec : {M : Type 1} → statement M

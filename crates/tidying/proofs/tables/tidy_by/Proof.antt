@@ -1,7 +1,10 @@
 -- `tidying::tables::tidy_by` meets its contract. Assumes nothing.
-use mathlib.Core.Path.{_∙_}
+use mathlib.Core.Path.{_≡_, _∙_}
+use Prim.Native.Nat.{_≤_}
 use native.Mathlib.Omega.{arith}
+use lib.ListN.{length}
 use Rattle.blocks.proofs.Blocks.{room-as}
+use Rattle.tidying.proofs.InPlace.{rows-fit}
 use Rattle.tidying.proofs.TidyInPlace.{raw-preorder, prefix-left, leaves}
 use borrow.Author.Needs.{needs}
 use Rattle.tidying.proofs.tables.tidy_by.Statement.{statement}
@@ -17,8 +20,8 @@ start-of c = c .before .before .before .before .before .before .before .before .
 tidy-each-requires : tie.Need-tidy-each-requires
 tidy-each-requires c κs =
     let a = c .before .before .before .before .before .before .before .before .before in (
-      record { room = a .pre .0 .room; counted = a .pre .0 .counted; known-fit = a .pre .3 },
-      record { all-heads = search needs; links-fit = a .pre .1; members-fit = a .pre .2; countable = a .pre .0 .few },
+      record { room = a .pre .0 .room; counted = rows-fit (a .args .s .format) (a .pre .0 .few-rows); known-fit = a .pre .3 },
+      record { all-heads = search needs; links-fit = a .pre .1; members-fit = a .pre .2; countable = omega (arith, a .pre .0 .few-rows) },
       raw-preorder (a .args .b .now) (a .pre .0),
     )
 
@@ -30,23 +33,29 @@ pack-requires c κs =
     let t = tidied .tidy-each .ensures in (
       record {
         room = room-as (k .0) (a .pre .0 .room);
-        counted = a .pre .0 .counted;
+        counted = rows-fit (a .args .s .format) (a .pre .0 .few-rows);
         known-fit = omega (arith, k .1 .1 .1 .1 .1 .0, a .pre .3);
       },
       record { before = _; blocks = t .blocks; after = _; laid = t .laid; told = t .told },
     )
 
+-- the length is as before, and the quantifiers stand before the other rows
+same : (c : tie.After-pack) → length (c .pack .last .0) ≡ length (start-of (tidied-of c) .args .b .now)
+same c = c .pack .kept .0 ∙ tidied-of c .tidy-each .kept .0
+
+quantifiers : (c : tie.After-pack) → start-of (tidied-of c) .args .s .variables ≤ c .pack .result
+quantifiers c =
+    let tidied = tidied-of c in
+    let a = start-of tidied in
+    prefix-left (a .args .b .now) (a .pre .0) (c .pack .last .0) (tidied .tidy-each .ensures) (c .pack .ensures .1) (c .pack .ensures .0) (same c)
+
 seal-requires : tie.Need-seal-requires
 seal-requires c κs =
     let packed = c .before .before .before in
-    let tidied = tidied-of packed in
-    let a = start-of tidied in
-    let same = packed .pack .kept .0 ∙ tidied .tidy-each .kept .0 in
-    let p = packed .pack .ensures in (
-      room-as same (a .pre .0 .room),
-      p .0,
-      prefix-left (a .args .b .now) (a .pre .0) (packed .pack .last .0) (tidied .tidy-each .ensures) (p .1) (p .0) same,
-    )
+    (room-as (same packed) (start-of (tidied-of packed) .pre .0 .room), packed .pack .ensures .0, quantifiers packed)
+
+sub-t24 : tie.Need-sub-t24
+sub-t24 c = quantifiers (c .before .before .before .before .before .before .before)
 
 same-length : tie.Need-same-length
 same-length c = search needs
@@ -62,13 +71,12 @@ same-length-4 c = search needs
 
 returns : tie.Need-returns
 returns c =
-    let sealed = c .before .before in
+    let sealed = c .before .before .before in
     let packed = sealed .before .before .before .before in
     let tidied = tidied-of packed in
     let a = start-of tidied in
-    let same = packed .pack .kept .0 ∙ tidied .tidy-each .kept .0 in
     let p = packed .pack .ensures in
-    leaves (a .args .b .now) (a .pre .0) (packed .pack .last .0) (tidied .tidy-each .ensures) (p .1) (p .0) same (sealed .seal .ensures .0) (sealed .seal .ensures .1)
+    leaves (a .args .b .now) (a .pre .0) (packed .pack .last .0) (tidied .tidy-each .ensures) (p .1) (p .0) (same packed) (sealed .seal .ensures .0)
 
 pub tidy-by-spec : {M : Type 1} → statement M
 tidy-by-spec =
@@ -77,6 +85,7 @@ tidy-by-spec =
     tidy-each-requires
     pack-requires
     seal-requires
+    sub-t24
     same-length
     same-length-2
     same-length-3

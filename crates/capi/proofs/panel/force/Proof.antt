@@ -1,0 +1,28 @@
+-- `capi::panel::force` packs what `force` answers.
+-- Assumes nothing.
+use mathlib.Core.Path.{ap}
+use Rattle.capi.specs.Returned.{packed-forcing}
+use borrow.Author.Needs.{needs}
+use Rattle.capi.proofs.panel.force.Statement.{statement}
+use Rattle.capi.proofs.panel.force.Tie as tie
+
+force-requires : tie.Need-force-requires
+force-requires c κs = search needs
+
+pack-forced-requires : tie.Need-pack-forced-requires
+pack-forced-requires c κs = search needs
+
+same-length : tie.Need-same-length
+same-length c = search needs
+
+same-length-2 : tie.Need-same-length-2
+same-length-2 c = search needs
+
+abbrev called : tie.After-pack-forced → tie.After-force
+called c = c .before .before .before .before .before
+
+returns : tie.Need-returns
+returns c = rw (c .pack-forced .ensures) (ap packed-forcing (called c .force .ensures))
+
+pub force-spec : {M : Type 1} → statement M
+force-spec = tie.close (tie.spec force-requires pack-forced-requires same-length same-length-2 returns)

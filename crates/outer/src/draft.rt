@@ -1,0 +1,44 @@
+// What is expanded: the literals that the second copy's table changes, with the part of the matrix that they choose.
+use crate::chain::link_chosen;
+use dependence::Target;
+use relevance::part::relevant_part;
+use relevance::variable::Presence;
+use relevance::variable::raw_rows_of;
+use rows::AND;
+use stepping::survey::Draft;
+ghost use mathlib.Core.Path.{_≡_};
+ghost use Prim.Native.Nat.{_≤_};
+ghost use lib.ListN.{length};
+ghost use Rattle.rows.specs.Tables.{NUMBERS};
+ghost use Rattle.subtrees.specs.Ends.{Indexed};
+ghost use Rattle.outer.specs.Inner.Draft.{DraftsChosen};
+
+// The draft of an expansion of the literals that a table changes, for a raw sheet with so many variables; the literals are linked in
+// `next`. The copies of a universal variable are joined by AND.
+pub fn draft_chosen(
+    b: &[u8],
+    t: Target,
+    ends: &[u16],
+    table: &[u16],
+    variables: usize,
+    next: &mut [u16],
+) -> Draft
+    requires { ⌜ Indexed (t .layout) (now b) (now ends) × (length (now table) ≡ NUMBERS) × (t .layout .nodes ≤ length (now next)) ⌝ }
+    ensures { λ d. ⌜ DraftsChosen (now (table .entry)) (now (b .entry)) t variables (now (ends .entry)) (now (next .exit)) d ⌝ }
+{
+    let s = t.layout;
+    let r = link_chosen(b, s, table, next);
+    let part = if r.first < s.nodes {
+        Presence::Present(relevant_part(b, s, ends, next, r))
+    } else {
+        Presence::Absent
+    };
+    Draft {
+        part: part,
+        first: r.first,
+        raw: raw_rows_of(s.nodes, part),
+        row: t.row,
+        variables: variables,
+        joint: AND,
+    }
+}
