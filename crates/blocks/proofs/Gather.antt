@@ -4,34 +4,38 @@ use mathlib.Core.Path.{_≡_, refl, sym, ap, ap₂, _∙_, subst}
 use mathlib.Core.Bool.{true, false, _||_, or-false, true≢false}
 use mathlib.Core.List.{List, [], _∷_, _++_, append-nil}
 use mathlib.Core.Logic.{⊎-elim}
-use Prim.Native.Nat.{ℕ, zero, suc, _+_, _-_, _/_, _≤_, _<_}
+use Prim.Native.Nat.{ℕ, zero, suc, _+_, _-_, _≤_, _<_}
 use native.Mathlib.Omega.{arith}
-use lib.Dec.{eqb}
 use lib.ListN.{length, getD, set, take, drop}
-use borrow.Author.Tests.{eq-eqb, ne-eqb}
 use Rattle.formula.specs.Tree.{Op, and, or, dual, same-op, Tree, lit, node, Forest, ∅, _▸_, _⧺_, some-child, some-two, count}
 use Rattle.formula.specs.Tidy.{is-op, is-empty, opposite, same-tree, spliced, splice, decides, firsts}
 use Rattle.formula.proofs.Booleans.{or-parts}
 use Rattle.formula.proofs.Tidy.Children.{some-two-firsts, ⧺-none, ⧺-assoc, count-⧺, splice-⧺, splice-none}
 use Rattle.sheet.specs.Format.{Bytes, Row, row}
 use Rattle.sheet.specs.Sheet.{operator-kind, front, behind}
-use Rattle.rows.specs.Layouts.{rows-in, Room}
+use Rattle.rows.specs.Layouts.{total, rows-in, Room}
 use Rattle.rows.specs.declared.Layout.{Layout}
 use Rattle.buckets.specs.Chains.{Linked}
 use Rattle.buckets.specs.Chains as chains
+use Rattle.buckets.specs.Halves.{children-of}
+use Rattle.buckets.proofs.Halves.{children-made}
 use Rattle.buckets.proofs.Prints.{print-few}
+use Rattle.blocks.specs.declared.rules.Children.{Children}
+use Rattle.blocks.specs.declared.rules.Judgement.{Judgement}
+use Rattle.blocks.specs.declared.rules.Judgement.the-variants.{Decides, Members}
+use Rattle.blocks.specs.declared.rules.Outcome.the-variants.{Decided, Left}
 use Rattle.blocks.specs.Blocks.{Block, gone, literal, operator, Blocks, none, _◂_, _⊕_, head, inner, block-rows, size, grown, live, Laid, Here, Owed}
 use Rattle.blocks.specs.Walks.{extent, at-row, Hops, JoinsAt}
 use Rattle.blocks.specs.Known.{Says, Told, AllTold}
-use Rattle.blocks.specs.Rules.{decisive, new, Unopposed, note, notes, mixes, Behind, Kept, Judged, Judges}
-use Rattle.blocks.specs.Gather.{Flat, SplicesAt, ChildrenAt, Gathered, Gathers}
+use Rattle.blocks.specs.Rules.{decisive, new, Unopposed, note, notes, mixes, Behind, Kept, is-decided, Judged, Judges}
+use Rattle.blocks.specs.Gather.{Flat, SplicesAt, ChildrenAt, Gathered, Gathers, LeavesIn}
 use Rattle.blocks.proofs.Blocks.{⊕-assoc, stands, stands-row, live-⊕, live-◂, length-⊕, extent-head, start, done-laid, rest-laid, onward, next, store, past-here}
 use Rattle.blocks.proofs.Walks.{Turn, turn-at, dead-holds, count-rows}
 use Rattle.blocks.proofs.Hop.{live-one, not-end}
 use Rattle.blocks.proofs.Told.{told-at, told-join, told-one, told-gone, told-says}
 use Rattle.blocks.proofs.Mixes.{mixes-behind}
 use Rattle.blocks.proofs.Grouped.{decides-⧺, decides-before, firsts-⧺, decisive-firsts, new-firsts, single, firsts-single}
-use Rattle.blocks.proofs.Judge.{first-of}
+use Rattle.blocks.proofs.Judge.{first-of, no-members, as-many}
 use Rattle.blocks.proofs.Join.{advanced}
 
 -- tables that are as long
@@ -240,9 +244,9 @@ own and (operator or ks) e = absurd (omega arith)
 own or (operator and ks) e = absurd (omega arith)
 own or (operator or ks) e = record { kids = ks; is = refl }
 
-said-count : (w : ℕ) (o : Op) (ks : Blocks) → Says w (operator o ks) → w / 65536 ≡ count (live ks)
+said-count : (w : ℕ) (o : Op) (ks : Blocks) → Says w (operator o ks) → children-of w ≡ count (live ks)
 unfolding Says
-said-count w o ks e = omega (arith, e, print-few (node o (live ks)))
+said-count w o ks e = ap children-of e ∙ children-made (count (live ks)) _ (print-few (node o (live ks)))
 
 module _ {R : List Row} {K M : List ℕ} {from run at to n left : ℕ} {before after : List Row} {o : Op} {ts us trees : Forest} {early dead : Blocks}
     (done : Done K M from run n o trees early dead) where
@@ -288,7 +292,7 @@ module _ {R : List Row} {K M : List ℕ} {from run at to n left : ℕ} {before a
 
   face-own : (ks others : Blocks) → Here R from at to before (early ⊕ dead) (operator o ks ◂ others) after → AllTold K at (operator o ks ◂ others)
       → Owing o ts us trees left (live (operator o ks ◂ others)) → 0 < left
-      → Facing (set R at (row 0 1)) K M from run at to n (left - 1 + getD K at 0 / 65536) before after o ts us
+      → Facing (set R at (row 0 1)) K M from run at to n (left - 1 + children-of (getD K at 0)) before after o ts us
   unfolding AllTold Told _⊕_ head inner block-rows live grown _⧺_
   face-own ks others h t w l =
       record {
@@ -333,7 +337,7 @@ face {R} {R₁} {K} {M} {from} {run} {at} {to} {n} {kind} {left} {left₁} {befo
         (λ d. moved (d .2) (d .3) (face-other (g .done) x others h t w l (λ e. d .0 (is ∙ e)) (λ e. d .1 (is ∙ e ∙ sym k))))
         (λ d. moved (d .1) (d .2) (open-own (own o x (sym is ∙ d .0 ∙ k)))) q) s
       where
-        open-own : Own o x → Facing (set R at (row 0 1)) K M from run at to n (left - 1 + getD K at 0 / 65536) before after o ts us
+        open-own : Own o x → Facing (set R at (row 0 1)) K M from run at to n (left - 1 + children-of (getD K at 0)) before after o ts us
         open-own y =
             face-own (g .done) (y .kids) others (subst (λ z. Here R from at to before (g .early ⊕ g .dead) (z ◂ others) after) (y .is) h)
             (subst (λ z. AllTold K at (z ◂ others)) (y .is) t) (subst (λ z. Owing o ts us (g .trees) left (live (z ◂ others))) (y .is) w) l
@@ -410,16 +414,16 @@ changed-here {R} {R′} {from} {at} {to} {before} {after} {done} {others} {x} h 
     (store (k .block ◂ none) (head (k .block)) h (ap (λ rs. head (k .block) ∷ rs) (append-nil (inner (k .block)) ∙ k .same-rows)))
 
 -- One child, and what it adds.
-module _ {R R₁ : List Row} {K M M′ : List ℕ} {from run at to n left kind known more : ℕ} {before after : List Row} {o : Op} {ts us : Forest}
+module _ {R R₁ : List Row} {K M M′ : List ℕ} {from run at to n left kind known : ℕ} {answer : Judgement} {before after : List Row} {o : Op} {ts us : Forest}
     (g : Facing R K M from run at to n left before after o ts us) (k : kind ≡ operator-kind o) (known-is : known ≡ getD K at 0) (fit : n ≤ length M)
-    (j : Judges R R₁ at kind known n M M′ more) where
+    (j : Judges R R₁ at kind known n M M′ answer) where
   abbrev one : Forest
   one = live (g .block ◂ none)
 
   abbrev passed : Blocks
   passed = g .early ⊕ g .dead
 
-  judged : Judged R R₁ M′ from at passed (g .block) o more
+  judged : Judged R R₁ M′ from at passed (g .block) o answer
   judged =
       j o k from before passed _ (done-laid (g .here)) (record { fit = fit; are = g .done .noted }) (done-unopposed (g .done)) _ (g .block) _
       (stands (g .here)) (subst (λ m. Says m (g .block)) (sym known-is) (told-says K at (g .block) (g .tells)))
@@ -427,21 +431,21 @@ module _ {R R₁ : List Row} {K M M′ : List ℕ} {from run at to n left kind k
   abbrev kept : Block
   kept = judged .kept .block
 
-  one-decides : eqb more 0 ≡ decides o (g .trees ⧺ one)
+  one-decides : is-decided answer ≡ decides o (g .trees ⧺ one)
   one-decides =
       judged .decided-is ∙ ap (λ vs. some-child (decisive o vs) one) (g .done .stays) ∙ decisive-firsts o (g .trees) one ∙
       sym
       (decides-⧺ o (g .trees) one (single (g .block) .unopposed) ∙
       ap (λ q. q || some-child (decisive o (g .trees)) one) (g .done .undecided))
 
-  one-stays : (more ≡ 0 → ⊥) → live passed ⧺ live (kept ◂ none) ≡ firsts same-tree (g .trees ⧺ one)
-  one-stays z =
-      ap₂ _⧺_ (g .done .stays) (judged .holds z ∙ ap (λ vs. new vs one) (g .done .stays) ∙ new-firsts (g .trees) one) ∙
+  one-stays : {m : ℕ} → answer ≡ Members m → live passed ⧺ live (kept ◂ none) ≡ firsts same-tree (g .trees ⧺ one)
+  one-stays {m} z =
+      ap₂ _⧺_ (g .done .stays) (judged .holds m z ∙ ap (λ vs. new vs one) (g .done .stays) ∙ new-firsts (g .trees) one) ∙
       ap (λ vs. firsts same-tree (g .trees) ⧺ new (g .trees) vs) (sym (firsts-single (single (g .block)))) ∙ sym (firsts-⧺ (g .trees) one)
 
   -- the print of the members before it, with its own
-  printed : {h p : ℕ} → (more ≡ 0 → ⊥) → h ≡ mixes kind (take n M) → p ≡ mixes h (drop n (take (more - 1) M′)) → p ≡ mixes kind (take (more - 1) M′)
-  printed z e f = f ∙ mixes-behind kind M (note at kept) fit (judged .noted z ∙ ap (λ ms. ms ++ note at kept) (sym (g .done .noted))) e
+  printed : {h p m : ℕ} → answer ≡ Members m → h ≡ mixes kind (take n M) → p ≡ mixes h (drop n (take m M′)) → p ≡ mixes kind (take m M′)
+  printed {m = m} z e f = f ∙ mixes-behind kind M (note at kept) fit (judged .noted m z ∙ ap (λ ms. ms ++ note at kept) (sym (g .done .noted))) e
 
   kept-here : Here R₁ from at to before passed (kept ◂ g .others) after
   kept-here = changed-here (g .here) (judged .kept)
@@ -449,9 +453,9 @@ module _ {R R₁ : List Row} {K M M′ : List ℕ} {from run at to n left kind k
   kept-size : size kept ≡ size (g .block)
   kept-size = ap (λ rs. suc (length rs)) (judged .kept .same-rows)
 
-  gathered-more : {R₂ : List Row} {s run′ : ℕ} → (more ≡ 0 → ⊥) → s ≡ extent (at-row R at) → JoinsAt R₁ R₂ run at (at + s) run′
-      → Gathering R₂ K M′ from run′ (at + s) to (more - 1) left before after o ts us
-  gathered-more {R₂} {s} {run′} z e f =
+  gathered-more : {R₂ : List Row} {s run′ m : ℕ} → answer ≡ Members m → s ≡ extent (at-row R at) → JoinsAt R₁ R₂ run at (at + s) run′
+      → Gathering R₂ K M′ from run′ (at + s) to m left before after o ts us
+  gathered-more {R₂} {s} {run′} {m} z e f =
       let wide : s ≡ size (g .block) = e ∙ ap extent (stands-row (stands (g .here))) ∙ extent-head (g .block) in
       let a = advanced (g .early) (g .dead) kept (g .others) kept-here (g .done .place) (g .done .hidden) (wide ∙ sym kept-size) f in
       record {
@@ -464,9 +468,9 @@ module _ {R R₁ : List Row} {K M M′ : List ℕ} {from run at to n left kind k
             record {
               place = a .place;
               hidden = a .hidden;
-              undecided = sym one-decides ∙ ne-eqb more 0 z;
+              undecided = sym one-decides ∙ ap is-decided z;
               stays = a .reads ∙ one-stays z;
-              noted = judged .noted z ∙ sym (a .noted);
+              noted = judged .noted m z ∙ sym (a .noted);
               told = a .tells K (g .done .told) (judged .kept .tells K (g .tells));
             };
         owing = g .owing;
@@ -487,8 +491,8 @@ module _ {R R₁ : List Row} {K M M′ : List ℕ} {from run at to n left kind k
       told-join K from passed (kept ◂ none) (g .done .told)
       (told-at K (kept ◂ none) (sym (g .here .place)) (told-one K at kept (judged .kept .tells K (g .tells))))
 
-  gathered-found : {s end : ℕ} → more ≡ 0 → s ≡ extent (at-row R at) → Hops R₁ (at + s) to left end
-      → Gathered R₁ K M′ from end to before after o ts us 0
+  gathered-found : {s end : ℕ} → answer ≡ Decides → s ≡ extent (at-row R at) → Hops R₁ (at + s) to left end
+      → Gathered R₁ K M′ from end to before after o ts us Decides
   gathered-found {s} {end} z e f =
       let h = decided-here e in
       let p = f _ (g .others) after (rest-laid h) (g .owing .enough) in
@@ -503,26 +507,26 @@ module _ {R R₁ : List Row} {K M M′ : List ℕ} {from run at to n left kind k
             (subst (AllTold K (from + length (block-rows decided))) (p .parts)
             (told-at K (g .others) (ap (λ m. at + m) (sym kept-size) ∙ sym (onward kept-here .place)) (g .told))));
         decided-is =
-            sym (ap (decides o) (g .owing .ahead) ∙ decides-before o (g .trees ⧺ one) _ (sym one-decides ∙ eq-eqb more 0 z));
-        reads = λ n. absurd (n refl);
-        noted = λ n. absurd (n refl);
+            sym (ap (decides o) (g .owing .ahead) ∙ decides-before o (g .trees ⧺ one) _ (sym one-decides ∙ ap is-decided z));
+        reads = λ n e. no-members e;
+        noted = λ n e. no-members e;
       }
 
-pub gather-more : {R₀ R R₁ R₂ : List Row} {K M M′ : List ℕ} {from run run′ at to n owed left kind known more s : ℕ}
-    → Face R₀ R K M from run at to n owed left kind → known ≡ getD K at 0 → n ≤ length M → Judges R R₁ at kind known n M M′ more
-    → (more ≡ 0 → ⊥) → s ≡ extent (at-row R at) → JoinsAt R₁ R₂ run at (at + s) run′
-    → Gather R₀ R₂ K M′ from run′ (at + s) to (more - 1) owed left kind
+pub gather-more : {R₀ R R₁ R₂ : List Row} {K M M′ : List ℕ} {from run run′ at to n owed left kind known m s : ℕ} {answer : Judgement}
+    → Face R₀ R K M from run at to n owed left kind → known ≡ getD K at 0 → n ≤ length M → Judges R R₁ at kind known n M M′ answer
+    → answer ≡ Members m → s ≡ extent (at-row R at) → JoinsAt R₁ R₂ run at (at + s) run′
+    → Gather R₀ R₂ K M′ from run′ (at + s) to m owed left kind
 gather-more w i fit j z e f before bs after laid t l o k d = gathered-more (w before bs after laid t l o k d) k i fit j z e f
 
-pub gather-printed : {R₀ R R₁ : List Row} {K M M′ : List ℕ} {from run at to n owed left kind known more h p : ℕ}
+pub gather-printed : {R₀ R R₁ : List Row} {K M M′ : List ℕ} {from run at to n owed left kind known m h p : ℕ} {answer : Judgement}
     → Face R₀ R K M from run at to n owed left kind → ChildrenAt R₀ K from to owed kind → known ≡ getD K at 0 → n ≤ length M
-    → Judges R R₁ at kind known n M M′ more → (more ≡ 0 → ⊥) → h ≡ mixes kind (take n M) → p ≡ mixes h (drop n (take (more - 1) M′))
-    → p ≡ mixes kind (take (more - 1) M′)
+    → Judges R R₁ at kind known n M M′ answer → answer ≡ Members m → h ≡ mixes kind (take n M) → p ≡ mixes h (drop n (take m M′))
+    → p ≡ mixes kind (take m M′)
 gather-printed w c i fit j z e f = printed (facing w c) (c .is) i fit j z e f
 
-pub gather-owed : {R₀ R R₁ : List Row} {K M M′ : List ℕ} {from run at to n owed left kind known more s : ℕ}
+pub gather-owed : {R₀ R R₁ : List Row} {K M M′ : List ℕ} {from run at to n owed left kind known s : ℕ} {answer : Judgement}
     → Face R₀ R K M from run at to n owed left kind → ChildrenAt R₀ K from to owed kind → known ≡ getD K at 0 → n ≤ length M
-    → Judges R R₁ at kind known n M M′ more → s ≡ extent (at-row R at) → Owed R₁ (at + s) to left
+    → Judges R R₁ at kind known n M M′ answer → s ≡ extent (at-row R at) → Owed R₁ (at + s) to left
 gather-owed w c i fit j e =
     let g = facing w c in
     record {
@@ -530,19 +534,18 @@ gather-owed w c i fit j e =
       enough = g .owing .enough;
     }
 
-pub gather-found : {R₀ R R₁ : List Row} {K M M′ : List ℕ} {from run at to n owed left kind known more s end : ℕ}
-    → Face R₀ R K M from run at to n owed left kind → known ≡ getD K at 0 → n ≤ length M → Judges R R₁ at kind known n M M′ more
-    → more ≡ 0 → s ≡ extent (at-row R at) → Hops R₁ (at + s) to left end
-    → Gathers R₀ R₁ K M′ from end to owed kind 0
+pub gather-found : {R₀ R R₁ : List Row} {K M M′ : List ℕ} {from run at to n owed left kind known s end : ℕ} {answer : Judgement}
+    → Face R₀ R K M from run at to n owed left kind → known ≡ getD K at 0 → n ≤ length M → Judges R R₁ at kind known n M M′ answer
+    → answer ≡ Decides → s ≡ extent (at-row R at) → Hops R₁ (at + s) to left end
+    → Gathers R₀ R₁ K M′ from end to owed kind Decides
 gather-found w i fit j z e f before bs after laid t l o k d = gathered-found (w before bs after laid t l o k d) k i fit j z e f
 
 pub gather-end : {R₀ R : List Row} {K M : List ℕ} {from run at to n owed left kind : ℕ} → Gather R₀ R K M from run at to n owed left kind → left ≤ 0
-    → Gathers R₀ R K M from at to owed kind (n + 1)
+    → Gathers R₀ R K M from at to owed kind (Members n)
 unfolding front behind splice
 gather-end {K = K} {M = M} {from} {at = at} {n = n} {owed = owed} {left = left} w l before bs after laid t e o k f =
     let g = w before bs after laid t e o k f in
     let zeroth : left ≡ 0 = omega arith in
-    let same : n + 1 - 1 ≡ n = omega arith in
     let all : splice o (front owed (live bs)) ≡ g .trees = g .owing .ahead ∙ ap (λ m. g .trees ⧺ splice o (front m (live (g .rest)))) zeroth ∙ ⧺-none (g .trees) in
     record {
       first = g .early ⊕ g .dead;
@@ -550,7 +553,29 @@ gather-end {K = K} {M = M} {from} {at = at} {n = n} {owed = owed} {left = left} 
       here = g .here;
       others-are = sym (g .owing .past ∙ ap (λ m. behind m (live (g .rest))) zeroth);
       told = told-join K from (g .early ⊕ g .dead) (g .rest) (g .done .told) (told-at K (g .rest) (sym (g .here .place)) (g .told));
-      decided-is = ne-eqb (n + 1) 0 (λ z. omega arith) ∙ sym (ap (decides o) all ∙ g .done .undecided);
-      reads = λ _. g .done .stays ∙ ap (firsts same-tree) (sym all);
-      noted = λ _. ap (λ m. take m M) same ∙ g .done .noted;
+      decided-is = sym (ap (decides o) all ∙ g .done .undecided);
+      reads = λ _ _. g .done .stays ∙ ap (firsts same-tree) (sym all);
+      noted = λ _ z. ap (λ m. take m M) (as-many z) ∙ g .done .noted;
     }
+
+-- what is left
+
+pub leaves-decided : {w : Children} {M : List ℕ} {end : ℕ} → LeavesIn w M (Decided end)
+leaves-decided = record { few = λ _ _ _ z. none-left z; printed = λ _ _ _ z. none-left z }
+  where
+    none-left : {A : Type 0} {end end′ n print : ℕ} → Decided end ≡ Left end′ n print → A
+    none-left e = let z : _≡_ {A = ℕ} 0 1 = cc in absurd (omega arith)
+
+pub leaves-members : {w : Children} {M : List ℕ} {end n print : ℕ} → n ≤ total (w .sheet) → print ≡ mixes (w .kind) (take n M) → print < 65536
+    → LeavesIn w M (Left end n print)
+leaves-members {w} {M} {end} {n} {print} few is small =
+    record {
+      few = λ _ m p z. omega (arith, few, count-is z);
+      printed = λ _ m p z. (sym (print-is z) ∙ is ∙ ap (λ q. mixes (w .kind) (take q M)) (count-is z), omega (arith, small, print-is z));
+    }
+  where
+    count-is : {e m p : ℕ} → Left end n print ≡ Left e m p → n ≡ m
+    count-is e = cc
+
+    print-is : {e m p : ℕ} → Left end n print ≡ Left e m p → print ≡ p
+    print-is e = cc

@@ -3,30 +3,35 @@
 use mathlib.Core.Path.{_≡_, refl, sym, ap, ap₂, _∙_, subst}
 use mathlib.Core.Bool.{Bool, true, false, not, _||_, or-false}
 use mathlib.Core.List.{List, [], _∷_, _++_, append-nil}
-use Prim.Native.Nat.{ℕ, suc, _+_, _*_, _-_, _%_, _≤_, _<_}
+use Prim.Native.Nat.{ℕ, suc, _+_, _-_, _≤_, _<_}
+use native.Mathlib.Numerals.{add-one}
 use native.Mathlib.Omega.{arith}
-use lib.Dec.{eqb, leb, ltb}
+use lib.Dec.{eqb, leb}
 use lib.ListN.{length, getD, set, take, length-append}
 use lib.Seq.{append-snoc, set-getD, take-suc-set}
-use borrow.Author.Tests.{ne-eqb, eqb-true, leb-true, lt-ltb, le-ltb}
+use borrow.Author.Tests.{ne-eqb, eqb-true, leb-true}
 use Rattle.formula.specs.Tree.{Op, and, or, dual, same-op, Tree, lit, node, Forest, ∅, _▸_, some-child, keep, count}
 use Rattle.formula.specs.Tidy.{is-empty, opposite, same-tree, childless}
 use Rattle.formula.proofs.Booleans.{and-parts}
 use Rattle.formula.proofs.Tidy.Children.{keep-all, some-child-same}
 use Rattle.sheet.specs.Format.{Row, row}
 use Rattle.sheet.specs.Sheet.{literal-kind, operator-kind}
-use Rattle.buckets.specs.Chains.{bucket, Passed}
+use Rattle.buckets.specs.Chains.{bucket, Linked, Passed}
+use Rattle.buckets.specs.Halves.{member-of, row-of, known-of, children-of, print-of}
+use Rattle.buckets.specs.declared.Link.the-variants.{End}
 use Rattle.buckets.specs.Prints.{literal-mix, sign, print}
+use Rattle.buckets.proofs.Halves.{row-made, children-made, print-made, print-small}
 use Rattle.buckets.proofs.Prints.{print-few}
+use Rattle.blocks.specs.declared.rules.Judgement.the-variants.{Decides, Members}
 use Rattle.blocks.specs.Blocks.{Block, gone, literal, operator, Blocks, none, _◂_, head, inner, block-rows, size, grown, live, Laid, Stands, Region}
 use Rattle.blocks.specs.Known.{Says}
-use Rattle.blocks.specs.Rules.{decisive, repeated, new, Unopposed, place, note, notes, literal-test, Test, Member, Twin, Noted, LiteralRow, Kept, Judged}
+use Rattle.blocks.specs.Rules.{decisive, repeated, new, Unopposed, note, notes, literal-test, Test, Member, Twin, Noted, LiteralRow, Kept, Judged, LinkedNow}
 use Rattle.blocks.specs.Walks.{at-row}
 use Rattle.blocks.specs.Entered.{LiveAt, Same}
 use Rattle.blocks.proofs.Blocks.{stands, stands-row, start}
 use Rattle.blocks.proofs.Walks.{like, dead-holds}
 use Rattle.blocks.proofs.Told.{told-gone}
-use Rattle.blocks.proofs.Notes.{noted-count, noted-at, notes-places, unseen, seen, unseen-twin, seen-twin, member-lives, place-of, print-of, bucket-of}
+use Rattle.blocks.proofs.Notes.{noted-count, noted-at, notes-places, unseen, seen, unseen-twin, seen-twin, member-lives, bucket-made}
 use Rattle.blocks.proofs.Grouped.{Unknown, unknown, repeated-indecisive}
 
 -- rules 2 and 3 at one block
@@ -104,14 +109,17 @@ pub inner-region : {R : List Row} {at a : ℕ} {before after : List Row} (x : Bl
 inner-region {R} {at} x l e h = subst (λ m. Region R (at + 1) (at + m)) (sym e) (inner-region-head x l h)
 
 -- an operator has no children where the table says so
-childless-told : (w : ℕ) (o : Op) (ts : Forest) → w ≡ count ts * 65536 + print (node o ts) → ltb w 65536 ≡ childless ts
+childless-told : (w : ℕ) (o : Op) (ts : Forest) → w ≡ known-of (count ts) (print (node o ts)) → eqb (children-of w) 0 ≡ childless ts
 unfolding count childless
-childless-told w o ∅ e = lt-ltb w 65536 (omega (arith, e, print-few (node o ∅)))
-childless-told w o (t ▸ ts) e = le-ltb w 65536 (omega (arith, e))
+childless-told w o ts e = ap (λ n. eqb n 0) (ap children-of e ∙ children-made (count ts) (print (node o ts)) (print-few (node o ts))) ∙ counted ts
+  where
+    counted : (ts : Forest) → eqb (count ts) 0 ≡ childless ts
+    counted ∅ = refl
+    counted (t ▸ ts) = ne-eqb (suc (count ts)) 0 (λ z. omega arith)
 
 -- one of the other kind does if it has none
 pub decisive-other : (o : Op) (us : Forest) (x : Block) (w : ℕ) → 4 < (head x) .kind → ((head x) .kind ≡ operator-kind o → ⊥) → Says w x
-    → ltb w 65536 ≡ some-child (decisive o us) (live (x ◂ none))
+    → eqb (children-of w) 0 ≡ some-child (decisive o us) (live (x ◂ none))
 unfolding head Says
 decisive-other o us (gone rs) w l d e = absurd (omega arith)
 decisive-other o us (literal true v) w l d e = absurd (omega arith)
@@ -133,33 +141,41 @@ kept-same {R} {at} x h =
       tells = λ K t. t;
     }
 
+pub no-members : {A : Type 0} {n : ℕ} → Decides ≡ Members n → A
+no-members e = let z : _≡_ {A = ℕ} 0 1 = cc in absurd (omega arith)
+
 -- it decides the node
 pub judged-decided : {R : List Row} {M′ : List ℕ} {from at : ℕ} {before after : List Row} {done : Blocks} {x : Block} {o : Op}
-    → Stands R at before x after → some-child (decisive o (live done)) (live (x ◂ none)) ≡ true → Judged R R M′ from at done x o 0
+    → Stands R at before x after → some-child (decisive o (live done)) (live (x ◂ none)) ≡ true → Judged R R M′ from at done x o Decides
 judged-decided {x = x} h e =
-    record { decided-is = sym e; kept = kept-same x h; holds = λ z. absurd (z refl); noted = λ z. absurd (z refl) }
+    record { decided-is = sym e; kept = kept-same x h; holds = λ n z. no-members z; noted = λ n z. no-members z }
 
-not-zero : (n m : ℕ) → n ≡ m + 1 → eqb n 0 ≡ false
-not-zero n m e = ne-eqb n 0 (λ z. omega arith)
+pub as-many : {n m : ℕ} → Members n ≡ Members m → m ≡ n
+as-many e = cc
 
-taken : (M N : List ℕ) (n left : ℕ) → take n M ≡ N → left ≡ n + 1 → take (left - 1) M ≡ N ++ []
-taken M N n left e l = ap (λ m. take m M) back ∙ e ∙ sym (append-nil N)
-  where
-    back : left - 1 ≡ n
-    back = omega arith
+-- the members' links
+pub linked-decided : {H L M : List ℕ} {before : ℕ} → LinkedNow H L M before Decides
+linked-decided = record { linked = λ n z. no-members z; few = λ n z. no-members z }
+
+pub linked-members : {H L M : List ℕ} {n before : ℕ} → Linked H L M n → n ≤ before + 1 → LinkedNow H L M before (Members n)
+linked-members {H} {L} {M} lk l =
+    record { linked = λ m z. subst (Linked H L M) (sym (as-many z)) lk; few = λ m z. omega (arith, as-many z) }
+
+no-more : (M N : List ℕ) {n m : ℕ} → m ≡ n → take n M ≡ N → take m M ≡ N ++ []
+no-more M N e f = ap (λ m. take m M) e ∙ f ∙ sym (append-nil N)
 
 -- it stays, and is no member
-pub judged-passed : {R : List Row} {M : List ℕ} {from at n left : ℕ} {before after : List Row} {done : Blocks} {x : Block} {o : Op}
+pub judged-passed : {R : List Row} {M : List ℕ} {from at n : ℕ} {before after : List Row} {done : Blocks} {x : Block} {o : Op}
     → Stands R at before x after → some-child (decisive o (live done)) (live (x ◂ none)) ≡ false
-    → some-child (repeated (live done)) (live (x ◂ none)) ≡ false → note at x ≡ [] → Noted M n from done → left ≡ n + 1
-    → Judged R R M from at done x o left
+    → some-child (repeated (live done)) (live (x ◂ none)) ≡ false → note at x ≡ [] → Noted M n from done
+    → Judged R R M from at done x o (Members n)
 unfolding kept-same
-judged-passed {M = M} {from = from} {n = n} {left = left} {done = done} {x = x} h d r e noted l =
+judged-passed {M = M} {from = from} {n = n} {done = done} {x = x} h d r e noted =
     record {
-      decided-is = not-zero left n l ∙ sym d;
+      decided-is = sym d;
       kept = kept-same x h;
-      holds = λ _. sym (keep-all (repeated (live done)) (live (x ◂ none)) r);
-      noted = λ _. taken M (notes from done) n left (noted .are) l ∙ ap (λ ns. notes from done ++ ns) (sym e);
+      holds = λ _ _. sym (keep-all (repeated (live done)) (live (x ◂ none)) r);
+      noted = λ m z. no-more M (notes from done) (as-many z) (noted .are) ∙ ap (λ ns. notes from done ++ ns) (sym e);
     }
 
 -- a block that is not dead
@@ -203,15 +219,18 @@ decisive-found o us s v e = some-child-same (opposite-like s v) us ∙ e
 
 -- members stand before the block
 pub members-within : {R : List Row} {M : List ℕ} {n from at : ℕ} {before after : List Row} {done : Blocks} → Laid R from at before done after
-    → Noted M n from done → (j : ℕ) → j < n → place (getD M j 0) < at
+    → Noted M n from done → (j : ℕ) → j < n → row-of (getD M j 0) < at
 members-within {from = from} {done = done} laid noted j l =
-    omega (arith, ap place (noted-at noted j l), notes-places from done j (omega (arith, noted-count noted)), laid .ends)
+    omega (arith, ap row-of (noted-at noted j l), notes-places from done j (omega (arith, noted-count noted)), laid .ends)
 
 -- and each is a live block
 pub member-at : {R : List Row} {M : List ℕ} {n from at : ℕ} {before after : List Row} {done : Blocks} → Laid R from at before done after
-    → Noted M n from done → (j : ℕ) → j < n → LiveAt R (place (getD M j 0))
+    → Noted M n from done → (j : ℕ) → j < n → LiveAt R (row-of (getD M j 0))
 member-at {R} {done = done} laid noted j l =
-    subst (λ m. LiveAt R (place m)) (sym (noted-at noted j l)) (member-lives done (start laid) j (omega (arith, noted-count noted)))
+    subst (λ m. LiveAt R (row-of m)) (sym (noted-at noted j l)) (member-lives done (start laid) j (omega (arith, noted-count noted)))
+
+one-more : (M : List ℕ) {M′ : List ℕ} (m : ℕ) {n q : ℕ} → n < length M → q ≡ n + 1 → M′ ≡ set M n m → take q M′ ≡ take n M ++ (m ∷ [])
+one-more M m {n} few e f = ap₂ take (e ∙ add-one n) f ∙ take-suc-set M n m few
 
 -- A literal at a row, by the row's kind and argument.
 module _ {R : List Row} {at kind v : ℕ} (row-is : LiteralRow R at kind) (v-is : v ≡ (at-row R at) .argument)
@@ -262,23 +281,20 @@ module _ {R : List Row} {at kind v : ℕ} (row-is : LiteralRow R at kind) (v-is 
     print-is e = e ∙ ap₂ literal-mix sign-is variable-is
 
     -- none of its variable is before it
-    pub judged-new : {p left : ℕ} {M′ : List ℕ} (o : Op) → p ≡ literal-mix (4 - kind) v → Passed M n (bucket p) (Test R M v) 0
-        → M′ ≡ set M n (at * 65536 + p) → n < length M → left ≡ n + 2 → Judged R R M′ from at done x o left
+    pub judged-new : {p m : ℕ} {M′ : List ℕ} (o : Op) → p ≡ literal-mix (4 - kind) v → Passed M n (bucket p) (Test R M v) End
+        → m ≡ member-of at p → M′ ≡ set M n m → n < length M → Judged R R M′ from at done x o (Members (n + 1))
     unfolding note kept-same
-    judged-new {p} {left} {M′} o p-is passed M-is few l =
+    judged-new {p} {m} {M′} o p-is passed m-is M-is few =
         record {
-          decided-is = ne-eqb left 0 (λ z. omega arith) ∙ sym (tested (decisive o us) ∙ un .indecisive);
+          decided-is = sym (tested (decisive o us) ∙ un .indecisive);
           kept = kept-same x h;
-          holds = λ _. sym (keep-all (repeated us) (live (x ◂ none)) (tested (repeated us) ∙ un .unrepeated));
+          holds = λ _ _. sym (keep-all (repeated us) (live (x ◂ none)) (tested (repeated us) ∙ un .unrepeated));
           noted =
-              λ _.
-              ap₂ take less M-is ∙ take-suc-set M n (at * 65536 + p) few ∙ ap₂ (λ ns m. ns ++ (m ∷ [])) (noted .are) (ap (λ q. at * 65536 + q) (print-is p-is)) ∙
+              λ _ z.
+              one-more M m few (as-many z) M-is ∙ ap₂ (λ ns q. ns ++ (q ∷ [])) (noted .are) (m-is ∙ ap (member-of at) (print-is p-is)) ∙
               ap (λ y. notes from done ++ note at y) (sym (b .is));
         }
       where
-        less : left - 1 ≡ suc n
-        less = omega arith
-
         un : Unknown o us literal-tree
         un =
             unknown o us (b .sign-of) (b .variable)
@@ -287,49 +303,49 @@ module _ {R : List Row} {at kind v : ℕ} (row-is : LiteralRow R at kind) (v-is 
             let i = noted-at noted j (omega (arith, counted)) in
             passed .failed j (omega arith) (omega (arith, counted))
             (ap bucket i ∙ e ∙ sym (ap bucket (print-is p-is)))
-            (ap (λ m. literal-test (at-row R (place m)) v) i ∙ ap (literal-test (at-row R (place (getD (notes from done) j 0)))) variable-is ∙ t)))
+            (ap (λ m. literal-test (at-row R (row-of m)) v) i ∙ ap (literal-test (at-row R (row-of (getD (notes from done) j 0)))) variable-is ∙ t)))
 
     -- the row of a member of its variable
-    member-row : (j : ℕ) → j < n → Test R M v j → (s : Bool) → (at-row R (place (getD M j 0))) .kind ≡ literal-kind s
+    member-row : (j : ℕ) → j < n → Test R M v j → (s : Bool) → (at-row R (row-of (getD M j 0))) .kind ≡ literal-kind s
         → some-child (like s (b .variable)) us ≡ true
     member-row j l t s k =
         let i = noted-at noted j l in
-        let a = eqb-true _ v (and-parts (leb ((at-row R (place (getD M j 0))) .kind) 4) _ t .1) in
+        let a = eqb-true _ v (and-parts (leb ((at-row R (row-of (getD M j 0))) .kind) 4) _ t .1) in
         seen done s (b .variable) (start laid) j (omega (arith, counted))
-        (ap (λ m. at-row R (place m)) (sym i) ∙ ap₂ row k (a ∙ variable-is))
+        (ap (λ m. at-row R (row-of m)) (sym i) ∙ ap₂ row k (a ∙ variable-is))
 
     -- one of the same kind is
-    pub judged-again : {left j : ℕ} {R′ : List Row} (o : Op) → j < n → Test R M v j → (at-row R (place (getD M j 0))) .kind ≡ kind
-        → R′ ≡ set R at (row 0 1) → Unopposed us → left ≡ n + 1 → Judged R R′ M from at done x o left
+    pub judged-again : {j : ℕ} {R′ : List Row} (o : Op) → j < n → Test R M v j → (at-row R (row-of (getD M j 0))) .kind ≡ kind
+        → R′ ≡ set R at (row 0 1) → Unopposed us → Judged R R′ M from at done x o (Members n)
     unfolding head inner live grown keep repeated note
-    judged-again {left} {j} {R′} o l t k R-is two e =
+    judged-again {j} {R′} o l t k R-is two =
         let again : repeated us literal-tree ≡ true = member-row j l t (b .sign-of) (k ∙ kind-sign) in
         record {
-          decided-is = not-zero left n e ∙ sym (tested (decisive o us) ∙ repeated-indecisive o us (b .sign-of) (b .variable) two again);
+          decided-is = sym (tested (decisive o us) ∙ repeated-indecisive o us (b .sign-of) (b .variable) two again);
           kept = record { block = gone []; stored = R-is; same-rows = sym (ap inner (b .is)); tells = λ K _. told-gone K at [] };
-          holds = λ _. sym (ap (new us) one-tree ∙ gone-again again);
-          noted = λ _. taken M (notes from done) n left (noted .are) e;
+          holds = λ _ _. sym (ap (new us) one-tree ∙ gone-again again);
+          noted = λ _ z. no-more M (notes from done) (as-many z) (noted .are);
         }
       where
         gone-again : repeated us literal-tree ≡ true → new us (literal-tree ▸ ∅) ≡ ∅
         gone-again r = rw r
 
     -- one of the other kind is
-    pub judged-opposite : {j : ℕ} (o : Op) → j < n → Test R M v j → ((at-row R (place (getD M j 0))) .kind ≡ kind → ⊥)
-        → Judged R R M from at done x o 0
+    pub judged-opposite : {j : ℕ} (o : Op) → j < n → Test R M v j → ((at-row R (row-of (getD M j 0))) .kind ≡ kind → ⊥)
+        → Judged R R M from at done x o Decides
     judged-opposite {j} o l t k =
         judged-decided h
         (tested (decisive o us) ∙ decisive-found o us (b .sign-of) (b .variable) (member-row j l t (not (b .sign-of)) other))
       where
-        above : 2 < (at-row R (place (getD M j 0))) .kind
+        above : 2 < (at-row R (row-of (getD M j 0))) .kind
         above =
             let m = member-at laid noted j l in
             omega (arith, live-above (m .block) (live-kind (m .block) (m .holds)), ap (λ (r : Row). r .kind) (stands-row (m .stands)))
 
-        below : (at-row R (place (getD M j 0))) .kind ≤ 4
-        below = leb-true _ 4 (and-parts (leb ((at-row R (place (getD M j 0))) .kind) 4) _ t .0)
+        below : (at-row R (row-of (getD M j 0))) .kind ≤ 4
+        below = leb-true _ 4 (and-parts (leb ((at-row R (row-of (getD M j 0))) .kind) 4) _ t .0)
 
-        other : (at-row R (place (getD M j 0))) .kind ≡ literal-kind (not (b .sign-of))
+        other : (at-row R (row-of (getD M j 0))) .kind ≡ literal-kind (not (b .sign-of))
         other = opposite-kind (b .sign-of) _ above below (λ e. k (e ∙ sym kind-sign))
 
 pub first-of : {t u : Tree} {ts us : Forest} → t ▸ ts ≡ u ▸ us → t ≡ u
@@ -344,39 +360,39 @@ unfolding print
 print-literal s v = refl
 
 -- a live block is noted by its tree
-note-is : (r : ℕ) (x : Block) (t : Tree) → live (x ◂ none) ≡ t ▸ ∅ → note r x ≡ (r * 65536 + print t) ∷ []
+note-is : (r : ℕ) (x : Block) (t : Tree) → live (x ◂ none) ≡ t ▸ ∅ → note r x ≡ member-of r (print t) ∷ []
 unfolding note live grown
 note-is r (gone rs) t e = let z : _≡_ {A = ℕ} 0 1 = cc in absurd (omega arith)
-note-is r (literal s v) t e = ap (λ p. (r * 65536 + p) ∷ []) (sym (print-literal s v) ∙ ap print (first-of e))
-note-is r (operator o ks) t e = ap (λ u. (r * 65536 + print u) ∷ []) (first-of e)
+note-is r (literal s v) t e = ap (λ p. member-of r p ∷ []) (sym (print-literal s v) ∙ ap print (first-of e))
+note-is r (operator o ks) t e = ap (λ u. member-of r (print u) ∷ []) (first-of e)
 
 -- what the table tells of an operator ends with its print
-pub said-print : (w : ℕ) (x : Block) {t : Tree} → 4 < (head x) .kind → Says w x → live (x ◂ none) ≡ t ▸ ∅ → w % 65536 ≡ print t
+pub said-print : (w : ℕ) (x : Block) {t : Tree} → 4 < (head x) .kind → Says w x → live (x ◂ none) ≡ t ▸ ∅ → print-of w ≡ print t
 unfolding head Says live grown
 said-print w (gone rs) l e i = absurd (omega arith)
 said-print w (literal true v) l e i = absurd (omega arith)
 said-print w (literal false v) l e i = absurd (omega arith)
 said-print w (operator o ks) l e i =
-    ap (λ m. m % 65536) e ∙ print-of (count (live ks)) _ (print-few (node o (live ks))) ∙ ap print (first-of i)
+    ap print-of e ∙ print-made (count (live ks)) _ (print-few (node o (live ks))) ∙ ap print (first-of i)
 
 -- so it makes a member
-pub place-said : (at w : ℕ) → place (at * 65536 + w % 65536) ≡ at
-place-said at w = place-of at (w % 65536) (omega arith)
+pub row-said : {m at : ℕ} (w : ℕ) → m ≡ member-of at (print-of w) → row-of m ≡ at
+row-said {at = at} w e = ap row-of e ∙ row-made at (print-of w) (print-small w)
 
-abbrev pub said-member : {R : List Row} {at : ℕ} {front back : List Row} (w : ℕ) (x : Block) (t : Tree) → Stands R at front x back
-    → 4 < (head x) .kind → Says w x → live (x ◂ none) ≡ t ▸ ∅ → Member R (at * 65536 + w % 65536)
-said-member {R} {at} {front} {back} w x t h l e i =
+abbrev pub said-member : {R : List Row} {m at : ℕ} {front back : List Row} (w : ℕ) (x : Block) (t : Tree) → m ≡ member-of at (print-of w)
+    → Stands R at front x back → 4 < (head x) .kind → Says w x → live (x ◂ none) ≡ t ▸ ∅ → Member R m
+said-member {R} {m} {at} {front} {back} w x t m-is h l e i =
     record {
       lives =
           record {
             before = front;
             block = x;
             after = back;
-            stands = subst (λ r. Stands R r front x back) (sym (place-said at w)) h;
+            stands = subst (λ r. Stands R r front x back) (sym (row-said w m-is)) h;
             tree = t;
             holds = i;
           };
-      printed = print-of at (w % 65536) (omega arith) ∙ said-print w x l e i;
+      printed = ap print-of m-is ∙ print-made at (print-of w) (print-small w) ∙ said-print w x l e i;
     }
 
 -- an operator covers as many rows as it says
@@ -396,47 +412,44 @@ module _ {R : List Row} {at from n : ℕ} {M : List ℕ} {before after : List Ro
   operator-tested P = ap (some-child P) tree-there ∙ or-false (P t)
 
   -- none is the same
-  pub operator-new : {m left : ℕ} {M′ : List ℕ} → m ≡ at * 65536 + print t → Passed M n (bucket m) (λ j. Twin R (getD M j 0) t) 0
-      → M′ ≡ set M n m → n < length M → left ≡ n + 2 → Judged R R M′ from at done x o left
+  pub operator-new : {m : ℕ} {M′ : List ℕ} → m ≡ member-of at (print t) → Passed M n (bucket m) (λ j. Twin R (getD M j 0) t) End
+      → M′ ≡ set M n m → n < length M → Judged R R M′ from at done x o (Members (n + 1))
   unfolding kept-same repeated
-  operator-new {m} {left} {M′} m-is passed M-is few l =
+  operator-new {m} {M′} m-is passed M-is few =
       record {
-        decided-is = ne-eqb left 0 (λ z. omega arith) ∙ sym undecided;
+        decided-is = sym undecided;
         kept = kept-same x h;
-        holds = λ _. sym (keep-all (repeated (live done)) (live (x ◂ none)) (operator-tested (repeated (live done)) ∙ fresh));
+        holds = λ _ _. sym (keep-all (repeated (live done)) (live (x ◂ none)) (operator-tested (repeated (live done)) ∙ fresh));
         noted =
-            λ _.
-            ap₂ take less M-is ∙ take-suc-set M n m few ∙ ap₂ (λ ns q. ns ++ (q ∷ [])) (noted .are) m-is ∙
+            λ _ z.
+            one-more M m few (as-many z) M-is ∙ ap₂ (λ ns q. ns ++ (q ∷ [])) (noted .are) m-is ∙
             ap (λ ns. notes from done ++ ns) (sym (note-is at x t tree-there));
       }
     where
-      less : left - 1 ≡ suc n
-      less = omega arith
-
       fresh : some-child (λ w. same-tree w t) (live done) ≡ false
       fresh =
           unseen-twin t done (start laid)
           (λ j u e w.
           let i = noted-at noted j (omega (arith, noted-count noted)) in
-          passed .failed j (omega arith) (omega (arith, noted-count noted)) (ap bucket i ∙ e ∙ sym (ap bucket m-is ∙ bucket-of at (print t)))
+          passed .failed j (omega arith) (omega (arith, noted-count noted)) (ap bucket i ∙ e ∙ sym (ap bucket m-is ∙ bucket-made at (print t)))
           (subst (λ q. Twin R q t) (sym i) w))
 
   -- one is
-  pub operator-again : {left j q : ℕ} {R′ : List Row} → j < n → q ≡ at → Same R (place (getD M j 0)) q true → R′ ≡ set R at (row 0 (size x)) → left ≡ n + 1
-      → Judged R R′ M from at done x o left
+  pub operator-again : {j q : ℕ} {R′ : List Row} → j < n → q ≡ at → Same R (row-of (getD M j 0)) q true → R′ ≡ set R at (row 0 (size x))
+      → Judged R R′ M from at done x o (Members n)
   unfolding head inner live grown note
-  operator-again {left} {j} {R′ = R′} l q-is d R-is e =
+  operator-again {j} {R′ = R′} l q-is d R-is =
       record {
-        decided-is = not-zero left n e ∙ sym undecided;
+        decided-is = sym undecided;
         kept = record { block = gone (inner x); stored = R-is; same-rows = refl; tells = λ K _. told-gone K at (inner x) };
-        holds = λ _. sym (ap (new (live done)) tree-there ∙ dropped again);
-        noted = λ _. taken M (notes from done) n left (noted .are) e;
+        holds = λ _ _. sym (ap (new (live done)) tree-there ∙ dropped again);
+        noted = λ _ z. no-more M (notes from done) (as-many z) (noted .are);
       }
     where
       again : some-child (λ w. same-tree w t) (live done) ≡ true
       again =
           seen-twin done x t h tree-there (start laid) j (omega (arith, noted-count noted))
-          (subst (λ m. Same R (place m) at true) (noted-at noted j l) (subst (λ q. Same R (place (getD M j 0)) q true) q-is d))
+          (subst (λ m. Same R (row-of m) at true) (noted-at noted j l) (subst (λ q. Same R (row-of (getD M j 0)) q true) q-is d))
 
       dropped : some-child (λ w. same-tree w t) (live done) ≡ true → new (live done) (t ▸ ∅) ≡ ∅
       dropped r = dropped-one (live done) t r

@@ -2,35 +2,33 @@
 -- Assumes nothing.
 use mathlib.Core.Path.{_≡_, refl, sym, ap, ap₂, _∙_}
 use mathlib.Core.List.{List, [], _∷_, _++_}
-use Prim.Native.Nat.{ℕ, suc, _+_, _-_, _%_, _≤_, _<_}
+use Prim.Native.Nat.{ℕ, suc, _+_, _≤_, _<_}
 use native.Mathlib.Omega.{arith}
 use lib.ListN.{length, getD, take, drop, drop-of-length-le}
 use lib.Seq.{take-suc, drop-at, length-take-le}
+use Rattle.buckets.specs.Halves.{print-of}
 use Rattle.buckets.specs.Prints.{mix}
 use Rattle.blocks.specs.Rules.{mixes}
 
 mixes-++ : (h : ℕ) (ms ns : List ℕ) → mixes h (ms ++ ns) ≡ mixes (mixes h ms) ns
 unfolding mixes
 mixes-++ h [] ns = refl
-mixes-++ h (m ∷ ms) ns = mixes-++ (mix h (m % 65536)) ms ns
+mixes-++ h (m ∷ ms) ns = mixes-++ (mix h (print-of m)) ms ns
 
 -- print_with
 
-pub mixes-none : (M : List ℕ) (h n left : ℕ) → n < length M → left ≤ n + 1 → h ≡ mixes h (drop n (take (left - 1) M))
+pub mixes-none : (M : List ℕ) (h n count : ℕ) → n < length M → count ≤ n → h ≡ mixes h (drop n (take count M))
 unfolding mixes
-mixes-none M h n left u l =
-    ap (mixes h) (sym (drop-of-length-le (take (left - 1) M) {i = n} (omega (arith, length-take-le (left - 1) M (omega arith)))))
+mixes-none M h n count u l =
+    ap (mixes h) (sym (drop-of-length-le (take count M) {i = n} (omega (arith, length-take-le count M (omega arith)))))
 
-pub mixes-one : (M : List ℕ) (h n left : ℕ) → n < length M → left ≡ n + 2 → mix h (getD M n 0 % 65536) ≡ mixes h (drop n (take (left - 1) M))
+pub mixes-one : (M : List ℕ) (h n count : ℕ) → n < length M → count ≡ suc n → mix h (print-of (getD M n 0)) ≡ mixes h (drop n (take count M))
 unfolding mixes
-mixes-one M h n left u e =
+mixes-one M h n count u e =
     ap (mixes h)
     (sym
-    (ap (λ k. drop n (take k M)) less ∙ ap (drop n) (take-suc M n 0 u) ∙
+    (ap (λ k. drop n (take k M)) e ∙ ap (drop n) (take-suc M n 0 u) ∙
     drop-at (take n M) (getD M n 0 ∷ []) n (length-take-le n M (omega arith))))
-  where
-    less : left - 1 ≡ suc n
-    less = omega arith
 
 -- the members behind the first n, mixed into what these give
 pub mixes-behind : (k : ℕ) (M ms : List ℕ) {N : List ℕ} {h n : ℕ} → n ≤ length M → N ≡ take n M ++ ms → h ≡ mixes k (take n M) → mixes h (drop n N) ≡ mixes k N

@@ -17,11 +17,13 @@ use Rattle.formula.proofs.Booleans.{or-none, or-later}
 use Rattle.sheet.specs.Format.{Row, row}
 use Rattle.sheet.specs.Sheet.{literal-kind}
 use Rattle.buckets.specs.Chains.{bucket}
+use Rattle.buckets.specs.Halves.{member-of, row-of}
 use Rattle.buckets.specs.Prints.{literal-mix, sign, print}
+use Rattle.buckets.proofs.Halves.{row-made, print-made}
 use Rattle.buckets.proofs.Prints.{print-few}
 use Rattle.blocks.specs.Blocks.{Block, gone, literal, operator, Blocks, none, _◂_, _⊕_, head, block-rows, size, grown, live, Here, Stands}
 use Rattle.blocks.specs.Walks.{at-row}
-use Rattle.blocks.specs.Rules.{place, note, notes, Noted, literal-test, Member, Twin}
+use Rattle.blocks.specs.Rules.{note, notes, Noted, literal-test, Member, Twin}
 use Rattle.blocks.specs.Entered.{LiveAt, Same}
 use Rattle.blocks.proofs.Blocks.{length-◂, stands, stands-row, onward}
 use Rattle.blocks.proofs.Walks.{like}
@@ -55,43 +57,37 @@ note-dead r (operator or ks) e = absurd (omega arith)
 
 -- a member's row and bucket
 
-halved : (r y g : ℕ) → g < 2 → (r * 65536 + (y * 2 + g)) / 2 ≡ r * 32768 + y
+halved : (r y g : ℕ) → g < 2 → member-of r (y * 2 + g) / 2 ≡ r * 32768 + y
 halved r y g l = omega arith
 
 low-bits : (r y : ℕ) → (r * 32768 + y) % 1024 ≡ y % 1024
 low-bits r y = omega arith
 
-pub place-of : (r q : ℕ) → q < 65536 → place (r * 65536 + q) ≡ r
-place-of r q l = omega arith
-
-pub print-of : (r q : ℕ) → q < 65536 → (r * 65536 + q) % 65536 ≡ q
-print-of r q l = omega arith
-
-pub bucket-of : (r q : ℕ) → bucket (r * 65536 + q) ≡ bucket q
-bucket-of r q = ap (λ z. z % 1024) (halved-all r q) ∙ low-bits r (q / 2)
+pub bucket-made : (r q : ℕ) → bucket (member-of r q) ≡ bucket q
+bucket-made r q = ap (λ z. z % 1024) (halved-all r q) ∙ low-bits r (q / 2)
   where
-    halved-all : (r q : ℕ) → (r * 65536 + q) / 2 ≡ r * 32768 + q / 2
+    halved-all : (r q : ℕ) → member-of r q / 2 ≡ r * 32768 + q / 2
     halved-all r q = omega arith
 
 abbrev operator-tree : Op → Blocks → Tree
 operator-tree o ks = node o (live ks)
 
-place-operator : (r : ℕ) (o : Op) (ks : Blocks) → place (r * 65536 + print (operator-tree o ks)) ≡ r
-place-operator r o ks = place-of r (print (operator-tree o ks)) (print-few (operator-tree o ks))
+row-operator : (r : ℕ) (o : Op) (ks : Blocks) → row-of (member-of r (print (operator-tree o ks))) ≡ r
+row-operator r o ks = row-made r (print (operator-tree o ks)) (print-few (operator-tree o ks))
 
-place-note : (r : ℕ) (s : Bool) (v : ℕ) → place (r * 65536 + literal-mix (sign s) v) ≡ r
-place-note r true v = omega arith
-place-note r false v = omega arith
+row-note : (r : ℕ) (s : Bool) (v : ℕ) → row-of (member-of r (literal-mix (sign s) v)) ≡ r
+row-note r true v = omega arith
+row-note r false v = omega arith
 
 sign-few : (s : Bool) → sign s < 2
 sign-few true = omega arith
 sign-few false = omega arith
 
 -- the sign is no part of the bucket
-mix-bucket : (r y g : ℕ) → g < 2 → bucket (r * 65536 + (y * 2 + g)) ≡ y % 1024
+mix-bucket : (r y g : ℕ) → g < 2 → bucket (member-of r (y * 2 + g)) ≡ y % 1024
 mix-bucket r y g l = ap (λ z. z % 1024) (halved r y g l) ∙ low-bits r y
 
-bucket-note : (r : ℕ) (s s′ : Bool) (v : ℕ) → bucket (r * 65536 + literal-mix (sign s) v) ≡ bucket (literal-mix (sign s′) v)
+bucket-note : (r : ℕ) (s s′ : Bool) (v : ℕ) → bucket (member-of r (literal-mix (sign s) v)) ≡ bucket (literal-mix (sign s′) v)
 bucket-note r s s′ v =
     mix-bucket r (v * 20251 % 32768) (sign s) (sign-few s) ∙ sym (alone (v * 20251 % 32768) (sign s′) (sign-few s′))
   where
@@ -103,14 +99,14 @@ bucket-note r s s′ v =
 
 -- members by their numbers
 
-pub notes-places : (r : ℕ) (bs : Blocks) (j : ℕ) → j < length (notes r bs) → place (getD (notes r bs) j 0) < r + length (block-rows bs)
+pub notes-places : (r : ℕ) (bs : Blocks) (j : ℕ) → j < length (notes r bs) → row-of (getD (notes r bs) j 0) < r + length (block-rows bs)
 unfolding notes note
 notes-places r none j l = absurd (omega arith)
 notes-places r (gone rs ◂ bs) j l = omega (arith, length-◂ (gone rs) bs, notes-places (r + size (gone rs)) bs j l)
-notes-places r (operator o ks ◂ bs) zero l = omega (arith, place-operator r o ks, length-◂ (operator o ks) bs)
+notes-places r (operator o ks ◂ bs) zero l = omega (arith, row-operator r o ks, length-◂ (operator o ks) bs)
 notes-places r (operator o ks ◂ bs) (suc j) l =
     omega (arith, length-◂ (operator o ks) bs, notes-places (r + size (operator o ks)) bs j (omega arith))
-notes-places r (literal s v ◂ bs) zero l = omega (arith, place-note r s v, length-◂ (literal s v) bs)
+notes-places r (literal s v ◂ bs) zero l = omega (arith, row-note r s v, length-◂ (literal s v) bs)
 notes-places r (literal s v ◂ bs) (suc j) l =
     omega (arith, length-◂ (literal s v) bs, notes-places (r + size (literal s v)) bs j (omega arith))
 
@@ -145,7 +141,7 @@ literal-like v x false false e = rw (eq-eqb v x (ap (λ (r : Row). r .argument) 
 pub unseen : {R : List Row} {from at to : ℕ} {before after : List Row} {done : Blocks} (rest : Blocks) (s : Bool) (x : ℕ)
     → Here R from at to before done rest after
     → ((j : ℕ) → j < length (notes at rest) → bucket (getD (notes at rest) j 0) ≡ bucket (literal-mix (sign s) x)
-    → literal-test (at-row R (place (getD (notes at rest) j 0))) x ≡ true → ⊥)
+    → literal-test (at-row R (row-of (getD (notes at rest) j 0))) x ≡ true → ⊥)
     → some-child (λ t. same-variable t (lit s x)) (live rest) ≡ false
 unfolding notes note live grown some-child same-variable
 unseen none s x h q = refl
@@ -160,7 +156,7 @@ unseen {R} {at = at} (literal s′ v ◂ rest) s x h q =
         let same : v ≡ x = eqb-true v x e in
         absurd
         (q 0 (omega arith) (bucket-note at s′ s v ∙ ap (λ w. bucket (literal-mix (sign s) w)) same)
-        (ap (λ p. literal-test (at-row R p) x) (place-note at s′ v) ∙ ap (λ (r : Row). literal-test r x) (stands-row (stands h)) ∙
+        (ap (λ p. literal-test (at-row R p) x) (row-note at s′ v) ∙ ap (λ (r : Row). literal-test r x) (stands-row (stands h)) ∙
         literal-passes s′ v x same))
 
 no-literal : (o : Op) (ks : Blocks) (s : Bool) → (head (operator o ks)) .kind ≡ literal-kind s → ⊥
@@ -173,29 +169,29 @@ no-literal or ks false e = omega arith
 -- a member whose row is a literal's is that literal
 pub seen : {R : List Row} {from at to : ℕ} {before after : List Row} {done : Blocks} (rest : Blocks) (s : Bool) (x : ℕ)
     → Here R from at to before done rest after → (j : ℕ) → j < length (notes at rest)
-    → at-row R (place (getD (notes at rest) j 0)) ≡ row (literal-kind s) x → some-child (like s x) (live rest) ≡ true
+    → at-row R (row-of (getD (notes at rest) j 0)) ≡ row (literal-kind s) x → some-child (like s x) (live rest) ≡ true
 unfolding notes note live grown some-child
 seen none s x h j l e = absurd (omega arith)
 seen (gone rs ◂ rest) s x h j l e = seen rest s x (onward h) j l e
 seen {R} {at = at} (operator o ks ◂ rest) s x h zero l e =
-    absurd (no-literal o ks s (ap (λ (r : Row). r .kind) (sym (stands-row (stands h)) ∙ sym (ap (at-row R) (place-operator at o ks)) ∙ e)))
+    absurd (no-literal o ks s (ap (λ (r : Row). r .kind) (sym (stands-row (stands h)) ∙ sym (ap (at-row R) (row-operator at o ks)) ∙ e)))
 seen (operator o ks ◂ rest) s x h (suc j) l e = or-later (like s x (node o (live ks))) (seen rest s x (onward h) j (omega arith) e)
 seen {R} {at = at} (literal s′ v ◂ rest) s x h zero l e =
     ap (λ b. b || some-child (like s x) (live rest))
-    (literal-like v x s′ s (sym (stands-row (stands h)) ∙ sym (ap (at-row R) (place-note at s′ v)) ∙ e))
+    (literal-like v x s′ s (sym (stands-row (stands h)) ∙ sym (ap (at-row R) (row-note at s′ v)) ∙ e))
 seen {at = at} (literal s′ v ◂ rest) s x h (suc j) l e = or-later (like s x (lit s′ v)) (seen rest s x (onward h) j (omega arith) e)
 
 -- a member is a live block
 pub member-lives : {R : List Row} {from at to : ℕ} {before after : List Row} {done : Blocks} (rest : Blocks)
-    → Here R from at to before done rest after → (j : ℕ) → j < length (notes at rest) → LiveAt R (place (getD (notes at rest) j 0))
+    → Here R from at to before done rest after → (j : ℕ) → j < length (notes at rest) → LiveAt R (row-of (getD (notes at rest) j 0))
 unfolding notes note live grown
 member-lives none h j l = absurd (omega arith)
 member-lives (gone rs ◂ rest) h j l = member-lives rest (onward h) j l
 member-lives {R} {at = at} (literal s v ◂ rest) h zero l =
-    subst (LiveAt R) (sym (place-note at s v)) (record { before = _; block = literal s v; after = _; stands = stands h; tree = _; holds = refl })
+    subst (LiveAt R) (sym (row-note at s v)) (record { before = _; block = literal s v; after = _; stands = stands h; tree = _; holds = refl })
 member-lives (literal s v ◂ rest) h (suc j) l = member-lives rest (onward h) j (omega arith)
 member-lives {R} {at = at} (operator o ks ◂ rest) h zero l =
-    subst (LiveAt R) (sym (place-operator at o ks)) (record { before = _; block = operator o ks; after = _; stands = stands h; tree = _; holds = refl })
+    subst (LiveAt R) (sym (row-operator at o ks)) (record { before = _; block = operator o ks; after = _; stands = stands h; tree = _; holds = refl })
 member-lives (operator o ks ◂ rest) h (suc j) l = member-lives rest (onward h) j (omega arith)
 
 -- where no member of a tree's bucket holds the same tree, none does
@@ -204,10 +200,10 @@ module _ (u : Tree) where
   Fresh R N = (j : ℕ) → j < length N → bucket (getD N j 0) ≡ bucket (print u) → Twin R (getD N j 0) u → ⊥
 
   differs : {R : List Row} {at : ℕ} {front back : List Row} (x : Block) (t : Tree) → Stands R at front x back → live (x ◂ none) ≡ t ▸ ∅
-      → (bucket (at * 65536 + print t) ≡ bucket (print u) → Twin R (at * 65536 + print t) u → ⊥) → same-tree t u ≡ false
+      → (bucket (member-of at (print t)) ≡ bucket (print u) → Twin R (member-of at (print t)) u → ⊥) → same-tree t u ≡ false
   differs {R} {at} {front} {back} x t h e q = go (same-tree t u) refl
     where
-      own : Member R (at * 65536 + print t)
+      own : Member R (member-of at (print t))
       own =
           record {
             lives =
@@ -215,18 +211,18 @@ module _ (u : Tree) where
                   before = front;
                   block = x;
                   after = back;
-                  stands = subst (λ p. Stands R p front x back) (sym (place-of at (print t) (print-few t))) h;
+                  stands = subst (λ p. Stands R p front x back) (sym (row-made at (print t) (print-few t))) h;
                   tree = t;
                   holds = e;
                 };
-            printed = print-of at (print t) (print-few t);
+            printed = print-made at (print t) (print-few t);
           }
 
       go : (b : Bool) → same-tree t u ≡ b → b ≡ false
       go false s = refl
       go true s =
           absurd
-          (q (bucket-of at (print t) ∙ ap (λ w. bucket (print w)) (same-tree-same t u s))
+          (q (bucket-made at (print t) ∙ ap (λ w. bucket (print w)) (same-tree-same t u s))
           (record { member = own; same = s }))
 
   pub unseen-twin : {R : List Row} {from at to : ℕ} {before after : List Row} {done : Blocks} (rest : Blocks)
@@ -242,17 +238,17 @@ module _ (u : Tree) where
 -- and a member that holds the same tree is among them
 pub seen-twin : {R : List Row} {from at to q : ℕ} {before after front back : List Row} {done : Blocks} (rest : Blocks) (y : Block) (u : Tree)
     → Stands R q front y back → live (y ◂ none) ≡ u ▸ ∅
-    → Here R from at to before done rest after → (j : ℕ) → j < length (notes at rest) → Same R (place (getD (notes at rest) j 0)) q true
+    → Here R from at to before done rest after → (j : ℕ) → j < length (notes at rest) → Same R (row-of (getD (notes at rest) j 0)) q true
     → some-child (λ t. same-tree t u) (live rest) ≡ true
 unfolding notes note live grown some-child
 seen-twin none y u g e h j l d = absurd (omega arith)
 seen-twin (gone rs ◂ rest) y u g e h j l d = seen-twin rest y u g e (onward h) j l d
 seen-twin {R} {at = at} {q = q} (literal s v ◂ rest) y u g e h zero l d =
     ap (λ b. b || some-child (λ t. same-tree t u) (live rest))
-    (sym (subst (λ p. Same R p q true) (place-note at s v) d _ (literal s v) _ (stands h) _ refl _ y _ g u e))
+    (sym (subst (λ p. Same R p q true) (row-note at s v) d _ (literal s v) _ (stands h) _ refl _ y _ g u e))
 seen-twin (literal s v ◂ rest) y u g e h (suc j) l d = or-later (same-tree (lit s v) u) (seen-twin rest y u g e (onward h) j (omega arith) d)
 seen-twin {R} {at = at} {q = q} (operator o ks ◂ rest) y u g e h zero l d =
     ap (λ b. b || some-child (λ t. same-tree t u) (live rest))
-    (sym (subst (λ p. Same R p q true) (place-operator at o ks) d _ (operator o ks) _ (stands h) _ refl _ y _ g u e))
+    (sym (subst (λ p. Same R p q true) (row-operator at o ks) d _ (operator o ks) _ (stands h) _ refl _ y _ g u e))
 seen-twin (operator o ks ◂ rest) y u g e h (suc j) l d =
     or-later (same-tree (node o (live ks)) u) (seen-twin rest y u g e (onward h) j (omega arith) d)

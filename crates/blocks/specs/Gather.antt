@@ -4,19 +4,32 @@ use mathlib.Core.Path.{_≡_}
 use mathlib.Core.Bool.{true, false}
 use mathlib.Core.List.{List}
 use mathlib.Core.Logic.{_⊎_}
-use Prim.Native.Nat.{ℕ, _+_, _-_, _/_, _≤_}
-use lib.Dec.{eqb}
+use Prim.Native.Nat.{ℕ, _+_, _-_, _≤_, _<_}
 use lib.ListN.{length, set, take}
 use Rattle.formula.specs.Tree.{Op, same-op, lit, node, Forest, ∅, _▸_, some-child, count}
 use Rattle.formula.specs.Tidy.{is-op, same-tree, splice, decides, firsts}
 use Rattle.sheet.specs.Format.{Bytes, Row, row}
 use Rattle.sheet.specs.Sheet.{operator-kind, front, behind}
 use Rattle.rows.specs.Layouts.{Fits, total, rows-in, Room}
+use Rattle.buckets.specs.Halves.{children-of}
 use Rattle.blocks.specs.declared.rules.Children.{Children}
+use Rattle.blocks.specs.declared.rules.Judgement.{Judgement}
+use Rattle.blocks.specs.declared.rules.Judgement.the-variants.{Decides, Members}
+use Rattle.blocks.specs.declared.rules.Outcome.{Outcome}
+use Rattle.blocks.specs.declared.rules.Outcome.the-variants.{Decided, Left}
 use Rattle.blocks.specs.Blocks.{Blocks, _⊕_, live, Laid, Here}
 use Rattle.blocks.specs.Walks.{at-row}
 use Rattle.blocks.specs.Known.{AllTold}
-use Rattle.blocks.specs.Rules.{notes, Tables}
+use Rattle.blocks.specs.Rules.{notes, mixes, Tables, is-decided}
+
+-- an outcome: the row behind the children, and whether they decide the operator
+abbrev pub end-of : Outcome → ℕ
+end-of (Decided end) = end
+end-of (Left end n print) = end
+
+abbrev pub judgement-of : Outcome → Judgement
+judgement-of (Decided end) = Decides
+judgement-of (Left end n print) = Members n
 
 -- children of this kind have none of it among their own, as tidied ones have not
 unfoldable pub Flat : Op → Forest → Type 0
@@ -30,7 +43,7 @@ abbrev pub SplicesAt : List Row → List Row → ℕ → ℕ → ℕ → ℕ →
 SplicesAt R R′ at kind known owed left =
     (((at-row R at) .kind ≡ 0) × (R′ ≡ R) × (left ≡ owed)) ⊎
     ((((at-row R at) .kind ≡ 0 → ⊥) × ((at-row R at) .kind ≡ kind → ⊥) × (R′ ≡ R) × (left ≡ owed - 1)) ⊎
-    (((at-row R at) .kind ≡ kind) × (R′ ≡ set R at (row 0 1)) × (left ≡ owed - 1 + known / 65536)))
+    (((at-row R at) .kind ≡ kind) × (R′ ≡ set R at (row 0 1)) × (left ≡ owed - 1 + children-of known)))
 
 -- rows that hold as many trees, of which the table tells
 pub record ChildrenAt (R : List Row) (K : List ℕ) (from to owed kind : ℕ) : Type 0 where
@@ -53,25 +66,30 @@ pub record ToGather (w : Children) (b : Bytes) (H L M K : List ℕ) : Type 0 whe
   pub known-fit : total (w .sheet) ≤ length K
   pub there : ChildrenAt (rows-in (w .sheet) b) K (w .from) (total (w .sheet)) (w .owed) (w .kind)
 
--- the first trees, ts, have become what the rules leave of them, up to a row, and the others, us, are as they were: 0 if ts decide the
--- operator, else one more than there are left, which are the members
-pub record Gathered (R : List Row) (K M : List ℕ) (from end to : ℕ) (before after : List Row) (o : Op) (ts us : Forest) (left : ℕ) : Type 0 where
+-- the first trees, ts, have become what the rules leave of them, up to a row, and the others, us, are as they were: ts decide the operator,
+-- or those that are left are the members
+pub record Gathered (R : List Row) (K M : List ℕ) (from end to : ℕ) (before after : List Row) (o : Op) (ts us : Forest) (j : Judgement) : Type 0 where
   pub first : Blocks
   pub others : Blocks
   pub here : Here R from end to before first others after
   pub others-are : live others ≡ us
   pub told : AllTold K from (first ⊕ others)
-  pub decided-is : eqb left 0 ≡ decides o (splice o ts)
-  pub reads : (left ≡ 0 → ⊥) → live first ≡ firsts same-tree (splice o ts)
-  pub noted : (left ≡ 0 → ⊥) → take (left - 1) M ≡ notes from first
+  pub decided-is : is-decided j ≡ decides o (splice o ts)
+  pub reads : (n : ℕ) → j ≡ Members n → live first ≡ firsts same-tree (splice o ts)
+  pub noted : (n : ℕ) → j ≡ Members n → take n M ≡ notes from first
 
-abbrev pub Gathers : List Row → List Row → List ℕ → List ℕ → ℕ → ℕ → ℕ → ℕ → ℕ → ℕ → Type 0
-Gathers R R′ K M from end to owed kind left =
+abbrev pub Gathers : List Row → List Row → List ℕ → List ℕ → ℕ → ℕ → ℕ → ℕ → ℕ → Judgement → Type 0
+Gathers R R′ K M from end to owed kind j =
     (before : List Row) (bs : Blocks) (after : List Row) → Laid R from to before bs after → AllTold K from bs → owed ≤ count (live bs)
     → (o : Op) → kind ≡ operator-kind o → Flat o (front owed (live bs))
-    → Gathered R′ K M from end to before after o (front owed (live bs)) (behind owed (live bs)) left
+    → Gathered R′ K M from end to before after o (front owed (live bs)) (behind owed (live bs)) j
 
 -- the same in the bytes of a sheet
-abbrev pub GathersIn : Children → Bytes → Bytes → List ℕ → List ℕ → ℕ → ℕ → Type 0
-GathersIn w b b′ K M end left =
-    Gathers (rows-in (w .sheet) b) (rows-in (w .sheet) b′) K M (w .from) end (total (w .sheet)) (w .owed) (w .kind) left
+abbrev pub GathersIn : Children → Bytes → Bytes → List ℕ → List ℕ → Outcome → Type 0
+GathersIn w b b′ K M r =
+    Gathers (rows-in (w .sheet) b) (rows-in (w .sheet) b′) K M (w .from) (end-of r) (total (w .sheet)) (w .owed) (w .kind) (judgement-of r)
+
+-- the members that are left are no more than rows, and the operator's print is mixed from theirs
+pub record LeavesIn (w : Children) (M : List ℕ) (r : Outcome) : Type 0 where
+  pub few : (end n print : ℕ) → r ≡ Left end n print → n ≤ total (w .sheet)
+  pub printed : (end n print : ℕ) → r ≡ Left end n print → (print ≡ mixes (w .kind) (take n M)) × (print < 65536)

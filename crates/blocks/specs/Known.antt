@@ -2,9 +2,10 @@
 -- Assumes nothing.
 use mathlib.Core.Path.{_≡_}
 use mathlib.Core.List.{List}
-use Prim.Native.Nat.{ℕ, suc, _+_, _*_}
+use Prim.Native.Nat.{ℕ, suc, _+_}
 use lib.ListN.{getD}
 use Rattle.formula.specs.Tree.{node, count}
+use Rattle.buckets.specs.Halves.{known-of}
 use Rattle.buckets.specs.Prints.{print}
 use Rattle.blocks.specs.Blocks.{Block, gone, literal, operator, Blocks, none, _◂_, size, live}
 
@@ -12,7 +13,7 @@ use Rattle.blocks.specs.Blocks.{Block, gone, literal, operator, Blocks, 
 unfoldable pub Says : ℕ → Block → Type 0
 Says w (gone rs) = Unit {0}
 Says w (literal s v) = Unit {0}
-Says w (operator o ks) = w ≡ count (live ks) * 65536 + print (node o (live ks))
+Says w (operator o ks) = w ≡ known-of (count (live ks)) (print (node o (live ks)))
 
 -- of every operator in the blocks from a row on
 unfoldable mutual

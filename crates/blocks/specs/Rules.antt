@@ -4,7 +4,7 @@ use mathlib.Core.Path.{_≡_}
 use mathlib.Core.Bool.{Bool, true, false, not, _&&_, _||_}
 use mathlib.Core.List.{List, [], _∷_, _++_}
 use mathlib.Core.Logic.{_⊎_}
-use Prim.Native.Nat.{ℕ, _+_, _*_, _-_, _/_, _%_, _≤_, _<_}
+use Prim.Native.Nat.{ℕ, _+_, _≤_, _<_}
 use lib.Dec.{eqb, leb}
 use lib.ListN.{length, getD, set, take}
 use Rattle.formula.specs.Tree.{Op, dual, Tree, node, Forest, some-child, some-two, keep}
@@ -15,8 +15,13 @@ use Rattle.rows.specs.Layouts.{Fits, total, rows-in, Room}
 use Rattle.rows.specs.declared.Layout.{Layout}
 use Rattle.buckets.specs.Chains.{last, Linked, Passed}
 use Rattle.buckets.specs.Chains as chains
+use Rattle.buckets.specs.Halves.{member-of, row-of, print-of}
 use Rattle.buckets.specs.Prints.{literal-mix, sign, mix, print}
+use Rattle.buckets.specs.declared.Link.{Link}
+use Rattle.buckets.specs.declared.Link.the-variants as link
 use Rattle.blocks.specs.declared.rules.Child.{Child}
+use Rattle.blocks.specs.declared.rules.Judgement.{Judgement}
+use Rattle.blocks.specs.declared.rules.Judgement.the-variants as judgement
 use Rattle.blocks.specs.Blocks.{Block, gone, literal, operator, Blocks, none, _◂_, head, inner, size, live, Laid, Stands, Standing}
 use Rattle.blocks.specs.Walks.{at-row}
 use Rattle.blocks.specs.Entered.{LiveAt, Same}
@@ -43,13 +48,10 @@ abbrev pub Unopposed : Forest → Type 0
 Unopposed ts = some-two opposite ts ≡ false
 
 -- Members: the live blocks from a row on, each by its row and its print.
-abbrev pub place : ℕ → ℕ
-place m = m / 65536
-
 unfoldable pub note : ℕ → Block → List ℕ
 note r (gone rs) = []
-note r (literal s v) = (r * 65536 + literal-mix (sign s) v) ∷ []
-note r (operator o ks) = (r * 65536 + print (node o (live ks))) ∷ []
+note r (literal s v) = member-of r (literal-mix (sign s) v) ∷ []
+note r (operator o ks) = member-of r (print (node o (live ks))) ∷ []
 
 unfoldable pub notes : ℕ → Blocks → List ℕ
 notes r none = []
@@ -60,10 +62,10 @@ pub record Noted (M : List ℕ) (n from : ℕ) (bs : Blocks) : Type 0 where
   pub fit : n ≤ length M
   pub are : take n M ≡ notes from bs
 
--- the prints of members, which are their low halves, mixed into a number one by one
+-- the prints of members mixed into a number one by one
 unfoldable pub mixes : ℕ → List ℕ → ℕ
 mixes h [] = h
-mixes h (m ∷ ms) = mixes (mix h (m % 65536)) ms
+mixes h (m ∷ ms) = mixes (mix h (print-of m)) ms
 
 -- tables for as many members as there are rows
 abbrev pub Tables : Layout → List ℕ → List ℕ → List ℕ → Type 0
@@ -74,7 +76,7 @@ abbrev pub literal-test : Row → ℕ → Bool
 literal-test r x = leb (r .kind) 4 && eqb (r .argument) x
 
 -- a chain of members that stand in rows, from its first on
-pub record Chain (rows : ℕ) (L M : List ℕ) (start : ℕ) : Type 0 where
+pub record Chain (rows : ℕ) (L M : List ℕ) (start : Link) : Type 0 where
   pub heads : List ℕ
   pub count : ℕ
   pub bucket-of : ℕ
@@ -82,23 +84,31 @@ pub record Chain (rows : ℕ) (L M : List ℕ) (start : ℕ) : Type 0 where
   pub starts : start ≡ last M bucket-of count
   pub links-fit : count ≤ length L
   pub members-fit : count ≤ length M
-  pub places : (j : ℕ) → j < count → place (getD M j 0) < rows
+  pub places : (j : ℕ) → j < count → row-of (getD M j 0) < rows
 
--- what a search along it tells: one more than the number of a member that it looks for, or 0 if no member passes the test
-pub record Seeks (L M : List ℕ) (start : ℕ) (Test Sought : ℕ → Type 0) (i : ℕ) : Type 0 where
-  pub tells : (H : List ℕ) (n k : ℕ) → Linked H L M n → start ≡ last M k n → ((i ≡ 0) × Passed M n k Test 0) ⊎ ((0 < i) × (i ≤ n) × Sought (i - 1))
+-- what a search along it tells: a member that it looks for, or that no member passes the test
+pub record Found (n : ℕ) (Sought : ℕ → Type 0) (i : ℕ) : Type 0 where
+  pub within : i < n
+  pub passes : Sought i
+
+abbrev pub Tells : List ℕ → ℕ → ℕ → (ℕ → Type 0) → (ℕ → Type 0) → Link → Type 0
+Tells M n k Test Sought link.End = Passed M n k Test link.End
+Tells M n k Test Sought (link.Member i) = Found n Sought i
+
+pub record Seeks (L M : List ℕ) (start : Link) (Test Sought : ℕ → Type 0) (l : Link) : Type 0 where
+  pub tells : (H : List ℕ) (n k : ℕ) → Linked H L M n → start ≡ last M k n → Tells M n k Test Sought l
 
 -- a literal of this variable
 abbrev pub Test : List Row → List ℕ → ℕ → ℕ → Type 0
-Test R M x j = literal-test (at-row R (place (getD M j 0))) x ≡ true
+Test R M x j = literal-test (at-row R (row-of (getD M j 0))) x ≡ true
 
-abbrev pub Finds : List Row → List ℕ → List ℕ → ℕ → ℕ → ℕ → Type 0
-Finds R L M start x i = Seeks L M start (Test R M x) (Test R M x) i
+abbrev pub Finds : List Row → List ℕ → List ℕ → Link → ℕ → Link → Type 0
+Finds R L M start x l = Seeks L M start (Test R M x) (Test R M x) l
 
 -- a live block's row and the print of its tree
 pub record Member (R : List Row) (m : ℕ) : Type 0 where
-  pub lives : LiveAt R (place m)
-  pub printed : m % 65536 ≡ print (lives .tree)
+  pub lives : LiveAt R (row-of m)
+  pub printed : print-of m ≡ print (lives .tree)
 
 -- the same tree as this
 pub record Twin (R : List Row) (m : ℕ) (u : Tree) : Type 0 where
@@ -107,16 +117,16 @@ pub record Twin (R : List Row) (m : ℕ) (u : Tree) : Type 0 where
 
 abbrev pub Twins : List Row → ℕ → ℕ → Bool → Type 0
 Twins R t m same =
-    ((same ≡ true) × Same R (place t) (place m) true) ⊎ ((same ≡ false) × ((w : Member R m) → Twin R t (w .lives .tree) → ⊥))
+    ((same ≡ true) × Same R (row-of t) (row-of m) true) ⊎ ((same ≡ false) × ((w : Member R m) → Twin R t (w .lives .tree) → ⊥))
 
-abbrev pub FindsTwin : List Row → List ℕ → List ℕ → ℕ → ℕ → ℕ → Type 0
-FindsTwin R L M start m i =
-    (w : Member R m) → Seeks L M start (λ j. Twin R (getD M j 0) (w .lives .tree)) (λ j. Same R (place (getD M j 0)) (place m) true) i
+abbrev pub FindsTwin : List Row → List ℕ → List ℕ → Link → ℕ → Link → Type 0
+FindsTwin R L M start m l =
+    (w : Member R m) → Seeks L M start (λ j. Twin R (getD M j 0) (w .lives .tree)) (λ j. Same R (row-of (getD M j 0)) (row-of m) true) l
 
 -- members that are live blocks
-pub record LiveChain (R : List Row) (rows : ℕ) (L M : List ℕ) (start : ℕ) : Type 0 where
+pub record LiveChain (R : List Row) (rows : ℕ) (L M : List ℕ) (start : Link) : Type 0 where
   pub chain : Chain rows L M start
-  pub lives : (j : ℕ) → j < chain .count → LiveAt R (place (getD M j 0))
+  pub lives : (j : ℕ) → j < chain .count → LiveAt R (row-of (getD M j 0))
 
 -- the block at a row, of which this is told, stands behind others, which are the members
 pub record Behind (R : List Row) (at known : ℕ) (H L M : List ℕ) (n : ℕ) : Type 0 where
@@ -152,21 +162,31 @@ pub record Kept (R R′ : List Row) (at : ℕ) (x : Block) : Type 0 where
   pub same-rows : inner block ≡ inner x
   pub tells : (K : List ℕ) → Told K at x → Told K at block
 
--- rules 2 to 5 at one block behind others: 0 if it decides the node, else one more than the members now
-pub record Judged (R R′ : List Row) (M′ : List ℕ) (from at : ℕ) (done : Blocks) (x : Block) (o : Op) (left : ℕ) : Type 0 where
-  pub decided-is : eqb left 0 ≡ some-child (decisive o (live done)) (live (x ◂ none))
-  pub kept : Kept R R′ at x
-  pub holds : (left ≡ 0 → ⊥) → live (kept .block ◂ none) ≡ new (live done) (live (x ◂ none))
-  pub noted : (left ≡ 0 → ⊥) → take (left - 1) M′ ≡ notes from done ++ note at (kept .block)
+-- whether the node is decided
+abbrev pub is-decided : Judgement → Bool
+is-decided judgement.Decides = true
+is-decided (judgement.Members n) = false
 
-abbrev pub JudgesFor : List Row → List Row → ℕ → ℕ → ℕ → List ℕ → List ℕ → ℕ → Op → Type 0
-JudgesFor R R′ at known n M M′ left o =
+-- rules 2 to 5 at one block behind others: whether it decides the node; if it doesn't, what it has become, and the members now
+pub record Judged (R R′ : List Row) (M′ : List ℕ) (from at : ℕ) (done : Blocks) (x : Block) (o : Op) (j : Judgement) : Type 0 where
+  pub decided-is : is-decided j ≡ some-child (decisive o (live done)) (live (x ◂ none))
+  pub kept : Kept R R′ at x
+  pub holds : (n : ℕ) → j ≡ judgement.Members n → live (kept .block ◂ none) ≡ new (live done) (live (x ◂ none))
+  pub noted : (n : ℕ) → j ≡ judgement.Members n → take n M′ ≡ notes from done ++ note at (kept .block)
+
+abbrev pub JudgesFor : List Row → List Row → ℕ → ℕ → ℕ → List ℕ → List ℕ → Judgement → Op → Type 0
+JudgesFor R R′ at known n M M′ j o =
     (from : ℕ) (before : List Row) (done : Blocks) (after : List Row) → Laid R from at before done after → Noted M n from done
     → Unopposed (live done) → (front : List Row) (x : Block) (back : List Row) → Stands R at front x back → Says known x
-    → Judged R R′ M′ from at done x o left
+    → Judged R R′ M′ from at done x o j
 
-abbrev pub JudgesAs : List Row → List Row → ℕ → ℕ → ℕ → List ℕ → List ℕ → ℕ → Type 0
-JudgesAs R R′ at known n M M′ left = (o : Op) → JudgesFor R R′ at known n M M′ left o
+abbrev pub JudgesAs : List Row → List Row → ℕ → ℕ → ℕ → List ℕ → List ℕ → Judgement → Type 0
+JudgesAs R R′ at known n M M′ j = (o : Op) → JudgesFor R R′ at known n M M′ j o
 
-abbrev pub Judges : List Row → List Row → ℕ → ℕ → ℕ → ℕ → List ℕ → List ℕ → ℕ → Type 0
-Judges R R′ at kind known n M M′ left = (o : Op) → kind ≡ operator-kind o → JudgesFor R R′ at known n M M′ left o
+abbrev pub Judges : List Row → List Row → ℕ → ℕ → ℕ → ℕ → List ℕ → List ℕ → Judgement → Type 0
+Judges R R′ at kind known n M M′ j = (o : Op) → kind ≡ operator-kind o → JudgesFor R R′ at known n M M′ j o
+
+-- the tables link the members that there are now, at most one more than before
+pub record LinkedNow (H L M : List ℕ) (before : ℕ) (j : Judgement) : Type 0 where
+  pub linked : (n : ℕ) → j ≡ judgement.Members n → Linked H L M n
+  pub few : (n : ℕ) → j ≡ judgement.Members n → n ≤ before + 1

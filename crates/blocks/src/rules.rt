@@ -5,10 +5,15 @@ use crate::dead::join_at;
 use crate::same::same_at;
 use crate::walk::extent_at;
 use crate::walk::hop;
+use buckets::Link;
 use buckets::add;
 use buckets::behind;
 use buckets::bucket_of;
 use buckets::first;
+use buckets::half::children_of;
+use buckets::half::member_of;
+use buckets::half::print_of;
+use buckets::half::row_of;
 use buckets::large;
 use buckets::member;
 use buckets::print::literal_print;
@@ -20,14 +25,14 @@ use rows::read::argument_at;
 use rows::read::kind_at;
 use rows::write::set_row;
 ghost use mathlib.Core.Path.{_≡_};
-ghost use Prim.Native.Nat.{_-_, _+_, _^_, _≤_, _<_};
+ghost use Prim.Native.Nat.{_+_, _^_, _≤_, _<_};
 ghost use lib.ListN.{length, take, drop};
 ghost use Rattle.rows.specs.Layouts.{Fits, total, rows-in, Room};
-ghost use Rattle.buckets.specs.Chains.{Linked};
+ghost use Rattle.buckets.specs.Halves.{row-of};
 ghost use Rattle.blocks.specs.Walks.{at-row};
 ghost use Rattle.blocks.specs.Entered.{LiveAt};
-ghost use Rattle.blocks.specs.Gather.{SplicesAt, ToGather, GathersIn};
-ghost use Rattle.blocks.specs.Rules.{Decides, mixes, literal-test, Chain, Finds, place, Member, Twins, FindsTwin, LiveChain, ToJudge, LiteralRow, JudgesAs, Judges};
+ghost use Rattle.blocks.specs.Gather.{SplicesAt, ToGather, GathersIn, LeavesIn};
+ghost use Rattle.blocks.specs.Rules.{Decides, mixes, literal-test, Chain, Finds, Member, Twins, FindsTwin, LiveChain, ToJudge, LiteralRow, JudgesAs, Judges, LinkedNow};
 
 // The child at row `at` of an operator of this kind, with what the table tells of it, behind `before` members; or a literal of this
 // kind there.
@@ -46,12 +51,23 @@ pub struct Children {
     pub kind: u8,
 }
 
-// The row behind the children, one more than the members that are left of them, and the operator's print over these; the last two are 0 if
-// the children decide it.
-pub struct Gathered {
-    pub end: usize,
-    pub left: usize,
-    pub print: usize,
+// What the rules make of a child: it decides the operator, or there are so many members now.
+pub enum Judgement {
+    Decides,
+    Members(usize),
+}
+
+// What they make of all children, which end before row `end`: they decide the operator, or so many members are left of them, over which it has
+// this print.
+pub enum Outcome {
+    Decided {
+        end: usize,
+    },
+    Left {
+        end: usize,
+        count: usize,
+        print: usize,
+    },
 }
 
 // Rule 1 at the child, the first of `owed` trees: of the parent's own kind, it leaves its children in its place. How many trees are owed
@@ -68,7 +84,7 @@ pub fn splice_at(b: &mut [u8], s: Layout, c: Child, owed: usize) -> usize
         return owed - 1;
     }
     set_row(b, s, c.at, GONE, 1);
-    owed - 1 + c.known / 65536
+    owed - 1 + children_of(c.known)
 }
 
 // Whether row `r` is a literal of the variable `x`.
@@ -82,24 +98,22 @@ pub fn literal_of(b: &[u8], s: Layout, r: usize, x: usize) -> bool
     argument_at(b, s, r) == x
 }
 
-// One more than the number of a member on this chain that is a literal of the variable `x`, or 0 if there is none.
-pub fn find(b: &[u8], s: Layout, links: &[u16], members: &[u32], start: usize, x: usize) -> usize
+// A member on this chain that is a literal of the variable `x`.
+pub fn find(b: &[u8], s: Layout, links: &[u16], members: &[u32], start: Link, x: usize) -> Link
     requires { ⌜ Room s (length (now b)) × Chain (total s) (now links) (now members) start ⌝ }
-    ensures { λ i. ⌜ Finds (rows-in s (now (b .entry))) (now (links .entry)) (now (members .entry)) start x i ⌝ }
+    ensures { λ l. ⌜ Finds (rows-in s (now (b .entry))) (now (links .entry)) (now (members .entry)) start x l ⌝ }
 {
-    let mut i = start;
-    while 0 < i {
-        let r = member(members, i - 1) / 65536;
-        if literal_of(b, s, r, x) {
-            return i;
+    let mut link = start;
+    while let Link::Member(i) = link {
+        if literal_of(b, s, row_of(member(members, i)), x) {
+            return Link::Member(i);
         }
-        i = behind(links, i - 1);
+        link = behind(links, i);
     }
-    0
+    Link::End
 }
 
-// Rules 3 and 4 at a literal: 0 if it decides the operator, else one more than the members that there are now. One that is equal to a
-// member goes, and decides nothing, since no member is opposite to it.
+// Rules 3 and 4 at a literal. One that is equal to a member goes, and decides nothing, since no member is opposite to it.
 pub fn judge_literal(
     b: &mut [u8],
     s: Layout,
@@ -107,27 +121,26 @@ pub fn judge_literal(
     heads: &mut [u16],
     links: &mut [u16],
     members: &mut [u32],
-) -> usize
+) -> Judgement
     requires { ⌜ ToJudge s (now b) c (now heads) (now links) (now members) × LiteralRow (rows-in s (now b)) (c .at) (c .kind) ⌝ }
-    ensures { λ left. ⌜ JudgesAs (rows-in s (now (b .entry))) (rows-in s (now (b .exit))) (c .at) (c .known) (c .before) (now (members .entry)) (now (members .exit)) left ⌝ }
-    ensures { λ left. ⌜ Linked (now (heads .exit)) (now (links .exit)) (now (members .exit)) (left - 1) × (left ≤ c .before + 2) ⌝ }
+    ensures { λ j. ⌜ JudgesAs (rows-in s (now (b .entry))) (rows-in s (now (b .exit))) (c .at) (c .known) (c .before) (now (members .entry)) (now (members .exit)) j ⌝ }
+    ensures { λ j. ⌜ LinkedNow (now (heads .exit)) (now (links .exit)) (now (members .exit)) (c .before) j ⌝ }
 {
     let at = c.at;
     let n = c.before;
     let x = argument_at(b, s, at);
     let p = literal_print(from_byte(NEGATIVE - c.kind), x);
     let start = first(heads, members, n, bucket_of(p));
-    let i = find(b, s, links, members, start, x);
-    if i == 0 {
-        add(heads, links, members, n, at * 65536 + p);
-        return n + 2;
-    }
-    let r = member(members, i - 1) / 65536;
+    let Link::Member(i) = find(b, s, links, members, start, x) else {
+        add(heads, links, members, n, member_of(at, p));
+        return Judgement::Members(n + 1);
+    };
+    let r = row_of(member(members, i));
     if kind_at(b, s, r) != c.kind {
-        return 0;
+        return Judgement::Decides;
     }
     set_row(b, s, at, GONE, 1);
-    n + 1
+    Judgement::Members(n)
 }
 
 // Rule 2: whether the operator is empty, and of another kind than the one above.
@@ -138,44 +151,36 @@ pub fn decides_at(b: &[u8], s: Layout, c: Child) -> bool
     if kind_at(b, s, c.at) == c.kind {
         return false;
     }
-    c.known < 65536
+    children_of(c.known) == 0
 }
 
 // Whether two members hold the same tree. Rows are compared only where the prints are equal.
 pub fn are_twins(b: &[u8], s: Layout, t: usize, m: usize) -> bool
-    requires { ⌜ Room s (length (now b)) × LiveAt (rows-in s (now b)) (place t) × LiveAt (rows-in s (now b)) (place m) ⌝ }
+    requires { ⌜ Room s (length (now b)) × LiveAt (rows-in s (now b)) (row-of t) × LiveAt (rows-in s (now b)) (row-of m) ⌝ }
     ensures { λ r. ⌜ Twins (rows-in s (now (b .entry))) t m r ⌝ }
 {
-    if t % 65536 != m % 65536 {
+    if print_of(t) != print_of(m) {
         return false;
     }
-    same_at(b, s, t / 65536, m / 65536)
+    same_at(b, s, row_of(t), row_of(m))
 }
 
-// One more than the number of a member on this chain that holds the same tree as the member `m`, or 0 if there is none.
-pub fn find_twin(
-    b: &[u8],
-    s: Layout,
-    links: &[u16],
-    members: &[u32],
-    start: usize,
-    m: usize,
-) -> usize
+// A member on this chain that holds the same tree as the member `m`.
+pub fn find_twin(b: &[u8], s: Layout, links: &[u16], members: &[u32], start: Link, m: usize) -> Link
     requires { ⌜ Room s (length (now b)) × LiveChain (rows-in s (now b)) (total s) (now links) (now members) start × Member (rows-in s (now b)) m ⌝ }
-    ensures { λ i. ⌜ FindsTwin (rows-in s (now (b .entry))) (now (links .entry)) (now (members .entry)) start m i ⌝ }
+    ensures { λ l. ⌜ FindsTwin (rows-in s (now (b .entry))) (now (links .entry)) (now (members .entry)) start m l ⌝ }
 {
-    let mut i = start;
-    while 0 < i {
-        if are_twins(b, s, member(members, i - 1), m) {
-            return i;
+    let mut link = start;
+    while let Link::Member(i) = link {
+        if are_twins(b, s, member(members, i), m) {
+            return Link::Member(i);
         }
-        i = behind(links, i - 1);
+        link = behind(links, i);
     }
-    0
+    Link::End
 }
 
-// Rules 2 and 5 at an operator: 0 if it decides the operator above, else one more than the members that there are now. One whose tree is
-// that of a member goes.
+// Rules 2 and 5 at an operator. One whose tree is that of a member goes.
 pub fn judge_operator(
     b: &mut [u8],
     s: Layout,
@@ -183,29 +188,28 @@ pub fn judge_operator(
     heads: &mut [u16],
     links: &mut [u16],
     members: &mut [u32],
-) -> usize
+) -> Judgement
     requires { ⌜ ToJudge s (now b) c (now heads) (now links) (now members) × (4 < (at-row (rows-in s (now b)) (c .at)) .kind) ⌝ }
-    ensures { λ left. ⌜ Judges (rows-in s (now (b .entry))) (rows-in s (now (b .exit))) (c .at) (c .kind) (c .known) (c .before) (now (members .entry)) (now (members .exit)) left ⌝ }
-    ensures { λ left. ⌜ Linked (now (heads .exit)) (now (links .exit)) (now (members .exit)) (left - 1) × (left ≤ c .before + 2) ⌝ }
+    ensures { λ j. ⌜ Judges (rows-in s (now (b .entry))) (rows-in s (now (b .exit))) (c .at) (c .kind) (c .known) (c .before) (now (members .entry)) (now (members .exit)) j ⌝ }
+    ensures { λ j. ⌜ LinkedNow (now (heads .exit)) (now (links .exit)) (now (members .exit)) (c .before) j ⌝ }
 {
     let at = c.at;
     let n = c.before;
     if decides_at(b, s, c) {
-        return 0;
+        return Judgement::Decides;
     }
-    let m = at * 65536 + c.known % 65536;
+    let m = member_of(at, print_of(c.known));
     let start = first(heads, members, n, bucket_of(m));
-    let i = find_twin(b, s, links, members, start, m);
-    if i == 0 {
+    let Link::Member(_) = find_twin(b, s, links, members, start, m) else {
         add(heads, links, members, n, m);
-        return n + 2;
-    }
+        return Judgement::Members(n + 1);
+    };
     let rows = argument_at(b, s, at);
     set_row(b, s, at, GONE, rows);
-    n + 1
+    Judgement::Members(n)
 }
 
-// Rules 2 to 5 at a child: 0 if it decides the operator, else one more than the members that there are now.
+// Rules 2 to 5 at a child.
 pub fn judge(
     b: &mut [u8],
     s: Layout,
@@ -213,15 +217,15 @@ pub fn judge(
     heads: &mut [u16],
     links: &mut [u16],
     members: &mut [u32],
-) -> usize
+) -> Judgement
     requires { ⌜ ToJudge s (now b) c (now heads) (now links) (now members) ⌝ }
-    ensures { λ left. ⌜ Judges (rows-in s (now (b .entry))) (rows-in s (now (b .exit))) (c .at) (c .kind) (c .known) (c .before) (now (members .entry)) (now (members .exit)) left ⌝ }
-    ensures { λ left. ⌜ Linked (now (heads .exit)) (now (links .exit)) (now (members .exit)) (left - 1) × (left ≤ c .before + 2) ⌝ }
+    ensures { λ j. ⌜ Judges (rows-in s (now (b .entry))) (rows-in s (now (b .exit))) (c .at) (c .kind) (c .known) (c .before) (now (members .entry)) (now (members .exit)) j ⌝ }
+    ensures { λ j. ⌜ LinkedNow (now (heads .exit)) (now (links .exit)) (now (members .exit)) (c .before) j ⌝ }
 {
     let at = c.at;
     let k = kind_at(b, s, at);
     if k == GONE {
-        return c.before + 1;
+        return Judgement::Members(c.before);
     }
     if k <= NEGATIVE {
         let l = Child {
@@ -235,13 +239,13 @@ pub fn judge(
     judge_operator(b, s, c, heads, links, members)
 }
 
-// The print of an operator over its first `n` members, `h`, with that of member `n`, if it has come: `left` is one more than the members.
-pub fn print_with(h: usize, members: &[u32], n: usize, left: usize) -> usize
-    requires { ⌜ (h < 65536) × (n < length (now members)) × (left ≤ n + 2) ⌝ }
-    ensures { λ p. ⌜ (p ≡ mixes h (drop n (take (left - 1) (now (members .entry))))) × (p < 65536) ⌝ }
+// The print of an operator over its first `n` members, `h`, with that of member `n`, if it is among the `count` that there are now.
+pub fn print_with(h: usize, members: &[u32], n: usize, count: usize) -> usize
+    requires { ⌜ (h < 65536) × (n < length (now members)) × (count ≤ n + 1) ⌝ }
+    ensures { λ p. ⌜ (p ≡ mixes h (drop n (take count (now (members .entry))))) × (p < 65536) ⌝ }
 {
-    if n + 1 < left {
-        return mixed(h, member(members, n) % 65536);
+    if n < count {
+        return mixed(h, print_of(member(members, n)));
     }
     h
 }
@@ -256,11 +260,10 @@ pub fn gather(
     links: &mut [u16],
     members: &mut [u32],
     known: &[u32],
-) -> Gathered
+) -> Outcome
     requires { ⌜ ToGather w (now b) (now heads) (now links) (now members) (now known) ⌝ }
-    ensures { λ r. ⌜ GathersIn w (now (b .entry)) (now (b .exit)) (now (known .entry)) (now (members .exit)) (r .end) (r .left) ⌝ }
-    ensures { λ r. ⌜ r .left ≤ total (w .sheet) + 1 ⌝ }
-    ensures { λ r. ⌜ ((r .left ≡ 0 → ⊥) → r .print ≡ mixes (w .kind) (take (r .left - 1) (now (members .exit)))) × (r .print < 65536) ⌝ }
+    ensures { λ r. ⌜ GathersIn w (now (b .entry)) (now (b .exit)) (now (known .entry)) (now (members .exit)) r ⌝ }
+    ensures { λ r. ⌜ LeavesIn w (now (members .exit)) r ⌝ }
 {
     let s = w.sheet;
     let mut at = w.from;
@@ -277,22 +280,19 @@ pub fn gather(
         };
         left = splice_at(b, s, c, left);
         let next = at + extent_at(b, s, at);
-        let more = judge(b, s, c, heads, links, members);
-        if more == 0 {
-            return Gathered {
+        let Judgement::Members(count) = judge(b, s, c, heads, links, members) else {
+            return Outcome::Decided {
                 end: hop(b, s, next, left),
-                left: 0,
-                print: 0,
             };
-        }
-        print = print_with(print, members, n, more);
-        n = more - 1;
+        };
+        print = print_with(print, members, n, count);
+        n = count;
         run = join_at(b, s, run, at, next);
         at = next;
     }
-    Gathered {
+    Outcome::Left {
         end: at,
-        left: n + 1,
+        count: n,
         print: print,
     }
 }

@@ -4,18 +4,29 @@ use mathlib.Core.Path.{_≡_}
 use mathlib.Core.Bool.{cond}
 use mathlib.Core.List.{List}
 use mathlib.Core.Logic.{_⊎_}
-use Prim.Native.Nat.{ℕ, zero, suc, _/_, _%_, _-_, _≤_, _<_}
+use Prim.Native.Nat.{ℕ, zero, suc, _/_, _%_, _≤_, _<_}
 use lib.Dec.{eqb}
 use lib.ListN.{length, getD}
+use Rattle.buckets.specs.declared.Link.{Link}
+use Rattle.buckets.specs.declared.Link.the-variants.{End, Member}
+
+-- a link as tables hold it: 0 at a chain's end, else one more than the member's number
+abbrev pub entry-of : Link → ℕ
+entry-of End = 0
+entry-of (Member i) = suc i
 
 -- the bucket that a member falls into
 abbrev pub bucket : ℕ → ℕ
 bucket m = m / 2 % 1024
 
--- one more than the number of the last of the first n members that falls into bucket k, or 0 if none does
-unfoldable pub last : List ℕ → ℕ → ℕ → ℕ
-last M k zero = 0
-last M k (suc n) = cond (eqb (bucket (getD M n 0)) k) (suc n) (last M k n)
+-- the last of the first n members that falls into bucket k, the end if none does
+unfoldable pub last : List ℕ → ℕ → ℕ → Link
+last M k zero = End
+last M k (suc n) = cond (eqb (bucket (getD M n 0)) k) (Member n) (last M k n)
+
+-- an entry of a table of heads: right if its bucket has a member at all
+abbrev pub Head : List ℕ → ℕ → ℕ → ℕ → Type 0
+Head M k n h = (last M k n ≡ End) ⊎ (entry-of (last M k n) ≡ h)
 
 -- tables that are long enough for n members
 pub record Room (H L M : List ℕ) (n : ℕ) : Type 0 where
@@ -25,14 +36,13 @@ pub record Room (H L M : List ℕ) (n : ℕ) : Type 0 where
   pub countable : n < 65536
 
 -- Tables of heads and links for the first n members: a head is right wherever its bucket has a member, and a link wherever there is
--- one. What they hold elsewhere doesn't matter.
+-- a member. What they hold elsewhere doesn't matter.
 pub record Linked (H L M : List ℕ) (n : ℕ) : Type 0 where
-  pub heads : (k : ℕ) → k < 1024 → (last M k n ≡ 0) ⊎ (last M k n ≡ getD H k 0)
-  pub links : (i : ℕ) → i < n → getD L i 0 ≡ last M (bucket (getD M i 0)) i
+  pub heads : (k : ℕ) → k < 1024 → Head M k n (getD H k 0)
+  pub links : (i : ℕ) → i < n → getD L i 0 ≡ entry-of (last M (bucket (getD M i 0)) i)
 
--- a walk along a chain has come to i (one more than a member's number, 0 at the end): no member of the bucket from there on passes
--- the test
-pub record Passed (M : List ℕ) (n k : ℕ) (Test : ℕ → Type 0) (i : ℕ) : Type 0 where
-  pub within : i ≤ n
-  pub here : 0 < i → bucket (getD M (i - 1) 0) ≡ k
-  pub failed : (j : ℕ) → i ≤ j → j < n → bucket (getD M j 0) ≡ k → Test j → ⊥
+-- a walk along a chain has come to a link: no member of the bucket that it has passed, those with higher numbers, passes the test
+pub record Passed (M : List ℕ) (n k : ℕ) (Test : ℕ → Type 0) (l : Link) : Type 0 where
+  pub within : entry-of l ≤ n
+  pub here : (i : ℕ) → l ≡ Member i → bucket (getD M i 0) ≡ k
+  pub failed : (j : ℕ) → entry-of l ≤ j → j < n → bucket (getD M j 0) ≡ k → Test j → ⊥

@@ -1,16 +1,22 @@
 // Chains over members that are numbered in the order in which they came, so that those of one bucket are found without a walk over
 // the others. Tables may hold anything at first: an entry is taken only if the member that it names is there and falls into its
-// bucket. A member is one number, whatever its user has put into it; its bucket is read off its low bits.
+// bucket. A member is a tree by its row and its print, in one number; its bucket is read off the print.
 ghost use mathlib.Core.Path.{_≡_};
-ghost use mathlib.Core.Logic.{_⊎_};
 ghost use Prim.Native.Nat.{_+_, _^_, _≤_, _<_};
 ghost use lib.ListN.{length, getD, set};
-ghost use Rattle.buckets.specs.Chains.{bucket, last, Linked, Room};
+ghost use Rattle.buckets.specs.Chains.{entry-of, bucket, last, Head, Linked, Room};
 
+pub mod half;
 pub mod print;
 
 // Entries of a table of heads.
 pub const HEADS: usize = 1024;
+
+// A link of a chain: to the member of this number, or to none at its end.
+pub enum Link {
+    End,
+    Member(usize),
+}
 
 // A number of 16 bits, and one of 32.
 pub fn small(x: u16) -> usize
@@ -25,6 +31,27 @@ pub fn large(x: u32) -> usize
     x as usize
 }
 
+// The link that a table's entry stands for: 0 for the end, else one more than the member's number.
+pub fn link_of(entry: usize) -> Link
+    ensures { λ l. ⌜ entry-of l ≡ entry ⌝ }
+{
+    if entry == 0 {
+        return Link::End;
+    }
+    Link::Member(entry - 1)
+}
+
+// A link's entry.
+pub fn entry_of(l: Link) -> usize
+    requires { ⌜ entry-of l < 65536 ⌝ }
+    ensures { λ entry. ⌜ entry ≡ entry-of l ⌝ }
+{
+    match l {
+        Link::End => 0,
+        Link::Member(i) => i + 1,
+    }
+}
+
 // The bucket that a member falls into.
 pub fn bucket_of(m: usize) -> usize
     ensures { λ k. ⌜ (k ≡ bucket m) × (k < 1024) ⌝ }
@@ -32,30 +59,29 @@ pub fn bucket_of(m: usize) -> usize
     m / 2 % 1024
 }
 
-// One more than the number of the last of the first `n` members that falls into bucket `k`, or 0 if none does.
-pub fn first(heads: &[u16], members: &[u32], n: usize, k: usize) -> usize
-    requires { ⌜ (k < length (now heads)) × (n ≤ length (now members)) × ((last (now members) k n ≡ 0) ⊎ (last (now members) k n ≡ getD (now heads) k 0)) ⌝ }
-    ensures { λ r. ⌜ r ≡ last (now (members .entry)) k n ⌝ }
+// The last of the first `n` members that falls into bucket `k`.
+pub fn first(heads: &[u16], members: &[u32], n: usize, k: usize) -> Link
+    requires { ⌜ (k < length (now heads)) × (n ≤ length (now members)) × Head (now members) k n (getD (now heads) k 0) ⌝ }
+    ensures { λ l. ⌜ l ≡ last (now (members .entry)) k n ⌝ }
 {
-    let h = small(heads[k]);
-    if h == 0 {
-        return 0;
+    let Link::Member(i) = link_of(small(heads[k])) else {
+        return Link::End;
+    };
+    if n <= i {
+        return Link::End;
     }
-    if n < h {
-        return 0;
+    if bucket_of(member(members, i)) != k {
+        return Link::End;
     }
-    if bucket_of(large(members[h - 1])) != k {
-        return 0;
-    }
-    h
+    Link::Member(i)
 }
 
-// The same of those before member `i`, in its bucket.
-pub fn behind(links: &[u16], i: usize) -> usize
+// The last of those before member `i` that falls into its bucket.
+pub fn behind(links: &[u16], i: usize) -> Link
     requires { ⌜ i < length (now links) ⌝ }
-    ensures { λ r. ⌜ r ≡ getD (now (links .entry)) i 0 ⌝ }
+    ensures { λ l. ⌜ entry-of l ≡ getD (now (links .entry)) i 0 ⌝ }
 {
-    small(links[i])
+    link_of(small(links[i]))
 }
 
 // Member `i`.
@@ -72,7 +98,7 @@ pub fn add(heads: &mut [u16], links: &mut [u16], members: &mut [u32], n: usize, 
     ensures { λ _. ⌜ (now (members .exit) ≡ set (now (members .entry)) n m) × Linked (now (heads .exit)) (now (links .exit)) (now (members .exit)) (n + 1) ⌝ }
 {
     let k = bucket_of(m);
-    links[n] = first(heads, members, n, k) as u16;
+    links[n] = entry_of(first(heads, members, n, k)) as u16;
     members[n] = m as u32;
-    heads[k] = (n + 1) as u16;
+    heads[k] = entry_of(Link::Member(n)) as u16;
 }

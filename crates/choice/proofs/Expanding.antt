@@ -19,22 +19,22 @@ use Rattle.prefixes.proofs.Places.{prefix-row, no-rows}
 use Rattle.relevance.specs.Raw.{presence, grown-by}
 use Rattle.relevance.specs.declared.variable.Presence.{Presence}
 use Rattle.relevance.proofs.Growth.{raw-rows-by}
-use Rattle.choice.specs.Choosing.{Bound}
+use Rattle.signs.specs.Value.{Bound}
 use Rattle.choice.specs.Settling.{Unsettled}
 use Rattle.choice.specs.Expanding.{ExpandHere, ToExpand, cheapest-from, priced-in, beats, cheaper-of}
-use Rattle.choice.specs.declared.expand.ExpandChoice.{ExpandChoice}
+use Rattle.relevance.specs.declared.variable.Candidate.{Candidate}
 use Rattle.choice.proofs.Rows.{block-within, place-in, innermost-row, least-row, those-behind}
 
 -- beats
 
-pub beats-tie : (r q : ExpandChoice) → r .raw ≡ q .raw → ltb (r .variable) (q .variable) ≡ beats r q
+pub beats-tie : (r q : Candidate) → r .raw ≡ q .raw → ltb (r .variable) (q .variable) ≡ beats r q
 beats-tie r q e = sym (rw (le-ltb (r .raw) (q .raw) (omega (arith, e)), eq-eqb (r .raw) (q .raw) e))
 
-pub beats-else : (r q : ExpandChoice) → (r .raw ≡ q .raw → ⊥) → ltb (r .raw) (q .raw) ≡ beats r q
+pub beats-else : (r q : Candidate) → (r .raw ≡ q .raw → ⊥) → ltb (r .raw) (q .raw) ≡ beats r q
 beats-else r q e = sym (rw (ne-eqb (r .raw) (q .raw) e) (or-false (ltb (r .raw) (q .raw))))
 
 -- `best` is the choice among the rows from row i on, which are in the innermost block
-pub record Pricing (s : Layout) (b : Bytes) (i : ℕ) (best : ExpandChoice) : Type 0 where
+pub record Pricing (s : Layout) (b : Bytes) (i : ℕ) (best : Candidate) : Type 0 where
   pub inside : i < s .variables
   pub in-block : block-start (prefix-in s b) ≤ i
   pub chosen : ExpandHere s b (cheapest-from i (formula-in s b)) best
@@ -43,7 +43,7 @@ module _ {s : Layout} (b : Bytes) (ok : Readable s b) where
   -- the part and the raw rows of a row's variable
   pub priced-as : (i : ℕ) {x : ℕ} {part : Presence} {raw : ℕ} → x ≡ (binding-in s b i) .variable
       → part ≡ presence (of x) (matrix-in s b) → raw ≡ grown-by (s .nodes) part
-      → _≡_ {A = ExpandChoice} (record { row = i; variable = x; part = part; raw = raw }) (priced-in s b i)
+      → _≡_ {A = Candidate} (record { row = i; variable = x; part = part; raw = raw }) (priced-in s b i)
   priced-as i {x} here is e =
       let parted = is ∙ ap (λ v. presence (of v) (matrix-in s b)) here in
       rw (e ∙ raw-rows-by (of ((binding-in s b i) .variable)) b ok parted .0, parted, here)
@@ -60,7 +60,7 @@ module _ {s : Layout} (b : Bytes) (ok : Readable s b) where
         least-row (cheaper (formula-in s b)) (λ x. innermost x (formula-in s b)) (prefix-row b ok i h)
         (innermost-row b ok bound nothing i h ∙ le-leb (block-start (prefix-in s b)) i k)
 
-    pub price-start : (i : ℕ) {best : ExpandChoice} → suc i ≡ s .variables → best ≡ priced-in s b i → Pricing s b i best
+    pub price-start : (i : ℕ) {best : Candidate} → suc i ≡ s .variables → best ≡ priced-in s b i → Pricing s b i best
     unfolding cheapest-from formula-in those least earlier
     price-start i last e =
         let h : i < s .variables = omega (arith, last) in
@@ -77,7 +77,7 @@ module _ {s : Layout} (b : Bytes) (ok : Readable s b) where
               (least (cheaper (formula-in s b)) (those (λ x. innermost x (formula-in s b)) p))) (no-rows b ok (suc i) last));
         })
 
-    pub price-on : (i : ℕ) {j : ℕ} {best own next : ExpandChoice} → suc j ≡ i → block-start (prefix-in s b) < i
+    pub price-on : (i : ℕ) {j : ℕ} {best own next : Candidate} → suc j ≡ i → block-start (prefix-in s b) < i
         → own ≡ priced-in s b j → next ≡ cheaper-of best own → Pricing s b i best → Pricing s b j next
     unfolding earlier cheaper formula-in
     price-on i {j} {best} {own} {next} before in-front is-own is-next p =
@@ -105,7 +105,7 @@ module _ {s : Layout} (b : Bytes) (ok : Readable s b) where
         two false e h = priced j h e
 
     -- no row before the block is innermost
-    pub price-all : {i : ℕ} {best : ExpandChoice} → i ≤ block-start (prefix-in s b) → Pricing s b i best → ToExpand s b best
+    pub price-all : {i : ℕ} {best : Candidate} → i ≤ block-start (prefix-in s b) → Pricing s b i best → ToExpand s b best
     unfolding cheapest cheapest-from formula-in
     price-all {i} {best} h p =
         subst (λ o. ExpandHere s b o best)

@@ -2,7 +2,7 @@
 // the tables of occurrences, from which it also takes the chosen variable's literals.
 use prefixes::block_start;
 use prefixes::variable_at;
-use relevance::variable::Presence;
+use relevance::variable::Candidate;
 use relevance::variable::part_of;
 use relevance::variable::raw_rows_of;
 use rows::Layout;
@@ -10,17 +10,9 @@ ghost use mathlib.Core.Path.{_≡_};
 ghost use Prim.Native.Nat.{_<_};
 ghost use Rattle.subtrees.specs.Ends.{Indexed};
 ghost use Rattle.occurrences.specs.Occurrences.{Occurrences};
-ghost use Rattle.choice.specs.Choosing.{Bound};
+ghost use Rattle.signs.specs.Value.{Bound};
 ghost use Rattle.choice.specs.Settling.{Unsettled};
 ghost use Rattle.choice.specs.Expanding.{ToExpand, beats, cheaper-of, priced-in};
-
-// The variable to expand: its prefix row, its number, its relevant part if it has a literal, and the raw sheet's node rows.
-pub struct ExpandChoice {
-    pub row: usize,
-    pub variable: usize,
-    pub part: Presence,
-    pub raw: usize,
-}
 
 // The variable of prefix row `i` with its relevant part and its raw sheet's node rows.
 pub fn price_row(
@@ -30,14 +22,14 @@ pub fn price_row(
     ranges: &[u16],
     next: &[u16],
     i: usize,
-) -> ExpandChoice
+) -> Candidate
     requires { ⌜ Indexed s (now b) (now ends) × Bound s (now b) × Occurrences s (now b) (now ranges) (now next) × (i < s .variables) ⌝ }
     ensures { λ r. ⌜ r ≡ priced-in s (now (b .entry)) i ⌝ }
 {
     let x = variable_at(b, s, i);
     let part = part_of(b, s, ends, ranges, next, x);
     let raw = raw_rows_of(s.nodes, part);
-    ExpandChoice {
+    Candidate {
         row: i,
         variable: x,
         part: part,
@@ -46,7 +38,7 @@ pub fn price_row(
 }
 
 // Whether `best` has fewer raw rows than `own`, or as many and the lower number.
-fn is_cheaper(best: ExpandChoice, own: ExpandChoice) -> bool
+fn is_cheaper(best: Candidate, own: Candidate) -> bool
     ensures { λ r. ⌜ r ≡ beats best own ⌝ }
 {
     if best.raw == own.raw {
@@ -56,7 +48,7 @@ fn is_cheaper(best: ExpandChoice, own: ExpandChoice) -> bool
 }
 
 // The cheaper of the two.
-fn cheaper_of(best: ExpandChoice, own: ExpandChoice) -> ExpandChoice
+fn cheaper_of(best: Candidate, own: Candidate) -> Candidate
     ensures { λ r. ⌜ r ≡ cheaper-of best own ⌝ }
 {
     if is_cheaper(best, own) {
@@ -67,13 +59,7 @@ fn cheaper_of(best: ExpandChoice, own: ExpandChoice) -> ExpandChoice
 
 // The innermost-block variable with the fewest raw rows, where none may be settled: every row then has a literal, so the block is the
 // run of equal kinds at the end of the prefix, and is walked from the last row back to its first.
-pub fn choose_expand(
-    b: &[u8],
-    s: Layout,
-    ends: &[u16],
-    ranges: &[u16],
-    next: &[u16],
-) -> ExpandChoice
+pub fn choose_expand(b: &[u8], s: Layout, ends: &[u16], ranges: &[u16], next: &[u16]) -> Candidate
     requires { ⌜ Indexed s (now b) (now ends) × Bound s (now b) × Occurrences s (now b) (now ranges) (now next) × (0 < s .variables) × Unsettled s (now b) ⌝ }
     ensures { λ r. ⌜ ToExpand s (now (b .entry)) r ⌝ }
 {

@@ -11,8 +11,7 @@ ghost use mathlib.Core.Path.{_≡_};
 ghost use Prim.Native.Nat.{suc, _<_};
 ghost use Rattle.rows.specs.Formulas.{Readable};
 ghost use Rattle.signs.specs.Table.{Signed};
-ghost use Rattle.signs.specs.Value.{NumberedTo};
-ghost use Rattle.choice.specs.Choosing.{Bound};
+ghost use Rattle.signs.specs.Value.{NumberedTo, Bound};
 ghost use Rattle.choice.specs.Settling.{ToSettle, SettlesBefore, is-lower};
 
 // The variable to settle: its prefix row, its number and the value that goes in; or none may be settled.

@@ -21,9 +21,9 @@ use Rattle.subtrees.proofs.Matrix.{trees-nodes, sound-nodes}
 use Rattle.subtrees.proofs.Siblings.{below-row}
 use Rattle.occurrences.specs.Chains.{Bounds}
 use Rattle.occurrences.proofs.Chains.{first-here, occurs, pending}
-use Rattle.relevance.specs.Parts.{relevant-part, part-below, operator-part}
+use Rattle.subtrees.specs.Parts.{relevant-part, part-below, operator-part}
 use Rattle.relevance.specs.declared.Range.{Range}
-use Rattle.relevance.specs.declared.Relevant.{Relevant}
+use Rattle.subtrees.specs.declared.relevant.Relevant.{Relevant}
 use Rattle.relevance.proofs.Descent.{found-before}
 
 -- the relevant subtree at its own operator

@@ -27,7 +27,7 @@ use Rattle.prefixes.specs.Places.{place, binding-at, binding-in}
 use Rattle.prefixes.proofs.Places.{variable-place}
 use Rattle.occurrences.specs.Occurrences.{Occurrences}
 use Rattle.choice.specs.Expanding.{priced-in}
-use Rattle.choice.specs.declared.expand.ExpandChoice.{ExpandChoice}
+use Rattle.relevance.specs.declared.variable.Candidate.{Candidate}
 use Rattle.stepping.specs.Steps.{Named}
 use Rattle.stepping.specs.Admission.{admission-tests, Admitted}
 use Rattle.stepping.specs.Expanding.{Priced, Prepared, Expands}
@@ -92,7 +92,7 @@ module _ {b : Bytes} {x : ℕ} {s : Layout} {i : ℕ} {ends : List ℕ} (a : Adm
   row-variable : (binding-in s b i) .variable ≡ x
   row-variable = ap (λ j. (binding-at p j) .variable) (a .named .row-is) ∙ variable-place x p inside
 
-  module _ {c : ExpandChoice} (is : c ≡ priced-in s b i) where
+  module _ {c : Candidate} (is : c ≡ priced-in s b i) where
     pub priced : {ranges next : List ℕ} → Occurrences s b ranges next → Priced s b ends ranges next c
     priced {ranges} {next} found =
         subst (Priced s b ends ranges next) (sym is)
@@ -109,15 +109,15 @@ module _ {b : Bytes} {x : ℕ} {s : Layout} {i : ℕ} {ends : List ℕ} (a : Adm
     unfolding quote-call formula-in
     counted e =
         ap accepted
-        (ap (λ (q : ExpandChoice). q .raw) is ∙ ap (λ y. raw-rows (of y) (matrix-in s b)) row-variable ∙
+        (ap (λ (q : Candidate). q .raw) is ∙ ap (λ y. raw-rows (of y) (matrix-in s b)) row-variable ∙
         ap (λ (f : Formula). raw-rows (of x) (f .matrix)) (sheet-formula-in (a .sheet))) ∙
         sym (answer-passes (quote-tests F b x) (raw-count F b x) (quoted e))
 
     pub planned : {table : List ℕ} {w : Survey} → innermost x (formula-in s b) ≡ true
         → Prepared s b (c .variable) (c .row) table w → Planned b x table s w
     planned {table} {w} e r =
-        let variable : c .variable ≡ x = ap (λ (q : ExpandChoice). q .variable) is ∙ row-variable in
-        let row : w .to .row ≡ i = r .row-is ∙ ap (λ (q : ExpandChoice). q .row) is in
+        let variable : c .variable ≡ x = ap (λ (q : Candidate). q .variable) is ∙ row-variable in
+        let row : w .to .row ≡ i = r .row-is ∙ ap (λ (q : Candidate). q .row) is in
         record {
           tests-pass = quoted e;
           from = sheet-steppable (a .sheet);

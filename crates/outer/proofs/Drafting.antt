@@ -13,9 +13,9 @@ use Rattle.rows.specs.declared.Layout.{Layout}
 use Rattle.subtrees.specs.Ends.{Indexed}
 use Rattle.occurrences.specs.Chains.{Chain}
 use Rattle.occurrences.proofs.Chains.{occurs}
-use Rattle.relevance.specs.Parts.{relevant-part}
+use Rattle.subtrees.specs.Parts.{relevant-part}
 use Rattle.relevance.specs.Raw.{presence, grown-by}
-use Rattle.relevance.specs.declared.Relevant.{Relevant}
+use Rattle.subtrees.specs.declared.relevant.Relevant.{Relevant}
 use Rattle.relevance.specs.declared.Range.{Range}
 use Rattle.relevance.specs.declared.variable.Presence.{Presence}
 use Rattle.relevance.specs.declared.variable.Presence.the-variants.{Absent, Present}

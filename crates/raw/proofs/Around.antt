@@ -12,8 +12,8 @@ use Rattle.formula.proofs.Expand.{one-later, one-counts, no-child}
 use Rattle.sheet.specs.Format.{Row, row}
 use Rattle.sheet.specs.Sheet.{operator-kind, tree-rows, forest-rows}
 use Rattle.sheet.proofs.Preorder.{length-tree-rows}
-use Rattle.relevance.specs.Parts.{literal-part, operator-part, relevant-part, part-below}
-use Rattle.relevance.specs.declared.Relevant.{Relevant}
+use Rattle.subtrees.specs.Parts.{literal-part, operator-part, relevant-part, part-below}
+use Rattle.subtrees.specs.declared.relevant.Relevant.{Relevant}
 
 -- some literal is chosen, and no single child has them all
 abbrev pub Deepest : Literals → Tree → Type 0

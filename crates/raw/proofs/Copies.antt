@@ -12,8 +12,8 @@ use Rattle.formula.specs.Expand.{Copying, relevant, copies, at-first, expand-tr
 use Rattle.sheet.specs.Format.{Row, row}
 use Rattle.sheet.specs.Sheet.{operator-kind, tree-rows, forest-rows}
 use Rattle.subtrees.specs.Subtrees.{top, kids}
-use Rattle.relevance.specs.Cuts.{every-other}
-use Rattle.relevance.specs.Parts.{operator-part}
+use Rattle.subtrees.specs.Cuts.{every-other}
+use Rattle.subtrees.specs.Parts.{operator-part}
 use Rattle.changing.specs.Changes.{chosen, changed, changed-row}
 use Rattle.changing.proofs.Changed.{count-replace-all, rows-changed, rows-changed-all}
 use Rattle.raw.specs.Expansions.{joined}

@@ -18,7 +18,7 @@ use Rattle.rows.specs.declared.Layout.{Layout}
 use Rattle.rows.proofs.Formulas.{length-nodes}
 use Rattle.subtrees.specs.Subtrees.{top, kids}
 use Rattle.subtrees.proofs.Forest.{rows-kids}
-use Rattle.relevance.specs.declared.Relevant.{Relevant}
+use Rattle.subtrees.specs.declared.relevant.Relevant.{Relevant}
 use Rattle.changing.specs.Changes.{changed-row, copied}
 use Rattle.changing.specs.Output.{Ready}
 use Rattle.rows.proofs.Limits.{number-fits}

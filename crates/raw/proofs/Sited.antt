@@ -18,8 +18,8 @@ use Rattle.rows.specs.declared.Layout.{Layout}
 use Rattle.rows.proofs.Formulas.{length-nodes, one-tree}
 use Rattle.subtrees.specs.Subtrees.{kids, forest-in, subtree-in}
 use Rattle.subtrees.proofs.Forest.{tree-rows-top}
-use Rattle.relevance.specs.Parts.{operator-part, relevant-part}
-use Rattle.relevance.specs.declared.Relevant.{Relevant}
+use Rattle.subtrees.specs.Parts.{operator-part, relevant-part}
+use Rattle.subtrees.specs.declared.relevant.Relevant.{Relevant}
 use Rattle.changing.specs.Changes.{changed-row, copied}
 use Rattle.raw.specs.Formulas.{second-table, chosen-by, copying-by}
 use Rattle.raw.specs.Expansions.{Copyable, Located, part-in, new-rows}

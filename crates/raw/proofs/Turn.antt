@@ -17,7 +17,7 @@ use Rattle.changing.specs.Output.{copy-in, Within, Laid}
 use Rattle.changing.specs.declared.Span.{Span}
 use Rattle.changing.proofs.Changed.{map-append}
 use Rattle.changing.proofs.Splice.{none-laid, laid-on}
-use Rattle.relevance.specs.Cuts.{every-other}
+use Rattle.subtrees.specs.Cuts.{every-other}
 use Rattle.raw.specs.Expansions.{Climbs, runs-in}
 use Rattle.raw.proofs.Source.{nodes-copied}
 

@@ -15,8 +15,8 @@ use Rattle.rows.specs.declared.Layout.{Layout}
 use Rattle.subtrees.specs.Subtrees.{top, kids, subtree-in}
 use Rattle.changing.specs.Changes.{changed-row}
 use Rattle.changing.specs.Output.{Ready}
-use Rattle.relevance.specs.Cuts.{cuts, every-other}
-use Rattle.relevance.specs.Parts.{relevant-part}
+use Rattle.subtrees.specs.Cuts.{cuts, every-other}
+use Rattle.subtrees.specs.Parts.{relevant-part}
 use Rattle.raw.specs.Formulas.{first-table, second-table, chosen-by, operator-of, copying-by, raw-layout}
 use Rattle.raw.specs.declared.expand.Expansion.{Expansion}
 use Rattle.raw.specs.declared.runs.Head.{Head}

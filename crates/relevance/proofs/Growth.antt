@@ -15,9 +15,9 @@ use Rattle.rows.specs.declared.Layout.{Layout}
 use Rattle.rows.proofs.Formulas.{rows-nodes}
 use Rattle.subtrees.specs.Subtrees.{kids}
 use Rattle.subtrees.proofs.Forest.{rows-kids}
-use Rattle.relevance.specs.Parts.{relevant-part, part-below, operator-part}
+use Rattle.subtrees.specs.Parts.{relevant-part, part-below, operator-part}
 use Rattle.relevance.specs.Raw.{added, grown, presence, grown-by, copied}
-use Rattle.relevance.specs.declared.Relevant.{Relevant}
+use Rattle.subtrees.specs.declared.relevant.Relevant.{Relevant}
 use Rattle.relevance.specs.declared.variable.Presence.{Presence}
 use Rattle.relevance.specs.declared.variable.Presence.the-variants.{Absent, Present}
 

@@ -14,7 +14,7 @@ use Rattle.sheet.specs.Format.{Bytes}
 use Rattle.rows.specs.declared.Layout.{Layout}
 use Rattle.subtrees.specs.Subtrees.{subtree-in, siblings-in}
 use Rattle.subtrees.proofs.Siblings.{Walked, siblings-none}
-use Rattle.relevance.specs.Cuts.{turns, cuts}
+use Rattle.subtrees.specs.Cuts.{turns, cuts}
 use Rattle.relevance.specs.Walks.{Way, run-cut, table-cut}
 use Rattle.relevance.specs.declared.cuts.Runs.{Runs}
 use Rattle.relevance.proofs.TurnPart.{Begun, Walk, walk-start, walk-next, walked, end-later, held-by}

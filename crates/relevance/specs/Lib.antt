@@ -1,5 +1,3 @@
--- The relevant part of a matrix for a set of literals.
-pub mod Parts
-pub mod Cuts
+-- The relevant part of a matrix for a set of literals: how it is found, and what its expansion costs.
 pub mod Raw
 pub mod Walks

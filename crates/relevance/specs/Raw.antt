@@ -3,8 +3,8 @@
 use mathlib.Core.Bool.{cond}
 use Prim.Native.Nat.{ℕ, _+_}
 use Rattle.formula.specs.Tree.{Tree, Literals, has}
-use Rattle.relevance.specs.Parts.{relevant-part}
-use Rattle.relevance.specs.declared.Relevant.{Relevant}
+use Rattle.subtrees.specs.Parts.{relevant-part}
+use Rattle.subtrees.specs.declared.relevant.Relevant.{Relevant}
 use Rattle.relevance.specs.declared.variable.Presence.{Presence}
 use Rattle.relevance.specs.declared.variable.Presence.the-variants.{Absent, Present}
 

@@ -14,9 +14,9 @@ use Rattle.rows.specs.declared.Layout.{Layout}
 use Rattle.subtrees.specs.Subtrees.{kids, subtree-in}
 use Rattle.subtrees.specs.Ends.{Indexed}
 use Rattle.occurrences.specs.Chains.{Bounds, Chain}
-use Rattle.relevance.specs.Cuts.{cuts}
-use Rattle.relevance.specs.Parts.{relevant-part, operator-part}
-use Rattle.relevance.specs.declared.Relevant.{Relevant}
+use Rattle.subtrees.specs.Cuts.{cuts}
+use Rattle.subtrees.specs.Parts.{relevant-part, operator-part}
+use Rattle.subtrees.specs.declared.relevant.Relevant.{Relevant}
 use Rattle.relevance.specs.declared.Range.{Range}
 use Rattle.relevance.specs.declared.Site.{Site}
 use Rattle.relevance.specs.declared.cuts.Runs.{Runs}

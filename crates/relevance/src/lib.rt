@@ -11,15 +11,6 @@ pub struct Range {
     pub last: usize,
 }
 
-// The deepest operator above all chosen literals, or the one literal that is chosen: its node row, whether every child is
-// relevant, E, and how many children are relevant, none of a literal.
-pub struct Relevant {
-    pub operator: usize,
-    pub all: bool,
-    pub rows: usize,
-    pub children: usize,
-}
-
 // An operator's node row, and that of the first literal of a chain, which stands behind it.
 pub struct Site {
     pub operator: usize,

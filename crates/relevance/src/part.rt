@@ -1,10 +1,10 @@
 // The relevant part for the literals of a chain. A child holds every literal exactly if its rows span from the first one to the last
 // one, so one descent finds the deepest operator above them all; then one walk over its children, along the chain, finds the relevant ones.
 use crate::Range;
-use crate::Relevant;
 use crate::Site;
 use rows::Layout;
 use subtrees::nodes::children_at;
+use subtrees::relevant::Relevant;
 ghost use mathlib.Core.Path.{_≡_};
 ghost use Prim.Native.Nat.{_≤_, _<_};
 ghost use lib.Dec.{ltb};

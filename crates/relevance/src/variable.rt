@@ -1,8 +1,8 @@
 // The relevant part of one variable and the rows of its expansion's raw sheet, by the tables of occurrences.
 use crate::Range;
-use crate::Relevant;
 use crate::part::relevant_part;
 use rows::Layout;
+use subtrees::relevant::Relevant;
 ghost use mathlib.Core.Path.{_≡_};
 ghost use Prim.Native.Nat.{_≤_};
 ghost use Rattle.formula.specs.Tree.{of};
@@ -16,6 +16,14 @@ ghost use Rattle.relevance.specs.Raw.{grown, presence, grown-by, copied}
 pub enum Presence {
     Absent,
     Present(Relevant),
+}
+
+// A variable that may be expanded: its prefix row, its number, its relevant part if it has a literal, and the raw sheet's node rows.
+pub struct Candidate {
+    pub row: usize,
+    pub variable: usize,
+    pub part: Presence,
+    pub raw: usize,
 }
 
 // The relevant part of the variable `x`, if it has a literal.

@@ -1,15 +1,16 @@
 -- The value that settling puts in, by the signs of a variable's literals ("Settle x").
 -- Assumes nothing.
+use mathlib.Core.Path.{_≡_}
 use mathlib.Core.Bool.{Bool, true, false, not, _||_, cond}
 use mathlib.Core.List.{List}
 use mathlib.Core.Option.{Option, none, some}
 use Prim.Native.Nat.{ℕ, _≤_, _<_}
 use lib.Dec.{eqb}
 use lib.ListN.{getD}
-use Rattle.formula.specs.Tree.{Quantifier, exists, for-all, Tree, of-sign, has}
+use Rattle.formula.specs.Tree.{Quantifier, exists, for-all, Tree, of-sign, has, distinct}
 use Rattle.formula.specs.Settle.{at-root, value, settling}
 use Rattle.sheet.specs.Format.{Bytes}
-use Rattle.rows.specs.Formulas.{matrix-in}
+use Rattle.rows.specs.Formulas.{prefix-in, matrix-in}
 use Rattle.rows.specs.declared.Layout.{Layout}
 use Rattle.prefixes.specs.Places.{binding-in}
 use Rattle.signs.specs.Table.{entry-of}
@@ -24,6 +25,11 @@ pub record NumberedTo (most : ℕ) (s : Layout) (b : Bytes) : Type 0 where
 -- none above 1,024, the wider format's most
 abbrev pub Numbered : Layout → Bytes → Type 0
 Numbered s b = NumberedTo 1024 s b
+
+-- and no number twice
+pub record Bound (s : Layout) (b : Bytes) : Type 0 where
+  pub is-distinct : distinct (prefix-in s b) ≡ true
+  pub numbered : Numbered s b
 
 -- the table of values: exists, for all; positive, negative
 abbrev pub quantifier-at : ℕ → Quantifier

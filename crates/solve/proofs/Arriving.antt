@@ -40,14 +40,14 @@ use Rattle.relevance.specs.declared.variable.Presence.the-variants.{Absent, Pre
 use Rattle.relevance.proofs.Growth.{raw-rows-by}
 use Rattle.choice.specs.Settling.{Unsettled}
 use Rattle.choice.specs.Expanding.{ToExpand}
-use Rattle.choice.specs.declared.expand.ExpandChoice.{ExpandChoice}
+use Rattle.relevance.specs.declared.variable.Candidate.{Candidate}
 use Rattle.stepping.specs.Steps.{Named, Puts}
 use Rattle.stepping.specs.Expanding.{Prepared, Expands}
 use Rattle.stepping.specs.declared.settling.Put.{Put}
 use Rattle.stepping.specs.declared.survey.Survey.{Survey}
 use Rattle.solve.specs.declared.State.{State}
 use Rattle.solve.specs.declared.step.Step.the-variants as taking
-use Rattle.solve.specs.Inner.Running.{Held, Ready, begun, Open, Settles, Fetchable, ZerosBehind, Stepped, reached}
+use Rattle.solve.specs.Inner.Running.{Held, Ready, begun, Open, Settles, Fetchable, ZerosBehind, long-in, Stepped, reached}
 use Rattle.solve.proofs.Holding.{hold, readable, proper, steppable, variables-are, nodes-are}
 use Rattle.solve.proofs.Carrying.{front-part}
 use Rattle.solve.proofs.Stepping.{step-ends, step-settles, step-expands, step-stops, variables-left, within-settled, within-expanded, fits-tested}
@@ -64,11 +64,13 @@ pub record Arrives (F : sheet.Format) (most : ℕ) (v : ℕ) (g : Formula) : Typ
   pub is-neat : is-tidy (g .matrix) ≡ true
   pub short : length (sheet F g) ≤ most
 
-module _ (f : Format) {most v : ℕ} {g : Formula} (a : Arrives (format-of f) most v g) (rest : Bytes) {u : Layout} {bytes : ℕ} {c : Bytes}
-    (in-second : c ≡ sheet (format-of f) g ++ rest) (at : u ≡ layout-for f g)
-    (as-long : bytes ≡ sheet-length (format-of f) (u .variables) (u .nodes)) where
+module _ (f : Format) {most v : ℕ} {g : Formula} (a : Arrives (format-of f) most v g) (rest : Bytes) {u : Layout} {c : Bytes}
+    (in-second : c ≡ sheet (format-of f) g ++ rest) (at : u ≡ layout-for f g) where
+  abbrev bytes : ℕ
+  bytes = sheet-length (format-of f) (u .variables) (u .nodes)
+
   long : bytes ≡ length (sheet (format-of f) g)
-  long = as-long ∙ ap (λ (t : Layout). sheet-length (format-of f) (t .variables) (t .nodes)) at ∙ sym (length-sheet (format-of f) g)
+  long = ap (λ (t : Layout). sheet-length (format-of f) (t .variables) (t .nodes)) at ∙ sym (length-sheet (format-of f) g)
 
   pub fetchable : {d : Bytes} → most ≤ length d → Fetchable bytes d c
   fetchable l =
@@ -86,13 +88,12 @@ abbrev Goes-to : ℕ → State → Bytes → Formula → State → Bytes → Typ
 Goes-to most s first g t new = formula-in (t .sheet) new ≡ g → step (fits (format-in (s .sheet)) most) (reached s first) ≡ next (reached t new)
 
 pub taken : {most : ℕ} (s t : State) (first : Bytes) {v : ℕ} {g : Formula} (a : Arrives (format-in (s .sheet)) most v g) (rest : Bytes)
-    {bytes : ℕ} {c new : Bytes} → c ≡ sheet (format-in (s .sheet)) g ++ rest → t .sheet ≡ layout-for (s .sheet .format) g
-    → bytes ≡ sheet-length (format-in (s .sheet)) (t .sheet .variables) (t .sheet .nodes)
-    → (old : ℕ) → most ≤ old → new ≡ padded old (take bytes c) → Goes-to most s first g t new
+    {c new : Bytes} → c ≡ sheet (format-in (s .sheet)) g ++ rest → t .sheet ≡ layout-for (s .sheet .format) g
+    → (old : ℕ) → most ≤ old → new ≡ padded old (take (long-in (s .sheet) (t .sheet)) c) → Goes-to most s first g t new
     → s .sheet .variables ≡ suc (t .sheet .variables) → begun t ≡ begun s
     → (second : Bytes) → Stepped most s first second new c (taking.Next t)
-taken s t first a rest in-second at as-long old room in-first goes less same second =
-    let arrival = arrived (s .sheet .format) a rest in-second at as-long old room in-first in
+taken s t first a rest in-second at old room in-first goes less same second =
+    let arrival = arrived (s .sheet .format) a rest in-second at old room in-first in
     (goes (arrival .0), arrival .1, less, same, ap (λ (u : Layout). u .format) at)
 
 -- a raw sheet has at most twice the rows and two
@@ -122,10 +123,10 @@ module _ {most : ℕ} {s : State} {first second : Bytes} (r : Ready most s first
   few-rows = (omega (arith, r .few), omega (arith, readable (r .held) .few-nodes))
 
   -- the sheet held, and behind it only zeros
-  pub zeros-behind : {old : ℕ} → old ≡ sheet-length F (t .variables) (t .nodes) → ZerosBehind old first
+  pub zeros-behind : ZerosBehind (long-in t t) first
   unfolding padded
-  zeros-behind {old} e =
-      let long : old ≡ length (sheet F f) = e ∙ sym (length-sheet F f ∙ ap₂ (sheet-length F) (sym (variables-are (r .held))) (sym (nodes-are (r .held)))) in
+  zeros-behind =
+      let long : long-in t t ≡ length (sheet F f) = sym (length-sheet F f ∙ ap₂ (sheet-length F) (sym (variables-are (r .held))) (sym (nodes-are (r .held)))) in
       record {
         inside = omega (arith, long, r .held .has-room, r .first-room);
         zeros =
@@ -205,7 +206,7 @@ module _ {most : ℕ} {s : State} {first second : Bytes} (r : Ready most s first
 
     -- Expand
 
-    module _ (nothing : Unsettled t first) {c : ExpandChoice} (here : ToExpand t first c) where
+    module _ (nothing : Unsettled t first) {c : Candidate} (here : ToExpand t first c) where
       abbrev y : ℕ
       y = c .variable
 

@@ -25,8 +25,7 @@ use Rattle.rows.proofs.Layouts.{rows-in-++}
 use Rattle.rows.proofs.Formulas.{formula-read, accepted-readable}
 use Rattle.rows.proofs.Limits.{limits, sound}
 use Rattle.prefixes.specs.Places.{binding-at}
-use Rattle.signs.specs.Value.{NumberedTo}
-use Rattle.choice.specs.Choosing.{Bound}
+use Rattle.signs.specs.Value.{NumberedTo, Bound}
 use Rattle.stepping.specs.Steps.{Steppable}
 use Rattle.solve.specs.Inner.Running.{Held}
 

@@ -8,6 +8,7 @@ use choice::settle::SettleChoice;
 use choice::settle::choose_settle;
 use occurrences::fill_occurrences;
 use relevance::cuts::CUTS;
+use rows::Layout;
 use rows::NUMBERS;
 use rows::ROWS;
 use rows::bytes::clear;
@@ -28,7 +29,7 @@ ghost use Rattle.sheet.specs.Operations.{padded};
 ghost use Rattle.rows.specs.Tables.{ROWS};
 ghost use Rattle.subtrees.specs.Ends.{Indexed};
 ghost use Rattle.choice.specs.Settling.{Unsettled};
-ghost use Rattle.solve.specs.Inner.Running.{Ready, Open, Settles, Fetchable, ZerosBehind, Stepped};
+ghost use Rattle.solve.specs.Inner.Running.{Ready, Open, Settles, Fetchable, long-in, Brings, Stepped};
 
 // Decided, stopped at a variable, or on to the next state.
 pub enum Step {
@@ -56,12 +57,15 @@ fn longer(a: usize, b: usize) -> usize
     a
 }
 
-// Brings such a sheet to the first buffer where that one has zeros from byte `old` on: no more is cleared than what stood there.
-fn bring(first: &mut [u8], second: &[u8], bytes: usize, old: usize)
-    requires { ⌜ Fetchable bytes (now first) (now second) × ZerosBehind old (now first) ⌝ }
-    ensures { λ _. ⌜ now (first .exit) ≡ padded (length (now (first .entry))) (take bytes (now (second .entry))) ⌝ }
+// Brings the sheet of layout `to` from the front of the second buffer to the first, where one of layout `from` stands with zeros behind
+// it: no more is cleared than what stood there.
+fn bring(first: &mut [u8], second: &[u8], from: Layout, to: Layout)
+    requires { ⌜ Brings from to (now first) (now second) ⌝ }
+    ensures { λ _. ⌜ now (first .exit) ≡ padded (length (now (first .entry))) (take (long-in from to) (now (second .entry))) ⌝ }
 {
-    let part = longer(bytes, old);
+    let f = from.format;
+    let bytes = sheet_length(f, to.variables, to.nodes);
+    let part = longer(bytes, sheet_length(f, from.variables, from.nodes));
     fetch(&mut first[..part], second, bytes);
 }
 
@@ -72,11 +76,9 @@ fn settle_step(first: &mut [u8], second: &mut [u8], room: usize, s: State, p: Pu
 {
     let t = s.sheet;
     let f = t.format;
-    let old = sheet_length(f, t.variables, t.nodes);
     let need = sheet_length(f, t.variables - 1, t.nodes);
     let sheet = settle_into(first, t, p, &mut second[..need]);
-    let bytes = sheet_length(f, sheet.variables, sheet.nodes);
-    bring(first, second, bytes, old);
+    bring(first, second, t, sheet);
     Step::Next(State {
         sheet: sheet,
         settled: s.settled + 1,
@@ -101,11 +103,9 @@ fn expand_step(first: &mut [u8], second: &mut [u8], room: usize, s: State, ends:
     let mut cuts = [0u16; CUTS];
     let d = draft(first, t, &ranges, c);
     let w = survey_draft(first, t, ends, &next, d, &mut cuts);
-    let old = sheet_length(f, t.variables, t.nodes);
     let need = sheet_length(f, t.variables - 1, c.raw);
     let sheet = expand_into(first, t, c.variable, &cuts, w, &mut second[..need]);
-    let bytes = sheet_length(f, sheet.variables, sheet.nodes);
-    bring(first, second, bytes, old);
+    bring(first, second, t, sheet);
     Step::Next(State {
         sheet: sheet,
         settled: s.settled,

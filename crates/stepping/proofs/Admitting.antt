@@ -30,8 +30,7 @@ use Rattle.subtrees.specs.Ends.{Indexed}
 use Rattle.prefixes.specs.Places.{place, binding-at}
 use Rattle.prefixes.proofs.Places.{binds-place}
 use Rattle.tidiness.proofs.Tidiness.{tidy-by, fault-by}
-use Rattle.signs.specs.Value.{Numbered}
-use Rattle.choice.specs.Choosing.{Bound}
+use Rattle.signs.specs.Value.{Numbered, Bound}
 use Rattle.stepping.specs.Steps.{Steppable}
 use Rattle.stepping.specs.Admission.{admission-tests, Admitted}
 

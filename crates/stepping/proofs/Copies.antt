@@ -22,8 +22,8 @@ use Rattle.rows.specs.declared.Layout.{Layout}
 use Rattle.subtrees.specs.Subtrees.{kids, subtree-in}
 use Rattle.changing.specs.Changes.{putting, chosen, changed}
 use Rattle.changing.proofs.Tables.{length-putting, chosen-putting, changed-putting}
-use Rattle.relevance.specs.Cuts.{cuts}
-use Rattle.relevance.specs.Parts.{relevant-part}
+use Rattle.subtrees.specs.Cuts.{cuts}
+use Rattle.subtrees.specs.Parts.{relevant-part}
 use Rattle.raw.specs.Formulas.{first-table, second-table, chosen-by, operator-of, copying-by, expanded-raw, raw-layout, Raw}
 use Rattle.raw.specs.Expansions.{Expandable, Found}
 use Rattle.tidying.specs.Limits as tidying

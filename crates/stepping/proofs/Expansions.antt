@@ -14,7 +14,7 @@ use Rattle.rows.specs.declared.Layout.{Layout}
 use Rattle.rows.proofs.Formulas.{length-prefix}
 use Rattle.prefixes.specs.Places.{binding-at, binding-in}
 use Rattle.prefixes.proofs.Places.{quantifier-of-place}
-use Rattle.choice.specs.declared.expand.ExpandChoice.{ExpandChoice}
+use Rattle.relevance.specs.declared.variable.Candidate.{Candidate}
 use Rattle.stepping.specs.Survey.{Drafts, Surveyed}
 use Rattle.stepping.specs.Expanding.{Priced, draft-of, Prepared}
 use Rattle.stepping.specs.declared.survey.Survey.{Survey}
@@ -29,7 +29,7 @@ pub joins-and : (o : Op) → same-op exists o ≡ false → 5 ≡ operator-kind 
 joins-and and h = refl
 joins-and or h = absurd (true≢false h)
 
-module _ {s : Layout} {b : Bytes} {ends ranges next : List ℕ} {c : ExpandChoice} (k : Priced s b ends ranges next c) where
+module _ {s : Layout} {b : Bytes} {ends ranges next : List ℕ} {c : Candidate} (k : Priced s b ends ranges next c) where
   abbrev x : ℕ
   x = c .variable
 

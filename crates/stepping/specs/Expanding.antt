@@ -16,7 +16,7 @@ use Rattle.subtrees.specs.Ends.{Indexed}
 use Rattle.prefixes.specs.Places.{binding-in}
 use Rattle.occurrences.specs.Occurrences.{Occurrences}
 use Rattle.relevance.specs.Raw.{presence}
-use Rattle.choice.specs.declared.expand.ExpandChoice.{ExpandChoice}
+use Rattle.relevance.specs.declared.variable.Candidate.{Candidate}
 use Rattle.raw.specs.Formulas.{raw-layout}
 use Rattle.stepping.specs.Steps.{Steppable, Named}
 use Rattle.stepping.specs.Survey.{FoundPart}
@@ -24,7 +24,7 @@ use Rattle.stepping.specs.declared.survey.Draft.{Draft}
 use Rattle.stepping.specs.declared.survey.Survey.{Survey}
 
 -- a variable with its relevant part and its raw rows, and the tables they were found by
-pub record Priced (s : Layout) (b : Bytes) (ends ranges next : List ℕ) (c : ExpandChoice) : Type 0 where
+pub record Priced (s : Layout) (b : Bytes) (ends ranges next : List ℕ) (c : Candidate) : Type 0 where
   pub indexed : Indexed s b ends
   pub occurrences : Occurrences s b ranges next
   pub named : Named s b (c .variable) (c .row)
@@ -32,7 +32,7 @@ pub record Priced (s : Layout) (b : Bytes) (ends ranges next : List ℕ) (c : Ex
   pub raw-is : c .raw ≡ raw-rows (of (c .variable)) (matrix-in s b)
 
 -- what is expanded of it: its literals, of which the table has the first; its row goes, and its quantifier's operator joins the copies
-abbrev pub draft-of : Layout → Bytes → List ℕ → ExpandChoice → Draft
+abbrev pub draft-of : Layout → Bytes → List ℕ → Candidate → Draft
 draft-of s b ranges c =
     record {
       part = c .part;

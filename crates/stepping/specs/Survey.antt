@@ -13,10 +13,10 @@ use Rattle.rows.specs.declared.Layout.{Layout}
 use Rattle.subtrees.specs.Subtrees.{kids, subtree-in}
 use Rattle.subtrees.specs.Ends.{Indexed}
 use Rattle.occurrences.specs.Chains.{Chain}
-use Rattle.relevance.specs.Cuts.{cuts}
-use Rattle.relevance.specs.Parts.{relevant-part}
+use Rattle.subtrees.specs.Cuts.{cuts}
+use Rattle.subtrees.specs.Parts.{relevant-part}
 use Rattle.relevance.specs.Raw.{presence}
-use Rattle.relevance.specs.declared.Relevant.{Relevant}
+use Rattle.subtrees.specs.declared.relevant.Relevant.{Relevant}
 use Rattle.relevance.specs.declared.variable.Presence.{Presence}
 use Rattle.relevance.specs.declared.variable.Presence.the-variants.{Absent, Present}
 use Rattle.raw.specs.declared.expand.Expansion.{Expansion}

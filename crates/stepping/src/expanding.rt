@@ -2,9 +2,9 @@
 use crate::survey::Draft;
 use crate::survey::Survey;
 use changing::table::fill_both;
-use choice::expand::ExpandChoice;
 use prefixes::is_existential;
 use raw::expand::write_raw;
+use relevance::variable::Candidate;
 use rows::AND;
 use rows::Layout;
 use rows::NUMBERS;
@@ -34,7 +34,7 @@ fn joint_at(b: &[u8], s: Layout, i: usize) -> u8
 }
 
 // What is expanded of a variable whose relevant part and price are known, by the first rows of all variables' literals.
-pub fn draft(b: &[u8], s: Layout, ranges: &[u16], c: ExpandChoice) -> Draft
+pub fn draft(b: &[u8], s: Layout, ranges: &[u16], c: Candidate) -> Draft
     requires { ⌜ Readable s (now b) × (c .row < s .variables) × (c .variable ≤ HIGHEST) × (length (now ranges) ≡ 2 * NUMBERS) ⌝ }
     ensures { λ d. ⌜ d ≡ draft-of s (now (b .entry)) (now (ranges .entry)) c ⌝ }
 {

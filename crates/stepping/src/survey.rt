@@ -1,11 +1,11 @@
 // Where the copies of an expansion go, found before anything is written. The literals that are expanded are a set, given by a chain of
 // their rows: those of one variable in Expand, those of a variable and of all that depend on it in the step one block out.
 use raw::expand::Expansion;
-use relevance::Relevant;
 use relevance::Site;
 use relevance::cuts::fill_cuts;
 use relevance::variable::Presence;
 use rows::Layout;
+use subtrees::relevant::Relevant;
 ghost use mathlib.Core.Path.{_≡_};
 ghost use Prim.Native.Nat.{_<_};
 ghost use lib.ListN.{length};

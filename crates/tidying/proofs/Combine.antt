@@ -7,7 +7,6 @@ use Prim.Native.Nat.{ℕ, zero, suc, _+_, _-_, _≤_, _<_}
 use native.Mathlib.Omega.{arith}
 use lib.ListN.{length}
 use lib.Seq.{append-snoc, getD-at}
-use borrow.Author.Tests.{eq-eqb, ne-eqb}
 use Rattle.formula.specs.Tree.{Op, and, or, dual, Tree, lit, node, Forest, ∅, _▸_, _⧺_, count}
 use Rattle.formula.specs.Tidy.{same-tree, splice, decides, firsts, unwrap, combine, tidy, tidy-all}
 use Rattle.formula.proofs.Tidy.Same.{firsts-once}
@@ -16,7 +15,12 @@ use Rattle.sheet.specs.Sheet.{literal-kind, operator-kind, front, behind, grow}
 use Rattle.sheet.proofs.Preorder.{NodeKind, literal, operator, node-kind}
 use Rattle.blocks.specs.Blocks.{Blocks, _◂_, _⊕_, head, inner, block-rows, grown, live, OperatorKind}
 use Rattle.blocks.specs.Blocks as blocks
-use Rattle.blocks.specs.Gather.{Flat, ChildrenAt, Gathered, Gathers}
+use Rattle.blocks.specs.Gather.{end-of, judgement-of, Flat, ChildrenAt, Gathered, Gathers}
+use Rattle.blocks.specs.Rules.{is-decided}
+use Rattle.blocks.specs.declared.rules.Judgement.{Judgement}
+use Rattle.blocks.specs.declared.rules.Judgement.the-variants.{Decides, Members}
+use Rattle.blocks.specs.declared.rules.Outcome.{Outcome}
+use Rattle.blocks.specs.declared.rules.Outcome.the-variants as outcome
 use Rattle.blocks.specs.Known.{Told, AllTold}
 use Rattle.blocks.specs.Walks.{at-row}
 use Rattle.blocks.proofs.Blocks.{live-⊕, rows-⊕, length-⊕}
@@ -115,6 +119,15 @@ headed-row {r = r} {before = before} {after = after} {x = x} {bs = bs} h =
 pub ready-literal-at : {R : List Row} {K : List ℕ} {r n k : ℕ} → k ≡ (at-row R r) .kind → k ≤ 4 → Combines R R K K r n
 ready-literal-at e l before x bs ts h = ready-literal (omega (arith, e, ap (λ (q : Row). q .kind) (headed-row (h .headed)))) h
 
+-- what is told of the outcome
+module _ {R R′ : List Row} {K M : List ℕ} {from to owed kind : ℕ} {g : Outcome}
+    (gathers : Gathers R R′ K M from (end-of g) to owed kind (judgement-of g)) where
+  pub gathers-decided : {end : ℕ} → g ≡ outcome.Decided end → Gathers R R′ K M from end to owed kind Decides
+  gathers-decided e = subst (λ q. Gathers R R′ K M from (end-of q) to owed kind (judgement-of q)) e gathers
+
+  pub gathers-left : {end left print : ℕ} → g ≡ outcome.Left end left print → Gathers R R′ K M from end to owed kind (Members left)
+  gathers-left e = subst (λ q. Gathers R R′ K M from (end-of q) to owed kind (judgement-of q)) e gathers
+
 -- An operator's row: its kind and its number of children as they were read.
 module _ {R : List Row} {K : List ℕ} {r n k a : ℕ} (k-is : k ≡ (at-row R r) .kind) (a-is : a ≡ (at-row R r) .argument) (l : 4 < k)
     {before : List Row} {x : Row} {bs : Blocks} {ts : Forest} (h : Ready R K r n before x bs ts) where
@@ -161,8 +174,8 @@ module _ {R : List Row} {K : List ℕ} {r n k a : ℕ} (k-is : k ≡ (at-row R r
         flat = flat;
       }
 
-  module _ {R₁ : List Row} {M : List ℕ} {end left : ℕ} (gathers : Gathers R R₁ K M (r + 1) end n a k left) where
-    gathered : Gathered R₁ K M (r + 1) end n (before ++ (x ∷ [])) [] (ready-kind .op) kids (behind a (live bs)) left
+  module _ {R₁ : List Row} {M : List ℕ} {end : ℕ} {j : Judgement} (gathers : Gathers R R₁ K M (r + 1) end n a k j) where
+    gathered : Gathered R₁ K M (r + 1) end n (before ++ (x ∷ [])) [] (ready-kind .op) kids (behind a (live bs)) j
     unfolding kids
     gathered = gathers (before ++ (x ∷ [])) bs [] (behind-row (h .headed)) (h .told) enough (ready-kind .op) (ready-kind .is) flat
 
@@ -211,18 +224,18 @@ module _ {R : List Row} {K : List ℕ} {r n k a : ℕ} (k-is : k ≡ (at-row R r
               sym (ap (λ y. tidy-all (grow y ts)) row-is ∙ tidy-grow-operator (ready-kind .op) a ts);
         }
 
-    pub ready-decided : {R₂ : List Row} {K₂ : List ℕ} → left ≡ 0 → Hollows R₁ R₂ K₂ r end (11 - k) → KeptBehind K K₂ r
+    pub ready-decided : {R₂ : List Row} {K₂ : List ℕ} → j ≡ Decides → Hollows R₁ R₂ K₂ r end (11 - k) → KeptBehind K K₂ r
         → Replaced R₂ K₂ r n before [] (tidy-all (grow x ts))
     ready-decided e f later =
         combined (f before x (gathered .first) behind-them headed (dual (ready-kind .op)) (dual-kind k (ready-kind .op) (ready-kind .is))) later
-        (combine-decided (ready-kind .op) kids (sym (eq-eqb left 0 e) ∙ gathered .decided-is))
+        (combine-decided (ready-kind .op) kids (sym (ap is-decided e) ∙ gathered .decided-is))
 
-    module _ (u : left ≡ 0 → ⊥) where
+    module _ {left : ℕ} (u : j ≡ Members left) where
       is-left : Left R₁ K M r end left before x (gathered .first) behind-them
       is-left =
-          record { headed = headed; told = told-first K (r + 1) (gathered .first) (gathered .others) (gathered .told); noted = gathered .noted u }
+          record { headed = headed; told = told-first K (r + 1) (gathered .first) (gathered .others) (gathered .told); noted = gathered .noted left u }
 
-      pub ready-left : left ≤ length M + 1 → left ≤ 65536 → LeftAt R₁ K M r end k left
+      pub ready-left : left ≤ length M → left < 65536 → LeftAt R₁ K M r end k left
       ready-left fit few =
           record {
             before = _;
@@ -232,7 +245,6 @@ module _ {R : List Row} {K : List ℕ} {r n k a : ℕ} (k-is : k ≡ (at-row R r
             is-left = is-left;
             op = ready-kind .op;
             is = ready-kind .is;
-            undecided = omega arith;
             members-fit = fit;
             countable = few;
           }
@@ -241,4 +253,4 @@ module _ {R : List Row} {K : List ℕ} {r n k a : ℕ} (k-is : k ≡ (at-row R r
           → Replaced R₂ K₂ r n before [] (tidy-all (grow x ts))
       ready-undecided f later =
           combined (f before x (gathered .first) behind-them is-left (ready-kind .op) (ready-kind .is)) later
-          (combine-undecided (ready-kind .op) kids (live (gathered .first)) (sym (ne-eqb left 0 u) ∙ gathered .decided-is) (gathered .reads u))
+          (combine-undecided (ready-kind .op) kids (live (gathered .first)) (sym (ap is-decided u) ∙ gathered .decided-is) (gathered .reads left u))

@@ -2,7 +2,7 @@
 -- Assumes nothing.
 use mathlib.Core.Path.{_≡_, refl, sym, ap, ap₂, _∙_, subst}
 use mathlib.Core.List.{List, [], _∷_, _++_, append-nil}
-use Prim.Native.Nat.{ℕ, suc, _+_, _*_, _-_, _/_, _≤_, _<_}
+use Prim.Native.Nat.{ℕ, suc, _+_, _-_, _≤_, _<_}
 use native.Mathlib.Omega.{arith}
 use lib.ListN.{length, getD, set, take, length-append}
 use lib.Seq.{set-at, append-snoc, take-suc, length-take-le, getD-set-same, getD-set-other}
@@ -10,6 +10,7 @@ use Rattle.formula.specs.Tree.{Op, and, or, node, Forest, ∅, _▸_, count}
 use Rattle.formula.specs.Tidy.{unwrap}
 use Rattle.sheet.specs.Format.{Row, row}
 use Rattle.sheet.specs.Sheet.{operator-kind}
+use Rattle.buckets.specs.Halves.{row-of, known-of}
 use Rattle.buckets.specs.Prints.{print}
 use Rattle.blocks.specs.Blocks.{gone, operator, Blocks, none, _◂_, head, inner, block-rows, grown, live, Laid}
 use Rattle.blocks.specs.Rules.{mixes}
@@ -47,7 +48,7 @@ module _ {R : List Row} {r end : ℕ} {before after : List Row} {x : Row} {bs : 
   size-is = omega (arith, l .ends)
 
   -- the operator stays
-  operator-put : (K : List ℕ) (kind : ℕ) (o : Op) → kind ≡ operator-kind o → getD K r 0 ≡ count (live bs) * 65536 + print (node o (live bs))
+  operator-put : (K : List ℕ) (kind : ℕ) (o : Op) → kind ≡ operator-kind o → getD K r 0 ≡ known-of (count (live bs)) (print (node o (live bs)))
       → AllTold K (r + 1) bs → Replaced (set R r (row kind (end - r))) K r end before after (node o (live bs) ▸ ∅)
   unfolding block-rows head inner live grown Says Told AllTold
   operator-put K kind o k says told =
@@ -91,10 +92,10 @@ entry-set K {K′} {r} {w} e l = ap (λ (k : List ℕ). getD k r 0) e ∙ getD-s
 
 -- the operator is empty: no row behind it, or a dead block
 
-says-empty : (w kind : ℕ) (o : Op) → kind ≡ operator-kind o → w ≡ kind → w ≡ count ∅ * 65536 + print (node o ∅)
+says-empty : (w kind : ℕ) (o : Op) → kind ≡ operator-kind o → w ≡ known-of 0 kind → w ≡ known-of (count ∅) (print (node o ∅))
 unfolding count print
-says-empty w kind and k e = e ∙ k
-says-empty w kind or k e = e ∙ k
+says-empty w kind and k e = e ∙ ap (known-of 0) k
+says-empty w kind or k e = e ∙ ap (known-of 0) k
 
 dead-rows : (o : Op) (ys : List Row)
     → block-rows (operator o (gone ys ◂ none) ◂ none) ≡ row (operator-kind o) (suc (suc (length ys))) ∷ (row 0 (suc (length ys)) ∷ ys)
@@ -103,14 +104,14 @@ dead-rows o ys =
     simp append-nil (ap (λ rs. row (operator-kind o) (suc (suc (length rs))) ∷ (row 0 (suc (length ys)) ∷ ys)) (append-nil ys))
 
 module _ {R : List Row} {r end : ℕ} {before after : List Row} {x : Row} {bs : Blocks} (K : List ℕ) (kind : ℕ) (o : Op) (k : kind ≡ operator-kind o)
-    (entry : getD K r 0 ≡ kind) (l : Headed R r end before x bs after) where
+    (entry : getD K r 0 ≡ known-of 0 kind) (l : Headed R r end before x bs after) where
   hollow-short : end ≤ r + 1 → Replaced (set R r (row kind (end - r))) K r end before after (node o ∅ ▸ ∅)
   unfolding live AllTold
   hollow-short s =
       let no : bs ≡ none = no-rows bs (omega (arith, l .ends)) in
       subst (λ cs. Replaced (set R r (row kind (end - r))) K r end before after (node o (live cs) ▸ ∅)) no
       (operator-put l K kind o k
-      (subst (λ cs. getD K r 0 ≡ count (live cs) * 65536 + print (node o (live cs))) (sym no) (says-empty (getD K r 0) kind o k entry))
+      (subst (λ cs. getD K r 0 ≡ known-of (count (live cs)) (print (node o (live cs)))) (sym no) (says-empty (getD K r 0) kind o k entry))
       (subst (AllTold K (r + 1)) (sym no) tt))
 
   hollow-long : r + 1 < end → Replaced (set (set R r (row kind (end - r))) (r + 1) (row 0 (end - r - 1))) K r end before after (node o ∅ ▸ ∅)
@@ -137,7 +138,7 @@ module _ {R : List Row} {r end : ℕ} {before after : List Row} {x : Row} {bs : 
           (ap length (dead-rows o ys) ∙ omega (arith, counted))
           ((says-empty (getD K r 0) kind o k entry, (tt, tt)), tt) refl
 
-module _ {R R₁ : List Row} (K : List ℕ) {K₁ : List ℕ} {r end kind : ℕ} (e : R₁ ≡ set R r (row kind (end - r))) (f : K₁ ≡ set K r kind)
+module _ {R R₁ : List Row} (K : List ℕ) {K₁ : List ℕ} {r end kind : ℕ} (e : R₁ ≡ set R r (row kind (end - r))) (f : K₁ ≡ set K r (known-of 0 kind))
     (u : r < length K) where
   pub hollows-short : end ≤ r + 1 → Hollows R R₁ K₁ r end kind
   hollows-short s before x bs after l o k = replaced-as e refl (hollow-short K₁ _ o k (entry-set K f u) l s)
@@ -155,44 +156,39 @@ unwrap-many o (t ▸ ∅) l = absurd (omega arith)
 unwrap-many o (t ▸ u ▸ ts) l = refl
 
 module _ {R : List Row} {K M : List ℕ} {r end left : ℕ} {before : List Row} {x : Row} {bs : Blocks} {after : List Row}
-    (h : Left R K M r end left before x bs after) (fit : left ≤ length M + 1) where
-  left-count : count (live bs) ≡ left - 1
-  left-count = sym (notes-count (r + 1) bs) ∙ ap length (sym (h .noted)) ∙ length-take-le (left - 1) M (omega arith)
+    (h : Left R K M r end left before x bs after) (fit : left ≤ length M) where
+  left-count : count (live bs) ≡ left
+  left-count = sym (notes-count (r + 1) bs) ∙ ap length (sym (h .noted)) ∙ length-take-le left M fit
 
-  left-lone : {m : ℕ} → left ≡ 2 → m ≡ getD M 0 0 → Lone (r + 1) (m / 65536) bs
-  left-lone {m} e f =
-      lone (r + 1) m bs
-      (sym (h .noted) ∙ ap (λ n. take n M) one ∙ take-suc M 0 0 (omega (arith, e, fit)) ∙ ap (λ k. k ∷ []) (sym f))
-    where
-      one : left - 1 ≡ 1
-      one = omega (arith, e)
+  left-lone : {p : ℕ} → left ≡ 1 → p ≡ row-of (getD M 0 0) → Lone (r + 1) p bs
+  left-lone e f =
+      subst (λ q. Lone (r + 1) q bs) (sym f) (lone (r + 1) _ bs (sym (h .noted) ∙ ap (λ n. take n M) e ∙ take-suc M 0 0 (omega (arith, e, fit))))
 
-  pub lone-within : {m : ℕ} → left ≡ 2 → m ≡ getD M 0 0 → (r < m / 65536) × (m / 65536 ≤ end)
+  pub lone-within : {p : ℕ} → left ≡ 1 → p ≡ row-of (getD M 0 0) → (r < p) × (p ≤ end)
   lone-within e f =
       let l = left-lone e f in (
         omega (arith, l .place),
         omega (arith, l .place, h .headed .ends, ap (λ cs. length (block-rows cs)) (l .is), length-⊕ (l .done) (l .rest)),
       )
 
-module _ {R R₁ : List Row} {K M : List ℕ} {r end kind left : ℕ} (fit : left ≤ length M + 1) where
-  pub concludes-none : {K₁ : List ℕ} → left ≡ 1 → Hollows R R₁ K₁ r end kind → Concludes R R₁ K K₁ M r end kind left
+module _ {R R₁ : List Row} {K M : List ℕ} {r end kind left : ℕ} (fit : left ≤ length M) where
+  pub concludes-none : {K₁ : List ℕ} → left ≡ 0 → Hollows R R₁ K₁ r end kind → Concludes R R₁ K K₁ M r end kind left
   unfolding unwrap
   concludes-none e f before x bs after l o k =
-      replaced-as refl (ap (λ ts. unwrap o ts ▸ ∅) (sym (count-none (live bs) (left-count l fit ∙ omega (arith, e)))))
+      replaced-as refl (ap (λ ts. unwrap o ts ▸ ∅) (sym (count-none (live bs) (left-count l fit ∙ e))))
       (f before x bs after (l .headed) o k)
 
-  pub concludes-one : {m : ℕ} → left ≡ 2 → m ≡ getD M 0 0 → R₁ ≡ set R r (row 0 (m / 65536 - r)) → Concludes R R₁ K K M r end kind left
+  pub concludes-one : {p : ℕ} → left ≡ 1 → p ≡ row-of (getD M 0 0) → R₁ ≡ set R r (row 0 (p - r)) → Concludes R R₁ K K M r end kind left
   unfolding unwrap
   concludes-one e is stored before x bs after l o k =
       let f = left-lone l fit e is in
       replaced-as stored (f .reads ∙ ap (λ ts. unwrap o ts ▸ ∅) (sym (f .reads))) (lone-put (l .headed) K (l .told) f)
 
-  pub concludes-many : {K₁ : List ℕ} {p : ℕ} → 2 < left → r < length K → R₁ ≡ set R r (row kind (end - r)) → p ≡ mixes kind (take (left - 1) M)
-      → K₁ ≡ set K r ((left - 1) * 65536 + p) → Concludes R R₁ K K₁ M r end kind left
+  pub concludes-many : {K₁ : List ℕ} {p : ℕ} → 1 < left → r < length K → R₁ ≡ set R r (row kind (end - r)) → p ≡ mixes kind (take left M)
+      → K₁ ≡ set K r (known-of left p) → Concludes R R₁ K K₁ M r end kind left
   concludes-many {K₁} {p} m u stored p-is entry before x bs after l o k =
       let c = left-count l fit in
-      let w = (left - 1) * 65536 + p in
       replaced-as stored (unwrap-many o (live bs) (omega (arith, c, m)))
       (operator-put (l .headed) K₁ kind o k
-      (entry-set K entry u ∙ ap₂ (λ n q. n * 65536 + q) (sym c) (p-is ∙ ap₂ mixes k (l .noted) ∙ mixes-print o (r + 1) bs))
-      (told-keeps K K₁ (r + 1) bs (λ j q. behind-set K w entry j (omega (arith, q))) (l .told)))
+      (entry-set K entry u ∙ ap₂ known-of (sym c) (p-is ∙ ap₂ mixes k (l .noted) ∙ mixes-print o (r + 1) bs))
+      (told-keeps K K₁ (r + 1) bs (λ j q. behind-set K _ entry j (omega (arith, q))) (l .told)))

@@ -2,12 +2,14 @@
 -- Assumes nothing.
 use mathlib.Core.Path.{_≡_, refl, sym, ap, _∙_}
 use mathlib.Core.List.{[], _∷_}
-use Prim.Native.Nat.{ℕ, suc, _+_, _*_, _/_, _%_, _<_}
+use Prim.Native.Nat.{ℕ, suc, _+_}
 use native.Mathlib.Omega.{arith}
 use lib.ListN.{length}
 use Rattle.formula.specs.Tree.{Op, and, or, Tree, lit, node, Forest, ∅, _▸_, count}
 use Rattle.sheet.specs.Sheet.{operator-kind}
+use Rattle.buckets.specs.Halves.{member-of, row-of}
 use Rattle.buckets.specs.Prints.{mix, print, print-on}
+use Rattle.buckets.proofs.Halves.{row-made, print-made}
 use Rattle.buckets.proofs.Prints.{print-few}
 use Rattle.blocks.specs.Blocks.{gone, literal, operator, Blocks, none, _◂_, _⊕_, block-rows, size, grown, live}
 use Rattle.blocks.specs.Rules.{note, notes, mixes}
@@ -25,19 +27,15 @@ notes-count r (gone rs ◂ bs) = notes-count (r + size (gone rs)) bs
 notes-count r (literal s v ◂ bs) = ap suc (notes-count (r + size (literal s v)) bs)
 notes-count r (operator o ks ◂ bs) = ap suc (notes-count (r + size (operator o ks)) bs)
 
--- the low half of a member
-low : (r p : ℕ) → p < 65536 → (r * 65536 + p) % 65536 ≡ p
-low r p l = omega arith
-
 mixes-notes : (h r : ℕ) (bs : Blocks) → mixes h (notes r bs) ≡ print-on h (live bs)
 unfolding notes note live grown mixes print-on print
 mixes-notes h r none = refl
 mixes-notes h r (gone rs ◂ bs) = mixes-notes h (r + size (gone rs)) bs
 mixes-notes h r (literal s v ◂ bs) =
-    ap (λ p. mixes (mix h p) (notes (r + size (literal s v)) bs)) (low r (print (lit s v)) (print-few (lit s v))) ∙
+    ap (λ p. mixes (mix h p) (notes (r + size (literal s v)) bs)) (print-made r (print (lit s v)) (print-few (lit s v))) ∙
     mixes-notes (mix h (print (lit s v))) (r + size (literal s v)) bs
 mixes-notes h r (operator o ks ◂ bs) =
-    ap (λ p. mixes (mix h p) (notes (r + size (operator o ks)) bs)) (low r (print (node o (live ks))) (print-few (node o (live ks)))) ∙
+    ap (λ p. mixes (mix h p) (notes (r + size (operator o ks)) bs)) (print-made r (print (node o (live ks))) (print-few (node o (live ks)))) ∙
     mixes-notes (mix h (print (node o (live ks)))) (r + size (operator o ks)) bs
 
 -- those of an operator's children mixed into its kind
@@ -56,13 +54,10 @@ pub record Lone (from p : ℕ) (bs : Blocks) : Type 0 where
   pub reads : live bs ≡ tree ▸ ∅
   pub holds : live rest ≡ tree ▸ ∅
 
-high : (r p : ℕ) → p < 65536 → r ≡ (r * 65536 + p) / 65536
-high r p l = omega arith
-
 no-notes : (r : ℕ) (bs : Blocks) → notes r bs ≡ [] → live bs ≡ ∅
 no-notes r bs e = count-none (live bs) (sym (notes-count r bs) ∙ ap length e)
 
-pub lone : (from m : ℕ) (bs : Blocks) → notes from bs ≡ m ∷ [] → Lone from (m / 65536) bs
+pub lone : (from m : ℕ) (bs : Blocks) → notes from bs ≡ m ∷ [] → Lone from (row-of m) bs
 unfolding notes note live grown _⊕_ block-rows print
 lone from m none e = let z : _≡_ {A = ℕ} 0 1 = ap length e in absurd (omega arith)
 lone from m (gone rs ◂ bs) e =
@@ -77,27 +72,27 @@ lone from m (gone rs ◂ bs) e =
       holds = l .holds;
     }
 lone from m (literal s v ◂ bs) e =
-    let one : from * 65536 + print (lit s v) ≡ m = cc in
+    let one : member-of from (print (lit s v)) ≡ m = cc in
     let others : notes (from + size (literal s v)) bs ≡ [] = cc in
     let is : live (literal s v ◂ bs) ≡ lit s v ▸ ∅ = ap (λ ts. lit s v ▸ ts) (no-notes (from + size (literal s v)) bs others) in
     record {
       done = none;
       rest = literal s v ◂ bs;
       is = refl;
-      place = omega (arith, high from (print (lit s v)) (print-few (lit s v)), ap (λ w. w / 65536) one);
+      place = omega (arith, row-made from (print (lit s v)) (print-few (lit s v)), ap row-of one);
       tree = lit s v;
       reads = is;
       holds = is;
     }
 lone from m (operator o ks ◂ bs) e =
-    let one : from * 65536 + print (node o (live ks)) ≡ m = cc in
+    let one : member-of from (print (node o (live ks))) ≡ m = cc in
     let others : notes (from + size (operator o ks)) bs ≡ [] = cc in
     let is : live (operator o ks ◂ bs) ≡ node o (live ks) ▸ ∅ = ap (λ ts. node o (live ks) ▸ ts) (no-notes (from + size (operator o ks)) bs others) in
     record {
       done = none;
       rest = operator o ks ◂ bs;
       is = refl;
-      place = omega (arith, high from (print (node o (live ks))) (print-few (node o (live ks))), ap (λ w. w / 65536) one);
+      place = omega (arith, row-made from (print (node o (live ks))) (print-few (node o (live ks))), ap row-of one);
       tree = node o (live ks);
       reads = is;
       holds = is;

@@ -3,7 +3,7 @@
 use mathlib.Core.Path.{_≡_, refl, sym, ap, ap₂, _∙_, subst}
 use mathlib.Core.Bool.{true, false}
 use mathlib.Core.List.{List, _∷_, _++_, append-assoc, append-nil}
-use Prim.Native.Nat.{ℕ, suc, _+_, _*_, _-_, _/_, _^_, _≤_, _<_}
+use Prim.Native.Nat.{ℕ, suc, _+_, _*_, _-_, _^_, _≤_, _<_}
 use native.Mathlib.Numerals.{add-one}
 use native.Mathlib.Omega.{arith}
 use lib.ListN.{length, getD, take, drop, set, length-drop, take-append-drop}
@@ -17,6 +17,7 @@ use Rattle.sheet.proofs.Numbers.{IsByte, AllBytes, number-bound}
 use Rattle.rows.specs.Layouts.{width, rows-in, Room, total}
 use Rattle.rows.specs.declared.Layout.{Layout}
 use Rattle.rows.proofs.Layouts.{row-in, argument-within}
+use Rattle.buckets.specs.Halves.{children-of}
 use Rattle.buckets.proofs.Prints.{print-few}
 use Rattle.blocks.specs.Blocks.{Block, gone, literal, operator, Blocks, none, _◂_, _⊕_, head, inner, block-rows, size, live, Laid, Stands}
 use Rattle.blocks.specs.Known.{Says, Told, AllTold}
@@ -90,7 +91,7 @@ put-fits (operator o ks) a e h l u f = omega (arith, f, count-rows ks, stands-wi
 
 -- argument_told
 
-says-count : (x : Block) (w : ℕ) → 4 < (head x) .kind → Says w x → ArgumentOf x (w / 65536)
+says-count : (x : Block) (w : ℕ) → 4 < (head x) .kind → Says w x → ArgumentOf x (children-of w)
 unfolding head Says ArgumentOf
 says-count (gone rs) w l e = tt
 says-count (literal true v) w l e = absurd (omega arith)
@@ -105,9 +106,9 @@ module _ (R : List Row) {at k : ℕ} (k-is : k ≡ (at-row R at) .kind) (K : Lis
   told-literal {a} l e before x after h t =
       argument-literal x a (omega (arith, block-kind h)) (e ∙ ap (λ (r : Row). r .argument) (stands-row h))
 
-  pub told-operator : {w : ℕ} → 4 < k → w ≡ getD K at 0 → ArgumentTold R K at (w / 65536)
-  told-operator {w} l e before x after h t =
-      says-count x w (omega (arith, block-kind h)) (subst (λ v. Says v x) (sym e) (told-says K at x t))
+  pub told-operator : {a : ℕ} → 4 < k → a ≡ children-of (getD K at 0) → ArgumentTold R K at a
+  told-operator l e before x after h t =
+      subst (ArgumentOf x) (sym e) (says-count x (getD K at 0) (omega (arith, block-kind h)) (told-says K at x t))
 
 -- put_live
 

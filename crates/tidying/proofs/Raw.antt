@@ -1,6 +1,6 @@
 -- Rows of a formula before they are tidied: a sheet's, and those that a caller has written.
 -- Assumes nothing.
-use mathlib.Core.Path.{_≡_, sym, ap, _∙_}
+use mathlib.Core.Path.{_≡_, sym, ap, _∙_, subst}
 use mathlib.Core.List.{_++_}
 use Prim.Native.Nat.{ℕ, _+_, _≤_}
 use native.Mathlib.Omega.{arith}
@@ -21,8 +21,12 @@ use Rattle.rows.proofs.Limits.{limits}
 use Rattle.rows.proofs.Layouts.{rows-in-++}
 use Rattle.rows.proofs.Formulas.{prefix-length, formula-written, written-is-formula}
 use Rattle.checking.specs.Sheets.{Sheet}
-use Rattle.checking.proofs.CheckedSheets.{sheet-right, sheet-readable, sheet-formula-in}
+use Rattle.checking.proofs.CheckedSheets.{sheet-format, sheet-right, sheet-readable, sheet-formula-in}
 use Rattle.tidying.specs.Limits.{Raw}
+
+-- a sheet that Check accepts is one of its layout's format
+pub sheet-own : {f : Format} {b : Bytes} {s : Layout} → Sheet f b s → Sheet (s .format) b s
+sheet-own {f} {b} {s} h = subst (λ g. Sheet g b s) (sym (sheet-format h)) h
 
 -- the rows of either format have room in tables
 pub few-rows : (s : Layout) → s .variables ≤ (format-in s) .most-variables → s .nodes ≤ (format-in s) .most-nodes → total s ≤ ROWS + HIGHEST

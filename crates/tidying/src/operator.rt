@@ -2,12 +2,16 @@
 // children it has and its print, in one number.
 use blocks::GONE;
 use blocks::rules::Children;
+use blocks::rules::Outcome;
 use blocks::rules::gather;
+use buckets::half::known_of;
+use buckets::half::row_of;
 use buckets::member;
 use rows::AND;
 use rows::Layout;
 use rows::NEGATIVE;
 use rows::OR;
+use rows::from_byte;
 use rows::read::argument_at;
 use rows::read::kind_at;
 use rows::write::set_row;
@@ -24,8 +28,8 @@ pub struct Place {
     pub row: usize,
 }
 
-// The operator of this kind at a row. Its children end before row `end`, `left` is one more than there are left of them, and `print` is the
-// operator's over these.
+// The operator of this kind at a row. Its children end before row `end`, `left` members are left of them, and `print` is the operator's
+// over these.
 pub struct Node {
     pub sheet: Layout,
     pub row: usize,
@@ -42,7 +46,7 @@ pub fn hollow(b: &mut [u8], s: Layout, r: usize, kind: u8, end: usize, known: &m
     ensures { λ _. ⌜ KeptBehind (now (known .entry)) (now (known .exit)) r ⌝ }
 {
     set_row(b, s, r, kind, end - r);
-    known[r] = kind as u32;
+    known[r] = known_of(0, from_byte(kind)) as u32;
     if r + 1 < end {
         set_row(b, s, r + 1, GONE, end - r - 1);
     }
@@ -59,17 +63,17 @@ pub fn conclude(b: &mut [u8], n: Node, members: &[u32], known: &mut [u32])
     let kind = n.kind;
     let end = n.end;
     let left = n.left;
-    if left == 1 {
+    if left == 0 {
         hollow(b, s, r, kind, end, known);
         return;
     }
-    if left == 2 {
-        let child = member(members, 0) / 65536;
+    if left == 1 {
+        let child = row_of(member(members, 0));
         set_row(b, s, r, GONE, child - r);
         return;
     }
     set_row(b, s, r, kind, end - r);
-    known[r] = ((left - 1) * 65536 + n.print) as u32;
+    known[r] = known_of(left, n.print) as u32;
 }
 
 // All six rules at a row, the trees behind it being tidied.
@@ -96,20 +100,20 @@ pub fn combine(
         owed: argument_at(b, s, r),
         kind: kind,
     };
-    let g = gather(b, w, heads, links, members, known);
-    if g.left == 0 {
-        hollow(b, s, r, AND + OR - kind, g.end, known);
-        return;
+    match gather(b, w, heads, links, members, known) {
+        Outcome::Decided { end } => hollow(b, s, r, AND + OR - kind, end, known),
+        Outcome::Left { end, count, print } => {
+            let n = Node {
+                sheet: s,
+                row: r,
+                kind: kind,
+                end: end,
+                left: count,
+                print: print,
+            };
+            conclude(b, n, members, known);
+        }
     }
-    let n = Node {
-        sheet: s,
-        row: r,
-        kind: kind,
-        end: g.end,
-        left: g.left,
-        print: g.print,
-    };
-    conclude(b, n, members, known);
 }
 
 // Tidies the trees whose rows stand behind the quantifiers, each operator after its children. The tables may hold anything.

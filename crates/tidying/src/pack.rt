@@ -1,5 +1,6 @@
 // Rows that have gone are left out, and the others stand one behind the other.
 use blocks::GONE;
+use buckets::half::children_of;
 use buckets::large;
 use rows::Layout;
 use rows::NEGATIVE;
@@ -33,7 +34,7 @@ pub fn argument_told(b: &[u8], s: Layout, at: usize, known: &[u32]) -> usize
     if kind_at(b, s, at) <= NEGATIVE {
         return argument_at(b, s, at);
     }
-    large(known[at]) / 65536
+    children_of(large(known[at]))
 }
 
 // Puts the row of the block at `at` to row `to`, if it is live, and returns the row behind those packed.

@@ -3,13 +3,14 @@
 use mathlib.Core.Path.{_≡_, refl, sym, ap, ap₂, _∙_, subst}
 use mathlib.Core.Bool.{Bool, _||_, or-false, or-comm}
 use mathlib.Core.List.{List}
-use Prim.Native.Nat.{ℕ, zero, suc, _+_, _*_, _/_, _%_, _-_, _≤_, _<_}
+use Prim.Native.Nat.{ℕ, zero, suc, _-_, _≤_, _<_}
 use native.Mathlib.Numerals.{add-one}
 use native.Mathlib.Omega.{arith}
 use lib.ListN.{length, getD, set}
 use lib.Seq.{getD-set-same, getD-set-other}
 use Rattle.formula.specs.Tree.{Tree, Forest, ∅, _▸_, _⧺_, count, some-child, some-two}
 use Rattle.formula.proofs.Tidy.Children.{some-child-⧺, some-two-⧺, count-⧺, ⧺-assoc, ⧺-none}
+use Rattle.buckets.specs.Halves.{member-of, row-of, print-of}
 use Rattle.buckets.specs.Prints.{print}
 use Rattle.buckets.proofs.Prints.{print-few}
 use Rattle.sheet.specs.Format.{Bytes}
@@ -94,18 +95,18 @@ module _ {s : Layout} {b : Bytes} {M : List ℕ} {n m : ℕ} {ts : Forest} (g : 
       })
 
 -- a row and the print of its subtree are a member
-module _ (s : Layout) (b : Bytes) (at : ℕ) {p m : ℕ} (inside : at < s .nodes) (is : p ≡ print (subtree-in s b at)) (m-is : m ≡ at * 65536 + p) where
-  row-of : m / 65536 ≡ at
-  row-of = omega (arith, print-few (subtree-in s b at))
+module _ (s : Layout) (b : Bytes) (at : ℕ) {p m : ℕ} (inside : at < s .nodes) (is : p ≡ print (subtree-in s b at)) (m-is : m ≡ member-of at p) where
+  row-is : row-of m ≡ at
+  row-is = omega (arith, print-few (subtree-in s b at))
 
   pub member-tree : tree-of s b m ≡ subtree-in s b at
-  member-tree = ap (subtree-in s b) row-of
+  member-tree = ap (subtree-in s b) row-is
 
-  pub member-of : Member s b m
-  member-of =
-      record { inside = omega (arith, row-of); printed = low ∙ is ∙ ap print (sym member-tree) }
+  pub is-member : Member s b m
+  is-member =
+      record { inside = omega (arith, row-is); printed = low ∙ is ∙ ap print (sym member-tree) }
     where
-      low : m % 65536 ≡ p
+      low : print-of m ≡ p
       low = omega (arith, print-few (subtree-in s b at))
 
 -- The walk over an operator's children: those passed are gathered.

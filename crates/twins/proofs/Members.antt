@@ -15,7 +15,10 @@ use Rattle.formula.specs.Tree.{and, or, Tree, lit, node}
 use Rattle.formula.specs.Tidy.{same-variable, same-tree, twin}
 use Rattle.formula.proofs.Booleans.{or-none, or-later, or-cases}
 use Rattle.formula.proofs.Tidy.Same.{same-tree-same, twin-same}
-use Rattle.buckets.specs.Chains.{bucket, Room, Linked, Passed}
+use Rattle.buckets.specs.Chains.{entry-of, bucket, Room, Linked, Passed}
+use Rattle.buckets.specs.Halves.{print-of}
+use Rattle.buckets.specs.declared.Link.{Link}
+use Rattle.buckets.specs.declared.Link.the-variants.{End}
 use Rattle.buckets.proofs.Chains.{linked-none}
 use Rattle.buckets.specs.Prints.{literal-mix, sign, print}
 use Rattle.sheet.specs.Format.{Bytes}
@@ -70,7 +73,7 @@ print-half t u e = ⊎-elim (literals t u) (λ q. ap (λ w. print w / 2) (twin-s
     literals (lit s v) (lit s′ v′) q =
         half s v ∙ ap (λ (x : ℕ). x * 20251 % 32768) (eqb-true v v′ q) ∙ sym (half s′ v′)
 
-bucket-half : (m : ℕ) → bucket m ≡ (m % 65536 / 2) % 1024
+bucket-half : (m : ℕ) → bucket m ≡ (print-of m / 2) % 1024
 bucket-half m = omega arith
 
 module _ {s : Layout} {b : Bytes} {m w : ℕ} (p : Member s b m) (q : Member s b w) where
@@ -82,7 +85,7 @@ module _ {s : Layout} {b : Bytes} {m w : ℕ} (p : Member s b m) (q : Member s b
       sym (bucket-half w)
 
   -- operators by their prints
-  pub prints-other : 4 < (top (tree-of s b m)) .kind → (m % 65536 ≡ w % 65536 → ⊥) → clash (tree-of s b m) (tree-of s b w) ≡ false
+  pub prints-other : 4 < (top (tree-of s b m)) .kind → (print-of m ≡ print-of w → ⊥) → clash (tree-of s b m) (tree-of s b w) ≡ false
   prints-other h d = clash-operator (tree-of s b m) h (tree-of s b w) ∙ by (same-tree (tree-of s b m) (tree-of s b w)) refl
     where
       by : (c : Bool) → same-tree (tree-of s b m) (tree-of s b w) ≡ c → c ≡ false
@@ -118,10 +121,10 @@ member-no P M (suc n) h = or-none (by (P (getD M n 0)) refl) (member-no P M n (�
     by false e = refl
 
 -- a chain passed to its end
-pub chain-passed : {s : Layout} {b : Bytes} {M : List ℕ} {n m i : ℕ} → Members s b M n → Member s b m
-    → Passed M n (bucket m) (λ j. clashes-with s b m (getD M j 0) ≡ true) i → i ≤ 0 → some-member (clashes-with s b m) M n ≡ false
-chain-passed {s} {b} {M} {n} {m} {i} ms w p e =
-    member-no (clashes-with s b m) M n (λ j l t. p .failed j (omega arith) l (buckets-same (ms j l) w t) t)
+pub chain-passed : {s : Layout} {b : Bytes} {M : List ℕ} {n m : ℕ} {l : Link} → Members s b M n → Member s b m
+    → Passed M n (bucket m) (λ j. clashes-with s b m (getD M j 0) ≡ true) l → l ≡ End → some-member (clashes-with s b m) M n ≡ false
+chain-passed {s} {b} {M} {n} {m} ms w p e =
+    member-no (clashes-with s b m) M n (λ j l t. p .failed j (omega (arith, ap entry-of e)) l (buckets-same (ms j l) w t) t)
 
 -- two-clash
 

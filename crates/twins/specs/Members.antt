@@ -3,11 +3,12 @@
 use mathlib.Core.Path.{_≡_}
 use mathlib.Core.Bool.{Bool, false, _||_, _&&_}
 use mathlib.Core.List.{List}
-use Prim.Native.Nat.{ℕ, zero, suc, _/_, _%_, _<_}
+use Prim.Native.Nat.{ℕ, zero, suc, _<_}
 use lib.Dec.{eqb}
 use lib.ListN.{getD}
 use Rattle.formula.specs.Tree.{Tree, Forest, ∅, _▸_, _⧺_, count, some-child, some-two}
 use Rattle.formula.specs.Tidy.{same-variable, twin}
+use Rattle.buckets.specs.Halves.{row-of, print-of}
 use Rattle.buckets.specs.Prints.{print}
 use Rattle.sheet.specs.Format.{Bytes}
 use Rattle.rows.specs.declared.Layout.{Layout}
@@ -23,11 +24,11 @@ same-top t u = eqb ((top t) .kind) ((top u) .kind) && eqb ((top t) .argument) ((
 
 -- the tree that a member stands for
 abbrev pub tree-of : Layout → Bytes → ℕ → Tree
-tree-of s b m = subtree-in s b (m / 65536)
+tree-of s b m = subtree-in s b (row-of m)
 
 pub record Member (s : Layout) (b : Bytes) (m : ℕ) : Type 0 where
-  pub inside : m / 65536 < s .nodes
-  pub printed : m % 65536 ≡ print (tree-of s b m)
+  pub inside : row-of m < s .nodes
+  pub printed : print-of m ≡ print (tree-of s b m)
 
 abbrev pub Members : Layout → Bytes → List ℕ → ℕ → Type 0
 Members s b M n = (i : ℕ) → i < n → Member s b (getD M i 0)

@@ -1,10 +1,15 @@
 // Siblings that may not stand side by side: literals of one variable, and equal operators (N4). They are found by their prints; operators
 // whose prints agree are compared in full, row by row.
+use buckets::Link;
 use buckets::add;
 use buckets::behind;
 use buckets::bucket_of;
 use buckets::first;
+use buckets::half::member_of;
+use buckets::half::print_of;
+use buckets::half::row_of;
 use buckets::member;
+use buckets::small;
 use rows::Layout;
 use subtrees::nodes::argument_at;
 use subtrees::nodes::children_at;
@@ -69,13 +74,15 @@ fn members_clash(b: &[u8], s: Layout, m: usize, w: usize) -> bool
     requires { ⌜ Readable s (now b) × Member s (now b) m × Member s (now b) w ⌝ }
     ensures { λ r. ⌜ r ≡ clash (tree-of s (now (b .entry)) m) (tree-of s (now (b .entry)) w) ⌝ }
 {
-    if kind_at(b, s, m / 65536) <= rows::NEGATIVE {
-        return same_variable(b, s, m / 65536, w / 65536);
+    let i = row_of(m);
+    let j = row_of(w);
+    if kind_at(b, s, i) <= rows::NEGATIVE {
+        return same_variable(b, s, i, j);
     }
-    if m % 65536 != w % 65536 {
+    if print_of(m) != print_of(w) {
         return false;
     }
-    same_at(b, s, m / 65536, w / 65536)
+    same_at(b, s, i, j)
 }
 
 // Whether a member before number `n` clashes with that one.
@@ -84,12 +91,12 @@ fn clashes(b: &[u8], s: Layout, heads: &[u16], links: &[u16], members: &[u32], n
     ensures { λ r. ⌜ r ≡ some-member (clashes-with s (now (b .entry)) (getD (now (members .entry)) n 0)) (now (members .entry)) n ⌝ }
 {
     let m = member(members, n);
-    let mut i = first(heads, members, n, bucket_of(m));
-    while 0 < i {
-        if members_clash(b, s, member(members, i - 1), m) {
+    let mut link = first(heads, members, n, bucket_of(m));
+    while let Link::Member(i) = link {
+        if members_clash(b, s, member(members, i), m) {
             return true;
         }
-        i = behind(links, i - 1);
+        link = behind(links, i);
     }
     false
 }
@@ -123,7 +130,7 @@ fn put(b: &[u8], s: Layout, prints: &[u16], members: &mut [u32], at: usize, n: u
     requires { ⌜ Readable s (now b) × (at < s .nodes) × Printed s (now b) (now prints) at × (n < length (now members)) ⌝ }
     ensures { λ r. ⌜ Adds s (now (b .entry)) (subtree-in s (now (b .entry)) at) (now (members .entry)) n (now (members .exit)) r ⌝ }
 {
-    members[n] = (at * 65536 + prints[at] as usize) as u32;
+    members[n] = member_of(at, small(prints[at])) as u32;
     n + 1
 }
 

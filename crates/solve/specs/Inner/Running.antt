@@ -8,7 +8,7 @@ use Prim.Native.Nat.{ℕ, suc, _+_, _-_, _^_, _≤_, _<_}
 use lib.ListN.{length, drop, replicate}
 use Rattle.formula.specs.Tidy.{is-tidy, verdict}
 use Rattle.formula.specs.Solve.{lowest, State as Reached, halt, next, ended, stopped, step, Run, run, solve}
-use Rattle.sheet.specs.Format.{Bytes, Format, fits}
+use Rattle.sheet.specs.Format.{Bytes, Format, sheet-length, fits}
 use Rattle.sheet.specs.Sheet.{sheet}
 use Rattle.sheet.specs.Check.{accepted}
 use Rattle.sheet.specs.Operations.{padded, Solved, solved, Solving, solving}
@@ -61,6 +61,17 @@ pub record Fetchable (bytes : ℕ) (first second : Bytes) : Type 0 where
 pub record ZerosBehind (n : ℕ) (b : Bytes) : Type 0 where
   pub inside : n ≤ length b
   pub zeros : drop n b ≡ replicate (length b - n) 0
+
+-- the bytes of a sheet of layout `to` in the format of layout `from`
+abbrev pub long-in : Layout → Layout → ℕ
+long-in from to = sheet-length (format-in from) (to .variables) (to .nodes)
+
+-- where it stands at the front of the second buffer, it has its place in the first, in which one of layout `from` has zeros behind it
+pub record Brings (from to : Layout) (first second : Bytes) : Type 0 where
+  pub few-from : (from .variables < 2 ^ 32) × (from .nodes < 2 ^ 32)
+  pub few-to : (to .variables < 2 ^ 32) × (to .nodes < 2 ^ 32)
+  pub fetchable : Fetchable (long-in from to) first second
+  pub zeros : ZerosBehind (long-in from from) first
 
 -- the state of the definition: the formula held, the number settled and the number expanded
 abbrev pub reached : State → Bytes → Reached

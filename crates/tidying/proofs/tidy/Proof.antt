@@ -3,7 +3,8 @@ use mathlib.Core.Path.{ap, _∙_}
 use Rattle.sheet.specs.Operations.{tidy-call}
 use Rattle.rows.specs.Formats.{format-of}
 use Rattle.checking.specs.Sheets.{Sheet}
-use Rattle.checking.proofs.CheckedSheets.{sheet-checked, sheet-refused, sheet-format, sheet-own}
+use Rattle.checking.proofs.CheckedSheets.{sheet-checked, sheet-refused, sheet-format}
+use Rattle.tidying.proofs.Raw.{sheet-own}
 use Rattle.tidying.proofs.TidyChecked.{unchecked-call}
 use borrow.Author.Needs.{needs}
 use Rattle.tidying.proofs.tidy.Statement.{statement}

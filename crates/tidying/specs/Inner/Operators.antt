@@ -2,7 +2,7 @@
 -- Assumes nothing.
 use mathlib.Core.Path.{_≡_}
 use mathlib.Core.List.{List, [], _∷_, _++_}
-use Prim.Native.Nat.{ℕ, _+_, _-_, _≤_, _<_}
+use Prim.Native.Nat.{ℕ, _+_, _≤_, _<_}
 use lib.ListN.{length, getD, take, drop}
 use Rattle.formula.specs.Tree.{Op, node, Forest, ∅, _▸_, count}
 use Rattle.formula.specs.Tidy.{unwrap, tidy-all}
@@ -38,11 +38,11 @@ Hollows R R′ K′ r end kind =
     (before : List Row) (x : Row) (bs : Blocks) (after : List Row) → Headed R r end before x bs after
     → (o : Op) → kind ≡ operator-kind o → Replaced R′ K′ r end before after (node o ∅ ▸ ∅)
 
--- an operator's row, and behind it what the other rules have left of its children, which are the members; left is one more than there are
+-- an operator's row, and behind it what the other rules have left of its children, which are so many members
 pub record Left (R : List Row) (K M : List ℕ) (r end left : ℕ) (before : List Row) (x : Row) (bs : Blocks) (after : List Row) : Type 0 where
   pub headed : Headed R r end before x bs after
   pub told : AllTold K (r + 1) bs
-  pub noted : take (left - 1) M ≡ notes (r + 1) bs
+  pub noted : take left M ≡ notes (r + 1) bs
 
 pub record LeftAt (R : List Row) (K M : List ℕ) (r end kind left : ℕ) : Type 0 where
   pub before : List Row
@@ -52,16 +52,15 @@ pub record LeftAt (R : List Row) (K M : List ℕ) (r end kind left : ℕ) : Type
   pub is-left : Left R K M r end left before first blocks after
   pub op : Op
   pub is : kind ≡ operator-kind op
-  pub undecided : 0 < left
-  pub members-fit : left ≤ length M + 1
-  pub countable : left ≤ 65536
+  pub members-fit : left ≤ length M
+  pub countable : left < 65536
 
 -- an operator that can be concluded: what is left of its children stands behind it, and its print is mixed from theirs
 pub record ToConclude (n : Node) (b : Bytes) (K M : List ℕ) : Type 0 where
   pub in-place : InPlace (n .sheet) b K
   pub within : n .end ≤ total (n .sheet)
   pub there : LeftAt (rows-in (n .sheet) b) K M (n .row) (n .end) (n .kind) (n .left)
-  pub printed : n .print ≡ mixes (n .kind) (take (n .left - 1) M)
+  pub printed : n .print ≡ mixes (n .kind) (take (n .left) M)
   pub print-few : n .print < 65536
 
 -- rule 6: a lone child replaces the node

@@ -1,17 +1,51 @@
 -- `blocks::rules::are_twins` meets its contract. Assumes nothing.
+use mathlib.Core.Path.{sym, _∙_, subst}
+use Rattle.rows.specs.Layouts.{rows-in}
+use Rattle.blocks.specs.Entered.{LiveAt}
 use Rattle.blocks.proofs.Find.{twins-apart, twins-same}
 use borrow.Author.Needs.{needs}
 use Rattle.blocks.proofs.rules.are_twins.Statement.{statement}
 use Rattle.blocks.proofs.rules.are_twins.Tie as tie
 
+print-of-requires : tie.Need-print-of-requires
+print-of-requires c κs = search needs
+
+print-of-requires-2 : tie.Need-print-of-requires-2
+print-of-requires-2 c κs = search needs
+
 returns : tie.Need-returns
-returns c = twins-apart (c .if1 .taken)
+returns c =
+    let p = c .before in
+    twins-apart (λ e. c .if1 .taken (p .before .print-of .ensures .0 ∙ e ∙ sym (p .print-of2 .ensures .0)))
+
+row-of-requires : tie.Need-row-of-requires
+row-of-requires c κs = search needs
+
+row-of-requires-2 : tie.Need-row-of-requires-2
+row-of-requires-2 c κs = search needs
+
+abbrev start : tie.After-row-of2 → tie.Start
+start r = r .before .before .before .before .before .before
 
 same-at-requires : tie.Need-same-at-requires
-same-at-requires c κs = search needs
+same-at-requires c κs =
+    let a = start c in
+    let lives = LiveAt (rows-in (a .args .s) (a .args .b .now)) in
+    (a .pre .0, subst lives (sym (c .before .row-of .ensures)) (a .pre .1), subst lives (sym (c .row-of2 .ensures)) (a .pre .2))
 
 returns-2 : tie.Need-returns-2
-returns-2 c = twins-same (c .same-at .result) (c .same-at .ensures)
+returns-2 c =
+    let r = c .before in
+    twins-same (c .same-at .result) (rw (sym (r .before .row-of .ensures), sym (r .row-of2 .ensures)) (c .same-at .ensures))
 
 pub are-twins-spec : {M : Type 1} → statement M
-are-twins-spec = tie.close (tie.spec returns same-at-requires returns-2)
+are-twins-spec =
+    tie.close
+    (tie.spec
+    print-of-requires
+    print-of-requires-2
+    returns
+    row-of-requires
+    row-of-requires-2
+    same-at-requires
+    returns-2)

@@ -1,68 +1,81 @@
 -- `blocks::rules::find_twin` meets its contract: no member passed holds the same tree. Assumes nothing.
 use mathlib.Core.Path.{sym, subst}
-use native.Mathlib.Omega.{arith}
-use Rattle.rows.specs.Layouts.{rows-in}
+use Rattle.rows.specs.Layouts.{total, rows-in}
+use Rattle.buckets.specs.Chains.{entry-of}
+use Rattle.buckets.specs.Halves.{row-of}
 use Rattle.blocks.specs.Entered.{LiveAt}
-use Rattle.blocks.specs.Rules.{place}
-use Rattle.blocks.proofs.Find.{SeekTwin, twin-none, twin-sought, twin-less, twin-more, twin-found, twin-end}
+use Rattle.blocks.proofs.Find.{Sought, SeekTwin, twin-none, twin-sought, twin-less, twin-more, twin-found, twin-end}
+use borrow.Author.Needs.{needs}
 use Rattle.blocks.proofs.rules.find_twin.Statement.{statement}
 use Rattle.blocks.proofs.rules.find_twin.Tie as tie
 
 abbrev Inv-loop : tie.InvT-loop
-Inv-loop b s links members start m i₀ i = SeekTwin (rows-in s b) links members start m i
+Inv-loop b s links members m link₀ link = SeekTwin (rows-in s b) links members link₀ m link
 
 abbrev μ-loop : tie.MeasureT-loop
-μ-loop b s links members start m i₀ i = i
+μ-loop b s links members m link₀ link = entry-of link
+
+abbrev start-of : tie.At-loop Inv-loop μ-loop → tie.Start Inv-loop μ-loop
+start-of l = l .before .before .before .before
+
+abbrev at-loop : tie.After-link Inv-loop μ-loop → tie.At-loop Inv-loop μ-loop
+at-loop c = c .before .before
 
 loop-holds : tie.Need-loop-holds Inv-loop μ-loop
 loop-holds c = twin-none
 
-sub-member : tie.Need-sub-member Inv-loop μ-loop
-sub-member c = omega arith
+enum-known-link : tie.Need-enum-known-link Inv-loop μ-loop
+enum-known-link c = search needs
+
+-- at a member of the chain
+here : (c : tie.After-link Inv-loop μ-loop)
+    → let a = start-of (at-loop c) in
+    Sought (total (a .args .s)) (a .args .links .now) (a .args .members .now) (c .link .given .0 .0) (a .pre .1 .chain .count)
+here c = let a = start-of (at-loop c) in twin-sought (at-loop c .loop .inv) (c .link .given .1) (a .pre .1) (a .pre .2)
 
 member-requires : tie.Need-member-requires Inv-loop μ-loop
-member-requires c κs =
-    let a = c .before .before .before .before .before in
-    twin-sought (a .pre .1) (a .pre .2) (c .before .loop .inv) (c .loop-test .taken) .in-members
+member-requires c κs = here (c .before) .in-members
 
 are-twins-requires : tie.Need-are-twins-requires Inv-loop μ-loop
 are-twins-requires c κs =
-    let l = c .before in
-    let a = l .before .before .before .before .before in
-    let t = twin-sought (a .pre .1) (a .pre .2) (l .before .loop .inv) (l .loop-test .taken) in
-    (a .pre .0, subst (λ m. LiveAt (rows-in (a .args .s) (a .args .b .now)) (place m)) (sym (c .member .ensures .0)) (a .pre .1 .lives _ (t .in-chain)), a .pre .2 .lives)
+    let m = c .before .before in
+    let a = start-of (at-loop m) in (
+      a .pre .0,
+      subst (λ m. LiveAt (rows-in (a .args .s) (a .args .b .now)) (row-of m)) (sym (c .member .ensures .0)) (a .pre .1 .lives _ (here m .in-chain)),
+      a .pre .2 .lives,
+    )
+
+abbrev told : tie.After-member Inv-loop μ-loop → tie.After-link Inv-loop μ-loop
+told c = c .before .before
 
 returns : tie.Need-returns Inv-loop μ-loop
 returns c =
-    let m = c .before .before in
-    let l = m .before in
-    twin-found (l .before .loop .inv) (l .loop-test .taken) (m .member .ensures .0) (rw (c .if1 .taken) at (c .before .are-twins .ensures))
-
-sub-behind : tie.Need-sub-behind Inv-loop μ-loop
-sub-behind c = omega arith
+    let got = c .before .before in
+    let m = told got in
+    twin-found (at-loop m .loop .inv) (m .link .given .1) (got .member .ensures .0) (rw (c .if1 .taken) at (c .before .are-twins .ensures))
 
 behind-requires : tie.Need-behind-requires Inv-loop μ-loop
-behind-requires c κs =
-    let l = c .before .before .before in
-    let a = l .before .before .before .before .before in
-    twin-sought (a .pre .1) (a .pre .2) (l .before .loop .inv) (l .loop-test .taken) .in-links
+behind-requires c κs = here (told (c .before .before)) .in-links
 
 loop-less : tie.Need-loop-less Inv-loop μ-loop
 loop-less c =
-    let l = c .before .before .before .before in
-    let a = l .before .before .before .before .before in
-    twin-less (a .pre .1) (a .pre .2) (l .before .loop .inv) (l .loop-test .taken) (c .behind .ensures)
+    let m = told (c .before .before .before) in
+    let a = start-of (at-loop m) in
+    twin-less (at-loop m .loop .inv) (m .link .given .1) (a .pre .1) (a .pre .2) (c .behind .result) (c .behind .ensures)
 
 loop-again : tie.Need-loop-again Inv-loop μ-loop
 loop-again c =
     let f = c .before .before in
-    let m = f .before in
-    let l = m .before in
-    twin-more (l .before .loop .inv) (l .loop-test .taken) (m .member .ensures .0)
+    let got = f .before in
+    let m = told got in
+    twin-more (at-loop m .loop .inv) (m .link .given .1) (c .behind .result) (got .member .ensures .0)
     (rw (c .before .if1 .left) at (f .are-twins .ensures)) (c .behind .ensures)
 
+enum-told : tie.Need-enum-told Inv-loop μ-loop
+enum-told c = search needs
+
 returns-2 : tie.Need-returns-2 Inv-loop μ-loop
-returns-2 c = twin-end (c .before .loop .inv) (c .loop-test .left)
+returns-2 c = twin-end (c .before .before .loop .inv) (c .enum-told .given .1)
 
 pub find-twin-spec : {M : Type 1} → statement M
 find-twin-spec =
@@ -71,12 +84,12 @@ find-twin-spec =
     Inv-loop
     μ-loop
     loop-holds
-    sub-member
+    enum-known-link
     member-requires
     are-twins-requires
     returns
-    sub-behind
     behind-requires
     loop-less
     loop-again
+    enum-told
     returns-2)

@@ -1,5 +1,5 @@
 -- `blocks::rules::gather` meets its contract. Assumes nothing.
-use mathlib.Core.Path.{_≡_, refl, ap, _∙_}
+use mathlib.Core.Path.{_≡_, refl, _∙_}
 use Prim.Native.Nat.{_+_, _-_, _≤_, _<_}
 use native.Mathlib.Omega.{arith}
 use lib.ListN.{length, getD, take}
@@ -9,7 +9,8 @@ use Rattle.buckets.proofs.Chains.{linked-none}
 use Rattle.blocks.specs.Rules.{mixes}
 use Rattle.blocks.proofs.Blocks.{room-as}
 use Rattle.blocks.proofs.Walks.{Turn}
-use Rattle.blocks.proofs.Gather.{Gather, Face, tables-as, gather-none, gather-turn, gather-few, gather-face, face-turn, face-ordered, face-behind, gather-more, gather-printed, gather-owed, gather-found, gather-end}
+use Rattle.blocks.proofs.Gather.{Gather, tables-as, gather-none, gather-turn, gather-few, gather-face, gather-more, gather-printed, gather-owed}
+use Rattle.blocks.proofs.Gather.{gather-found, gather-end, Face, face-turn, face-ordered, face-behind, leaves-decided, leaves-members}
 use borrow.Author.Needs.{needs}
 use Rattle.blocks.proofs.rules.gather.Statement.{statement}
 use Rattle.blocks.proofs.rules.gather.Tie as tie
@@ -115,9 +116,22 @@ judge-requires c κs =
       behind = face-behind (faced p) (a .pre .there) (known-is p) (fit l) (omega (arith, v .2)) (v .1);
     }
 
+enum-known-count : tie.Need-enum-known-count Inv-loop μ-loop
+enum-known-count c = search needs
+
+enum-told : tie.Need-enum-told Inv-loop μ-loop
+enum-told c = search needs
+
+abbrev judged : tie.After-slice-known9 Inv-loop μ-loop → tie.After-judge Inv-loop μ-loop
+judged k = k .before .before .before .before .before .before .before .before
+
+-- a child that decides
+abbrev decided : tie.After-enum-told Inv-loop μ-loop → tie.After-judge Inv-loop μ-loop
+decided e = judged (e .before .before)
+
 hop-requires : tie.Need-hop-requires Inv-loop μ-loop
 hop-requires c κs =
-    let j = c .before .before .before .before .before .before .before .before .before .before in
+    let j = decided (c .before) in
     let p = spliced-of j in
     let l = test-of p in
     let a = start-of (l .before) in (
@@ -126,60 +140,60 @@ hop-requires c κs =
           (j .before .before .before .before .before .extent-at .ensures .0),
     )
 
-abbrev judged : tie.After-hop Inv-loop μ-loop → tie.After-judge Inv-loop μ-loop
-judged h = h .before .before .before .before .before .before .before .before .before .before .before
+abbrev hopped : tie.After-hop Inv-loop μ-loop → tie.After-enum-told Inv-loop μ-loop
+hopped h = h .before .before
 
 same-length : tie.Need-same-length Inv-loop μ-loop
 same-length c =
-    let j = judged c in
+    let j = decided (hopped c) in
     let p = spliced-of j in
     j .judge .kept .0 ∙ p .splice-at .kept .0 ∙ test-of p .before .loop .inv .3
 
 same-length-2 : tie.Need-same-length-2 Inv-loop μ-loop
 same-length-2 c =
-    let j = judged c in
+    let j = decided (hopped c) in
     j .judge .kept .1 .1 .1 .0 ∙ test-of (spliced-of j) .before .loop .inv .4
 
 same-length-3 : tie.Need-same-length-3 Inv-loop μ-loop
 same-length-3 c =
-    let j = judged c in
+    let j = decided (hopped c) in
     j .judge .kept .1 .1 .1 .1 .0 ∙ test-of (spliced-of j) .before .loop .inv .5
 
 same-length-4 : tie.Need-same-length-4 Inv-loop μ-loop
 same-length-4 c =
-    let j = judged c in
+    let j = decided (hopped c) in
     j .judge .kept .1 .1 .1 .1 .1 .0 ∙ test-of (spliced-of j) .before .loop .inv .6
 
 returns : tie.Need-returns Inv-loop μ-loop
 returns c =
-    let j = judged c in
+    let e = hopped c in
+    let j = decided e in
     let p = spliced-of j in (
-      gather-found (faced p) (known-is p) (fit (test-of p)) (j .judge .ensures .0) (c .before .before .if1 .taken)
+      gather-found (faced p) (known-is p) (fit (test-of p)) (j .judge .ensures .0) (e .enum-told .given .1)
           (j .before .before .before .before .before .extent-at .ensures .0) (c .hop .ensures),
-      (omega arith, ((λ some. absurd (some refl)), omega arith)),
+      leaves-decided,
     )
 
--- a child that does not decide
-abbrev undecided-of : tie.After-print-with Inv-loop μ-loop → tie.Else1 Inv-loop μ-loop
-undecided-of p = p .before .before
-
-abbrev passed : tie.Else1 Inv-loop μ-loop → tie.After-judge Inv-loop μ-loop
-passed e = e .before .before .before .before .before .before .before .before .before
+-- one that does not
+abbrev undecided : tie.After-count Inv-loop μ-loop → tie.After-judge Inv-loop μ-loop
+undecided m = judged (m .before .before)
 
 print-with-requires : tie.Need-print-with-requires Inv-loop μ-loop
 print-with-requires c κs =
-    let j = passed (c .before) in
+    let m = c .before .before in
+    let j = undecided m in
     let l = test-of (spliced-of j) in
     let v = l .before .loop .inv in
     let t = start-of (l .before) .pre .tables in
-    (v .8, omega (arith, v .2, v .6, j .judge .kept .1 .1 .1 .1 .1 .0, turn l .row-within, t .members-fit), j .judge .ensures .1 .1)
+    let few = j .judge .ensures .1 .few _ (m .count .given .1) in
+    (v .8, omega (arith, v .2, v .6, j .judge .kept .1 .1 .1 .1 .1 .0, turn l .row-within, t .members-fit), few)
 
-sub-n : tie.Need-sub-n Inv-loop μ-loop
-sub-n c = omega (arith, undecided-of c .if1 .left)
+abbrev counted : tie.After-print-with Inv-loop μ-loop → tie.After-count Inv-loop μ-loop
+counted p = p .before .before .before
 
 join-at-requires : tie.Need-join-at-requires Inv-loop μ-loop
 join-at-requires c κs =
-    let j = passed (undecided-of (c .before)) in
+    let j = undecided (counted (c .before)) in
     let p = spliced-of j in
     let l = test-of p in
     let a = start-of (l .before) in
@@ -194,7 +208,7 @@ join-at-requires c κs =
 
 loop-less : tie.Need-loop-less Inv-loop μ-loop
 loop-less c =
-    let j = passed (undecided-of (c .before .before .before .before)) in
+    let j = undecided (counted (c .before .before .before .before)) in
     let t = turn-there (spliced-of j) in
     omega (arith, t .some-rows, t .inside, j .before .before .before .before .before .extent-at .ensures .0)
 
@@ -202,29 +216,24 @@ loop-again : tie.Need-loop-again Inv-loop μ-loop
 loop-again c =
     let d = c .before .before in
     let q = d .before .before in
-    let f = undecided-of q in
-    let j = passed f in
+    let m = counted q in
+    let j = undecided m in
     let p = spliced-of j in
     let l = test-of p in
     let v = l .before .loop .inv in
     let s = j .before .before .before .before .before .extent-at .ensures .0 in
+    let told = m .count .given .1 in
     let g = j .judge .ensures in (
-      gather-more (faced p) (known-is p) (fit l) (g .0) (f .if1 .left) s (d .join-at .ensures),
-      g .1 .0,
-      omega (arith, g .1 .1, v .2, turn-there p .some-rows, s),
+      gather-more (faced p) (known-is p) (fit l) (g .0) told s (d .join-at .ensures),
+      g .1 .linked _ told,
+      omega (arith, g .1 .few _ told, v .2, turn-there p .some-rows, s),
       d .join-at .kept .0 ∙ j .judge .kept .0 ∙ p .splice-at .kept .0 ∙ v .3,
       j .judge .kept .1 .1 .1 .0 ∙ v .4,
       j .judge .kept .1 .1 .1 .1 .0 ∙ v .5,
       j .judge .kept .1 .1 .1 .1 .1 .0 ∙ v .6,
-      gather-printed (faced p) (start-of (l .before) .pre .there) (known-is p) (fit l) (g .0) (f .if1 .left) (v .7) (q .print-with .ensures .0),
+      gather-printed (faced p) (start-of (l .before) .pre .there) (known-is p) (fit l) (g .0) told (v .7) (q .print-with .ensures .0),
       q .print-with .ensures .1,
     )
-
-add-t40 : tie.Need-add-t40 Inv-loop μ-loop
-add-t40 c =
-    let i = c .before in
-    let a = start-of i in
-    omega (arith, i .loop .inv .2, gather-few (i .loop .inv .0) (a .pre .there) .0, a .pre .tables .countable)
 
 same-length-5 : tie.Need-same-length-5 Inv-loop μ-loop
 same-length-5 c = c .before .loop .inv .3
@@ -240,15 +249,9 @@ same-length-8 c = c .before .loop .inv .6
 
 returns-2 : tie.Need-returns-2 Inv-loop μ-loop
 returns-2 c =
-    let v = c .before .loop .inv in
-    let n = c .before .loop .n in
-    let a = start-of (c .before) in
-    let same : n ≡ n + 1 - 1 = omega arith in (
+    let v = c .before .loop .inv in (
       gather-end (v .0) (c .loop-test .left),
-      (
-        omega (arith, v .2, gather-few (v .0) (a .pre .there) .0),
-        ((λ _. v .7 ∙ ap (λ m. mixes (a .args .w .kind) (take m (c .before .loop .members))) same), v .8),
-      ),
+      leaves-members (omega (arith, v .2, gather-few (v .0) (start-of (c .before) .pre .there) .0)) (v .7) (v .8),
     )
 
 pub gather-spec : {M : Type 1} → statement M
@@ -266,6 +269,8 @@ gather-spec =
     extent-at-requires
     add-next
     judge-requires
+    enum-known-count
+    enum-told
     hop-requires
     same-length
     same-length-2
@@ -273,11 +278,9 @@ gather-spec =
     same-length-4
     returns
     print-with-requires
-    sub-n
     join-at-requires
     loop-less
     loop-again
-    add-t40
     same-length-5
     same-length-6
     same-length-7

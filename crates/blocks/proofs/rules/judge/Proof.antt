@@ -1,15 +1,13 @@
 -- `blocks::rules::judge` meets its contract. Assumes nothing.
-use mathlib.Core.Path.{_≡_, refl, sym, ap, _∙_, subst}
-use Prim.Native.Nat.{_+_, _-_}
+use mathlib.Core.Path.{sym, ap, _∙_}
 use native.Mathlib.Omega.{arith}
 use Rattle.sheet.specs.Format.{Row}
 use Rattle.rows.proofs.Layouts.{length-rows-in}
-use Rattle.buckets.specs.Chains.{Linked}
 use Rattle.blocks.specs.Blocks.{live}
 use Rattle.blocks.specs.Rules.{decisive, repeated}
 use Rattle.blocks.proofs.Blocks.{stands-row, stands-within}
 use Rattle.blocks.proofs.Notes.{note-dead}
-use Rattle.blocks.proofs.Judge.{none-dead, live-above, judged-passed}
+use Rattle.blocks.proofs.Judge.{none-dead, live-above, judged-passed, linked-members}
 use borrow.Author.Needs.{needs}
 use Rattle.blocks.proofs.rules.judge.Statement.{statement}
 use Rattle.blocks.proofs.rules.judge.Tie as tie
@@ -22,22 +20,16 @@ kind-at-requires c κs =
     let a = c .before .before .before .before .before in
     (a .pre .room, omega (arith, stands-within (a .pre .behind .standing .stands), length-rows-in (a .args .b .now) (a .pre .room)))
 
-add-result : tie.Need-add-result
-add-result c = search needs
-
 same-length : tie.Need-same-length
 same-length c = search needs
 
 returns : tie.Need-returns
 returns c =
-    let k = c .before .before in
-    let a = start-of k in
-    let n = a .args .c .before in
-    let same : n ≡ n + 1 - 1 = omega arith in (
+    let k = c .before in (
       (λ o _ from before done after laid noted two front x back h _.
-          let dead = sym (k .kind-at .ensures ∙ ap (λ (r : Row). r .kind) (stands-row h)) ∙ c .before .if1 .taken in
-          judged-passed h (none-dead (decisive o (live done)) x dead) (none-dead (repeated (live done)) x dead) (note-dead _ x dead) noted refl),
-      (subst (Linked _ _ _) same (a .pre .behind .linked), omega arith),
+          let dead = sym (k .kind-at .ensures ∙ ap (λ (r : Row). r .kind) (stands-row h)) ∙ c .if1 .taken in
+          judged-passed h (none-dead (decisive o (live done)) x dead) (none-dead (repeated (live done)) x dead) (note-dead _ x dead) noted),
+      linked-members (start-of k .pre .behind .linked) (omega arith),
     )
 
 judge-literal-requires : tie.Need-judge-literal-requires
@@ -95,7 +87,6 @@ judge-spec =
     tie.close
     (tie.spec
     kind-at-requires
-    add-result
     same-length
     returns
     judge-literal-requires

@@ -1,19 +1,20 @@
 -- `blocks::rules::judge_literal` meets its contract. Assumes nothing.
-use mathlib.Core.Path.{_≡_, refl, sym, ap, _∙_, subst}
+use mathlib.Core.Path.{_≡_, sym, ap, _∙_}
 use mathlib.Core.List.{List}
-use Prim.Native.Nat.{_+_, _-_, _/_, _<_}
+use Prim.Native.Nat.{_-_, _<_}
 use native.Mathlib.Omega.{arith}
+use lib.ListN.{getD}
 use Rattle.sheet.specs.Format.{Row}
 use Rattle.rows.specs.Layouts.{total, rows-in}
 use Rattle.rows.proofs.Layouts.{length-rows-in}
-use Rattle.buckets.specs.Chains.{bucket, last, Linked}
+use Rattle.buckets.specs.Chains.{bucket, last}
+use Rattle.buckets.specs.Halves.{row-of}
 use Rattle.buckets.specs.Prints.{literal-mix}
-use Rattle.buckets.proofs.Chains.{linked-none}
 use Rattle.blocks.specs.Walks.{at-row}
-use Rattle.blocks.specs.Rules.{Test}
+use Rattle.blocks.specs.Rules.{Test, Found}
 use Rattle.blocks.proofs.Blocks.{stands-within}
-use Rattle.blocks.proofs.Find.{Found, found, unfound}
-use Rattle.blocks.proofs.Judge.{members-within, judged-new, judged-again, judged-opposite}
+use Rattle.blocks.proofs.Find.{found, unfound}
+use Rattle.blocks.proofs.Judge.{members-within, linked-decided, linked-members, judged-new, judged-again, judged-opposite}
 use borrow.Author.Needs.{needs}
 use Rattle.blocks.proofs.rules.judge_literal.Statement.{statement}
 use Rattle.blocks.proofs.rules.judge_literal.Tie as tie
@@ -42,13 +43,39 @@ start-is f =
     k .first .ensures ∙
     ap (λ j. last (start-of (printed f) .args .members .now) j (start-of (printed f) .args .c .before)) (k .before .bucket-of .ensures .0)
 
-found-there : (e : tie.Else1)
-    → Found (start-of (printed (e .before)) .args .c .before)
-    (Test (rows-of (start-of (printed (e .before)))) (start-of (printed (e .before)) .args .members .now) (printed (e .before) .before .before .before .argument-at .result))
-    (e .before .find .result)
-found-there e =
-    let f = e .before in
-    found (bucket (printed f .literal-print .result)) (f .find .ensures) (start-of (printed f) .pre .0 .behind .linked) (start-is f) (e .if1 .left)
+-- no member of its variable is found
+abbrev unfound-by : tie.After-enum-told → tie.After-find
+unfound-by e = e .before .before
+
+abbrev added-by : tie.After-member-of → tie.After-enum-told
+added-by m = m .before .before .before .before
+
+-- one is
+abbrev found-by : tie.After-i → tie.After-find
+found-by m = m .before .before
+
+found-there : (m : tie.After-i)
+    → Found (start-of (printed (found-by m)) .args .c .before)
+    (Test (rows-of (start-of (printed (found-by m)))) (start-of (printed (found-by m)) .args .members .now) (printed (found-by m) .before .before .before .argument-at .result))
+    (m .i .given .0 .0)
+found-there m =
+    let f = found-by m in
+    found (bucket (printed f .literal-print .result)) (f .find .ensures) (start-of (printed f) .pre .0 .behind .linked) (start-is f) (m .i .given .1)
+
+abbrev member-by : tie.After-row-of → tie.After-i
+member-by r = r .before .before .before .before
+
+row-is : (r : tie.After-row-of)
+    → r .row-of .result ≡ row-of (getD (start-of (printed (found-by (member-by r))) .args .members .now) (member-by r .i .given .0 .0) 0)
+row-is r = r .row-of .ensures ∙ ap row-of (r .before .member .ensures .0)
+
+kind-is : (k : tie.After-kind-at) →
+    let m = member-by (k .before .before) in
+    let a = start-of (printed (found-by m)) in
+    k .kind-at .result ≡ (at-row (rows-of a) (row-of (getD (a .args .members .now) (m .i .given .0 .0) 0))) .kind
+kind-is k =
+    let r = k .before .before in
+    k .kind-at .ensures ∙ ap (λ p. (at-row (rows-of (start-of (printed (found-by (member-by r))))) p) .kind) (row-is r)
 
 argument-at-requires : tie.Need-argument-at-requires
 argument-at-requires c κs = (c .before .before .before .before .before .pre .0 .room, inside (c .before .before .before .before .before))
@@ -88,21 +115,21 @@ find-requires c κs =
       },
     )
 
-mul-add : tie.Need-mul-add
-mul-add c =
-    let a = start-of (printed (c .before .before .before .before)) in
-    omega (arith, inside a, a .pre .0 .tables .countable)
+enum-known-i : tie.Need-enum-known-i
+enum-known-i c = search needs
 
-add-add : tie.Need-add-add
-add-add c =
-    let g = printed (c .before .before .before .before) in
+enum-told : tie.Need-enum-told
+enum-told c = search needs
+
+member-of-requires : tie.Need-member-of-requires
+member-of-requires c κs =
+    let g = printed (unfound-by (c .before .before .before)) in
     let a = start-of g in
-    omega (arith, inside a, a .pre .0 .tables .countable, g .literal-print .ensures .1)
+    (omega (arith, inside a, a .pre .0 .tables .countable), g .literal-print .ensures .1)
 
 add-requires : tie.Need-add-requires
 add-requires c κs =
-    let g = printed (c .before .before .before .before) in
-    let a = start-of g in
+    let a = start-of (printed (unfound-by (added-by c))) in
     let t = a .pre .0 .tables in
     let few = a .pre .0 .behind .few in (
       record {
@@ -111,13 +138,16 @@ add-requires c κs =
         members-fit = omega (arith, inside a, t .members-fit, few);
         countable = omega (arith, inside a, t .countable, few);
       },
-      omega (arith, inside a, t .countable, g .literal-print .ensures .1),
+      c .member-of .ensures .1,
       a .pre .0 .behind .linked,
     )
 
-add-result : tie.Need-add-result
-add-result c =
-    let a = start-of (printed (c .before .before .before .before .before .before .before .before .before .before .before)) in
+abbrev add-by : tie.After-slice-known7 → tie.After-add
+add-by c = c .before .before .before .before .before .before
+
+add-t36 : tie.Need-add-t36
+add-t36 c =
+    let a = start-of (printed (unfound-by (added-by (add-by c .before)))) in
     omega (arith, inside a, a .pre .0 .tables .countable, a .pre .0 .behind .few)
 
 same-length : tie.Need-same-length
@@ -134,34 +164,33 @@ same-length-4 c = search needs
 
 returns : tie.Need-returns
 returns c =
-    let d = c .before .before .before .before .before .before in
-    let f = d .before .before .before .before .before in
+    let d = add-by c in
+    let e = added-by (d .before) in
+    let f = unfound-by e in
     let g = printed f in
-    let a = start-of g in
-    let n = a .args .c .before in
-    let same : n + 1 ≡ n + 2 - 1 = omega arith in (
+    let a = start-of g in (
       (λ o from before done after laid noted two front x back h _.
           judged-new (a .pre .1) (g .before .before .before .argument-at .ensures .0) laid noted h o (print-is g)
-          (unfound (bucket (g .literal-print .result)) (f .find .ensures) (a .pre .0 .behind .linked) (start-is f) (d .before .before .before .before .if1 .taken))
-          (d .add .ensures .0) (omega (arith, inside a, a .pre .0 .tables .members-fit, a .pre .0 .behind .few)) refl),
-      (subst (Linked _ _ _) same (d .add .ensures .1), omega arith),
+          (unfound (bucket (g .literal-print .result)) (f .find .ensures) (a .pre .0 .behind .linked) (start-is f) (e .enum-told .given .1))
+          (d .before .member-of .ensures .0) (d .add .ensures .0) (omega (arith, inside a, a .pre .0 .tables .members-fit, a .pre .0 .behind .few))),
+      linked-members (d .add .ensures .1) (omega arith),
     )
-
-sub-member : tie.Need-sub-member
-sub-member c = search needs
 
 member-requires : tie.Need-member-requires
 member-requires c κs =
-    let f = c .before .before in
-    let a = start-of (printed f) in
-    omega (arith, found-there (c .before) .within, inside a, a .pre .0 .tables .members-fit, a .pre .0 .behind .few)
+    let m = c .before .before in
+    let a = start-of (printed (found-by m)) in
+    omega (arith, found-there m .within, inside a, a .pre .0 .tables .members-fit, a .pre .0 .behind .few)
+
+row-of-requires : tie.Need-row-of-requires
+row-of-requires c κs = search needs
 
 kind-at-requires : tie.Need-kind-at-requires
 kind-at-requires c κs =
-    let e = c .before .before .before in
-    let a = start-of (printed (e .before)) in
-    let i = found-there e in
-    (a .pre .0 .room, omega (arith, ap (λ m. m / 65536) (c .before .member .ensures .0), inside a, members-within (a .pre .0 .behind .laid) (a .pre .0 .behind .noted) (e .before .find .result - 1) (omega (arith, i .some, i .within))))
+    let r = c .before in
+    let m = member-by r in
+    let a = start-of (printed (found-by m)) in
+    (a .pre .0 .room, omega (arith, row-is r, inside a, members-within (a .pre .0 .behind .laid) (a .pre .0 .behind .noted) (m .i .given .0 .0) (found-there m .within)))
 
 same-length-5 : tie.Need-same-length-5
 same-length-5 c = search needs
@@ -178,28 +207,23 @@ same-length-8 c = search needs
 returns-2 : tie.Need-returns-2
 returns-2 c =
     let k = c .before .before in
-    let m = k .before .before in
-    let e = m .before .before in
-    let g = printed (e .before) in
+    let m = member-by (k .before .before) in
+    let g = printed (found-by m) in
     let a = start-of g in
-    let i = found-there e in (
+    let i = found-there m in (
       (λ o from before done after laid noted two front x back h _.
-          judged-opposite (a .pre .1) (g .before .before .before .argument-at .ensures .0) laid noted h o (omega (arith, i .some, i .within)) (i .passes)
-          (λ z. c .if2 .taken (k .kind-at .ensures ∙ ap (λ p. (at-row (rows-in (a .args .s) (a .args .b .now)) (p / 65536)) .kind) (m .member .ensures .0) ∙ z))),
-      (linked-none _ _ _, omega arith),
+          judged-opposite (a .pre .1) (g .before .before .before .argument-at .ensures .0) laid noted h o (i .within) (i .passes)
+          (λ z. c .if1 .taken (kind-is k ∙ z))),
+      linked-decided,
     )
+
+abbrev again-by : tie.Else1 → tie.After-kind-at
+again-by e = e .before .before
 
 set-row-requires : tie.Need-set-row-requires
 set-row-requires c κs =
-    let e = c .before .before .before .before .before .before .before in
-    let a = start-of (printed (e .before)) in
+    let a = start-of (printed (found-by (member-by (again-by (c .before) .before .before)))) in
     (a .pre .0 .room, inside a, omega (arith, inside a, a .pre .0 .counted))
-
-add-result-2 : tie.Need-add-result-2
-add-result-2 c =
-    let e = c .before .before .before .before .before .before .before .before .before .before in
-    let a = start-of (printed (e .before)) in
-    omega (arith, inside a, a .pre .0 .tables .countable, a .pre .0 .behind .few)
 
 same-length-9 : tie.Need-same-length-9
 same-length-9 c = search needs
@@ -217,19 +241,15 @@ returns-3 : tie.Need-returns-3
 returns-3 c =
     let w = c .before .before in
     let t = w .before .before in
-    let k = t .before .before in
-    let m = k .before .before in
-    let e = m .before .before in
-    let g = printed (e .before) in
+    let k = again-by t in
+    let m = member-by (k .before .before) in
+    let g = printed (found-by m) in
     let a = start-of g in
-    let n = a .args .c .before in
-    let same : n ≡ n + 1 - 1 = omega arith in
-    let i = found-there e in (
+    let i = found-there m in (
       (λ o from before done after laid noted two front x back h _.
-          judged-again (a .pre .1) (g .before .before .before .argument-at .ensures .0) laid noted h o (omega (arith, i .some, i .within)) (i .passes)
-          (sym (k .kind-at .ensures ∙ ap (λ p. (at-row (rows-in (a .args .s) (a .args .b .now)) (p / 65536)) .kind) (m .member .ensures .0)) ∙ t .if2 .left)
-          (w .set-row .ensures .0) two refl),
-      (subst (Linked _ _ _) same (a .pre .0 .behind .linked), omega arith),
+          judged-again (a .pre .1) (g .before .before .before .argument-at .ensures .0) laid noted h o (i .within) (i .passes)
+          (sym (kind-is k) ∙ t .if1 .left) (w .set-row .ensures .0) two),
+      linked-members (a .pre .0 .behind .linked) (omega arith),
     )
 
 pub judge-literal-spec : {M : Type 1} → statement M
@@ -243,17 +263,18 @@ judge-literal-spec =
     bucket-of-requires
     first-requires
     find-requires
-    mul-add
-    add-add
+    enum-known-i
+    enum-told
+    member-of-requires
     add-requires
-    add-result
+    add-t36
     same-length
     same-length-2
     same-length-3
     same-length-4
     returns
-    sub-member
     member-requires
+    row-of-requires
     kind-at-requires
     same-length-5
     same-length-6
@@ -261,7 +282,6 @@ judge-literal-spec =
     same-length-8
     returns-2
     set-row-requires
-    add-result-2
     same-length-9
     same-length-10
     same-length-11

@@ -1,29 +1,32 @@
 -- `blocks::rules::judge_operator` meets its contract. Assumes nothing.
-use mathlib.Core.Path.{_≡_, refl, sym, ap, _∙_, subst}
+use mathlib.Core.Path.{_≡_, sym, ap, _∙_}
 use mathlib.Core.List.{List}
-use Prim.Native.Nat.{ℕ, _+_, _*_, _-_, _%_, _<_}
+use Prim.Native.Nat.{_<_}
 use native.Mathlib.Omega.{arith}
 use lib.ListN.{set}
 use Rattle.sheet.specs.Format.{Row, row}
 use Rattle.rows.specs.Layouts.{total, rows-in}
 use Rattle.rows.proofs.Layouts.{length-rows-in}
-use Rattle.buckets.specs.Chains.{bucket, last, Linked}
-use Rattle.buckets.proofs.Chains.{linked-none}
+use Rattle.buckets.specs.Chains.{bucket, last}
+use Rattle.buckets.specs.Halves.{member-of, print-of}
 use Rattle.blocks.specs.Blocks.{Block, none, _◂_, head, live, Stands}
 use Rattle.blocks.specs.Rules.{Member}
 use Rattle.blocks.proofs.Blocks.{stands-row, stands-within}
 use Rattle.blocks.proofs.Hop.{One, live-one}
 use Rattle.blocks.proofs.Find.{found, unfound}
-use Rattle.blocks.proofs.Judge.{members-within, member-at, judged-decided, said-print, said-member, place-said, operator-size, operator-new, operator-again}
+use Rattle.blocks.proofs.Judge.{members-within, member-at, judged-decided, linked-decided, linked-members, said-print, said-member, row-said, operator-size, operator-new, operator-again}
 use borrow.Author.Needs.{needs}
 use Rattle.blocks.proofs.rules.judge_operator.Statement.{statement}
 use Rattle.blocks.proofs.rules.judge_operator.Tie as tie
 
-abbrev start-of : tie.After-find-twin → tie.Start
-start-of f = f .before .before .before .before .before .before .before .before .before .before .before .before .before .before .before .before
+abbrev start-of : tie.Else1 → tie.Start
+start-of t = t .before .before .before .before .before .before .before
 
-abbrev undecided : tie.After-find-twin → tie.Else1
-undecided f = f .before .before .before .before .before .before .before .before .before
+abbrev undecided : tie.After-member-of → tie.Else1
+undecided m = m .before .before
+
+abbrev sought : tie.After-find-twin → tie.After-member-of
+sought f = f .before .before .before .before .before .before .before .before
 
 inside : (a : tie.Start) → a .args .c .at < total (a .args .s)
 inside a = omega (arith, stands-within (a .pre .0 .behind .standing .stands), length-rows-in (a .args .b .now) (a .pre .0 .room))
@@ -31,26 +34,33 @@ inside a = omega (arith, stands-within (a .pre .0 .behind .standing .stands), le
 abbrev rows-of : tie.Start → List Row
 rows-of a = rows-in (a .args .s) (a .args .b .now)
 
-abbrev member-of : tie.Start → ℕ
-member-of a = a .args .c .at * 65536 + a .args .c .known % 65536
-
 above : (a : tie.Start) {front back : List Row} (x : Block) → Stands (rows-of a) (a .args .c .at) front x back → 4 < (head x) .kind
 above a x h = omega (arith, a .pre .1, ap (λ (q : Row). q .kind) (stands-row h))
 
 one : (a : tie.Start) {front back : List Row} (x : Block) → Stands (rows-of a) (a .args .c .at) front x back → One (live (x ◂ none))
 one a x h = live-one x (λ z. omega (arith, above a x h))
 
-own : (a : tie.Start) → Member (rows-of a) (member-of a)
-own a =
+-- the member that it would be
+member-is : (m : tie.After-member-of) →
+    let a = start-of (undecided m) in
+    m .member-of .result ≡ member-of (a .args .c .at) (print-of (a .args .c .known))
+member-is m = m .member-of .ensures .0 ∙ ap (member-of (start-of (undecided m) .args .c .at)) (m .before .print-of .ensures .0)
+
+own : (m : tie.After-member-of) → Member (rows-of (start-of (undecided m))) (m .member-of .result)
+own m =
+    let a = start-of (undecided m) in
     let g = a .pre .0 .behind .standing in
     let u = one a (g .block) (g .stands) in
-    said-member (a .args .c .known) (g .block) (u .tree) (g .stands) (above a (g .block) (g .stands)) (a .pre .0 .behind .says) (u .is)
+    said-member (a .args .c .known) (g .block) (u .tree) (member-is m) (g .stands) (above a (g .block) (g .stands)) (a .pre .0 .behind .says) (u .is)
 
-start-is : (f : tie.After-find-twin)
-    → f .before .before .before .before .first .result ≡ last (start-of f .args .members .now) (bucket (member-of (start-of f))) (start-of f .args .c .before)
+start-is : (f : tie.After-find-twin) →
+    let m = sought f in
+    let a = start-of (undecided m) in
+    f .before .before .before .before .first .result ≡ last (a .args .members .now) (bucket (m .member-of .result)) (a .args .c .before)
 start-is f =
     let k = f .before .before .before .before in
-    k .first .ensures ∙ ap (λ j. last (start-of f .args .members .now) j (start-of f .args .c .before)) (k .before .bucket-of .ensures .0)
+    let a = start-of (undecided (sought f)) in
+    k .first .ensures ∙ ap (λ j. last (a .args .members .now) j (a .args .c .before)) (k .before .bucket-of .ensures .0)
 
 decides-at-requires : tie.Need-decides-at-requires
 decides-at-requires c κs =
@@ -65,32 +75,31 @@ returns c =
     let d = c .before in (
       (λ o e from before done after laid noted two front x back h w.
           judged-decided h (sym (d .decides-at .ensures (live done) front x back h w o e) ∙ c .if1 .taken)),
-      (linked-none _ _ _, omega arith),
+      linked-decided,
     )
 
-mul-m : tie.Need-mul-m
-mul-m c =
-    let a = c .before .before .before .before .before .before .before in
-    omega (arith, inside a, a .pre .0 .tables .countable)
+print-of-requires : tie.Need-print-of-requires
+print-of-requires c κs = search needs
 
-add-m : tie.Need-add-m
-add-m c =
-    let a = c .before .before .before .before .before .before .before .before in
-    omega (arith, inside a, a .pre .0 .tables .countable)
+member-of-requires : tie.Need-member-of-requires
+member-of-requires c κs =
+    let a = start-of (c .before) in
+    (omega (arith, inside a, a .pre .0 .tables .countable), c .print-of .ensures .1)
 
 bucket-of-requires : tie.Need-bucket-of-requires
 bucket-of-requires c κs = search needs
 
 first-requires : tie.Need-first-requires
 first-requires c κs =
-    let a = c .before .before .before .before .before .before .before .before .before .before .before in
+    let a = start-of (undecided (c .before .before .before)) in
     let k = c .bucket-of in
     (omega (arith, k .ensures .1, a .pre .0 .tables .all-heads), omega (arith, inside a, a .pre .0 .tables .members-fit, a .pre .0 .behind .few), a .pre .0 .behind .linked .heads (k .result) (k .ensures .1))
 
 find-twin-requires : tie.Need-find-twin-requires
 find-twin-requires c κs =
     let f = c .before .before .before in
-    let a = c .before .before .before .before .before .before .before .before .before .before .before .before .before .before .before in (
+    let m = f .before .before .before .before in
+    let a = start-of (undecided m) in (
       a .pre .0 .room,
       record {
         chain =
@@ -106,12 +115,23 @@ find-twin-requires c κs =
             };
         lives = λ j l. member-at (a .pre .0 .behind .laid) (a .pre .0 .behind .noted) j l;
       },
-      own a,
+      own m,
     )
+
+enum-told : tie.Need-enum-told
+enum-told c = search needs
+
+enum-told-2 : tie.Need-enum-told-2
+enum-told-2 c = search needs
+
+-- none is the same
+abbrev unfound-by : tie.After-enum-told2 → tie.After-find-twin
+unfound-by e = e .before .before
 
 add-requires : tie.Need-add-requires
 add-requires c κs =
-    let a = start-of (c .before .before .before .before) in
+    let m = sought (unfound-by (c .before .before .before)) in
+    let a = start-of (undecided m) in
     let t = a .pre .0 .tables in
     let few = a .pre .0 .behind .few in (
       record {
@@ -120,13 +140,19 @@ add-requires c κs =
         members-fit = omega (arith, inside a, t .members-fit, few);
         countable = omega (arith, inside a, t .countable, few);
       },
-      omega (arith, inside a, t .countable),
+      m .member-of .ensures .1,
       a .pre .0 .behind .linked,
     )
 
-add-result : tie.Need-add-result
-add-result c =
-    let a = start-of (c .before .before .before .before .before .before .before .before .before .before .before) in
+abbrev add-by : tie.After-slice-known7 → tie.After-add
+add-by c = c .before .before .before .before .before .before
+
+abbrev added-by : tie.After-add → tie.After-enum-told2
+added-by d = d .before .before .before .before
+
+add-t34 : tie.Need-add-t34
+add-t34 c =
+    let a = start-of (undecided (sought (unfound-by (added-by (add-by c))))) in
     omega (arith, inside a, a .pre .0 .tables .countable, a .pre .0 .behind .few)
 
 same-length-2 : tie.Need-same-length-2
@@ -143,40 +169,38 @@ same-length-5 c = search needs
 
 returns-2 : tie.Need-returns-2
 returns-2 c =
-    let d = c .before .before .before .before .before .before in
-    let f = d .before .before .before .before .before in
-    let t = undecided f in
-    let a = start-of f in
-    let n = a .args .c .before in
-    let same : n + 1 ≡ n + 2 - 1 = omega arith in (
+    let d = add-by c in
+    let f = unfound-by (added-by d) in
+    let m = sought f in
+    let t = undecided m in
+    let a = start-of t in (
       (λ o e from before done after laid noted two front x back h w.
           let u = one a x h in
           let l = above a x h in
+          let twins = f .find-twin .ensures (said-member (a .args .c .known) x (u .tree) (member-is m) h l w (u .is)) in
           operator-new laid noted h (u .is) o (sym (t .before .decides-at .ensures (live done) front x back h w o e) ∙ t .if1 .left)
-          (ap (λ p. a .args .c .at * 65536 + p) (said-print (a .args .c .known) x l w (u .is)))
-          (unfound (bucket (member-of a)) (f .find-twin .ensures (said-member (a .args .c .known) x (u .tree) h l w (u .is))) (a .pre .0 .behind .linked) (start-is f)
-          (d .before .before .before .before .if2 .taken))
-          (d .add .ensures .0) (omega (arith, inside a, a .pre .0 .tables .members-fit, a .pre .0 .behind .few)) refl),
-      (subst (Linked _ _ _) same (d .add .ensures .1), omega arith),
+          (member-is m ∙ ap (member-of (a .args .c .at)) (said-print (a .args .c .known) x l w (u .is)))
+          (unfound (bucket (m .member-of .result)) twins (a .pre .0 .behind .linked) (start-is f) (added-by d .enum-told2 .given .1))
+          (d .add .ensures .0) (omega (arith, inside a, a .pre .0 .tables .members-fit, a .pre .0 .behind .few))),
+      linked-members (d .add .ensures .1) (omega arith),
     )
+
+-- one is
+abbrev found-by : tie.After-enum-told → tie.After-find-twin
+found-by e = e .before .before
 
 argument-at-requires : tie.Need-argument-at-requires
 argument-at-requires c κs =
-    let a = start-of (c .before .before) in
+    let a = start-of (undecided (sought (found-by (c .before)))) in
     (a .pre .0 .room, inside a)
 
 set-row-requires : tie.Need-set-row-requires
 set-row-requires c κs =
     let v = c .before in
-    let a = start-of (v .before .before .before) in
+    let a = start-of (undecided (sought (found-by (v .before .before)))) in
     let g = a .pre .0 .behind .standing in
     let r = stands-row (g .stands) in
     (a .pre .0 .room, inside a, omega (arith, v .argument-at .ensures .0, ap (λ (q : Row). q .argument) r, operator-size (g .block) (above a (g .block) (g .stands)), stands-within (g .stands), length-rows-in (a .args .b .now) (a .pre .0 .room), a .pre .0 .counted))
-
-add-result-2 : tie.Need-add-result-2
-add-result-2 c =
-    let a = start-of (c .before .before .before .before .before .before .before) in
-    omega (arith, inside a, a .pre .0 .tables .countable, a .pre .0 .behind .few)
 
 same-length-6 : tie.Need-same-length-6
 same-length-6 c = search needs
@@ -195,21 +219,21 @@ returns-3 c =
     let w = c .before .before in
     let v = w .before .before in
     let e = v .before .before in
-    let f = e .before in
-    let t = undecided f in
-    let a = start-of f in
-    let n = a .args .c .before in
-    let same : n ≡ n + 1 - 1 = omega arith in (
+    let f = found-by e in
+    let m = sought f in
+    let t = undecided m in
+    let a = start-of t in (
       (λ o k from before done after laid noted two front x back h says.
           let u = one a x h in
           let l = above a x h in
-          let i = found (bucket (member-of a)) (f .find-twin .ensures (said-member (a .args .c .known) x (u .tree) h l says (u .is))) (a .pre .0 .behind .linked) (start-is f) (e .if2 .left) in
+          let twins = f .find-twin .ensures (said-member (a .args .c .known) x (u .tree) (member-is m) h l says (u .is)) in
+          let i = found (bucket (m .member-of .result)) twins (a .pre .0 .behind .linked) (start-is f) (e .enum-told .given .1) in
           operator-again laid noted h (u .is) o (sym (t .before .decides-at .ensures (live done) front x back h says o k) ∙ t .if1 .left)
-          (omega (arith, i .some, i .within)) (place-said (a .args .c .at) (a .args .c .known)) (i .passes)
+          (i .within) (row-said (a .args .c .known) (member-is m)) (i .passes)
           (w .set-row .ensures .0 ∙
           ap (λ m. set (rows-of a) (a .args .c .at) (row 0 m))
-          (v .argument-at .ensures .0 ∙ ap (λ (q : Row). q .argument) (stands-row h) ∙ operator-size x l)) refl),
-      (subst (Linked _ _ _) same (a .pre .0 .behind .linked), omega arith),
+          (v .argument-at .ensures .0 ∙ ap (λ (q : Row). q .argument) (stands-row h) ∙ operator-size x l))),
+      linked-members (a .pre .0 .behind .linked) (omega arith),
     )
 
 pub judge-operator-spec : {M : Type 1} → statement M
@@ -219,13 +243,15 @@ judge-operator-spec =
     decides-at-requires
     same-length
     returns
-    mul-m
-    add-m
+    print-of-requires
+    member-of-requires
     bucket-of-requires
     first-requires
     find-twin-requires
+    enum-told
+    enum-told-2
     add-requires
-    add-result
+    add-t34
     same-length-2
     same-length-3
     same-length-4
@@ -233,7 +259,6 @@ judge-operator-spec =
     returns-2
     argument-at-requires
     set-row-requires
-    add-result-2
     same-length-6
     same-length-7
     same-length-8

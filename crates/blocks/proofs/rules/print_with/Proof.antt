@@ -1,18 +1,18 @@
 -- `blocks::rules::print_with` meets its contract. Assumes nothing.
 use mathlib.Core.Path.{ap, _∙_}
-use Prim.Native.Nat.{_%_}
 use native.Mathlib.Omega.{arith}
+use Rattle.buckets.specs.Halves.{print-of}
 use Rattle.buckets.specs.Prints.{mix}
 use Rattle.blocks.proofs.Mixes.{mixes-none, mixes-one}
 use borrow.Author.Needs.{needs}
 use Rattle.blocks.proofs.rules.print_with.Statement.{statement}
 use Rattle.blocks.proofs.rules.print_with.Tie as tie
 
-add-if1 : tie.Need-add-if1
-add-if1 c = search needs
-
 member-requires : tie.Need-member-requires
 member-requires c κs = search needs
+
+print-of-requires : tie.Need-print-of-requires
+print-of-requires c κs = search needs
 
 mixed-requires : tie.Need-mixed-requires
 mixed-requires c κs = search needs
@@ -20,16 +20,17 @@ mixed-requires c κs = search needs
 returns : tie.Need-returns
 returns c =
     let got = c .before in
-    let a = got .before .before .before in (
-      c .mixed .ensures .0 ∙ ap (λ m. mix (a .args .h) (m % 65536)) (got .member .ensures .0) ∙
-          mixes-one (a .args .members .now) (a .args .h) (a .args .n) (a .args .left) (a .pre .1) (omega (arith, got .before .if1 .taken, a .pre .2)),
+    let a = got .before .before .before .before in (
+      c .mixed .ensures .0 ∙ ap (mix (a .args .h)) (got .print-of .ensures .0 ∙ ap print-of (got .before .member .ensures .0)) ∙
+          mixes-one (a .args .members .now) (a .args .h) (a .args .n) (a .args .count) (a .pre .1) (omega (arith, got .before .before .if1 .taken, a .pre .2)),
       c .mixed .ensures .1,
     )
 
 returns-2 : tie.Need-returns-2
 returns-2 c =
     let a = c .before .before in
-    (mixes-none (a .args .members .now) (a .args .h) (a .args .n) (a .args .left) (a .pre .1) (c .if1 .left), a .pre .0)
+    (mixes-none (a .args .members .now) (a .args .h) (a .args .n) (a .args .count) (a .pre .1) (c .if1 .left), a .pre .0)
 
 pub print-with-spec : {M : Type 1} → statement M
-print-with-spec = tie.close (tie.spec add-if1 member-requires mixed-requires returns returns-2)
+print-with-spec =
+    tie.close (tie.spec member-requires print-of-requires mixed-requires returns returns-2)

@@ -1,6 +1,7 @@
 -- `blocks::rules::splice_at` meets its contract. Assumes nothing.
-use mathlib.Core.Path.{refl, sym, _∙_}
+use mathlib.Core.Path.{refl, sym, ap, _∙_}
 use mathlib.Core.Logic.{inl, inr}
+use Prim.Native.Nat.{_+_, _-_}
 use borrow.Author.Needs.{needs}
 use Rattle.blocks.proofs.rules.splice_at.Statement.{statement}
 use Rattle.blocks.proofs.rules.splice_at.Tie as tie
@@ -32,6 +33,9 @@ set-row-requires c κs = search needs
 sub-result-2 : tie.Need-sub-result-2
 sub-result-2 c = search needs
 
+children-of-requires : tie.Need-children-of-requires
+children-of-requires c κs = search needs
+
 add-result : tie.Need-add-result
 add-result c = search needs
 
@@ -43,7 +47,7 @@ returns-3 c =
     let w = c .before .before .before in
     let e = w .before .before in
     let k = e .before .before .before in
-    inr (inr (sym (k .kind-at .ensures) ∙ e .if2 .left, w .set-row .ensures .0, refl))
+    inr (inr (sym (k .kind-at .ensures) ∙ e .if2 .left, w .set-row .ensures .0, ap (λ n. k .before .before .before .args .owed - 1 + n) (c .children-of .ensures)))
 
 pub splice-at-spec : {M : Type 1} → statement M
 splice-at-spec =
@@ -57,6 +61,7 @@ splice-at-spec =
     returns-2
     set-row-requires
     sub-result-2
+    children-of-requires
     add-result
     same-length-3
     returns-3)

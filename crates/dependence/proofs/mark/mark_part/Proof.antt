@@ -6,8 +6,8 @@ use Prim.Native.Nat.{_<_}
 use Rattle.formula.specs.Tree.{Literals, of}
 use Rattle.rows.specs.Formulas.{matrix-in}
 use Rattle.occurrences.specs.Chains.{Chain}
-use Rattle.relevance.specs.Parts.{relevant-part}
-use Rattle.relevance.specs.declared.Relevant.{Relevant}
+use Rattle.subtrees.specs.Parts.{relevant-part}
+use Rattle.subtrees.specs.declared.relevant.Relevant.{Relevant}
 use Rattle.relevance.proofs.Descent.{found-before}
 use Rattle.dependence.proofs.Marks.{marked-as}
 use Rattle.dependence.proofs.Within.{within-literal, within-operator}

@@ -10,7 +10,7 @@ use Rattle.rows.specs.declared.Layout.{Layout}
 use Rattle.subtrees.specs.Subtrees.{siblings-in}
 use Rattle.subtrees.proofs.Siblings.{Children, Walked, children-read}
 use Rattle.occurrences.specs.Chains.{Chain}
-use Rattle.relevance.specs.Cuts.{cuts}
+use Rattle.subtrees.specs.Cuts.{cuts}
 use Rattle.relevance.proofs.TurnPart.{Begun, begin, walked, leads}
 use Rattle.relevance.proofs.TurnCuts.{Cutting, Kept, cut-start, cut-on, kept-turn, length-kept, cuts-done}
 use Rattle.relevance.proofs.cuts.fill_cuts.Statement.{statement}

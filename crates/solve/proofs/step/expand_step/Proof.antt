@@ -158,36 +158,30 @@ surveyed c =
 abbrev ready : tie.After-survey-draft → tie.Start
 ready c = begin (fitting (draft c))
 
-sheet-length-requires : tie.Need-sheet-length-requires
-sheet-length-requires c κs = few-rows (ready (c .before) .pre .0)
-
 sub-sheet-length : tie.Need-sub-sheet-length
 sub-sheet-length c = search needs
 
--- the old sheet's length is known, then that of the raw sheet, which has its place in the second buffer
-abbrev survey : tie.After-sheet-length → tie.After-survey-draft
-survey c = c .before .before
-
-abbrev old : tie.After-sheet-length2 → tie.After-sheet-length
-old c = c .before .before
-
-sheet-length-requires-2 : tie.Need-sheet-length-requires-2
-sheet-length-requires-2 c κs =
-    let v = survey (c .before) in
+sheet-length-requires : tie.Need-sheet-length-requires
+sheet-length-requires c κs =
+    let v = c .before .before in
     let few = few-rows (ready v .pre .0) in
     (omega (arith, few .0), omega (arith, small (pick (fitting (draft v)))))
 
-abbrev base : tie.After-sheet-length2 → tie.Start
-base c = ready (survey (old c))
+-- the raw sheet's length is known, and it has its place in the second buffer
+abbrev survey : tie.After-sheet-length → tie.After-survey-draft
+survey c = c .before .before .before
 
-enough : (c : tie.After-sheet-length2) → c .sheet-length2 .result ≤ length (base c .args .second .now)
+abbrev base : tie.After-sheet-length → tie.Start
+base c = ready (survey c)
+
+enough : (c : tie.After-sheet-length) → c .sheet-length .result ≤ length (base c .args .second .now)
 enough c =
-    let d = fitting (draft (survey (old c))) in
+    let d = fitting (draft (survey c)) in
     let p = base c .pre in
-    omega (arith, c .sheet-length2 .ensures, few-and-short (p .0) (p .1) (p .2) (pick d .choose-expand .ensures) (fit d) .1, p .0 .second-room)
+    omega (arith, c .sheet-length .ensures, few-and-short (p .0) (p .1) (p .2) (pick d .choose-expand .ensures) (fit d) .1, p .0 .second-room)
 
-part-length : (c : tie.After-sheet-length2) → length (take (c .sheet-length2 .result) (base c .args .second .now)) ≡ c .sheet-length2 .result
-part-length c = length-take-le (c .sheet-length2 .result) (base c .args .second .now) (enough c)
+part-length : (c : tie.After-sheet-length) → length (take (c .sheet-length .result) (base c .args .second .now)) ≡ c .sheet-length .result
+part-length c = length-take-le (c .sheet-length .result) (base c .args .second .now) (enough c)
 
 slice-aggregate-expand-into : tie.Need-slice-aggregate-expand-into
 slice-aggregate-expand-into c = search needs
@@ -201,30 +195,20 @@ slice-aggregate-expand-into-2 c = sym (part-length (c .before .before .before))
 expand-into-requires : tie.Need-expand-into-requires
 expand-into-requires c κs =
     let need = c .before .before .before in
-    let v = survey (old need) in
+    let v = survey need in
     let d = fitting (draft v) in
     let p = base need .pre in
     expand-expands (p .0) (p .1) (p .2) (pick d .choose-expand .ensures) (fit d) (surveyed v)
-    (omega (arith, need .sheet-length2 .ensures, part-length need))
+    (omega (arith, need .sheet-length .ensures, part-length need))
 
-abbrev need : tie.After-expand-into → tie.After-sheet-length2
+abbrev need : tie.After-expand-into → tie.After-sheet-length
 need c = c .before .before .before .before
-
-sheet-length-requires-3 : tie.Need-sheet-length-requires-3
-sheet-length-requires-3 c κs =
-    let expanded = c .before .before in
-    let v = survey (old (need expanded)) in
-    let d = fitting (draft v) in
-    let few = few-rows (ready v .pre .0) in
-    let sizes = expanded .expand-into .ensures .1 .1 in
-    let raw = ap (λ (l : Layout). l .nodes) (surveyed v .layout-is) ∙ sym (pick d .choose-expand .ensures .raw-is) in
-    (omega (arith, few .0, sizes .0), omega (arith, sizes .1, raw, small (pick d)))
 
 -- the expanded sheet stands at the front of the second buffer
 in-second : (c : tie.After-expand-into)
     → let a = base (need c) .args in
-    let k = pick (fitting (draft (survey (old (need c))))) .choose-expand .result in
-    let n = need c .sheet-length2 .result in
+    let k = pick (fitting (draft (survey (need c)))) .choose-expand .result in
+    let n = need c .sheet-length .result in
     let g = expanded (k .variable) (formula-in (a .s .sheet) (a .first .now)) in
     (c .expand-into .last .1 .1 .1 .1 .1 .0 ++ drop n (a .second .now)) ≡
     sheet (format-in (a .s .sheet)) g ++
@@ -235,21 +219,27 @@ in-second c =
 
 bring-requires : tie.Need-bring-requires
 bring-requires c κs =
-    let long = c .before .before in
-    let grown = long .before .before .before in
-    let before = old (need grown) in
-    let d = fitting (draft (survey before)) in
+    let grown = c .before .before .before .before in
+    let v = survey (need grown) in
+    let k = pick (fitting (draft v)) in
     let a = base (need grown) in
     let p = a .pre in
-    let arrives = expand-arrives (p .0) (p .1) (p .2) (pick d .choose-expand .ensures) (fit d) in (
-      fetchable (a .args .s .sheet .format) arrives _ (in-second grown) (grown .expand-into .ensures .1 .0) (long .sheet-length3 .ensures) (p .0 .first-room),
-      zeros-behind (p .0) (before .sheet-length .ensures),
-    )
+    let few = few-rows (p .0) in
+    let sizes = grown .expand-into .ensures .1 .1 in
+    let raw = ap (λ (l : Layout). l .nodes) (surveyed v .layout-is) ∙ sym (k .choose-expand .ensures .raw-is) in
+    record {
+      few-from = few;
+      few-to = (omega (arith, few .0, sizes .0), omega (arith, sizes .1, raw, small k));
+      fetchable =
+          fetchable (a .args .s .sheet .format) (expand-arrives (p .0) (p .1) (p .2) (k .choose-expand .ensures) (fit (fitting (draft v)))) _
+          (in-second grown) (grown .expand-into .ensures .1 .0) (p .0 .first-room);
+      zeros = zeros-behind (p .0);
+    }
 
-add-t32 : tie.Need-add-t32
-add-t32 c =
+add-t30 : tie.Need-add-t30
+add-t30 c =
     let brought = c .before .before .before in
-    let grown = brought .before .before .before .before .before .before in
+    let grown = brought .before .before .before .before .before in
     record { fits = omega (arith, base (need grown) .pre .0 .few) }
 
 same-length-2 : tie.Need-same-length-2
@@ -261,15 +251,14 @@ same-length-3 c = search needs
 returns-2 : tie.Need-returns-2
 returns-2 c =
     let brought = c .before .before .before in
-    let long = brought .before .before .before in
-    let grown = long .before .before .before in
-    let d = fitting (draft (survey (old (need grown)))) in
+    let grown = brought .before .before .before .before .before in
+    let d = fitting (draft (survey (need grown))) in
     let a = base (need grown) in
     let p = a .pre in
     let here = pick d .choose-expand .ensures in
     let less = grown .expand-into .ensures .1 .1 .0 in
     let some = some-left (p .0) (p .1) in
-    taken (a .args .s) _ (a .args .first .now) (expand-arrives (p .0) (p .1) (p .2) here (fit d)) _ (in-second grown) (grown .expand-into .ensures .1 .0) (long .sheet-length3 .ensures)
+    taken (a .args .s) _ (a .args .first .now) (expand-arrives (p .0) (p .1) (p .2) here (fit d)) _ (in-second grown) (grown .expand-into .ensures .1 .0)
     (length (a .args .first .now)) (p .0 .first-room) (brought .bring .ensures) (expand-next (p .0) (p .1) (p .2) here (fit d) _ _)
     (omega (arith, some, less)) (omega (arith, some, less)) (a .args .second .now)
 
@@ -292,16 +281,14 @@ expand-step-spec =
     slice-aggregate-survey-draft
     slice-aggregate-survey-draft-2
     survey-draft-requires
-    sheet-length-requires
     sub-sheet-length
-    sheet-length-requires-2
+    sheet-length-requires
     slice-aggregate-expand-into
     slice-relend-prefix-expand-into
     slice-aggregate-expand-into-2
     expand-into-requires
-    sheet-length-requires-3
     bring-requires
-    add-t32
+    add-t30
     same-length-2
     same-length-3
     returns-2)

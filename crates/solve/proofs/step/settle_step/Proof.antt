@@ -16,32 +16,23 @@ use borrow.Author.Needs.{needs}
 use Rattle.solve.proofs.step.settle_step.Statement.{statement}
 use Rattle.solve.proofs.step.settle_step.Tie as tie
 
-sheet-length-requires : tie.Need-sheet-length-requires
-sheet-length-requires c κs = few-rows (c .before .before .before .pre .0)
-
 sub-sheet-length : tie.Need-sub-sheet-length
 sub-sheet-length c = search needs
 
-sheet-length-requires-2 : tie.Need-sheet-length-requires-2
-sheet-length-requires-2 c κs =
-    let few = few-rows (c .before .before .before .before .before .pre .0) in
+sheet-length-requires : tie.Need-sheet-length-requires
+sheet-length-requires c κs =
+    let few = few-rows (c .before .before .before .before .pre .0) in
     (omega (arith, few .0), few .1)
 
--- the old sheet's length is known, then that of the raw sheet, which has its place in the second buffer
+-- the raw sheet's length is known, and it has its place in the second buffer
 abbrev start : tie.After-sheet-length → tie.Start
-start c = c .before .before .before .before
+start c = c .before .before .before .before .before
 
-abbrev old : tie.After-sheet-length2 → tie.After-sheet-length
-old c = c .before .before
+enough : (c : tie.After-sheet-length) → c .sheet-length .result ≤ length (start c .args .second .now)
+enough c = let p = start c .pre in omega (arith, c .sheet-length .ensures, settle-room (p .0) (p .1) (p .2), p .0 .second-room)
 
-enough : (c : tie.After-sheet-length2) → c .sheet-length2 .result ≤ length (start (old c) .args .second .now)
-enough c =
-    let p = start (old c) .pre in
-    omega (arith, c .sheet-length2 .ensures, settle-room (p .0) (p .1) (p .2), p .0 .second-room)
-
-part-length : (c : tie.After-sheet-length2)
-    → length (take (c .sheet-length2 .result) (start (old c) .args .second .now)) ≡ c .sheet-length2 .result
-part-length c = length-take-le (c .sheet-length2 .result) (start (old c) .args .second .now) (enough c)
+part-length : (c : tie.After-sheet-length) → length (take (c .sheet-length .result) (start c .args .second .now)) ≡ c .sheet-length .result
+part-length c = length-take-le (c .sheet-length .result) (start c .args .second .now) (enough c)
 
 slice-relend-prefix-settle-into : tie.Need-slice-relend-prefix-settle-into
 slice-relend-prefix-settle-into c = enough (c .before)
@@ -52,45 +43,42 @@ slice-aggregate-settle-into c = sym (part-length (c .before .before))
 settle-into-requires : tie.Need-settle-into-requires
 settle-into-requires c κs =
     let need = c .before .before in
-    let p = start (old need) .pre in
-    settle-puts (p .0) (p .1) (p .2) (omega (arith, need .sheet-length2 .ensures, part-length need))
+    let p = start need .pre in
+    settle-puts (p .0) (p .1) (p .2) (omega (arith, need .sheet-length .ensures, part-length need))
 
-abbrev need : tie.After-settle-into → tie.After-sheet-length2
+abbrev need : tie.After-settle-into → tie.After-sheet-length
 need c = c .before .before .before
-
-sheet-length-requires-3 : tie.Need-sheet-length-requires-3
-sheet-length-requires-3 c κs =
-    let settled = c .before .before in
-    let few = few-rows (start (old (need settled)) .pre .0) in
-    let sizes = settled .settle-into .ensures .1 .1 in
-    (omega (arith, few .0, sizes .0), omega (arith, few .1, sizes .1))
 
 -- the settled sheet stands at the front of the second buffer
 in-second : (c : tie.After-settle-into)
-    → let a = start (old (need c)) .args in
-    let n = need c .sheet-length2 .result in
+    → let a = start (need c) .args in
+    let n = need c .sheet-length .result in
     let g = settled-by (a .p) (formula-in (a .s .sheet) (a .first .now)) in
     (c .settle-into .last .1 .1 .1 .0 ++ drop n (a .second .now)) ≡
     sheet (format-in (a .s .sheet)) g ++
     (replicate (length (take n (a .second .now)) - length (sheet (format-in (a .s .sheet)) g)) 0 ++ drop n (a .second .now))
 in-second c =
-    let a = start (old (need c)) .args in
+    let a = start (need c) .args in
     in-front (format-in (a .s .sheet)) (settled-by (a .p) (formula-in (a .s .sheet) (a .first .now))) _ _ (c .settle-into .ensures .0) refl
 
 bring-requires : tie.Need-bring-requires
 bring-requires c κs =
-    let long = c .before .before in
-    let settled = long .before .before .before in
-    let before = old (need settled) in
-    let p = start before .pre in
-    let arrives = settle-arrives (p .0) (p .1) (p .2) in (
-      fetchable (start before .args .s .sheet .format) arrives _ (in-second settled) (settled .settle-into .ensures .1 .0) (long .sheet-length3 .ensures)
-          (p .0 .first-room),
-      zeros-behind (p .0) (before .sheet-length .ensures),
-    )
+    let settled = c .before .before .before .before in
+    let a = start (need settled) in
+    let p = a .pre in
+    let few = few-rows (p .0) in
+    let sizes = settled .settle-into .ensures .1 .1 in
+    record {
+      few-from = few;
+      few-to = (omega (arith, few .0, sizes .0), omega (arith, few .1, sizes .1));
+      fetchable =
+          fetchable (a .args .s .sheet .format) (settle-arrives (p .0) (p .1) (p .2)) _ (in-second settled) (settled .settle-into .ensures .1 .0)
+          (p .0 .first-room);
+      zeros = zeros-behind (p .0);
+    }
 
-add-t12 : tie.Need-add-t12
-add-t12 c = search needs
+add-t10 : tie.Need-add-t10
+add-t10 c = search needs
 
 same-length : tie.Need-same-length
 same-length c = search needs
@@ -101,13 +89,12 @@ same-length-2 c = search needs
 returns : tie.Need-returns
 returns c =
     let brought = c .before .before .before in
-    let long = brought .before .before .before in
-    let settled = long .before .before .before in
-    let a = start (old (need settled)) in
+    let settled = brought .before .before .before .before .before in
+    let a = start (need settled) in
     let p = a .pre in
     let less = settled .settle-into .ensures .1 .1 .0 in
     let some = some-left (p .0) (p .1) in
-    taken (a .args .s) _ (a .args .first .now) (settle-arrives (p .0) (p .1) (p .2)) _ (in-second settled) (settled .settle-into .ensures .1 .0) (long .sheet-length3 .ensures)
+    taken (a .args .s) _ (a .args .first .now) (settle-arrives (p .0) (p .1) (p .2)) _ (in-second settled) (settled .settle-into .ensures .1 .0)
     (length (a .args .first .now)) (p .0 .first-room) (brought .bring .ensures) (settle-next (p .0) (p .1) (p .2) _ _)
     (omega (arith, some, less)) (omega (arith, some, less)) (a .args .second .now)
 
@@ -115,15 +102,13 @@ pub settle-step-spec : {M : Type 1} → statement M
 settle-step-spec =
     tie.close
     (tie.spec
-    sheet-length-requires
     sub-sheet-length
-    sheet-length-requires-2
+    sheet-length-requires
     slice-relend-prefix-settle-into
     slice-aggregate-settle-into
     settle-into-requires
-    sheet-length-requires-3
     bring-requires
-    add-t12
+    add-t10
     same-length
     same-length-2
     returns)

@@ -2,7 +2,7 @@
 use mathlib.Core.Path.{refl}
 use native.Mathlib.Omega.{arith}
 use Rattle.tidying.proofs.InPlace.{in-place-as}
-use Rattle.tidying.proofs.Combine.{ready-literal-at, ready-few, ready-children, ready-within, ready-decided, ready-left, ready-undecided}
+use Rattle.tidying.proofs.Combine.{gathers-decided, gathers-left, ready-literal-at, ready-few, ready-children, ready-within, ready-decided, ready-left, ready-undecided}
 use borrow.Author.Needs.{needs}
 use Rattle.tidying.proofs.operator.combine.Statement.{statement}
 use Rattle.tidying.proofs.operator.combine.Tie as tie
@@ -17,12 +17,15 @@ test-of c = c .before .before
 abbrev start-of : tie.Else1 → tie.Start
 start-of c = c .before .before .before .before .before .before .before .before .before
 
--- the children gathered, seen from the two branches
-abbrev decided-by : tie.Then2 → tie.After-gather
-decided-by c = c .before .before .before .before .before .before .before .before .before .before
+-- the children gathered, seen from the two arms
+abbrev gathered : tie.After-slice-known9 → tie.After-gather
+gathered k = k .before .before .before .before .before .before .before .before
 
-abbrev left-by : tie.Else2 → tie.After-gather
-left-by c = c .before .before .before .before .before .before .before .before .before .before
+abbrev decided-by : tie.After-end → tie.After-gather
+decided-by c = gathered (c .before .before)
+
+abbrev left-by : tie.After-end2 → tie.After-gather
+left-by c = gathered (c .before .before)
 
 kind-at-requires : tie.Need-kind-at-requires
 kind-at-requires c κs = search needs
@@ -33,8 +36,8 @@ same-length c = search needs
 returns : tie.Need-returns
 returns c = ready-literal-at (c .before .kind-at .ensures) (c .if1 .taken)
 
-add-t16 : tie.Need-add-t16
-add-t16 c = search needs
+add-t19 : tie.Need-add-t19
+add-t19 c = search needs
 
 argument-at-requires : tie.Need-argument-at-requires
 argument-at-requires c κs = search needs
@@ -52,29 +55,55 @@ gather-requires c κs =
       there = ready-children (test .before .kind-at .ensures) (argued .argument-at .ensures .0) (test .if1 .left) (a .pre .2 .ready);
     }
 
+enum-known-end : tie.Need-enum-known-end
+enum-known-end c = search needs
+
 add-hollow : tie.Need-add-hollow
 add-hollow c = search needs
 
 sub-hollow : tie.Need-sub-hollow
 sub-hollow c =
-    let g = decided-by (c .before) in
-    let argued = argued-of g in
+    let argued = argued-of (decided-by (c .before .before)) in
     let test = test-of argued in
-    let k = test .before .kind-at .ensures in
-    let n = argued .argument-at .ensures .0 in
-    let a = start-of test in
-    omega (arith, ready-few k n (test .if1 .left) (a .pre .2 .ready))
+    omega (arith, ready-few (test .before .kind-at .ensures) (argued .argument-at .ensures .0) (test .if1 .left) (start-of test .pre .2 .ready))
 
 hollow-requires : tie.Need-hollow-requires
 hollow-requires c κs =
-    let g = decided-by (c .before .before) in
+    let told = c .before .before .before in
+    let g = decided-by told in
+    let argued = argued-of g in
+    let test = test-of argued in
+    let a = start-of test in
+    let w = ready-within (test .before .kind-at .ensures) (argued .argument-at .ensures .0) (test .if1 .left) (a .pre .2 .ready) (gathers-decided (g .gather .ensures .0) (told .end .given .1)) in
+    (in-place-as (g .gather .kept .0) refl (a .pre .0), w .0, w .1)
+
+enum-known-end-2 : tie.Need-enum-known-end-2
+enum-known-end-2 c = search needs
+
+conclude-requires : tie.Need-conclude-requires
+conclude-requires c κs =
+    let told = c .before .before .before .before in
+    let g = left-by told in
     let argued = argued-of g in
     let test = test-of argued in
     let k = test .before .kind-at .ensures in
     let n = argued .argument-at .ensures .0 in
     let a = start-of test in
-    let w = ready-within k n (test .if1 .left) (a .pre .2 .ready) (g .gather .ensures .0) in
-    (in-place-as (g .gather .kept .0) refl (a .pre .0), w .0, w .1)
+    let r = a .pre .2 .ready in
+    let e = told .end2 .given .1 in
+    let f = gathers-left (g .gather .ensures .0) e in
+    let left = g .gather .ensures .1 in
+    let t = a .pre .1 in
+    record {
+      in-place = in-place-as (g .gather .kept .0) refl (a .pre .0);
+      within = ready-within k n (test .if1 .left) r f .1;
+      there =
+          ready-left k n (test .if1 .left) r f refl
+          (omega (arith, left .few _ _ _ e, t .members-fit, g .gather .kept .1 .1 .1 .1 .0))
+          (omega (arith, left .few _ _ _ e, t .countable));
+      printed = left .printed _ _ _ e .0;
+      print-few = left .printed _ _ _ e .1;
+    }
 
 same-length-2 : tie.Need-same-length-2
 same-length-2 c = search needs
@@ -94,38 +123,13 @@ same-length-6 c = search needs
 returns-2 : tie.Need-returns-2
 returns-2 c =
     let h = c .before .before .before .before in
-    let decision = h .before .before .before in
-    let g = decided-by decision in
+    let told = h .before .before .before .before in
+    let g = decided-by told in
     let argued = argued-of g in
     let test = test-of argued in
-    let k = test .before .kind-at .ensures in
-    let n = argued .argument-at .ensures .0 in
-    let a = start-of test in
     λ before x bs ts r.
-    ready-decided k n (test .if1 .left) r (g .gather .ensures .0) (decision .if2 .taken) (h .hollow .ensures .0) (h .hollow .ensures .1)
-
-conclude-requires : tie.Need-conclude-requires
-conclude-requires c κs =
-    let decision = c .before .before .before in
-    let g = left-by decision in
-    let argued = argued-of g in
-    let test = test-of argued in
-    let k = test .before .kind-at .ensures in
-    let n = argued .argument-at .ensures .0 in
-    let a = start-of test in
-    let r = a .pre .2 .ready in
-    let f = g .gather .ensures in
-    let t = a .pre .1 in
-    record {
-      in-place = in-place-as (g .gather .kept .0) refl (a .pre .0);
-      within = ready-within k n (test .if1 .left) r (f .0) .1;
-      there =
-          ready-left k n (test .if1 .left) r (f .0) (decision .if2 .left)
-          (omega (arith, f .1 .0, t .members-fit, g .gather .kept .1 .1 .1 .1 .0))
-          (omega (arith, f .1 .0, t .countable));
-      printed = f .1 .1 .0 (decision .if2 .left);
-      print-few = f .1 .1 .1;
-    }
+    ready-decided (test .before .kind-at .ensures) (argued .argument-at .ensures .0) (test .if1 .left) r (gathers-decided (g .gather .ensures .0) (told .end .given .1)) refl
+    (h .hollow .ensures .0) (h .hollow .ensures .1)
 
 same-length-7 : tie.Need-same-length-7
 same-length-7 c = search needs
@@ -145,15 +149,13 @@ same-length-11 c = search needs
 returns-3 : tie.Need-returns-3
 returns-3 c =
     let h = c .before .before .before .before in
-    let decision = h .before .before .before .before in
-    let g = left-by decision in
+    let told = h .before .before .before .before .before in
+    let g = left-by told in
     let argued = argued-of g in
     let test = test-of argued in
-    let k = test .before .kind-at .ensures in
-    let n = argued .argument-at .ensures .0 in
-    let a = start-of test in
     λ before x bs ts r.
-    ready-undecided k n (test .if1 .left) r (g .gather .ensures .0) (decision .if2 .left) (h .conclude .ensures .0) (h .conclude .ensures .1)
+    ready-undecided (test .before .kind-at .ensures) (argued .argument-at .ensures .0) (test .if1 .left) r (gathers-left (g .gather .ensures .0) (told .end2 .given .1)) refl
+    (h .conclude .ensures .0) (h .conclude .ensures .1)
 
 pub combine-spec : {M : Type 1} → statement M
 combine-spec =
@@ -162,19 +164,21 @@ combine-spec =
     kind-at-requires
     same-length
     returns
-    add-t16
+    add-t19
     argument-at-requires
     gather-requires
+    enum-known-end
     add-hollow
     sub-hollow
     hollow-requires
+    enum-known-end-2
+    conclude-requires
     same-length-2
     same-length-3
     same-length-4
     same-length-5
     same-length-6
     returns-2
-    conclude-requires
     same-length-7
     same-length-8
     same-length-9

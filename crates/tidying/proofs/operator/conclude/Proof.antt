@@ -1,6 +1,9 @@
 -- `tidying::operator::conclude` meets its contract. Assumes nothing.
-use mathlib.Core.Path.{refl}
+use mathlib.Core.Path.{_≡_, refl, ap, _∙_}
+use Prim.Native.Nat.{_≤_, _<_}
 use native.Mathlib.Omega.{arith}
+use lib.ListN.{getD, set}
+use Rattle.buckets.specs.Halves.{row-of}
 use Rattle.tidying.proofs.Conclude.{behind-set, lone-within, concludes-none, concludes-one, concludes-many}
 use borrow.Author.Needs.{needs}
 use Rattle.tidying.proofs.operator.conclude.Statement.{statement}
@@ -10,8 +13,8 @@ use Rattle.tidying.proofs.operator.conclude.Tie as tie
 abbrev start-of : tie.Then2 → tie.Start
 start-of c = c .before .before .before .before .before .before
 
-abbrev many-of : tie.After-struct-known → tie.Start
-many-of c = c .before .before .before .before .before .before .before .before .before .before .before
+abbrev many-of : tie.After-slice-known6 → tie.Start
+many-of c = c .before .before .before .before .before .before .before .before .before .before
 
 hollow-requires : tie.Need-hollow-requires
 hollow-requires c κs = search needs
@@ -32,18 +35,29 @@ returns c =
 member-requires : tie.Need-member-requires
 member-requires c κs = search needs
 
+row-of-requires : tie.Need-row-of-requires
+row-of-requires c κs = search needs
+
+-- the lone child's row as computed
+row-is : (c : tie.After-row-of) → c .row-of .result ≡ row-of (getD (start-of (c .before .before) .args .members .now) 0 0)
+row-is c = c .row-of .ensures ∙ ap row-of (c .before .member .ensures .0)
+
+within : (c : tie.After-row-of) →
+    let a = start-of (c .before .before) .args .n in
+    (a .row < c .row-of .result) × (c .row-of .result ≤ a .end)
+within c =
+    let test = c .before .before in
+    let g = start-of test .pre .there in
+    lone-within (g .is-left) (g .members-fit) (test .if2 .taken) (row-is c)
+
 sub-set-row : tie.Need-sub-set-row
-sub-set-row c =
-    let a = start-of (c .before .before) in
-    let g = a .pre .there in
-    let w = lone-within (g .is-left) (g .members-fit) (c .before .before .if2 .taken) (c .before .member .ensures .0) in
-    omega (arith, w .0)
+sub-set-row c = omega (arith, within (c .before) .0)
 
 set-row-requires : tie.Need-set-row-requires
 set-row-requires c κs =
-    let a = start-of (c .before .before) in
-    let g = a .pre .there in
-    let w = lone-within (g .is-left) (g .members-fit) (c .before .before .if2 .taken) (c .before .member .ensures .0) in
+    let got = c .before in
+    let a = start-of (got .before .before) in
+    let w = within got in
     (a .pre .in-place .room, omega (arith, w .0, w .1, a .pre .within), omega (arith, w .1, a .pre .in-place .counted, a .pre .within))
 
 same-length-3 : tie.Need-same-length-3
@@ -52,8 +66,8 @@ same-length-3 c = search needs
 returns-2 : tie.Need-returns-2
 returns-2 c =
     let got = c .before .before .before .before in
-    let a = start-of (got .before) in
-    (concludes-one (a .pre .there .members-fit) (got .before .if2 .taken) (got .member .ensures .0) (c .before .before .set-row .ensures .0), λ j l. refl)
+    let test = got .before .before in
+    (concludes-one (start-of test .pre .there .members-fit) (test .if2 .taken) (row-is got) (c .before .before .set-row .ensures .0), λ j l. refl)
 
 sub-set-row-2 : tie.Need-sub-set-row-2
 sub-set-row-2 c = search needs
@@ -61,24 +75,14 @@ sub-set-row-2 c = search needs
 set-row-requires-2 : tie.Need-set-row-requires-2
 set-row-requires-2 c κs = search needs
 
-sub-known : tie.Need-sub-known
-sub-known c = search needs
+known-of-requires : tie.Need-known-of-requires
+known-of-requires c κs = search needs
+
+cast-known : tie.Need-cast-known
+cast-known c = search needs
 
 mul-known : tie.Need-mul-known
 mul-known c = search needs
-
-add-known : tie.Need-add-known
-add-known c =
-    let a = many-of c in
-    omega (arith, a .pre .print-few, a .pre .there .countable)
-
-cast-known : tie.Need-cast-known
-cast-known c =
-    let a = many-of c in
-    omega (arith, a .pre .print-few, a .pre .there .countable)
-
-mul-known-2 : tie.Need-mul-known-2
-mul-known-2 c = search needs
 
 slice-write-known : tie.Need-slice-write-known
 slice-write-known c = search needs
@@ -91,12 +95,13 @@ same-length-5 c = search needs
 
 returns-3 : tie.Need-returns-3
 returns-3 c =
-    let second = c .before .before .before .before .before in
+    let stored = c .before .before .before in
+    let second = stored .before .before in
     let first = second .before in
-    let a = many-of c in
+    let a = many-of (c .before) in
     let g = a .pre .there in (
-      concludes-many (g .members-fit) (omega (arith, second .if2 .left, first .if1 .left, g .undecided)) (omega (arith, g .is-left .headed .ends, a .pre .within, a .pre .in-place .known-fit))
-          (c .before .before .before .set-row2 .ensures .0) (a .pre .printed) refl,
+      concludes-many (g .members-fit) (omega (arith, second .if2 .left, first .if1 .left)) (omega (arith, g .is-left .headed .ends, a .pre .within, a .pre .in-place .known-fit))
+          (stored .set-row2 .ensures .0) (a .pre .printed) (ap (set (a .args .known .now) (a .args .n .row)) (c .known-of .ensures .0)),
       behind-set (a .args .known .now) _ refl,
     )
 
@@ -109,17 +114,16 @@ conclude-spec =
     same-length-2
     returns
     member-requires
+    row-of-requires
     sub-set-row
     set-row-requires
     same-length-3
     returns-2
     sub-set-row-2
     set-row-requires-2
-    sub-known
-    mul-known
-    add-known
+    known-of-requires
     cast-known
-    mul-known-2
+    mul-known
     slice-write-known
     same-length-4
     same-length-5

@@ -1,6 +1,8 @@
 -- `tidying::operator::hollow` meets its contract. Assumes nothing.
-use mathlib.Core.Path.{refl}
+use mathlib.Core.Path.{_≡_, refl, ap, _∙_}
 use native.Mathlib.Omega.{arith}
+use lib.ListN.{set}
+use Rattle.buckets.specs.Halves.{known-of}
 use Rattle.blocks.proofs.Blocks.{room-as}
 use Rattle.tidying.proofs.Conclude.{behind-set, hollows-short, hollows-long}
 use borrow.Author.Needs.{needs}
@@ -12,6 +14,15 @@ sub-set-row c = search needs
 
 set-row-requires : tie.Need-set-row-requires
 set-row-requires c κs = search needs
+
+from-byte-requires : tie.Need-from-byte-requires
+from-byte-requires c κs = search needs
+
+known-of-requires : tie.Need-known-of-requires
+known-of-requires c κs = search needs
+
+cast-known : tie.Need-cast-known
+cast-known c = search needs
 
 mul-known : tie.Need-mul-known
 mul-known c = search needs
@@ -31,11 +42,24 @@ sub-set-row-2 c = search needs
 sub-set-row-3 : tie.Need-sub-set-row-3
 sub-set-row-3 c = search needs
 
+abbrev first-of : tie.After-known-of → tie.After-set-row
+first-of k = k .before .before .before .before
+
+abbrev start-of : tie.After-set-row → tie.Start
+start-of w = w .before .before .before .before
+
+-- the table's entry is that of an operator without children
+entry-is : (k : tie.After-known-of) →
+    let a = start-of (first-of k) in
+    set (a .args .known .now) (a .args .r) (k .known-of .result) ≡ set (a .args .known .now) (a .args .r) (known-of 0 (a .args .kind))
+entry-is k =
+    let a = start-of (first-of k) in
+    ap (set (a .args .known .now) (a .args .r)) (k .known-of .ensures .0 ∙ ap (known-of 0) (k .before .from-byte .ensures .0))
+
 set-row-requires-2 : tie.Need-set-row-requires-2
 set-row-requires-2 c κs =
-    let first = c .before .before .before .before in
-    let a = first .before .before .before .before in
-    (room-as (first .set-row .kept .0) (a .pre .0 .room), omega arith, omega arith)
+    let first = first-of (c .before .before) in
+    (room-as (first .set-row .kept .0) (start-of first .pre .0 .room), omega arith, omega arith)
 
 same-length : tie.Need-same-length
 same-length c = search needs
@@ -47,9 +71,10 @@ returns : tie.Need-returns
 returns c =
     let second = c .before .before in
     let test = second .before .before in
-    let first = test .before .before .before in
-    let a = first .before .before .before .before in (
-      hollows-long (a .args .known .now) (first .set-row .ensures .0) refl (omega arith) (second .set-row2 .ensures .0) (test .if1 .taken),
+    let k = test .before in
+    let first = first-of k in
+    let a = start-of first in (
+      hollows-long (a .args .known .now) (first .set-row .ensures .0) (entry-is k) (omega arith) (second .set-row2 .ensures .0) (test .if1 .taken),
       behind-set (a .args .known .now) _ refl,
     )
 
@@ -61,9 +86,10 @@ same-length-4 c = search needs
 
 returns-2 : tie.Need-returns-2
 returns-2 c =
-    let first = c .before .before .before in
-    let a = first .before .before .before .before in (
-      hollows-short (a .args .known .now) (first .set-row .ensures .0) refl (omega arith) (c .if1 .left),
+    let k = c .before in
+    let first = first-of k in
+    let a = start-of first in (
+      hollows-short (a .args .known .now) (first .set-row .ensures .0) (entry-is k) (omega arith) (c .if1 .left),
       behind-set (a .args .known .now) _ refl,
     )
 
@@ -73,6 +99,9 @@ hollow-spec =
     (tie.spec
     sub-set-row
     set-row-requires
+    from-byte-requires
+    known-of-requires
+    cast-known
     mul-known
     slice-write-known
     add-if1

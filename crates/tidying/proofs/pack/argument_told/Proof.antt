@@ -1,5 +1,7 @@
 -- `tidying::pack::argument_told` meets its contract. Assumes nothing.
+use mathlib.Core.Path.{ap, _∙_}
 use Rattle.rows.specs.Layouts.{rows-in}
+use Rattle.buckets.specs.Halves.{children-of}
 use Rattle.tidying.proofs.Packed.{told-literal, told-operator}
 use borrow.Author.Needs.{needs}
 use Rattle.tidying.proofs.pack.argument_told.Statement.{statement}
@@ -26,11 +28,16 @@ shared-slice-read-large c = search needs
 large-requires : tie.Need-large-requires
 large-requires c κs = search needs
 
+children-of-requires : tie.Need-children-of-requires
+children-of-requires c κs = search needs
+
 returns-2 : tie.Need-returns-2
 returns-2 c =
-    let test = c .before .before in
+    let read = c .before in
+    let test = read .before .before in
     let a = test .before .before .before .before in
-    told-operator (rows-in (a .args .s) (a .args .b .now)) (test .before .kind-at .ensures) (a .args .known .now) (test .if1 .left) (c .large .ensures .0)
+    told-operator (rows-in (a .args .s) (a .args .b .now)) (test .before .kind-at .ensures) (a .args .known .now) (test .if1 .left)
+    (c .children-of .ensures ∙ ap children-of (read .large .ensures .0))
 
 pub argument-told-spec : {M : Type 1} → statement M
 argument-told-spec =
@@ -42,4 +49,5 @@ argument-told-spec =
     mul-large
     shared-slice-read-large
     large-requires
+    children-of-requires
     returns-2)

@@ -4,7 +4,7 @@ use mathlib.Core.Bool.{true, cond}
 use Prim.Native.Nat.{ℕ, suc, _+_}
 use Rattle.formula.specs.Tree.{Tree, lit, node, Forest, ∅, _▸_, Literals, rows, rows-all, has, count}
 use Rattle.formula.specs.Expand.{relevant, one-relevant, all-relevant}
-use Rattle.relevance.specs.declared.Relevant.{Relevant}
+use Rattle.subtrees.specs.declared.relevant.Relevant.{Relevant}
 
 -- of a literal at row i
 abbrev pub literal-part : ℕ → Relevant

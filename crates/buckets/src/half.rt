@@ -1,0 +1,42 @@
+// Two numbers of 16 bits in one of 32: a tree's print in the lower half, and in the upper the row where the tree begins, or how many
+// children its operator has.
+ghost use mathlib.Core.Path.{_≡_};
+ghost use Prim.Native.Nat.{_^_, _<_};
+ghost use Rattle.buckets.specs.Halves.{member-of, row-of, known-of, children-of, print-of};
+
+// A member of the tables: a tree by its row and its print.
+pub fn member_of(row: usize, print: usize) -> usize
+    requires { ⌜ (row < 65536) × (print < 65536) ⌝ }
+    ensures { λ m. ⌜ (m ≡ member-of row print) × (m < 2 ^ 32) ⌝ }
+{
+    row * 65536 + print
+}
+
+// Its row.
+pub fn row_of(m: usize) -> usize
+    ensures { λ r. ⌜ r ≡ row-of m ⌝ }
+{
+    m / 65536
+}
+
+// What a table tells of an operator: how many children it has, and its print.
+pub fn known_of(children: usize, print: usize) -> usize
+    requires { ⌜ (children < 65536) × (print < 65536) ⌝ }
+    ensures { λ w. ⌜ (w ≡ known-of children print) × (w < 2 ^ 32) ⌝ }
+{
+    children * 65536 + print
+}
+
+// How many children it tells of.
+pub fn children_of(w: usize) -> usize
+    ensures { λ n. ⌜ n ≡ children-of w ⌝ }
+{
+    w / 65536
+}
+
+// The print in a number of either kind.
+pub fn print_of(x: usize) -> usize
+    ensures { λ p. ⌜ (p ≡ print-of x) × (p < 65536) ⌝ }
+{
+    x % 65536
+}
