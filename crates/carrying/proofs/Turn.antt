@@ -11,10 +11,9 @@ use lib.ListN.{length, getD, set, take, drop, drop-of-length-le}
 use lib.Seq.{take-all, take-suc, take-suc-set, getD-take, length-take-le}
 use borrow.Author.Tests.{lt-ltb, le-ltb}
 use Rattle.formula.specs.Tree.{and, or, Quantifier, Prefix}
-use Rattle.sheet.specs.Format.{Bytes, Row, row}
+use Rattle.sheet.specs.Format.{Bytes, Row, row, Every}
 use Rattle.sheet.specs.Sheet.{quantifier-kind, binding-row}
 use Rattle.sheet.specs.Carrying.{above}
-use Rattle.sheet.proofs.Every.{Every}
 use Rattle.rows.specs.Layouts.{total, rows-in, Room}
 use Rattle.rows.specs.Formulas.{prefix-in, Readable}
 use Rattle.rows.specs.declared.Layout.{Layout}

@@ -8,10 +8,9 @@ use lib.ListN.{length, getD, take, replicate}
 use lib.Seq.{take-all}
 use Rattle.formula.specs.Tree.{Formula, rows}
 use Rattle.sheet.specs.Format as sheet
-use Rattle.sheet.specs.Format.{Bytes, Row, row, digits, sheet-length}
+use Rattle.sheet.specs.Format.{Bytes, Row, row, digits, sheet-length, Every}
 use Rattle.sheet.specs.Sheet.{formula-rows, row-kinds, row-arguments, sheet}
 use Rattle.sheet.specs.Operations.{padded}
-use Rattle.sheet.proofs.Every.{Every}
 use Rattle.sheet.proofs.Parts.{ArgumentFits, sheet-length-rows}
 use Rattle.sheet.proofs.RoundTrip.{length-sheet, arguments-fit}
 use Rattle.rows.specs.Formats.{format-of}

@@ -14,14 +14,16 @@ use rows::write::seal;
 use rows::write::set_row;
 ghost use mathlib.Core.Path.{_≡_};
 ghost use lib.ListN.{length, take};
+ghost use Rattle.sheet.specs.Format.{narrow, wide};
 ghost use Rattle.sheet.specs.Sheet.{sheet};
 ghost use Rattle.sheet.specs.Operations.{padded};
 ghost use Rattle.sheet.specs.Carrying.{above, beyond, widen-call, bring-back-call};
+ghost use Rattle.sheet.specs.Truthful.{truth-of, TruthfulSheet};
 ghost use Rattle.rows.specs.Formats.{format-of};
 ghost use Rattle.rows.specs.Layouts.{format-in, rows-in};
 ghost use Rattle.rows.specs.Formulas.{formula-in, Readable, layout-for};
 ghost use Rattle.rows.specs.declared.Format.the-variants.{Wide};
-ghost use Rattle.checking.specs.Answers.{written-answer};
+ghost use Rattle.checking.specs.Answers.{wrote};
 ghost use Rattle.checking.specs.Sheets.{Sheet};
 ghost use Rattle.carrying.specs.Inner.Rows.{RowsFit, Carriable, Ready, room-call};
 
@@ -91,7 +93,7 @@ fn is_beyond(sheet: &[u8], s: Layout, g: Format) -> bool
 // Carries a sheet over to the format `g`, within whose limits it is: 13 output shorter than its sheet there.
 fn carry_within(sheet: &[u8], s: Layout, g: Format, out: &mut [u8]) -> Written
     requires { ⌜ Ready s (now sheet) g ⌝ }
-    ensures { λ r. ⌜ record { answer = written-answer r; output = now (out .exit) } ≡ room-call (format-in s) (format-of g) (now (sheet .entry)) (now (out .entry)) ⌝ }
+    ensures { λ r. ⌜ wrote r (now (out .exit)) ≡ room-call (format-in s) (format-of g) (now (sheet .entry)) (now (out .entry)) ⌝ }
 {
     let length = sheet_length(g, s.variables, s.nodes);
     if out.len() < length {
@@ -104,7 +106,8 @@ fn carry_within(sheet: &[u8], s: Layout, g: Format, out: &mut [u8]) -> Written
 // Writes a narrow sheet's rows as a wide sheet to the front of `out`, with zeros behind it, and returns its length; or refuses the sheet
 // or the output, and alters nothing.
 pub fn widen(sheet: &[u8], out: &mut [u8]) -> Written
-    ensures { λ r. ⌜ record { answer = written-answer r; output = now (out .exit) } ≡ widen-call (now (sheet .entry)) (now (out .entry)) ⌝ }
+    ensures { λ r. ⌜ wrote r (now (out .exit)) ≡ widen-call (now (sheet .entry)) (now (out .entry)) ⌝ }
+    ensures { λ r. ⌜ TruthfulSheet wide (truth-of narrow (now (sheet .entry))) (wrote r (now (out .exit))) ⌝ }
 {
     let c = checking::check(sheet, Format::Narrow);
     match c {
@@ -116,7 +119,7 @@ pub fn widen(sheet: &[u8], out: &mut [u8]) -> Written
 // Brings back a wide sheet that Check accepts, of this layout: 24 a number or size above the narrow limits; 13.
 fn bring_back_checked(sheet: &[u8], s: Layout, out: &mut [u8]) -> Written
     requires { ⌜ Sheet Wide (now sheet) s ⌝ }
-    ensures { λ r. ⌜ record { answer = written-answer r; output = now (out .exit) } ≡ bring-back-call (now (sheet .entry)) (now (out .entry)) ⌝ }
+    ensures { λ r. ⌜ wrote r (now (out .exit)) ≡ bring-back-call (now (sheet .entry)) (now (out .entry)) ⌝ }
 {
     if is_beyond(sheet, s, Format::Narrow) {
         return Written::Refused(NOT_NARROW, 0);
@@ -127,7 +130,8 @@ fn bring_back_checked(sheet: &[u8], s: Layout, out: &mut [u8]) -> Written
 // Writes a wide sheet's rows as a narrow sheet to the front of `out`, with zeros behind it, and returns its length; or refuses the sheet
 // or the output, and alters nothing.
 pub fn bring_back(sheet: &[u8], out: &mut [u8]) -> Written
-    ensures { λ r. ⌜ record { answer = written-answer r; output = now (out .exit) } ≡ bring-back-call (now (sheet .entry)) (now (out .entry)) ⌝ }
+    ensures { λ r. ⌜ wrote r (now (out .exit)) ≡ bring-back-call (now (sheet .entry)) (now (out .entry)) ⌝ }
+    ensures { λ r. ⌜ TruthfulSheet narrow (truth-of wide (now (sheet .entry))) (wrote r (now (out .exit))) ⌝ }
 {
     let c = checking::check(sheet, Format::Wide);
     match c {

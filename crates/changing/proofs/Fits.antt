@@ -6,9 +6,9 @@ use native.Mathlib.Nat.{lt-of-lt-of-le, pow-le-pow-right}
 use native.Mathlib.Omega.{arith}
 use lib.ListN.{length, getD, take, drop}
 use lib.Seq.{slice}
-use Rattle.sheet.specs.Format.{Bytes, zip-rows}
-use Rattle.sheet.proofs.Every.{Every, every-take, every-drop}
-use Rattle.sheet.proofs.Numbers.{IsByte, AllBytes, number-bound}
+use Rattle.sheet.specs.Format.{Bytes, zip-rows, Every, IsByte, AllBytes}
+use Rattle.sheet.proofs.Every.{every-take, every-drop}
+use Rattle.sheet.proofs.Numbers.{number-bound}
 use Rattle.sheet.proofs.Parts.{ArgumentFits}
 use Rattle.rows.specs.Layouts.{width, total, rows-in}
 use Rattle.rows.specs.declared.Layout.{Layout}

@@ -7,10 +7,9 @@ use native.Mathlib.Nat.{mul-zero, mul-suc, mul-add, add-mul, one-mul, mul-le-mul
 use native.Mathlib.Omega.{arith}
 use lib.ListN.{length, getD, take, drop, length-drop}
 use lib.Seq.{slice, length-take-le, length-slice, take-add, take-take, drop-at, drop-drop}
-use Rattle.sheet.specs.Format.{Bytes, zip-rows}
+use Rattle.sheet.specs.Format.{Bytes, zip-rows, IsByte}
 use Rattle.sheet.specs.Sheet.{row-kinds, row-arguments}
 use Rattle.sheet.proofs.Every.{every-take, every-drop}
-use Rattle.sheet.proofs.Numbers.{IsByte}
 use Rattle.sheet.proofs.Parts.{row-kinds-zip, row-arguments-zip}
 use Rattle.rows.specs.Layouts.{width, total, kind-place, argument-place, rows-in, Room}
 use Rattle.rows.specs.declared.Layout.{Layout}

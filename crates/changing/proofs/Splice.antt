@@ -8,9 +8,8 @@ use native.Mathlib.Numerals.{add-one}
 use native.Mathlib.Omega.{arith}
 use lib.ListN.{length, take, drop, set, length-append, length-drop, take-append-drop, drop-of-length-le}
 use lib.Seq.{slice, length-take-le, take-take, take-all, take-at, drop-at, drop-drop, take-append-add, drop-append-add, take-append-le, drop-append-le, take-suc-set}
-use Rattle.sheet.specs.Format.{Bytes, Row, zip-rows}
+use Rattle.sheet.specs.Format.{Bytes, Row, zip-rows, Every}
 use Rattle.sheet.specs.Sheet.{row-kinds, row-arguments}
-use Rattle.sheet.proofs.Every.{Every}
 use Rattle.sheet.proofs.Parts.{ArgumentFits, zip-rows-rows, length-row-kinds, length-row-arguments, length-zip-rows}
 use Rattle.rows.specs.Formats.{format-of}
 use Rattle.rows.specs.Layouts.{width, total, kind-place, argument-place, rows-in, Room, Kept}

@@ -1,7 +1,9 @@
 -- Answers in document 01's words.
 -- Assumes nothing.
 use Prim.Native.Nat.{ℕ}
+use Rattle.sheet.specs.Format.{Bytes}
 use Rattle.sheet.specs.Check.{Answer, refused, accepted, Sizes}
+use Rattle.sheet.specs.Operations as operations
 use Rattle.rows.specs.declared.Format.{Format}
 use Rattle.checking.specs.declared.Checked as checked
 use Rattle.checking.specs.declared.Checked.{Checked}
@@ -22,3 +24,7 @@ checked-answer (checked.the-variants.Refused number place) = refused number plac
 abbrev pub written-answer : Written → Answer ℕ
 written-answer (written.the-variants.Accepted length) = accepted length
 written-answer (written.the-variants.Refused number place) = refused number place
+
+-- with what the output then holds
+abbrev pub wrote : Written → Bytes → operations.Written
+wrote r out = record { answer = written-answer r; output = out }

@@ -14,9 +14,10 @@ use stepping::expanding::expand_into;
 use stepping::survey::Survey;
 ghost use mathlib.Core.Path.{_≡_};
 ghost use Rattle.sheet.specs.Operations.{expand-call, execute-call};
+ghost use Rattle.sheet.specs.Truthful.{truth-of, TruthfulSheet};
 ghost use Rattle.rows.specs.Formats.{format-of};
 ghost use Rattle.rows.specs.Layouts.{format-in};
-ghost use Rattle.checking.specs.Answers.{written-answer};
+ghost use Rattle.checking.specs.Answers.{wrote};
 ghost use Rattle.expand.specs.Inner.Plan.{Planned};
 
 pub mod block;
@@ -34,7 +35,7 @@ fn expand_planned(
     out: &mut [u8],
 ) -> Written
     requires { ⌜ Planned (now sheet) x (now cuts) s w ⌝ }
-    ensures { λ r. ⌜ record { answer = written-answer r; output = now (out .exit) } ≡ expand-call (format-in s) (now (sheet .entry)) x (now (out .entry)) ⌝ }
+    ensures { λ r. ⌜ wrote r (now (out .exit)) ≡ expand-call (format-in s) (now (sheet .entry)) x (now (out .entry)) ⌝ }
 {
     let f = s.format;
     if !fits(f, s.variables - 1, w.to.layout.nodes, out.len()) {
@@ -47,7 +48,8 @@ fn expand_planned(
 // Expands `x` in a sheet: the new sheet stands at the front of `out` with zeros behind it, and its length is returned; or the call is
 // refused with number and place, and `out` is left as it was. The raw sheet is written to `out` and tidied there.
 pub fn expand(sheet: &[u8], f: Format, x: usize, out: &mut [u8]) -> Written
-    ensures { λ r. ⌜ record { answer = written-answer r; output = now (out .exit) } ≡ expand-call (format-of f) (now (sheet .entry)) x (now (out .entry)) ⌝ }
+    ensures { λ r. ⌜ wrote r (now (out .exit)) ≡ expand-call (format-of f) (now (sheet .entry)) x (now (out .entry)) ⌝ }
+    ensures { λ r. ⌜ TruthfulSheet (format-of f) (truth-of (format-of f) (now (sheet .entry))) (wrote r (now (out .exit))) ⌝ }
 {
     let mut cuts = [0u16; CUTS];
     let p = plan_expand(sheet, f, x, &mut cuts);
@@ -59,7 +61,8 @@ pub fn expand(sheet: &[u8], f: Format, x: usize, out: &mut [u8]) -> Written
 
 // Carries a quote out: as Expand, but 19 if the raw sheet has more node rows than `ceiling`, before its room is tested.
 pub fn execute(sheet: &[u8], f: Format, x: usize, ceiling: usize, out: &mut [u8]) -> Written
-    ensures { λ r. ⌜ record { answer = written-answer r; output = now (out .exit) } ≡ execute-call (format-of f) (now (sheet .entry)) x ceiling (now (out .entry)) ⌝ }
+    ensures { λ r. ⌜ wrote r (now (out .exit)) ≡ execute-call (format-of f) (now (sheet .entry)) x ceiling (now (out .entry)) ⌝ }
+    ensures { λ r. ⌜ TruthfulSheet (format-of f) (truth-of (format-of f) (now (sheet .entry))) (wrote r (now (out .exit))) ⌝ }
 {
     let mut cuts = [0u16; CUTS];
     let p = plan_expand(sheet, f, x, &mut cuts);

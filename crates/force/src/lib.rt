@@ -18,6 +18,7 @@ ghost use Prim.Native.Nat.{_<_};
 ghost use Rattle.formula.specs.Force.{which};
 ghost use Rattle.sheet.specs.Force.{are-values, force-call};
 ghost use Rattle.sheet.specs.Trace.{room};
+ghost use Rattle.sheet.specs.Truthful.{TruthfulForce};
 ghost use Rattle.rows.specs.Formats.{format-of};
 ghost use Rattle.rows.specs.Layouts.{format-in};
 ghost use Rattle.rows.specs.Formulas.{Readable};
@@ -155,6 +156,7 @@ fn force_checked(
 // the outcome wanted. Both work buffers then hold zeros; refused, they are left as they were.
 pub fn force(sheet: &[u8], f: Format, values: &[u8], first: &mut [u8], second: &mut [u8]) -> Forced
     ensures { λ r. ⌜ forcing-of r (now (first .exit)) (now (second .exit)) ≡ force-call (format-of f) (now (sheet .entry)) (now (values .entry)) (now (first .entry)) (now (second .entry)) ⌝ }
+    ensures { λ r. ⌜ TruthfulForce (format-of f) (now (sheet .entry)) (now (values .entry)) (forcing-of r (now (first .exit)) (now (second .exit))) ⌝ }
 {
     let c = checking::check(sheet, f);
     match c {

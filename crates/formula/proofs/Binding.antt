@@ -7,10 +7,10 @@ use Prim.Native.Nat.{ℕ}
 use lib.Dec.{eqb}
 use borrow.Author.Tests.{eqb-true, eq-eqb, not-true}
 use Rattle.formula.specs.Tree.{Op, and, or, same-op, Quantifier, Binding, Prefix, binds, quantifier-of, without, distinct}
-use Rattle.formula.specs.Truth.{Assignment, put, join, bind}
+use Rattle.formula.specs.Truth.{Assignment, put, join, bind, Leads, Ignores}
 use Rattle.formula.specs.Settle.{value}
 use Rattle.formula.specs.Expand.{all-of, after, among}
-use Rattle.formula.proofs.Booleans.{join-comm, join-assoc, join-self, join-value, Leads, join-leads, and-parts, or-parts}
+use Rattle.formula.proofs.Booleans.{join-comm, join-assoc, join-self, join-value, join-leads, and-parts, or-parts}
 
 -- setting another variable first or last makes no difference
 pub put-swap : (ρ : Assignment) (x y : ℕ) (a b : Bool) → eqb x y ≡ false → put (put ρ x a) y b ≡ put (put ρ y b) x a
@@ -104,9 +104,6 @@ bind-settle (z ∷ p) f x s ρ h d better = by (eqb (z .variable) x) refl h (λ 
     by false e k again = ap₂ (join (z .quantifier)) (again (put ρ (z .variable) false) k) (again (put ρ (z .variable) true) k)
 
 -- Functions that ignore a variable: its quantifier may go, wherever it stands.
-
-abbrev pub Ignores : (Assignment → Bool) → ℕ → Type 0
-Ignores f v = (ρ : Assignment) (b : Bool) → f (put ρ v b) ≡ f ρ
 
 -- of two values set for one variable the later one counts
 put-again : (ρ : Assignment) (x : ℕ) (a b : Bool) → put (put ρ x a) x b ≡ put ρ x b

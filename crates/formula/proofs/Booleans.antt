@@ -7,7 +7,7 @@ use Prim.Native.Nat.{ℕ}
 use lib.Dec.{eqb}
 use borrow.Author.Tests.{eqb-true, eqb-false, eq-eqb, ne-eqb}
 use Rattle.formula.specs.Tree.{Op, and, or, dual, Quantifier}
-use Rattle.formula.specs.Truth.{join, unit}
+use Rattle.formula.specs.Truth.{join, unit, Leads}
 use Rattle.formula.specs.Settle.{value}
 
 pub join-comm : (o : Op) (a b : Bool) → join o a b ≡ join o b a
@@ -58,10 +58,6 @@ join-share or or false false c = or-self c
 
 pub share-join : (q o : Op) (c a b : Bool) → join q (join o c a) (join o c b) ≡ join o c (join q a b)
 share-join q o c a b = rw (join-comm o c a, join-comm o c b, join-comm o c (join q a b)) (join-share q o a b c)
-
--- false before true
-abbrev pub Leads : Bool → Bool → Type 0
-Leads a b = a ≡ true → b ≡ true
 
 pub false-leads : {a b : Bool} → a ≡ false → Leads a b
 false-leads e h = absurd (false≢true (sym e ∙ h))

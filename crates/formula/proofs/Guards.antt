@@ -7,21 +7,17 @@ use Prim.Native.Nat.{ℕ, zero, suc, _≤_, _<_}
 use native.Mathlib.Omega.{arith}
 use borrow.Author.Tests.{not-true}
 use Rattle.formula.specs.Tree.{and, or, Tree, lit, node, Forest, ∅, _▸_, _⧺_, Prefix, Formula, Literals, rows-all, has, has-any, count, distinct, closed}
-use Rattle.formula.specs.Truth.{Assignment, eval, eval-all, truth}
+use Rattle.formula.specs.Truth.{Assignment, eval, eval-all, truth, Leads}
 use Rattle.formula.specs.Solve.{End, ended, stopped, Fits, solve}
 use Rattle.formula.specs.Guards.{is-and, guards, conjoined, Kept, judged, sift, says, clashing, clash, after-run, guarded, removed, weakened}
-use Rattle.formula.proofs.Booleans.{Leads, join-leads, and-parts, or-parts}
+use Rattle.formula.proofs.Booleans.{join-leads, and-parts, or-parts}
 use Rattle.formula.proofs.Binding.{bind-leads}
 use Rattle.formula.proofs.Closed.{unbound}
 use Rattle.formula.proofs.Tidy.Children.{⧺-assoc, ⧺-none}
 use Rattle.formula.proofs.Solve.{solve-right}
+use Rattle.formula.specs.Guards.{Fewer, Blamed}
 
 -- fewer conjuncts are weaker
-
-pub record Fewer (us ts : Forest) : Type 0 where
-  pub no-more-rows : rows-all us ≤ rows-all ts
-  pub still-true : (ρ : Assignment) → Leads (eval-all ts and ρ) (eval-all us and ρ)
-  pub still-none : (L : Literals) → has-any L ts ≡ false → has-any L us ≡ false
 
 pub fewer-none : (ts : Forest) → Fewer ts ts
 fewer-none ts = record { no-more-rows = omega arith; still-true = λ ρ h. h; still-none = λ L h. h }
@@ -169,13 +165,6 @@ and-matrix (node or ts) h = absurd (false≢true h)
 
 pub and-formula : (f : Formula) → is-and (f .matrix) ≡ true → f ≡ conjoined (f .prefix) (guards (f .matrix))
 and-formula f h = ap (λ (t : Tree). record { prefix = f .prefix; matrix = t }) (and-matrix (f .matrix) h)
-
--- What Guards finds in a formula: a formula of some of its guards, which is false; where no run stopped, each of them is needed.
-pub record Blamed (f g : Formula) (stops : ℕ) : Type 0 where
-  pub is-conjunction : g ≡ conjoined (f .prefix) (guards (g .matrix))
-  pub some-guards : Fewer (guards (g .matrix)) (guards (f .matrix))
-  pub is-false : truth g ≡ false
-  pub each-needed : stops ≡ 0 → (i : ℕ) → i < count (guards (g .matrix)) → truth (weakened i g) ≡ true
 
 pub guarded-right : (fits : Fits) (f : Formula) → distinct (f .prefix) ≡ true → closed f ≡ true → is-and (f .matrix) ≡ true
     → (g : Formula) (n : ℕ) → guarded fits f ≡ clash g n → Blamed f g n

@@ -10,13 +10,9 @@ use lib.ListN.{length}
 use borrow.Author.Tests.{ltb-true, ltb-false, lt-ltb, le-ltb}
 use Rattle.formula.specs.Tree.{Op, and, or, Quantifier, Tree, lit, node, Forest, ∅, _▸_, Binding, Prefix, Formula, count}
 use Rattle.formula.specs.Order.{Ordering, before, same, after, _then_, compare-numbers, operator-rank, sign-rank, quantifier-rank, compare-trees, compare-children, not-after, leads, compare-bindings, compare-bound, compare-prefixes, compare-formulas, sort}
+use Rattle.formula.specs.Order.{turned, Chain}
 
 -- orderings
-
-abbrev pub turned : Ordering → Ordering
-turned before = after
-turned same = same
-turned after = before
 
 turned-then : (x y : Ordering) → turned (x then y) ≡ turned x then turned y
 turned-then before y = refl
@@ -38,16 +34,6 @@ pub then-assoc : (x y z : Ordering) → ((x then y) then z) ≡ (x then (y then 
 then-assoc before y z = refl
 then-assoc same y z = refl
 then-assoc after y z = refl
-
--- Of three things, the first and the third are ordered as the two steps from one to the next say, where these agree.
-abbrev pub Chain : Ordering → Ordering → Ordering → Type 0
-Chain before before o = o ≡ before
-Chain before same o = o ≡ before
-Chain before after o = Unit {0}
-Chain same p o = o ≡ p
-Chain after before o = Unit {0}
-Chain after same o = o ≡ after
-Chain after after o = o ≡ after
 
 starts-before : (y : Ordering) → Chain before y before
 starts-before before = refl

@@ -8,4 +8,5 @@ pub mod Fresh
 pub mod Mix
 pub mod Truth
 pub mod Step
+pub mod Linked
 pub mod Examples

@@ -11,12 +11,12 @@ use native.Mathlib.Omega.{arith}
 use lib.Dec.{eqb}
 use borrow.Author.Tests.{eqb-true, eq-eqb, not-true, not-false}
 use Rattle.formula.specs.Tree.{and, or, Quantifier, same-op, exists, for-all, Tree, lit, node, Forest, ∅, _▸_, Binding, Prefix, Formula, Literals, binds, quantifier-of, distinct, closed, of, of-sign, rows, rows-all, has, has-any, some-child, some-two, keep, _⧺_}
-use Rattle.formula.specs.Truth.{Assignment, put, join, eval, eval-all, bind, truth}
+use Rattle.formula.specs.Truth.{Assignment, put, join, eval, eval-all, bind, truth, Leads, Ignores}
 use Rattle.formula.specs.Tidy.{is-op, equal, twin, same-variable, spliced, splice, decides, firsts, unwrap, combine, alone, tidy, tidy-all, is-tidy, breaks, childless, faults, faults-all, root-faults, any}
 use Rattle.formula.specs.Expand.{after, occurs}
 use Rattle.formula.specs.Reduce.{is-literal, is-clause, in-profile, has-existential, goes, stays, reduce-clause, reduce-all, reduce-tree, reduced}
-use Rattle.formula.proofs.Booleans.{share-join, Leads, and-parts, or-parts, or-none, or-cases}
-use Rattle.formula.proofs.Binding.{bind-ext, same-op-eq, Ignores}
+use Rattle.formula.proofs.Booleans.{share-join, and-parts, or-parts, or-none, or-cases}
+use Rattle.formula.proofs.Binding.{bind-ext, same-op-eq}
 use Rattle.formula.proofs.Evaluation.{eval-all-same, put-other}
 use Rattle.formula.proofs.Tidy.Children.{keep-same, keep-every, keep-keep, some-child-keep, some-two-keep}
 use Rattle.formula.proofs.Tidy.Truth.{eval-tidy}
@@ -24,6 +24,7 @@ use Rattle.formula.proofs.Tidy.Limits.{tidy-is-tidy, any-++, faulty-roo
 use Rattle.formula.proofs.Tidy.Growth.{rows-tidy, rows-keep, has-tidy}
 use Rattle.formula.proofs.Closed.{unbound}
 use Rattle.formula.proofs.Steps.{Proper}
+use Rattle.formula.specs.Inner.Clauses.{blank, blank-forest, blank-clause, blank-all, blank-tree, has-and, some-and, and-below}
 
 -- a conjunct that ignores every variable of a prefix stands outside it
 
@@ -551,13 +552,6 @@ proper-reduced f w =
 
 -- A literal that goes may become OR of nothing in its place instead: tidying leaves the same.
 
-unfoldable pub blank : Prefix → Tree → Tree → Tree
-blank p c t = cond (stays p c t) t (node or ∅)
-
-unfoldable pub blank-forest : Prefix → Tree → Forest → Forest
-blank-forest p c ∅ = ∅
-blank-forest p c (t ▸ ts) = blank p c t ▸ blank-forest p c ts
-
 -- splicing under OR drops what is empty
 splice-blank : (p : Prefix) (c : Tree) (ts : Forest) → splice or (tidy-all (blank-forest p c ts)) ≡ splice or (tidy-all (keep (stays p c) ts))
 unfolding blank blank-forest tidy splice spliced keep combine decides some-child some-two firsts unwrap _⧺_
@@ -574,19 +568,6 @@ pub tidy-blank : (p : Prefix) (c : Tree) (ts : Forest) → tidy (node or (blank-
 unfolding tidy combine
 tidy-blank p c ts =
     ap (λ us. cond (decides or us) (node and ∅) (unwrap or (firsts twin (firsts equal us)))) (splice-blank p c ts)
-
-unfoldable pub blank-clause : Prefix → Tree → Tree
-blank-clause p (lit s v) = blank p (lit s v) (lit s v)
-blank-clause p (node o ts) = node o (blank-forest p (node o ts) ts)
-
-unfoldable pub blank-all : Prefix → Forest → Forest
-blank-all p ∅ = ∅
-blank-all p (t ▸ ts) = blank-clause p t ▸ blank-all p ts
-
-unfoldable pub blank-tree : Prefix → Tree → Tree
-blank-tree p (lit s v) = blank-clause p (lit s v)
-blank-tree p (node or ts) = blank-clause p (node or ts)
-blank-tree p (node and ts) = node and (blank-all p ts)
 
 tidy-blank-clause : (p : Prefix) (c : Tree) → is-clause c ≡ true → tidy (blank-clause p c) ≡ tidy (reduce-clause p c)
 unfolding blank blank-clause reduce-clause stays is-clause
@@ -612,20 +593,6 @@ tidy-blank-tree p (node or ts) h = tidy-blank-clause p (node or ts) h
 tidy-blank-tree p (node and ts) h = ap (combine and) (tidy-blank-all p ts (not-true (some-child (λ t. not (is-clause t)) ts) h))
 
 -- the profile by rows: a tidy tree is of it exactly if no operator but the root is AND
-
-unfoldable mutual
-  pub has-and : Tree → Bool
-  has-and (lit s v) = false
-  has-and (node and ts) = true
-  has-and (node or ts) = some-and ts
-
-  pub some-and : Forest → Bool
-  some-and ∅ = false
-  some-and (t ▸ ts) = has-and t || some-and ts
-
-unfoldable pub and-below : Tree → Bool
-and-below (lit s v) = false
-and-below (node o ts) = some-and ts
 
 -- under an OR whose children are of the other kind, what is no literal is AND
 and-or-literal : (ts : Forest) → some-child (is-op or) ts ≡ false → some-child (λ t. not (is-literal t)) ts ≡ some-and ts

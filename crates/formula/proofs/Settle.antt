@@ -8,9 +8,9 @@ use Prim.Native.Nat.{ℕ}
 use lib.Dec.{eqb}
 use borrow.Author.Tests.{not-true}
 use Rattle.formula.specs.Tree.{Op, and, or, Quantifier, Tree, lit, node, Forest, ∅, _▸_, Formula, of, of-sign, has, has-any, assign, binds, quantifier-of, without, distinct}
-use Rattle.formula.specs.Truth.{Assignment, put, eval, eval-all, truth}
+use Rattle.formula.specs.Truth.{Assignment, put, eval, eval-all, truth, Leads}
 use Rattle.formula.specs.Settle.{is-lit, at-root, may-take, value, settling, may-settle}
-use Rattle.formula.proofs.Booleans.{Leads, false-leads, leads-eq, join-leads, or-parts, or-cases}
+use Rattle.formula.proofs.Booleans.{false-leads, leads-eq, join-leads, or-parts, or-cases}
 use Rattle.formula.proofs.Binding.{bind-ext, bind-settle}
 use Rattle.formula.proofs.Evaluation.{eval-decided, eval-assign, eval-same, put-other}
 

@@ -143,6 +143,29 @@ run-right fits (suc n) s h p = by (step fits s) (step-right fits s p) (λ s′ l
         let m : Made s s′ = r in
         went-on fits s s′ (run fits n s′) m (more s′ (omega (arith, m .one-less)) (m .still-proper))
 
+-- so a verdict reached is the one that the run ends with, and a run that is stuck stops there
+decided-ends : (fits : Fits) (s : State) (r : Run) → RunRight fits s r → (v : Bool) → verdict (((r .state) .formula) .matrix) ≡ some v → r .end ≡ ended v
+decided-ends fits s r k v d = by (r .end) refl
+  where
+    by : (e : End) → r .end ≡ e → r .end ≡ ended v
+    by (ended w) h = let o = k .on-ended w h .0 in let same : w ≡ v = cc in h ∙ ap ended same
+    by (stopped x) h = let u = k .on-stopped x h .undecided in let z : _≡_ {A = Bool} true false = cc in absurd (true≢false z)
+
+stuck-stops : (fits : Fits) (s : State) (r : Run) → RunRight fits s r → (x : ℕ) → Stuck fits ((r .state) .formula) x → r .end ≡ stopped x
+stuck-stops fits s r k x u = by (r .end) refl
+  where
+    by : (e : End) → r .end ≡ e → r .end ≡ stopped x
+    by (ended w) h =
+        let o = k .on-ended w h .0 in
+        let n = u .undecided in
+        let z : _≡_ {A = Bool} true false = cc in
+        absurd (true≢false z)
+    by (stopped y) h =
+        let c = k .on-stopped y h .is-cheapest in
+        let d = u .is-cheapest in
+        let same : y ≡ x = cc in
+        h ∙ ap stopped same
+
 pub solve-right : (fits : Fits) (f : Formula) → distinct (f .prefix) ≡ true → closed f ≡ true → SolveRight fits f (solve fits f)
 unfolding solve tidied
 solve-right fits f d c =
@@ -151,6 +174,8 @@ solve-right fits f d c =
     record {
       same-truth = r .same-truth ∙ truth-tidied f;
       counts = omega (arith, r .counts);
+      is-neat = r .still-proper .is-neat;
+      ends = λ v. ((λ h. r .on-ended v h .0), decided-ends fits start _ r v);
+      stops = λ x. (r .on-stopped x, stuck-stops fits start _ r x);
       on-ended = λ v h. r .on-ended v h .1 ∙ truth-tidied f;
-      on-stopped = r .on-stopped;
     }

@@ -5,13 +5,13 @@ use mathlib.Core.Bool.{Bool, true, false, not, _&&_, _||_, cond, false≢true}
 use borrow.Author.Tests.{not-true}
 use Rattle.formula.specs.Tree.{Op, or, Tree, lit, node, Forest, ∅, _▸_, some-child, some-two}
 use Rattle.formula.specs.Tidy.{is-op, twin, same-variable, alone, childless, breaks, faults, faults-all, root-faults, any, is-tidy}
-use Rattle.formula.specs.Order.{leads, insert, sort, sort-all}
-use Rattle.formula.specs.Order.{Rearranged, literal, operator, Reordered, nothing, inside, exchanged, again}
+use Rattle.formula.specs.Order.{leads, insert, sort, sort-all, Rearranged, literal, operator, Reordered, nothing, inside, exchanged, again}
 use Rattle.formula.proofs.Booleans.{join-swap, eqb-comm, and-parts, or-parts, or-none}
 use Rattle.formula.proofs.Tidy.Children.{some-child-same, some-two-less}
 use Rattle.formula.proofs.Tidy.Same.{twin-same, twin-sym, twin-refl}
 use Rattle.formula.proofs.Tidy.Limits.{faulty, any-++}
 use Rattle.formula.proofs.Sorting.{sort-rearranged, rearranged-sort, sort-idempotent, sort-exactly}
+use Rattle.formula.specs.Order.{strays, astray, astray-all, nearly-tidy, siblings, siblings-all, alike}
 
 childless-reordered : {ts us : Forest} → Reordered ts us → childless ts ≡ childless us
 unfolding childless
@@ -84,22 +84,6 @@ is-op-rearranged o t u (operator k r) = refl
 
 -- every limit but that on equal siblings: sorting keeps it
 
-unfoldable pub strays : Op → Forest → Bool
-strays o ts = alone ts || some-child (is-op o) ts || some-two same-variable ts
-
-unfoldable mutual
-  pub astray : Tree → Bool
-  astray (lit s v) = false
-  astray (node o ts) = (childless ts || strays o ts) || astray-all ts
-
-  pub astray-all : Forest → Bool
-  astray-all ∅ = false
-  astray-all (t ▸ ts) = astray t || astray-all ts
-
-unfoldable pub nearly-tidy : Tree → Bool
-nearly-tidy (lit s v) = true
-nearly-tidy (node o ts) = not (strays o ts || astray-all ts)
-
 strays-reordered : (o : Op) {ts us : Forest} → Reordered ts us → strays o ts ≡ strays o us
 unfolding strays
 strays-reordered o r =
@@ -127,15 +111,6 @@ pub nearly-tidy-sort : (t : Tree) → nearly-tidy (sort t) ≡ nearly-tidy t
 nearly-tidy-sort t = sym (nearly-tidy-rearranged (rearranged-sort t))
 
 -- two siblings in a relation, somewhere in a tree
-
-unfoldable mutual
-  pub siblings : (Tree → Tree → Bool) → Tree → Bool
-  siblings R (lit s v) = false
-  siblings R (node o ts) = some-two R ts || siblings-all R ts
-
-  pub siblings-all : (Tree → Tree → Bool) → Forest → Bool
-  siblings-all R ∅ = false
-  siblings-all R (t ▸ ts) = siblings R t || siblings-all R ts
 
 -- tidy: nearly so, and no two operators that are siblings are equal
 
@@ -179,9 +154,6 @@ is-tidy-parts (node o ts) =
     mixed false false false d = refl
 
 -- operators that differ only in the order of children: sorted, they are equal
-
-unfoldable pub alike : Tree → Tree → Bool
-alike t u = twin (sort t) (sort u)
 
 pub alike-rearranged : (t u : Tree) → alike t u ≡ true → Rearranged t u
 unfolding alike

@@ -1,9 +1,11 @@
 -- The guards that clash (N10): of the children of a root AND those that are kept when each in turn is left out if the rest is still false.
 -- Assumes nothing.
 use mathlib.Core.Bool.{Bool, true, false}
-use Prim.Native.Nat.{ℕ, zero, suc}
-use Rattle.formula.specs.Tree.{and, or, Tree, lit, node, Forest, ∅, _▸_, _⧺_, Prefix, Formula}
+use Prim.Native.Nat.{ℕ, zero, suc, _≤_, _<_}
+use Rattle.formula.specs.Tree.{and, or, Tree, lit, node, Forest, ∅, _▸_, _⧺_, Prefix, Formula, Literals, rows-all, has-any, count}
 use Rattle.formula.specs.Solve.{State, End, ended, stopped, Fits, solve}
+use mathlib.Core.Path.{_≡_}
+use Rattle.formula.specs.Truth.{Assignment, eval-all, truth, Leads}
 
 unfoldable pub is-and : Tree → Bool
 is-and (lit s v) = false
@@ -67,3 +69,15 @@ removed (suc i) (t ▸ ts) = t ▸ removed i ts
 
 abbrev pub weakened : ℕ → Formula → Formula
 weakened i f = conjoined (f .prefix) (removed i (guards (f .matrix)))
+
+pub record Fewer (us ts : Forest) : Type 0 where
+  pub no-more-rows : rows-all us ≤ rows-all ts
+  pub still-true : (ρ : Assignment) → Leads (eval-all ts and ρ) (eval-all us and ρ)
+  pub still-none : (L : Literals) → has-any L ts ≡ false → has-any L us ≡ false
+
+-- What Guards finds in a formula: a formula of some of its guards, which is false; where no run stopped, each of them is needed.
+pub record Blamed (f g : Formula) (stops : ℕ) : Type 0 where
+  pub is-conjunction : g ≡ conjoined (f .prefix) (guards (g .matrix))
+  pub some-guards : Fewer (guards (g .matrix)) (guards (f .matrix))
+  pub is-false : truth g ≡ false
+  pub each-needed : stops ≡ 0 → (i : ℕ) → i < count (guards (g .matrix)) → truth (weakened i g) ≡ true

@@ -1,17 +1,20 @@
--- Document 01 without its bytes, in the document's order.
+-- Documents 01 and 02 without bytes, in their order.
 pub mod Tree
 pub mod Truth
 pub mod Tidy
 pub mod Settle
 pub mod Expand
 pub mod Solve
-pub mod Trace
-pub mod Resume
 pub mod Trial
+-- N6, N8, N9, N10, N12, N13, N14
+pub mod Outer
 pub mod Reduce
 pub mod Force
-pub mod Outer
-pub mod OuterExamples
 pub mod Guards
+pub mod Trace
+pub mod Resume
 pub mod Order
+-- what is relied on
 pub mod Right
+-- how code goes about it
+pub mod Inner

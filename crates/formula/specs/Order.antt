@@ -1,11 +1,13 @@
 -- The order on subtrees, sorting by it, and comparing two formulas (N14).
 -- Assumes nothing.
-use mathlib.Core.Bool.{Bool, true, false, cond}
+use mathlib.Core.Bool.{Bool, true, false, cond, not, _||_}
 use mathlib.Core.List.{[], _∷_}
 use Prim.Native.Nat.{ℕ}
 use lib.Dec.{ltb}
 use lib.ListN.{length}
-use Rattle.formula.specs.Tree.{Op, and, or, Quantifier, Tree, lit, node, Forest, ∅, _▸_, Binding, Prefix, Formula, count}
+use Rattle.formula.specs.Tree.{Op, and, or, Quantifier, Tree, lit, node, Forest, ∅, _▸_, Binding, Prefix, Formula, count, some-child, some-two}
+use Rattle.formula.specs.Tidy.{is-op, twin, same-variable, alone, childless}
+use mathlib.Core.Path.{_≡_}
 
 infixr 40 _then_
 pub data Ordering : Type 0 where
@@ -108,3 +110,46 @@ mutual
     inside : {t u : Tree} {ts us : Forest} → Rearranged t u → Reordered ts us → Reordered (t ▸ ts) (u ▸ us)
     exchanged : (t u : Tree) (ts : Forest) → Reordered (t ▸ u ▸ ts) (u ▸ t ▸ ts)
     again : {ts us vs : Forest} → Reordered ts us → Reordered us vs → Reordered ts vs
+
+unfoldable pub strays : Op → Forest → Bool
+strays o ts = alone ts || some-child (is-op o) ts || some-two same-variable ts
+
+unfoldable mutual
+  pub astray : Tree → Bool
+  astray (lit s v) = false
+  astray (node o ts) = (childless ts || strays o ts) || astray-all ts
+
+  pub astray-all : Forest → Bool
+  astray-all ∅ = false
+  astray-all (t ▸ ts) = astray t || astray-all ts
+
+unfoldable pub nearly-tidy : Tree → Bool
+nearly-tidy (lit s v) = true
+nearly-tidy (node o ts) = not (strays o ts || astray-all ts)
+
+unfoldable mutual
+  pub siblings : (Tree → Tree → Bool) → Tree → Bool
+  siblings R (lit s v) = false
+  siblings R (node o ts) = some-two R ts || siblings-all R ts
+
+  pub siblings-all : (Tree → Tree → Bool) → Forest → Bool
+  siblings-all R ∅ = false
+  siblings-all R (t ▸ ts) = siblings R t || siblings-all R ts
+
+unfoldable pub alike : Tree → Tree → Bool
+alike t u = twin (sort t) (sort u)
+
+abbrev pub turned : Ordering → Ordering
+turned before = after
+turned same = same
+turned after = before
+
+-- Of three things, the first and the third are ordered as the two steps from one to the next say, where these agree.
+abbrev pub Chain : Ordering → Ordering → Ordering → Type 0
+Chain before before o = o ≡ before
+Chain before same o = o ≡ before
+Chain before after o = Unit {0}
+Chain same p o = o ≡ p
+Chain after before o = Unit {0}
+Chain after same o = o ≡ after
+Chain after after o = o ≡ after

@@ -5,6 +5,7 @@ use mathlib.Core.List.{[], _∷_}
 use Prim.Native.Nat.{ℕ}
 use lib.Dec.{eqb}
 use Rattle.formula.specs.Tree.{Op, and, or, Tree, lit, node, Forest, ∅, _▸_, Prefix, Formula}
+use mathlib.Core.Path.{_≡_}
 
 abbrev pub Assignment : Type 0
 Assignment = ℕ → Bool
@@ -40,3 +41,10 @@ bind (z ∷ p) f ρ = join (z .quantifier) (bind p f (put ρ (z .variable) false
 -- every literal of a formula is bound, so the first assignment is never read
 unfoldable pub truth : Formula → Bool
 truth f = bind (f .prefix) (eval (f .matrix)) (λ _. false)
+
+abbrev pub Ignores : (Assignment → Bool) → ℕ → Type 0
+Ignores f v = (ρ : Assignment) (b : Bool) → f (put ρ v b) ≡ f ρ
+
+-- false before true
+abbrev pub Leads : Bool → Bool → Type 0
+Leads a b = a ≡ true → b ≡ true

@@ -10,8 +10,7 @@ use lib.ListN.{length, drop, replicate}
 use borrow.Author.Tests.{lt-ltb, le-ltb}
 use Rattle.formula.specs.Tree.{and, or, Tree, lit, node, Forest, Formula, rows, rows-all}
 use Rattle.formula.specs.Solve.{End, ended, stopped, Run, solve}
-use Rattle.formula.specs.Guards.{is-and, conjoined, after-run, guarded}
-use Rattle.formula.specs.Guards.{Guarded as Finding}
+use Rattle.formula.specs.Guards.{is-and, conjoined, after-run, guarded, Guarded as Finding}
 use Rattle.sheet.specs.Format.{Bytes, Format, sheet-length, fits}
 use Rattle.sheet.specs.Sheet.{formula-rows, formula, sheet}
 use Rattle.sheet.specs.Check.{refused, accepted, answer, check-tests, check}

@@ -10,10 +10,10 @@ use lib.ListN.{length, getD, take, drop, set, length-set, length-drop}
 use lib.Seq.{slice, slice-empty, take-all, take-at, take-set-le, take-suc-set, drop-at, drop-drop}
 use Rattle.formula.specs.Tree.{Tree, lit, node, Forest, ∅, _▸_, _⧺_, rows, rows-all, count}
 use Rattle.formula.specs.Solve.{End, ended}
-use Rattle.formula.specs.Guards.{guards, conjoined, Kept, judged, sift, says, clashing}
+use Rattle.formula.specs.Guards.{guards, conjoined, Kept, judged, sift, says, clashing, Fewer}
 use Rattle.formula.proofs.Tidy.Children.{count-⧺}
 use Rattle.formula.proofs.Tidy.Growth.{rows-⧺}
-use Rattle.formula.proofs.Guards.{Fewer, fewer-none, fewer-again, one-fewer, next-tried, and-matrix, and-formula}
+use Rattle.formula.proofs.Guards.{fewer-none, fewer-again, one-fewer, next-tried, and-matrix, and-formula}
 use Rattle.sheet.specs.Format.{Bytes, Format, Row, fits}
 use Rattle.sheet.specs.Sheet.{front, tree-rows, forest-rows}
 use Rattle.sheet.specs.Limits.{Within}

@@ -24,6 +24,7 @@ ghost use Prim.Native.Nat.{_≤_};
 ghost use lib.ListN.{length};
 ghost use Rattle.sheet.specs.Trace.{room};
 ghost use Rattle.sheet.specs.Guards.{guards-call};
+ghost use Rattle.sheet.specs.Truthful.{TruthfulGuards};
 ghost use Rattle.rows.specs.Formats.{format-of};
 ghost use Rattle.rows.specs.Layouts.{format-in, size};
 ghost use Rattle.checking.specs.Sheets.{Sheet};
@@ -135,6 +136,7 @@ pub fn guards(
     second: &mut [u8],
 ) -> Guarded
     ensures { λ r. ⌜ leaves r (now (out .exit)) (now (first .exit)) (now (second .exit)) ≡ guards-call (format-of f) (now (sheet .entry)) (now (out .entry)) (now (first .entry)) (now (second .entry)) ⌝ }
+    ensures { λ r. ⌜ TruthfulGuards (format-of f) (now (sheet .entry)) (leaves r (now (out .exit)) (now (first .exit)) (now (second .exit))) ⌝ }
 {
     let c = checking::check(sheet, f);
     match c {

@@ -20,10 +20,11 @@ ghost use Rattle.formula.specs.Order.{sort, sorted};
 ghost use Rattle.sheet.specs.Sheet.{tree-rows, formula, sheet};
 ghost use Rattle.sheet.specs.Operations.{padded};
 ghost use Rattle.sheet.specs.Order.{sort-call};
+ghost use Rattle.sheet.specs.Truthful.{truth-of, TruthfulSheet};
 ghost use Rattle.rows.specs.Formats.{format-of};
 ghost use Rattle.rows.specs.Layouts.{format-in, rows-in, Room};
 ghost use Rattle.rows.specs.Formulas.{matrix-in, Readable};
-ghost use Rattle.checking.specs.Answers.{written-answer};
+ghost use Rattle.checking.specs.Answers.{wrote};
 ghost use Rattle.checking.specs.Sheets.{Sheet};
 ghost use Rattle.sorting.specs.Tables.{picked-rows, Numbers};
 
@@ -67,7 +68,7 @@ pub fn sort_into(source: &[u8], s: Layout, out: &mut [u8]) -> usize
 // Sorts a sheet that Check accepts, of this layout: 13 output shorter than the sheet.
 fn sort_checked(sheet: &[u8], s: Layout, out: &mut [u8]) -> Written
     requires { ⌜ Sheet (s .format) (now sheet) s ⌝ }
-    ensures { λ r. ⌜ record { answer = written-answer r; output = now (out .exit) } ≡ sort-call (format-in s) (now (sheet .entry)) (now (out .entry)) ⌝ }
+    ensures { λ r. ⌜ wrote r (now (out .exit)) ≡ sort-call (format-in s) (now (sheet .entry)) (now (out .entry)) ⌝ }
 {
     if out.len() < sheet.len() {
         return Written::Refused(NO_ROOM, 0);
@@ -79,7 +80,8 @@ fn sort_checked(sheet: &[u8], s: Layout, out: &mut [u8]) -> Written
 // Writes the sheet with all children in order to the front of `out`, with zeros behind it, and returns its length; or refuses the sheet
 // or the output, and alters nothing.
 pub fn sort(sheet: &[u8], f: Format, out: &mut [u8]) -> Written
-    ensures { λ r. ⌜ record { answer = written-answer r; output = now (out .exit) } ≡ sort-call (format-of f) (now (sheet .entry)) (now (out .entry)) ⌝ }
+    ensures { λ r. ⌜ wrote r (now (out .exit)) ≡ sort-call (format-of f) (now (sheet .entry)) (now (out .entry)) ⌝ }
+    ensures { λ r. ⌜ TruthfulSheet (format-of f) (truth-of (format-of f) (now (sheet .entry))) (wrote r (now (out .exit))) ⌝ }
 {
     let c = check(sheet, f);
     match c {

@@ -4,3 +4,4 @@ mod Drafting
 mod Written
 mod Deciding
 mod Sheets
+mod Telling

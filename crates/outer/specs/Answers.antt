@@ -4,6 +4,7 @@ use Prim.Native.Nat.{ℕ}
 use lib.ListN.{length}
 use Rattle.sheet.specs.Format.{Bytes, Format}
 use Rattle.sheet.specs.Check.{Answer, refused, accepted}
+use Rattle.sheet.specs.Operations.{Written}
 use Rattle.sheet.specs.Outer.{Copied as Copies, outer-call, outer-answer}
 use Rattle.outer.specs.declared.Outcome.{Outcome}
 use Rattle.outer.specs.declared.Outcome.the-variants.{Refused, Copied}
@@ -17,6 +18,14 @@ outcome-answer (Copied end count lowest) = accepted (record { new-length = end; 
 pub record OuterWritten : Type 0 where
   pub answer : Answer Copies
   pub output : Bytes
+
+-- that call's words: the length alone
+abbrev pub lengths : Answer Copies → Answer ℕ
+lengths (refused number place) = refused number place
+lengths (accepted c) = accepted (c .new-length)
+
+abbrev pub length-alone : OuterWritten → Written
+length-alone w = record { answer = lengths (w .answer); output = w .output }
 
 abbrev pub outer-written : Format → Bytes → ℕ → Bytes → OuterWritten
 outer-written F b x out = record { answer = outer-answer F b x (length out); output = (outer-call F b x out) .output }

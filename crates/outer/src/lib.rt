@@ -15,9 +15,10 @@ ghost use mathlib.Core.Path.{_≡_};
 ghost use lib.ListN.{length};
 ghost use Rattle.sheet.specs.Sheet.{sheet};
 ghost use Rattle.sheet.specs.Operations.{padded};
+ghost use Rattle.sheet.specs.Truthful.{truth-of, TruthfulSheet};
 ghost use Rattle.rows.specs.Formats.{format-of};
 ghost use Rattle.rows.specs.Layouts.{format-in};
-ghost use Rattle.outer.specs.Answers.{outcome-answer, outer-written};
+ghost use Rattle.outer.specs.Answers.{outcome-answer, length-alone, outer-written};
 ghost use Rattle.outer.specs.Inner.Plan.{Planned, Fitting, copied-formula};
 
 pub mod chain;
@@ -66,6 +67,7 @@ fn outer_planned(sheet: &[u8], tables: &[u16], cuts: &[u16], w: Copying, out: &m
 // is left as it was. The raw sheet is written to `out` and tidied there.
 pub fn outer(sheet: &[u8], f: Format, x: usize, out: &mut [u8]) -> Outcome
     ensures { λ r. ⌜ record { answer = outcome-answer r; output = now (out .exit) } ≡ outer-written (format-of f) (now (sheet .entry)) x (now (out .entry)) ⌝ }
+    ensures { λ r. ⌜ TruthfulSheet (format-of f) (truth-of (format-of f) (now (sheet .entry))) (length-alone (record { answer = outcome-answer r; output = now (out .exit) })) ⌝ }
 {
     let mut tables = [0u16; 2 * NUMBERS];
     let mut cuts = [0u16; CUTS];

@@ -14,7 +14,7 @@ use Rattle.formula.specs.Tree.{and, or, Prefix, Binding, binds, distinct}
 use Rattle.formula.proofs.Booleans.{and-parts, eqb-comm}
 use Rattle.sheet.specs.Format.{Bytes}
 use Rattle.sheet.specs.Qdimacs.{all, Token, opener, plain, minus, other}
-use Rattle.sheet.proofs.Qdimacs.Accepted.{up-to}
+use Rattle.sheet.specs.Texts.{up-to}
 use Rattle.words.specs.Numbers.{Capped, largest}
 use Rattle.words.specs.Tokens.{Reads}
 use Rattle.words.specs.declared.token.Token as code

@@ -10,7 +10,7 @@ use lib.ListN.{length}
 use borrow.Author.Tests.{le-leb, lt-leb, ltb-true, ltb-false, not-true, not-false}
 use Rattle.sheet.specs.Format.{Bytes}
 use Rattle.sheet.specs.Qdimacs.{all, Token, opener, plain, minus, other, absolute}
-use Rattle.sheet.proofs.Qdimacs.Accepted.{up-to}
+use Rattle.sheet.specs.Texts.{up-to}
 use Rattle.words.specs.Numbers.{Capped, largest}
 use Rattle.words.specs.Literals.{literal, variable}
 use Rattle.words.specs.Tokens.{Reads}

@@ -10,7 +10,7 @@ use lib.ListN.{length, drop, drop-of-length-le}
 use Rattle.formula.specs.Tree.{and, or}
 use Rattle.sheet.specs.Format.{Bytes}
 use Rattle.sheet.specs.Qdimacs.{split, nonempty, is-nil, token}
-use Rattle.sheet.proofs.Qdimacs.Words.{separated}
+use Rattle.sheet.specs.Texts.{separated}
 use Rattle.words.specs.Tokens.{Reads}
 use Rattle.words.specs.declared.token.Token as code
 use Rattle.qdimacs.specs.Inner.Lists.{State, between, within, ordered, clause-tokens}

@@ -14,7 +14,8 @@ use Rattle.formula.proofs.Booleans.{and-parts}
 use Rattle.sheet.specs.Format.{Bytes}
 use Rattle.sheet.specs.Qdimacs.{split, nonempty, is-nil, all, line-end, lines, words, unsigned, magnitude, is-word, is-comment, from-header, header-of, words-below}
 use Rattle.sheet.proofs.Qdimacs.Lists.{split-uncut}
-use Rattle.sheet.proofs.Qdimacs.Words.{separator, separated, words-of-lines, Line, is-skipped, header-words, TextWords, above-header, at-header, last-above, last-header}
+use Rattle.sheet.proofs.Qdimacs.Words.{words-of-lines, above-header, at-header, last-above, last-header}
+use Rattle.sheet.specs.Texts.{separator, separated, Line, is-skipped, header-words, TextWords}
 use Rattle.words.specs.Words.{lead, gap}
 use Rattle.words.specs.Numbers.{Capped, largest}
 use Rattle.words.specs.Tokens.{class-of, first-class, Reads}

@@ -11,7 +11,7 @@ use borrow.Author.Tests.{eqb-true, ne-eqb}
 use Rattle.formula.proofs.Booleans.{and-parts}
 use Rattle.sheet.specs.Format.{Bytes}
 use Rattle.sheet.specs.Qdimacs.{Token, unsigned, magnitude, is-word, header-of}
-use Rattle.sheet.proofs.Qdimacs.Words.{separated}
+use Rattle.sheet.specs.Texts.{separated}
 use Rattle.words.specs.Numbers.{Capped, largest}
 use Rattle.words.specs.Tokens.{class-of, first-class, Reads}
 use Rattle.words.specs.declared.token.Token as code

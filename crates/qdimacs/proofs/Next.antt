@@ -11,7 +11,7 @@ use lib.ListN.{length, drop, getD, drop-of-length-le}
 use Rattle.formula.specs.Tree.{Quantifier, and, or, Binding, Prefix}
 use Rattle.sheet.specs.Format.{Bytes}
 use Rattle.sheet.specs.Qdimacs.{split, nonempty, is-nil, magnitude, Token, opener, plain, minus, other, token}
-use Rattle.sheet.proofs.Qdimacs.Words.{separated}
+use Rattle.sheet.specs.Texts.{separated}
 use Rattle.words.specs.Numbers.{Capped, largest}
 use Rattle.words.specs.Tokens.{class-of, first-class, Reads}
 use Rattle.words.specs.declared.token.Token as code

@@ -11,8 +11,8 @@ use Rattle.formula.specs.Tree.{Quantifier, and, or, Tree, lit, node, Forest, �
 use Rattle.formula.proofs.Booleans.{and-parts}
 use Rattle.sheet.specs.Qdimacs.{is-nil, all, split, Token, opener, plain, minus, other, is-plain, is-whole, is-end, absolute, pieces, ended-lists, is-quantified, are-clauses, in-order, quantified, bindings, bound, clauses, literals, clause-trees, matrix-of, named, numbers-of}
 use Rattle.sheet.proofs.Qdimacs.Lists.{all-++}
-use Rattle.sheet.proofs.Qdimacs.Accepted.{up-to, whole-unquantified}
-use Rattle.sheet.proofs.Qdimacs.Answers.{lists}
+use Rattle.sheet.proofs.Qdimacs.Accepted.{whole-unquantified}
+use Rattle.sheet.specs.Texts.{up-to, lists}
 use Rattle.qdimacs.specs.Inner.Lists.{State, between, within, ordered, clause-tokens, bound-from, whole-lists, numbers, ends, first-length}
 use Rattle.qdimacs.proofs.Pieces.{open-part, lists-end, lists-more, onto, clauses-by, listed-clauses, open-clauses, whole, in-line, order-by, listed}
 

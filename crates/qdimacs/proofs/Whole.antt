@@ -11,18 +11,18 @@ use lib.ListN.{length, getD, replicate, length-append}
 use borrow.Author.Tests.{eqb-true, ne-eqb, le-leb, leb-true}
 use Rattle.formula.specs.Tree.{exists, Prefix, binds, distinct, rows, rows-all, count}
 use Rattle.formula.proofs.Booleans.{and-parts}
-use Rattle.sheet.specs.Format.{Bytes, Format, Row, row, digits, sheet-length}
+use Rattle.sheet.specs.Format.{Bytes, Format, Row, row, digits, sheet-length, Every}
 use Rattle.sheet.specs.Sheet.{binding-row, tree-rows, forest-rows, formula-rows, row-kinds, row-arguments, sheet}
 use Rattle.sheet.specs.Check.{Answer, refused, accepted}
 use Rattle.sheet.specs.Operations.{padded}
 use Rattle.sheet.specs.Qdimacs.{all, is-nil, Token, is-end, absolute, text-header, tokens-below, pieces, ended-lists, open-list}
-use Rattle.sheet.specs.Qdimacs.{in-order, well-listed, numbers-of, bound, clauses, clause-trees, matrix-of, named, is-free, free-up-to, said, qdimacs, above-count}
+use Rattle.sheet.specs.Qdimacs.{in-order, well-listed, numbers-of, bound, clauses, clause-trees, matrix-of, named, is-free, free-up-to, said, qdimacs, qdimacs-call, above-count}
 use Rattle.sheet.proofs.RoundTrip.{length-sheet}
 use Rattle.sheet.proofs.Parts.{sheet-length-rows}
-use Rattle.sheet.proofs.Qdimacs.Accepted.{positive, up-to, in-order-positive, prefix-few}
-use Rattle.sheet.proofs.Every.{Every}
-use Rattle.sheet.proofs.Qdimacs.Lists.{Uncut, pieces-uncut, all-both, all-leads}
-use Rattle.sheet.proofs.Qdimacs.Answers.{lists, bad-counts, read-answer, qdimacs-refused, refused-16, refused-17, refused-6, refused-2, refused-13, accepts}
+use Rattle.sheet.proofs.Qdimacs.Accepted.{positive, in-order-positive, prefix-few}
+use Rattle.sheet.specs.Texts.{up-to, Uncut, lists, counts-fail}
+use Rattle.sheet.proofs.Qdimacs.Lists.{pieces-uncut, all-both, all-leads}
+use Rattle.sheet.proofs.Qdimacs.Answers.{qdimacs-refused, refused-16, refused-17, refused-6, refused-2, refused-13, accepts}
 use Rattle.sheet.proofs.Writing.{written}
 use Rattle.rows.specs.Layouts.{width, total}
 use Rattle.rows.specs.declared.Layout.{Layout}
@@ -47,7 +47,7 @@ abbrev pub ordered-whole : Bytes → Bool
 ordered-whole b = ordered between (tokens-at b 0) && whole-lists false (clause-tokens between (tokens-at b 0))
 
 -- a refusal's answer and output
-pub refuses : (F : Format) (t out : Bytes) (n : ℕ) → read-answer F t out ≡ refused n 0 → CallAnswers F t out (refused n 0) out
+pub refuses : (F : Format) (t out : Bytes) (n : ℕ) → (qdimacs-call F t out) .answer ≡ refused n 0 → CallAnswers F t out (refused n 0) out
 refuses F t out n e = written (sym e, sym (qdimacs-refused F t out n 0 e))
 
 module _ {F : Format} {t b : Bytes} {n : ℕ} (w : Below F t b n) (out : Bytes) where
@@ -85,7 +85,7 @@ module _ {F : Format} {t b : Bytes} {n : ℕ} (w : Below F t b n) (out : Bytes) 
     count-is : length (clauses (lists (tokens-below t))) ≡ ends cs
     count-is = ap length clause-lists ∙ length-lists cs
 
-    counts-are : bad-counts (text-header t) (tokens-below t) ≡ (not (all (up-to n) ts) || not (eqb (ends cs) ((text-header t) .clause-count)))
+    counts-are : counts-fail (text-header t) (tokens-below t) ≡ (not (all (up-to n) ts) || not (eqb (ends cs) ((text-header t) .clause-count)))
     counts-are = ap₂ (λ p m. p || not (eqb m ((text-header t) .clause-count))) above-is count-is
 
     pub too-high : all (up-to n) ts ≡ false → CallAnswers F t out (refused 17 0) out
@@ -102,10 +102,10 @@ module _ {F : Format} {t b : Bytes} {n : ℕ} (w : Below F t b n) (out : Bytes) 
         or-true true = refl
         or-true false = refl
 
-    pub right-counts : all (up-to n) ts ≡ true → eqb (ends cs) ((text-header t) .clause-count) ≡ true → bad-counts (text-header t) (tokens-below t) ≡ false
+    pub right-counts : all (up-to n) ts ≡ true → eqb (ends cs) ((text-header t) .clause-count) ≡ true → counts-fail (text-header t) (tokens-below t) ≡ false
     right-counts e f = counts-are ∙ ap₂ (λ p q. not p || not q) e f
 
-    module _ (counts : bad-counts (text-header t) (tokens-below t) ≡ false) where
+    module _ (counts : counts-fail (text-header t) (tokens-below t) ≡ false) where
       pub twice : distinct (bindings-in b) ≡ false → CallAnswers F t out (refused 6 0) out
       twice e = refuses F t out 6 (refused-6 F t out (w .header-good) is-listed counts (ap distinct bound-lists ∙ e))
 

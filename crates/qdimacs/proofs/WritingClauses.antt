@@ -14,8 +14,7 @@ use Rattle.formula.proofs.Booleans.{and-parts}
 use Rattle.sheet.specs.Format.{Bytes, Row, row}
 use Rattle.sheet.specs.Sheet.{literal-kind, tree-rows, forest-rows}
 use Rattle.sheet.specs.Qdimacs.{split, all, pieces, ended-lists, Token, opener, plain, minus, other, is-plain, is-whole, is-end, absolute, literals, clause-trees}
-use Rattle.sheet.proofs.Qdimacs.Accepted.{up-to}
-use Rattle.sheet.proofs.Qdimacs.Answers.{lists}
+use Rattle.sheet.specs.Texts.{up-to, lists}
 use Rattle.sheet.proofs.Preorder.{length-forest-rows}
 use Rattle.rows.specs.declared.Layout.{Layout}
 use Rattle.words.specs.Numbers.{Capped, largest}

@@ -14,7 +14,7 @@ use Rattle.formula.proofs.Booleans.{and-parts}
 use Rattle.sheet.specs.Format.{Bytes, Row, row}
 use Rattle.sheet.specs.Sheet.{binding-row}
 use Rattle.sheet.specs.Qdimacs.{all}
-use Rattle.sheet.proofs.Qdimacs.Accepted.{up-to}
+use Rattle.sheet.specs.Texts.{up-to}
 use Rattle.words.specs.Numbers.{Capped, largest}
 use Rattle.words.specs.Tokens.{Reads}
 use Rattle.words.specs.declared.token.Token as code

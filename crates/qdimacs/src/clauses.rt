@@ -12,7 +12,7 @@ ghost use mathlib.Core.Bool.{not};
 ghost use Prim.Native.Nat.{_≤_, _<_};
 ghost use lib.ListN.{length};
 ghost use Rattle.sheet.specs.Qdimacs.{all};
-ghost use Rattle.sheet.proofs.Qdimacs.Accepted.{up-to};
+ghost use Rattle.sheet.specs.Texts.{up-to};
 ghost use Rattle.rows.specs.Tables.{HIGHEST};
 ghost use Rattle.words.specs.Numbers.{largest};
 ghost use Rattle.qdimacs.specs.Inner.Lists.{first-length};

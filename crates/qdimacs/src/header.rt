@@ -13,7 +13,7 @@ ghost use Prim.Native.Nat.{suc, _+_, _≤_};
 ghost use lib.Dec.{eqb};
 ghost use lib.ListN.{length, drop};
 ghost use Rattle.sheet.specs.Qdimacs.{header-of};
-ghost use Rattle.sheet.proofs.Qdimacs.Words.{Line, is-skipped, separated};
+ghost use Rattle.sheet.specs.Texts.{Line, is-skipped, separated};
 ghost use Rattle.qdimacs.specs.Inner.Header.{HeaderAt, next-line, unsigned-class, is-header, Heads};
 
 // Whether the header is as it should be, and how many variables and clauses it says; a number above 64 bits is the largest of them.

@@ -11,7 +11,7 @@ use borrow.Author.Tests.{ltb-true, ltb-false}
 use Rattle.sheet.specs.Format.{Bytes, Format}
 use Rattle.sheet.specs.Operations.{Written}
 use Rattle.sheet.specs.Qdimacs.{line-end, header-of, text-header, words-below, qdimacs-call}
-use Rattle.sheet.proofs.Qdimacs.Words.{separated}
+use Rattle.sheet.specs.Texts.{separated}
 use Rattle.words.specs.Words.{lead}
 use Rattle.words.proofs.Words.{lead-within}
 use Rattle.qdimacs.specs.declared.header.Header.{Header}

@@ -11,7 +11,8 @@ use borrow.Author.Tests.{lt-ltb, le-ltb}
 use Rattle.sheet.specs.Format.{Bytes}
 use Rattle.sheet.specs.Check.{Answer, refused}
 use Rattle.sheet.specs.Qdimacs.{token, text-header, tokens-below}
-use Rattle.sheet.proofs.Qdimacs.Answers.{bad-header, qdimacs-refused, refused-15}
+use Rattle.sheet.proofs.Qdimacs.Answers.{qdimacs-refused, refused-15}
+use Rattle.sheet.specs.Texts.{header-fails}
 use Rattle.rows.specs.Formats.{format-of}
 use Rattle.rows.specs.declared.Format.{Format}
 use Rattle.rows.proofs.Limits.{limits}
@@ -36,7 +37,7 @@ module _ (f : Format) (h : Header) (b out : Bytes) where
   abbrev Refused : Type 0
   Refused = Lists-read (format-of f) h b out (record { answer = refused 15 0; output = out })
 
-  refuses : ((t : Bytes) → Heads (text-header t) h → bad-header (format-of f) (text-header t) ≡ true) → Refused
+  refuses : ((t : Bytes) → Heads (text-header t) h → header-fails (format-of f) (text-header t) ≡ true) → Refused
   refuses bad =
       record {
         reads = λ t heads below.

@@ -6,7 +6,7 @@ use lib.ListN.{length, drop}
 use Rattle.sheet.specs.Format.{Bytes, Format}
 use Rattle.sheet.specs.Operations.{Written}
 use Rattle.sheet.specs.Qdimacs.{text-header, words-below, qdimacs-call}
-use Rattle.sheet.proofs.Qdimacs.Words.{separated}
+use Rattle.sheet.specs.Texts.{separated}
 use Rattle.qdimacs.specs.declared.header.Header.{Header}
 use Rattle.qdimacs.specs.Inner.Header.{Heads}
 use Rattle.reader.specs.declared.Headed.{Headed}

@@ -13,9 +13,11 @@ use words::cursor::end_of;
 ghost use mathlib.Core.Path.{_≡_};
 ghost use Prim.Native.Nat.{_≤_};
 ghost use lib.ListN.{length, drop};
-ghost use Rattle.sheet.specs.Qdimacs.{qdimacs-call};
+ghost use Rattle.formula.specs.Truth.{truth};
+ghost use Rattle.sheet.specs.Qdimacs.{qdimacs, qdimacs-call};
+ghost use Rattle.sheet.specs.Truthful.{TruthfulSheet};
 ghost use Rattle.rows.specs.Formats.{format-of};
-ghost use Rattle.checking.specs.Answers.{written-answer};
+ghost use Rattle.checking.specs.Answers.{wrote};
 ghost use Rattle.reader.specs.Inner.{Headed-at, Lists-read};
 
 pub struct Reader<'a> {
@@ -79,7 +81,7 @@ pub fn header_next<'a>(r: Reader<'a>) -> Headed
 // The lists of a text from `at` on, below this header, written as a sheet: 15 no header as it should be, or too many variables.
 fn lists_from(text: &[u8], at: usize, h: Header, f: Format, out: &mut [u8]) -> Written
     requires { ⌜ at ≤ length (now text) ⌝ }
-    ensures { λ w. ⌜ Lists-read (format-of f) h (drop at (now (text .entry))) (now (out .entry)) (record { answer = written-answer w; output = now (out .exit) }) ⌝ }
+    ensures { λ w. ⌜ Lists-read (format-of f) h (drop at (now (text .entry))) (now (out .entry)) (wrote w (now (out .exit))) ⌝ }
 {
     if !h.well_formed {
         return Written::Refused(BAD_HEADER, 0);
@@ -93,7 +95,7 @@ fn lists_from(text: &[u8], at: usize, h: Header, f: Format, out: &mut [u8]) -> W
 // The lists that are unread, below this header, written as a sheet.
 pub fn lists_next<'a, 'b>(r: Reader<'a>, h: Header, f: Format, out: &'b mut [u8]) -> Written
     requires { ⌜ r .at ≤ length (now (r .text)) ⌝ }
-    ensures { λ w. ⌜ Lists-read (format-of f) h (drop (r .entry .at) (now (r .entry .text))) (now (out .entry)) (record { answer = written-answer w; output = now (out .exit) }) ⌝ }
+    ensures { λ w. ⌜ Lists-read (format-of f) h (drop (r .entry .at) (now (r .entry .text))) (now (out .entry)) (wrote w (now (out .exit))) ⌝ }
 {
     lists_from(r.text, r.at, h, f, out)
 }
@@ -101,7 +103,7 @@ pub fn lists_next<'a, 'b>(r: Reader<'a>, h: Header, f: Format, out: &'b mut [u8]
 // Writes the sheet of a QDIMACS text to the front of `out`, with zeros behind it, and returns its length; or refuses the text or the
 // output, and alters nothing.
 pub fn qdimacs(text: &[u8], f: Format, out: &mut [u8]) -> Written
-    ensures { λ w. ⌜ record { answer = written-answer w; output = now (out .exit) } ≡ qdimacs-call (format-of f) (now (text .entry)) (now (out .entry)) ⌝ }
+    ensures { λ w. ⌜ (wrote w (now (out .exit)) ≡ qdimacs-call (format-of f) (now (text .entry)) (now (out .entry))) × TruthfulSheet (format-of f) (truth (qdimacs (now (text .entry)))) (wrote w (now (out .exit))) ⌝ }
 {
     let r = open_text(text);
     let h = header_next(r);

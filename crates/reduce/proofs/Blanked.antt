@@ -12,7 +12,8 @@ use Rattle.formula.specs.Tree.{and, or, Tree, lit, node, Forest, ∅, _▸_, Pr
 use Rattle.formula.specs.Reduce.{is-literal, is-clause, stays}
 use Rattle.formula.proofs.Booleans.{or-parts}
 use Rattle.formula.proofs.Closed.{unbound}
-use Rattle.formula.proofs.Reduce.{members, members-literals, occurs-members, blank, blank-forest, blank-clause, blank-all}
+use Rattle.formula.proofs.Reduce.{members, members-literals, occurs-members}
+use Rattle.formula.specs.Inner.Clauses.{blank, blank-forest, blank-clause, blank-all}
 use Rattle.sheet.specs.Format.{Row, row, children}
 use Rattle.sheet.specs.Sheet.{literal-kind, operator-kind, tree-rows, forest-rows}
 use Rattle.subtrees.specs.Subtrees.{top}

@@ -13,7 +13,8 @@ use Rattle.formula.specs.Tree.{Tree, Formula, binds, distinct, closed, has}
 use Rattle.formula.specs.Tidy.{tidied, is-tidy, first-fault}
 use Rattle.formula.specs.Reduce.{in-profile, reduced}
 use Rattle.formula.proofs.Closed.{unbound}
-use Rattle.formula.proofs.Reduce.{and-below, profile-and-below, tidy-blank-tree}
+use Rattle.formula.proofs.Reduce.{profile-and-below, tidy-blank-tree}
+use Rattle.formula.specs.Inner.Clauses.{and-below}
 use Rattle.sheet.specs.Format as sheet
 use Rattle.sheet.specs.Format.{Bytes, Row, row, sheet-length, variables}
 use Rattle.sheet.specs.Sheet.{binding-row, tree-rows, formula-rows, formula, sheet}

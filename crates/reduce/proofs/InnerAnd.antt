@@ -10,7 +10,7 @@ use lib.ListN.{length, getD, drop, drop-of-length-le}
 use lib.Seq.{drop-cons, drop-drop}
 use borrow.Author.Tests.{eq-eqb, ne-eqb}
 use Rattle.formula.specs.Tree.{and, or, Tree, lit, node, Forest, ∅, _▸_}
-use Rattle.formula.proofs.Reduce.{has-and, some-and, and-below}
+use Rattle.formula.specs.Inner.Clauses.{has-and, some-and, and-below}
 use Rattle.sheet.specs.Format.{Bytes, Row, row}
 use Rattle.sheet.specs.Sheet.{tree-rows, forest-rows}
 use Rattle.rows.specs.Layouts.{total, rows-in}

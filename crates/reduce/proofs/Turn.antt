@@ -14,7 +14,8 @@ use Rattle.formula.specs.Tree.{and, or, Tree, lit, node, Forest, ∅, _▸_, Pr
 use Rattle.formula.specs.Reduce.{is-clause, in-profile}
 use Rattle.formula.proofs.Booleans.{or-parts, or-none}
 use Rattle.formula.proofs.Closed.{unbound}
-use Rattle.formula.proofs.Reduce.{members, members-literals, blank-clause, blank-all, blank-tree}
+use Rattle.formula.proofs.Reduce.{members, members-literals}
+use Rattle.formula.specs.Inner.Clauses.{blank-clause, blank-all, blank-tree}
 use Rattle.sheet.specs.Format.{Bytes, Row, row, children}
 use Rattle.sheet.specs.Sheet.{tree-rows, forest-rows, formula-rows}
 use Rattle.subtrees.specs.Subtrees.{top}

@@ -16,9 +16,10 @@ ghost use lib.ListN.{length};
 ghost use Rattle.formula.specs.Reduce.{reduced};
 ghost use Rattle.sheet.specs.Sheet.{formula, sheet};
 ghost use Rattle.sheet.specs.Operations.{padded, reduce-call};
+ghost use Rattle.sheet.specs.Truthful.{truth-of, TruthfulSheet};
 ghost use Rattle.rows.specs.Formats.{format-of};
 ghost use Rattle.rows.specs.Layouts.{format-in};
-ghost use Rattle.checking.specs.Answers.{written-answer};
+ghost use Rattle.checking.specs.Answers.{wrote};
 ghost use Rattle.reduce.specs.Inner.Plan.{Planned};
 
 pub mod clauses;
@@ -44,7 +45,8 @@ fn reduce_into(source: &[u8], s: Layout, out: &mut [u8]) -> usize
 // Reduces a sheet: the new sheet stands at the front of `out` with zeros behind it, and its length is returned; or the call is refused
 // with number and place, and `out` is left as it was.
 pub fn reduce(sheet: &[u8], f: Format, out: &mut [u8]) -> Written
-    ensures { λ r. ⌜ record { answer = written-answer r; output = now (out .exit) } ≡ reduce-call (format-of f) (now (sheet .entry)) (now (out .entry)) ⌝ }
+    ensures { λ r. ⌜ wrote r (now (out .exit)) ≡ reduce-call (format-of f) (now (sheet .entry)) (now (out .entry)) ⌝ }
+    ensures { λ r. ⌜ TruthfulSheet (format-of f) (truth-of (format-of f) (now (sheet .entry))) (wrote r (now (out .exit))) ⌝ }
 {
     let p = plan_reduce(sheet, f, out.len());
     match p {

@@ -4,7 +4,7 @@ use rows::AND;
 use rows::Layout;
 use rows::read::kind_at;
 ghost use mathlib.Core.Path.{_≡_};
-ghost use Rattle.formula.proofs.Reduce.{and-below};
+ghost use Rattle.formula.specs.Inner.Clauses.{and-below};
 ghost use Rattle.rows.specs.Formulas.{matrix-in, Readable};
 
 // Whether a node row but the first is AND.

@@ -17,8 +17,10 @@ use Rattle.sheet.specs.Operations.{Solved as Answer, is-refused, Solving, solvi
 use Rattle.sheet.specs.Trace.{room}
 use Rattle.sheet.specs.Limits.{Within}
 use Rattle.sheet.specs.Resume.{named, add-to-answer, with-counts, resuming}
+use Rattle.sheet.specs.Truthful.{truth-of, TruthfulSolve}
 use Rattle.sheet.proofs.Accepted.{accepted-within}
 use Rattle.sheet.proofs.Carrying.{widen-within}
+use Rattle.sheet.proofs.Truthful.{resume-truthful}
 use Rattle.sheet.proofs.Resume.{resume-unchecked, resume-uncounted, resume-short, resume-runs}
 use Rattle.rows.specs.Formats.{format-of}
 use Rattle.rows.specs.Formulas.{formula-in}
@@ -35,6 +37,15 @@ use Rattle.resume.specs.Inner.Going.{Placed, wide-call, resumed}
 named-is : (f : Format) → format-of f ≡ named (is-narrow f)
 named-is Narrow = refl
 named-is Wide = refl
+
+-- what a call answers is truthful
+pub resume-told : (c : Counts) (b : Bytes) (f : Format) (first second : Bytes) {s : Solving} → s ≡ resume-with c b f first second
+    → (s ≡ resume-with c b f first second) × TruthfulSolve wide (truth-of (format-of f) b) s
+resume-told c b f first second {s} e = (
+  e,
+  subst (λ (E : sheet.Format). TruthfulSolve wide (truth-of E b) s) (sym (named-is f))
+      (resume-truthful (c .started) (c .settled) (c .expanded) b (is-narrow f) first second e),
+)
 
 -- a sheet of either format is within the wide limits
 within-wide : (f : Format) (b : Bytes) → passes (check-tests (format-of f) b) ≡ true → Within wide (formula (format-of f) b)

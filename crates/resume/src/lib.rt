@@ -13,7 +13,10 @@ use solve::run_raw;
 ghost use mathlib.Core.Path.{_≡_};
 ghost use Prim.Native.Nat.{_+_};
 ghost use lib.Dec.{eqb};
+ghost use Rattle.sheet.specs.Format.{wide};
 ghost use Rattle.sheet.specs.Resume.{add-to-answer};
+ghost use Rattle.sheet.specs.Truthful.{truth-of, TruthfulSolve};
+ghost use Rattle.rows.specs.Formats.{format-of};
 ghost use Rattle.solve.specs.Answers.{solved-answer};
 ghost use Rattle.resume.specs.Calls.{resume-with};
 ghost use Rattle.resume.specs.Inner.Going.{Widenable, wide-call, Addable, Placed, resumed};
@@ -84,6 +87,7 @@ fn resume_checked(sheet: &[u8], s: Layout, c: Counts, first: &mut [u8], second: 
 // then holds the sheet reached, a wide one, and zeros, the second only zeros; refused, both are left as they were.
 pub fn resume(sheet: &[u8], f: Format, c: Counts, first: &mut [u8], second: &mut [u8]) -> Solved
     ensures { λ r. ⌜ record { answer = solved-answer r; first = now (first .exit); second = now (second .exit) } ≡ resume-with c (now (sheet .entry)) f (now (first .entry)) (now (second .entry)) ⌝ }
+    ensures { λ r. ⌜ TruthfulSolve wide (truth-of (format-of f) (now (sheet .entry))) (record { answer = solved-answer r; first = now (first .exit); second = now (second .exit) }) ⌝ }
 {
     let checked = checking::check(sheet, f);
     match checked {

@@ -8,10 +8,10 @@ use native.Mathlib.Numerals.{add-one}
 use native.Mathlib.Omega.{arith}
 use lib.ListN.{length, getD, take, drop, set, replicate, length-append, length-drop, length-set, length-replicate, getD-replicate}
 use lib.Seq.{length-take-le, getD-drop, take-at, drop-at, take-add, take-take, take-all, drop-drop, paste, paste-zero, paste-suc, drop-paste, drop-length}
-use Rattle.sheet.specs.Format.{Bytes, Row, digits, zip-rows}
+use Rattle.sheet.specs.Format.{Bytes, Row, digits, zip-rows, IsByte, AllBytes}
 use Rattle.sheet.specs.Sheet.{row-kinds, row-arguments}
 use Rattle.sheet.proofs.Every.{every-take, every-drop}
-use Rattle.sheet.proofs.Numbers.{IsByte, AllBytes, length-digits, digits-number-at}
+use Rattle.sheet.proofs.Numbers.{length-digits, digits-number-at}
 use Rattle.sheet.proofs.Parts.{row-kinds-zip}
 use Rattle.rows.proofs.Flat.{rows-in, Room}
 

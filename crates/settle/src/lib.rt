@@ -7,15 +7,17 @@ use rows::fit::sheet_length;
 use stepping::settling::settle_into;
 ghost use mathlib.Core.Path.{_≡_};
 ghost use Rattle.sheet.specs.Operations.{settle-call};
+ghost use Rattle.sheet.specs.Truthful.{truth-of, TruthfulSheet};
 ghost use Rattle.rows.specs.Formats.{format-of};
-ghost use Rattle.checking.specs.Answers.{written-answer};
+ghost use Rattle.checking.specs.Answers.{wrote};
 
 pub mod plan;
 
 // Settles `x` in a sheet: the new sheet stands at the front of `out` with zeros behind it, and its length is returned; or the call is
 // refused with number and place, and `out` is left as it was. The raw sheet is written to `out` and tidied there.
 pub fn settle(sheet: &[u8], f: Format, x: usize, out: &mut [u8]) -> Written
-    ensures { λ r. ⌜ record { answer = written-answer r; output = now (out .exit) } ≡ settle-call (format-of f) (now (sheet .entry)) x (now (out .entry)) ⌝ }
+    ensures { λ r. ⌜ wrote r (now (out .exit)) ≡ settle-call (format-of f) (now (sheet .entry)) x (now (out .entry)) ⌝ }
+    ensures { λ r. ⌜ TruthfulSheet (format-of f) (truth-of (format-of f) (now (sheet .entry))) (wrote r (now (out .exit))) ⌝ }
 {
     let p = plan_settle(sheet, f, x, out.len());
     match p {

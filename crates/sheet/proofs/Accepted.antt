@@ -8,11 +8,11 @@ use native.Mathlib.Omega.{arith}
 use lib.ListN.{length, take, drop, length-map, length-drop, take-append-drop}
 use lib.Seq.{length-take-le}
 use Rattle.formula.specs.Tree.{rows, closed}
-use Rattle.sheet.specs.Format.{Bytes, Format, header, sheet-length, variables, nodes, kind-bytes, argument-bytes, all-rows, prefix-rows, node-rows}
+use Rattle.sheet.specs.Format.{Bytes, Format, header, sheet-length, variables, nodes, kind-bytes, argument-bytes, all-rows, prefix-rows, node-rows, IsByte, AllBytes}
 use Rattle.sheet.specs.Sheet.{binding, formula, tree-rows, formula-rows, sheet}
 use Rattle.sheet.specs.Check.{passes, node-tests, arguments, check-tests}
 use Rattle.sheet.proofs.Every.{every-take, every-drop}
-use Rattle.sheet.proofs.Numbers.{IsByte, AllBytes, digits-number-at}
+use Rattle.sheet.proofs.Numbers.{digits-number-at}
 use Rattle.sheet.specs.Limits.{Within}
 use Rattle.sheet.proofs.Preorder.{length-tree-rows, rows-root-trees}
 use Rattle.sheet.proofs.Parts.{row-kinds-zip, length-zip-rows, row-arguments-zip, parts, variables-wide, nodes-wide, length-kind-bytes, length-argument-bytes}

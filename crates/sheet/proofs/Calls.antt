@@ -33,17 +33,13 @@ use Rattle.sheet.specs.Limits.{Sound, Within}
 use Rattle.sheet.proofs.Limits.{within-step, within-outer}
 use Rattle.sheet.proofs.RoundTrip.{formula-sheet, passes-sheet}
 use Rattle.sheet.proofs.Accepted.{accepted-within, accepted-variables}
-
--- a sheet that Check accepts and that is tidy
-pub record Good (F : Format) (b : Bytes) : Type 0 where
-  pub is-accepted : passes (check-tests F b) ≡ true
-  pub is-neat : is-tidy ((formula F b) .matrix) ≡ true
+use Rattle.sheet.specs.Results.{Good}
 
 -- one call that makes k copies: the sheet that an accepted one leaves
-record Stepped (F : Format) (b : Bytes) (k : ℕ) (b′ : Bytes) : Type 0 where
-  still-good : Good F b′
-  same-truth : truth (formula F b′) ≡ truth (formula F b)
-  one-less : variables F b + k ≡ suc (variables F b′)
+pub record Stepped (F : Format) (b : Bytes) (k : ℕ) (b′ : Bytes) : Type 0 where
+  pub still-good : Good F b′
+  pub same-truth : truth (formula F b′) ≡ truth (formula F b)
+  pub one-less : variables F b + k ≡ suc (variables F b′)
 
 -- the front of what an accepted call wrote is its new sheet
 pub front-written : (tests : List Test) (new out : Bytes) (n : ℕ) → (write tests new out) .answer ≡ accepted n
@@ -192,7 +188,7 @@ module _ (F : Format) (sound : Sound F) where
         counts = omega (arith, s .one-less, w .counts);
       }
 
-  perform-stepped : (c : Call) (b : Bytes) (n : ℕ) → Good F b → (perform F c b) .answer ≡ accepted n
+  pub perform-stepped : (c : Call) (b : Bytes) (n : ℕ) → Good F b → (perform F c b) .answer ≡ accepted n
       → Stepped F b (copies-by F c b) (take n ((perform F c b) .output))
   unfolding perform copies-by
   perform-stepped (settle x out) b n g h = settle-stepped b x out n g h

@@ -11,13 +11,12 @@ use borrow.Author.Tests.{not-true, not-false, ltb-false, le-ltb}
 use Rattle.formula.specs.Tree.{and, or, Quantifier, Prefix, Formula}
 use Rattle.formula.specs.Truth.{truth}
 use Rattle.formula.proofs.Booleans.{and-parts, or-parts, or-none}
-use Rattle.sheet.specs.Format.{Bytes, Format, narrow, wide, Row, sheet-length, variables, nodes, all-rows, prefix-rows, node-rows}
+use Rattle.sheet.specs.Format.{Bytes, Format, narrow, wide, Row, sheet-length, variables, nodes, all-rows, prefix-rows, node-rows, AllBytes}
 use Rattle.sheet.specs.Sheet.{quantifier-kind, binding, binding-row, formula, sheet}
 use Rattle.sheet.specs.Check.{refused, accepted, Test, answer, passes, member, node-tests, arguments, check-tests, check}
 use Rattle.sheet.specs.Operations.{padded, Written, write}
 use Rattle.sheet.specs.Limits.{Sound, numbered, Within}
 use Rattle.sheet.specs.Carrying.{carried, Carried, above, beyond, widen-tests, widen-call, bring-back-tests, bring-back-call}
-use Rattle.sheet.proofs.Numbers.{AllBytes}
 use Rattle.sheet.proofs.Tests.{passed-∷, passes-++, passed-++, answer-++, answer-passes, refused-first}
 use Rattle.sheet.proofs.Writing.{written, write-refused, write-accepted}
 use Rattle.sheet.proofs.Limits.{narrow-sound, wide-sound, numbered-∷, binds-numbered}
@@ -26,6 +25,7 @@ use Rattle.sheet.proofs.RoundTrip.{length-sheet, all-rows-sheet, formul
 use Rattle.sheet.proofs.Accepted.{formula-rows-formula, accepted-variables, accepted-nodes, accepted-within, sheet-formula}
 use Rattle.sheet.proofs.Calls.{front-written}
 use Rattle.sheet.proofs.Refusals.{written-refused}
+use Rattle.sheet.specs.Operations.{holds}
 
 -- limits
 
@@ -207,10 +207,6 @@ module _ (b : Bytes) where
 -- a refusal that is the answer, and an output that stays
 abbrev Refuses : Written → ℕ → ℕ → Bytes → Type 0
 Refuses w n i out = (refused n i ≡ w .answer) × (out ≡ w .output)
-
--- accepted with a sheet, which the output then holds
-abbrev pub holds : Bytes → Bytes → Written
-holds b out = record { answer = accepted (length b); output = padded (length out) b }
 
 write-holds : (tests : List Test) (new out : Bytes) → passes tests ≡ true → write tests new out ≡ holds new out
 unfolding write

@@ -11,10 +11,9 @@ use lib.Dec.{eqb, ltb, leb}
 use lib.ListN.{length}
 use borrow.Author.Tests.{ltb-false, leb-true, eqb-true, eqb-false, not-false, le-ltb, eq-eqb, ne-eqb}
 use Rattle.formula.specs.Tree.{and, or, Quantifier, exists, for-all, Tree, lit, node, Forest, ∅, _▸_, Prefix, binds, distinct, Literals, rows, rows-all, has, has-any, closed}
-use Rattle.sheet.specs.Format.{Bytes, Format, header, sheet-length, variables, nodes, Row, row, prefix-rows, node-rows}
+use Rattle.sheet.specs.Format.{Bytes, Format, header, sheet-length, variables, nodes, Row, row, prefix-rows, node-rows, Every}
 use Rattle.sheet.specs.Sheet.{quantifier-kind, binding, binding-row, tree-rows, forest-rows}
 use Rattle.sheet.specs.Check.{passes, size-tests, member, quantifier-tests, node-tests, tree-test, arguments, check-tests}
-use Rattle.sheet.proofs.Every.{Every}
 use Rattle.formula.proofs.Booleans.{and-parts, or-parts, eqb-comm}
 use Rattle.sheet.proofs.Tests.{passed-∷, passes-++, passed-++}
 use Rattle.sheet.specs.Limits.{numbered}

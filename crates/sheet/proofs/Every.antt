@@ -3,22 +3,19 @@
 use mathlib.Core.List.{List, [], _∷_, _++_}
 use Prim.Native.Nat.{ℕ, zero, suc}
 use lib.ListN.{take, drop}
+use Rattle.sheet.specs.Format.{Every}
 
 module _ {A : Type 0} (P : A → Type 0) where
-  abbrev pub Every : List A → Type 0
-  Every [] = Unit {0}
-  Every (x ∷ xs) = P x × Every xs
-
-  pub every-++ : (xs ys : List A) → Every xs → Every ys → Every (xs ++ ys)
+  pub every-++ : (xs ys : List A) → Every P xs → Every P ys → Every P (xs ++ ys)
   every-++ [] ys h k = k
   every-++ (x ∷ xs) ys h k = (h .0, every-++ xs ys (h .1) k)
 
-  pub every-take : (n : ℕ) (xs : List A) → Every xs → Every (take n xs)
+  pub every-take : (n : ℕ) (xs : List A) → Every P xs → Every P (take n xs)
   every-take zero xs h = tt
   every-take (suc n) [] h = tt
   every-take (suc n) (x ∷ xs) h = (h .0, every-take n xs (h .1))
 
-  pub every-drop : (n : ℕ) (xs : List A) → Every xs → Every (drop n xs)
+  pub every-drop : (n : ℕ) (xs : List A) → Every P xs → Every P (drop n xs)
   every-drop zero xs h = h
   every-drop (suc n) [] h = tt
   every-drop (suc n) (x ∷ xs) h = every-drop n xs (h .1)

@@ -14,11 +14,9 @@ use Rattle.sheet.specs.Operations.{reduce-call}
 use Rattle.sheet.specs.Calls.{Call, Demand-3}
 use Rattle.sheet.proofs.Limits.{narrow-sound, wide-sound}
 use Rattle.sheet.proofs.Calls.{demand-3}
-use Rattle.sheet.proofs.Reduction.{Reduced, reduce-right}
-
--- demand 3, of the sheets of a format
-abbrev Demand-3-of : Format → Type 0
-Demand-3-of F = (b : Bytes) (s : Sizes) → check F b ≡ accepted s → is-tidy ((formula F b) .matrix) ≡ true → (cs : List Call) → Demand-3 F b cs
+use Rattle.sheet.proofs.Reduction.{reduce-right}
+use Rattle.sheet.specs.Results.{Reduced}
+use Rattle.sheet.specs.Calls.{Demand-3-of}
 
 pub demand-3-narrow : Demand-3-of narrow
 demand-3-narrow = demand-3 narrow narrow-sound

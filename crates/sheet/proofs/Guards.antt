@@ -12,8 +12,8 @@ use borrow.Author.Tests.{not-false, ltb-false, le-ltb}
 use Rattle.formula.specs.Tree.{Prefix, Forest, Formula, rows, count}
 use Rattle.formula.specs.Truth.{truth}
 use Rattle.formula.specs.Solve.{End, ended, stopped, Run, solve}
-use Rattle.formula.specs.Guards.{is-and, guards, conjoined, clashing, Guarded, holds, stuck, clash, after-run, guarded, weakened}
-use Rattle.formula.proofs.Guards.{Fewer, and-formula, closed-fewer, guarded-right}
+use Rattle.formula.specs.Guards.{is-and, guards, conjoined, clashing, Guarded, holds, stuck, clash, after-run, guarded, weakened, Fewer}
+use Rattle.formula.proofs.Guards.{and-formula, closed-fewer, guarded-right}
 use Rattle.sheet.specs.Format.{Bytes, Format, fits}
 use Rattle.sheet.specs.Sheet.{formula, sheet}
 use Rattle.sheet.specs.Check.{Answer, refused, accepted, Test, test, answer, passes, check-tests}

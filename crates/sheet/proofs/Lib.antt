@@ -16,6 +16,8 @@ pub mod Quote
 pub mod Reduction
 pub mod Force
 pub mod Order
+pub mod Placed
+pub mod Tidying
 pub mod Verdicts
 pub mod Refusals
 pub mod Outer
@@ -26,3 +28,5 @@ pub mod Formats
 pub mod Guards
 pub mod Resume
 pub mod Qdimacs
+pub mod Known
+pub mod Truthful

@@ -6,14 +6,7 @@ use Prim.Native.Nat.{ℕ, zero, suc, _+_, _*_, _/_, _%_, _^_, _<_}
 use native.Mathlib.Nat.{pow-suc}
 use native.Mathlib.Omega.{arith}
 use lib.ListN.{length}
-use Rattle.sheet.specs.Format.{Bytes, number, digits}
-use Rattle.sheet.proofs.Every.{Every}
-
-abbrev pub IsByte : ℕ → Type 0
-IsByte b = b < 256
-
-abbrev pub AllBytes : Bytes → Type 0
-AllBytes = Every IsByte
+use Rattle.sheet.specs.Format.{Bytes, IsByte, AllBytes, number, digits}
 
 pub length-digits : (w n : ℕ) → length (digits w n) ≡ w
 unfolding digits

@@ -11,10 +11,10 @@ use borrow.Author.Tests.{lt-ltb, le-ltb}
 use Rattle.formula.specs.Tree.{Formula, closed}
 use Rattle.formula.specs.Truth.{truth}
 use Rattle.formula.specs.Tidy.{is-tidy}
-use Rattle.formula.specs.Order.{Ordering, same, sorted, compare-formulas, Rearranged}
-use Rattle.formula.proofs.Ordering.{turned, formulas-turned}
+use Rattle.formula.specs.Order.{Ordering, same, sorted, compare-formulas, Rearranged, turned, nearly-tidy, siblings, alike}
+use Rattle.formula.proofs.Ordering.{formulas-turned}
 use Rattle.formula.proofs.Sorting.{sort-idempotent, same-exactly, truth-sorted, rows-sort, has-sort}
-use Rattle.formula.proofs.SortedTidy.{nearly-tidy, siblings, alike, nearly-tidy-sort, is-tidy-sort, tidy-unsorted}
+use Rattle.formula.proofs.SortedTidy.{nearly-tidy-sort, is-tidy-sort, tidy-unsorted}
 use Rattle.sheet.specs.Format.{Bytes, Format, sheet-length}
 use Rattle.sheet.specs.Sheet.{formula, sheet}
 use Rattle.sheet.specs.Check.{Answer, refused, accepted, passes, answer, check-tests, check}
@@ -25,6 +25,7 @@ use Rattle.sheet.proofs.Tests.{answer-passes, passed-++}
 use Rattle.sheet.proofs.Calls.{front-written}
 use Rattle.sheet.proofs.RoundTrip.{length-sheet, formula-sheet, passes-sheet}
 use Rattle.sheet.proofs.Accepted.{accepted-length, accepted-variables, accepted-nodes, accepted-within}
+use Rattle.sheet.specs.Results.{Sorted}
 
 -- sorting changes no limit
 
@@ -46,18 +47,6 @@ length-sorted F b h =
     length-sheet F (sorted (formula F b)) ∙
     ap₂ (sheet-length F) (accepted-variables F b h) (rows-sort ((formula F b) .matrix) ∙ accepted-nodes F b h) ∙
     sym (accepted-length F b h)
-
--- what an accepted Sort leaves at the front of the output
-pub record Sorted (F : Format) (b b′ : Bytes) : Type 0 where
-  pub is-accepted : passes (check-tests F b′) ≡ true
-  pub is-sorted : formula F b′ ≡ sorted (formula F b)
-  pub same-truth : truth (formula F b′) ≡ truth (formula F b)
-  pub same-length : length b′ ≡ length b
-  -- Sorting can make siblings equal: every other limit is kept, and the sheet is tidy if none were alike but for the order of children.
-  pub nearly-as-tidy : nearly-tidy ((formula F b′) .matrix) ≡ nearly-tidy ((formula F b) .matrix)
-  pub when-tidy : is-tidy ((formula F b′) .matrix) ≡ (nearly-tidy ((formula F b) .matrix) && not (siblings alike ((formula F b) .matrix)))
-  pub tidy-before : is-tidy ((formula F b′) .matrix) ≡ true → is-tidy ((formula F b) .matrix) ≡ true
-  pub sorted-again : sheet F (sorted (formula F b′)) ≡ b′
 
 pub sort-right : (F : Format) → Sound F → (b out : Bytes) (n : ℕ) → (sort-call F b out) .answer ≡ accepted n
     → Sorted F b (take n ((sort-call F b out) .output))

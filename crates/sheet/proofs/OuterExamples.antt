@@ -14,22 +14,7 @@ use Rattle.sheet.specs.Sheet.{binding, front, behind, grow, trees, root,
 use Rattle.sheet.specs.Check.{refused, accepted, answer, size-tests, member, quantifier-tests, node-tests, tree-test, arguments, check-tests}
 use Rattle.sheet.specs.Operations.{padded, output-after, write, tidy-and-bound-tests}
 use Rattle.sheet.specs.Outer.{copies, outer-tests, outer-call, outer-answer}
-
--- for all 1, exists 2, 3: (not 2 or 3) (2 or not 3) (not 1 or not 2) (1 or 2); 3 depends on 1 by way of 2, and their copies are 4 and 5
-abbrev linked : Bytes
-linked = 3 ∷ 0 ∷ 13 ∷ 0 ∷ 2 ∷ 1 ∷ 1 ∷ 5 ∷ 6 ∷ 4 ∷ 3 ∷ 6 ∷ 3 ∷ 4 ∷ 6 ∷ 4 ∷ 4 ∷ 6 ∷ 3 ∷ 3 ∷ 1 ∷ 0 ∷ 2 ∷ 0 ∷ 3 ∷ 0 ∷ 4 ∷ 0 ∷ 2 ∷ 0 ∷ 2 ∷ 0 ∷ 3 ∷ 0 ∷ 2 ∷ 0 ∷ 2 ∷ 0 ∷ 3 ∷ 0 ∷ 2 ∷ 0 ∷ 1 ∷ 0 ∷ 2 ∷ 0 ∷ 2 ∷ 0 ∷ 1 ∷ 0 ∷ 2 ∷ 0 ∷ []
-
--- exists 2, 3, 4, 5: (not 2 or 3) (2 or not 3) 2 (not 4 or 5) (4 or not 5) (not 4)
-abbrev linked-expanded : Bytes
-linked-expanded = 4 ∷ 0 ∷ 15 ∷ 0 ∷ 1 ∷ 1 ∷ 1 ∷ 1 ∷ 5 ∷ 6 ∷ 4 ∷ 3 ∷ 6 ∷ 3 ∷ 4 ∷ 3 ∷ 6 ∷ 4 ∷ 3 ∷ 6 ∷ 3 ∷ 4 ∷ 4 ∷ 2 ∷ 0 ∷ 3 ∷ 0 ∷ 4 ∷ 0 ∷ 5 ∷ 0 ∷ 6 ∷ 0 ∷ 2 ∷ 0 ∷ 2 ∷ 0 ∷ 3 ∷ 0 ∷ 2 ∷ 0 ∷ 2 ∷ 0 ∷ 3 ∷ 0 ∷ 2 ∷ 0 ∷ 2 ∷ 0 ∷ 4 ∷ 0 ∷ 5 ∷ 0 ∷ 2 ∷ 0 ∷ 4 ∷ 0 ∷ 5 ∷ 0 ∷ 4 ∷ 0 ∷ []
-
--- the same with 3 and 5 for 2 and 3, and the block begins with 5: its copy is 2, that of 3 is 4
-abbrev crossed : Bytes
-crossed = 3 ∷ 0 ∷ 13 ∷ 0 ∷ 2 ∷ 1 ∷ 1 ∷ 5 ∷ 6 ∷ 4 ∷ 3 ∷ 6 ∷ 3 ∷ 4 ∷ 6 ∷ 4 ∷ 4 ∷ 6 ∷ 3 ∷ 3 ∷ 1 ∷ 0 ∷ 5 ∷ 0 ∷ 3 ∷ 0 ∷ 4 ∷ 0 ∷ 2 ∷ 0 ∷ 3 ∷ 0 ∷ 5 ∷ 0 ∷ 2 ∷ 0 ∷ 3 ∷ 0 ∷ 5 ∷ 0 ∷ 2 ∷ 0 ∷ 1 ∷ 0 ∷ 3 ∷ 0 ∷ 2 ∷ 0 ∷ 1 ∷ 0 ∷ 3 ∷ 0 ∷ []
-
--- exists 5, 3, 2, 4: (not 3 or 5) (3 or not 5) 3 (not 4 or 2) (4 or not 2) (not 4)
-abbrev crossed-expanded : Bytes
-crossed-expanded = 4 ∷ 0 ∷ 15 ∷ 0 ∷ 1 ∷ 1 ∷ 1 ∷ 1 ∷ 5 ∷ 6 ∷ 4 ∷ 3 ∷ 6 ∷ 3 ∷ 4 ∷ 3 ∷ 6 ∷ 4 ∷ 3 ∷ 6 ∷ 3 ∷ 4 ∷ 4 ∷ 5 ∷ 0 ∷ 3 ∷ 0 ∷ 2 ∷ 0 ∷ 4 ∷ 0 ∷ 6 ∷ 0 ∷ 2 ∷ 0 ∷ 3 ∷ 0 ∷ 5 ∷ 0 ∷ 2 ∷ 0 ∷ 3 ∷ 0 ∷ 5 ∷ 0 ∷ 3 ∷ 0 ∷ 2 ∷ 0 ∷ 4 ∷ 0 ∷ 2 ∷ 0 ∷ 2 ∷ 0 ∷ 4 ∷ 0 ∷ 2 ∷ 0 ∷ 4 ∷ 0 ∷ []
+use Rattle.sheet.specs.Starred.{linked, linked-expanded, crossed, crossed-expanded}
 
 pub outer-examples :
     (outer-answer narrow linked 1 97 ≡ accepted (record { new-length = 61; copied = 2; lowest = 2 }))

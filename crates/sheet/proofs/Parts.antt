@@ -7,10 +7,10 @@ use native.Mathlib.Nat.{mul-zero, mul-suc, add-mul, one-mul, two-mul}
 use native.Mathlib.Omega.{arith}
 use lib.ListN.{length, take, drop, length-append, length-drop, take-append-drop}
 use lib.Seq.{length-take-le, take-at, drop-at, take-add}
-use Rattle.sheet.specs.Format.{Bytes, Format, header, sheet-length, number, digits, variables, nodes, Row, kind-bytes, argument-bytes, zip-rows}
+use Rattle.sheet.specs.Format.{Bytes, Format, header, sheet-length, number, digits, variables, nodes, Row, kind-bytes, argument-bytes, zip-rows, Every, IsByte, AllBytes}
 use Rattle.sheet.specs.Sheet.{row-kinds, row-arguments}
-use Rattle.sheet.proofs.Every.{Every, every-take, every-drop}
-use Rattle.sheet.proofs.Numbers.{IsByte, AllBytes, length-digits, number-digits, digits-number-at}
+use Rattle.sheet.proofs.Every.{every-take, every-drop}
+use Rattle.sheet.proofs.Numbers.{length-digits, number-digits, digits-number-at}
 
 -- rows
 

@@ -9,11 +9,11 @@ use native.Mathlib.Numerals.{add-one}
 use native.Mathlib.Omega.{arith}
 use lib.ListN.{length, length-append}
 use Rattle.formula.specs.Tree.{Op, and, or, Tree, lit, node, Forest, ∅, _▸_, Literals, rows, rows-all, has, has-any, count, _⧺_}
-use Rattle.sheet.specs.Format.{Row, row, children}
+use Rattle.sheet.specs.Format.{Row, row, children, Every}
 use Rattle.sheet.specs.Sheet.{literal-kind, operator-kind, front, behind, grow, trees, root, tree-rows, forest-rows}
 use Rattle.sheet.specs.Check.{Test, tree-test}
 use Rattle.sheet.specs.Operations.{span}
-use Rattle.sheet.proofs.Every.{Every, every-++}
+use Rattle.sheet.proofs.Every.{every-++}
 use Rattle.formula.proofs.Booleans.{or-parts}
 
 -- front and behind

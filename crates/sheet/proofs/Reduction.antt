@@ -21,18 +21,10 @@ use Rattle.sheet.specs.Check.{accepted, passes, check-tests}
 use Rattle.sheet.specs.Operations.{reduce-tests, reduce-call}
 use Rattle.sheet.specs.Limits.{Sound, Within}
 use Rattle.sheet.proofs.Tests.{passed-∷, passed-++}
-use Rattle.sheet.proofs.Calls.{Good, front-written}
+use Rattle.sheet.proofs.Calls.{front-written}
+use Rattle.sheet.specs.Results.{Good, Reduced}
 use Rattle.sheet.proofs.RoundTrip.{formula-sheet, passes-sheet}
 use Rattle.sheet.proofs.Accepted.{accepted-within}
-
--- what an accepted call leaves at the front of the output
-pub record Reduced (F : Format) (b b′ : Bytes) : Type 0 where
-  pub good : Good F b′
-  pub same-prefix : (formula F b′) .prefix ≡ (formula F b) .prefix
-  pub same-truth : truth (formula F b′) ≡ truth (formula F b)
-  pub no-more-rows : rows ((formula F b′) .matrix) ≤ rows ((formula F b) .matrix)
-  pub profile-again : in-profile ((formula F b′) .matrix) ≡ true
-  pub fixed-point : reduced (formula F b′) ≡ formula F b′
 
 pub reduce-right : (F : Format) → Sound F → (b out : Bytes) (n : ℕ) → (reduce-call F b out) .answer ≡ accepted n
     → Reduced F b (take n ((reduce-call F b out) .output))

@@ -37,6 +37,7 @@ use Rattle.sheet.proofs.Limits.{narrow-sound, wide-sound, within-step}
 use Rattle.sheet.proofs.Parts.{sheet-length-rows}
 use Rattle.sheet.proofs.RoundTrip.{variables-sheet, nodes-sheet, formula-sheet, passes-sheet}
 use Rattle.sheet.proofs.Accepted.{accepted-length, accepted-variables, accepted-nodes, accepted-within}
+use Rattle.sheet.proofs.Placed.{Placed, solve-placed}
 use Rattle.sheet.proofs.Verdicts.{solve-ended}
 use Rattle.sheet.proofs.Refusals.{solve-refused}
 use Rattle.sheet.proofs.Longer.{fits-looser}
@@ -48,12 +49,12 @@ named-sound : (w : Bool) → Sound (named w)
 named-sound true = narrow-sound
 named-sound false = wide-sound
 
-record Widened (w : Bool) (b : Bytes) : Type 0 where
-  is-accepted : passes (check-tests wide (widened w b)) ≡ true
-  same-formula : formula wide (widened w b) ≡ formula (named w) b
-  its-length : length (widened w b) ≡ sheet-length wide (variables (named w) b) (nodes (named w) b)
+pub record Widened (w : Bool) (b : Bytes) : Type 0 where
+  pub is-accepted : passes (check-tests wide (widened w b)) ≡ true
+  pub same-formula : formula wide (widened w b) ≡ formula (named w) b
+  pub its-length : length (widened w b) ≡ sheet-length wide (variables (named w) b) (nodes (named w) b)
 
-widened-sheet : (w : Bool) (b : Bytes) → passes (check-tests (named w) b) ≡ true → Widened w b
+pub widened-sheet : (w : Bool) (b : Bytes) → passes (check-tests (named w) b) ≡ true → Widened w b
 unfolding widened
 widened-sheet true b h =
     let c = sheet-carried narrow wide wide-sound b h (widen-within b h) in
@@ -85,6 +86,13 @@ unfolding add-to-answer
 answer-ended s t (is-refused n i) e = let z : _≡_ {A = ℕ} 0 1 = cc in absurd (omega arith)
 answer-ended s t (is-stopped x k l) e = let z : _≡_ {A = ℕ} 0 1 = cc in absurd (omega arith)
 answer-ended s t (is-ended u k l) {v = v} e = let same : u ≡ v = cc in (k, (l, ap (λ (t : Bool). is-ended t k l) same))
+
+pub answer-stopped : (settles expands : ℕ) (r : Solved) {x n m : ℕ} → add-to-answer settles expands r ≡ is-stopped x n m
+    → (k : ℕ) × ((l : ℕ) × (r ≡ is-stopped x k l))
+unfolding add-to-answer
+answer-stopped s t (is-refused n i) e = let z : _≡_ {A = ℕ} 0 1 = cc in absurd (omega arith)
+answer-stopped s t (is-stopped y k l) {x = x} e = let same : y ≡ x = cc in (k, (l, ap (λ (y : ℕ). is-stopped y k l) same))
+answer-stopped s t (is-ended u k l) e = let z : _≡_ {A = ℕ} 0 1 = cc in absurd (omega arith)
 
 answer-refused : (settles expands : ℕ) (r : Solved) {n i : ℕ} → add-to-answer settles expands r ≡ is-refused n i → r ≡ is-refused n i
 unfolding add-to-answer
@@ -141,22 +149,24 @@ module _ (started settles expands : ℕ) (b : Bytes) (w : Bool) (first second : 
               answer-++ (check-tests (named w) b) _ goes h ∙
               rw (eq-eqb (settles + expands + variables (named w) b) started right, le-ltb (room first second) _ l)
 
-  -- a verdict is the truth of the sheet given
-  pub resume-ended : (v : Bool) (n m : ℕ) → call .answer ≡ is-ended v n m → v ≡ truth (formula (named w) b)
-  unfolding resume-call resuming with-counts resume-tests
-  resume-ended v n m e = by (answer tests goes) refl
+  -- an answer that is no refusal is Solve's on the widened sheet
+  pub resume-taken : ((n i : ℕ) → call .answer ≡ is-refused n i → ⊥) → (passes (check-tests (named w) b) ≡ true) × (call ≡ goes)
+  unfolding resume-call resuming resume-tests
+  resume-taken no-refusal = by (answer tests goes) refl
     where
-      by : (a : Answer Solving) → answer tests goes ≡ a → v ≡ truth (formula (named w) b)
-      by (refused k i) h =
-          let t = sym (ap (λ a. (resuming first second a) .answer) h) ∙ e in
-          let z : _≡_ {A = ℕ} 0 1 = cc in
-          absurd (omega arith)
+      by : (a : Answer Solving) → answer tests goes ≡ a → (passes (check-tests (named w) b) ≡ true) × (call ≡ goes)
+      by (refused k i) h = absurd (no-refusal k i (ap (λ a. (resuming first second a) .answer) h))
       by (accepted g) h =
           let p = accepted-passes tests goes g h in
-          let checked = passed-++ (check-tests (named w) b) _ (p .0) .0 in
-          let t = sym (ap (λ a. (resuming first second a) .answer) (answer-passes tests goes (p .0))) ∙ e in
-          let own = answer-ended settles expands ((solve-call wide (widened w b) first second) .answer) t in
-          solve-ended wide (widened w b) first second v (own .0) (own .1 .0) (own .1 .1) .0 ∙ ap truth (widened-sheet w b checked .same-formula)
+          (passed-++ (check-tests (named w) b) _ (p .0) .0, ap (resuming first second) (answer-passes tests goes (p .0)))
+
+  -- a verdict is the truth of the sheet given
+  pub resume-ended : (v : Bool) (n m : ℕ) → call .answer ≡ is-ended v n m → v ≡ truth (formula (named w) b)
+  unfolding with-counts
+  resume-ended v n m e =
+      let t = resume-taken (λ k i h. let z : _≡_ {A = ℕ} 0 1 = cc in omega arith) in
+      let own = answer-ended settles expands ((solve-call wide (widened w b) first second) .answer) (sym (ap (λ (s : Solving). s .answer) (t .1)) ∙ e) in
+      solve-ended wide (widened w b) first second v (own .0) (own .1 .0) (own .1 .1) .0 ∙ ap truth (widened-sheet w b (t .0) .same-formula)
 
   -- refused, no byte of a buffer changes
   pub resume-refused : (n i : ℕ) → call .answer ≡ is-refused n i → (call .first ≡ first) × (call .second ≡ second)
@@ -203,68 +213,6 @@ module _ (F : Format) (n : ℕ) where
     where
       front : (d : Bytes) → take (length d) (padded n d) ≡ d
       front d = take-append-seam d _
-
--- what a run keeps: the formula reached is within the limits, and its sheet has its place
-
-sheet-length-least : (F : Format) {v v′ n n′ : ℕ} → v ≤ v′ → n ≤ n′ → sheet-length F v n ≤ sheet-length F v′ n′
-unfolding sheet-length
-sheet-length-least F {v} {v′} {n} {n′} h k = omega (arith, mul-le-mul-left (1 + F .width) (both v v′ n n′ h k))
-  where
-    both : (v v′ n n′ : ℕ) → v ≤ v′ → n ≤ n′ → v + n ≤ v′ + n′
-    both v v′ n n′ h k = omega arith
-
-module _ (F : Format) (most : ℕ) where
-  record Placed (f : Formula) : Type 0 where
-    within : Within F f
-    has-place : sheet-length F (length (f .prefix)) (rows (f .matrix)) ≤ most
-
-  placed-keeps : Keeps (fits F most) Placed
-  unfolding settled expanded raw fits-raw fits
-  placed-keeps =
-      record {
-        settling =
-            λ f x b p bound i q. (
-            let fewer = length-without x (f .prefix) bound in
-            let less = rows-settled x b f in
-            record {
-              within = within-step F f (settled x b f) x (i .within) bound refl q (le-trans less (i .within .few-nodes));
-              has-place = le-trans (sheet-length-least F (omega arith) less) (i .has-place);
-            });
-        expanding =
-            λ f x p bound fit i q. (
-            let fewer = length-without x (f .prefix) bound in
-            let less = rows-expanded x f in
-            let parts = and-parts (leb (raw-rows (of x) (f .matrix)) (F .most-nodes)) _ fit in
-            let few = leb-true (raw-rows (of x) (f .matrix)) (F .most-nodes) (parts .0) in
-            let short = leb-true (sheet-length F (length (f .prefix) - 1) (raw-rows (of x) (f .matrix))) most (parts .1) in
-            record {
-              within = within-step F f (expanded x f) x (i .within) bound refl q (le-trans less few);
-              has-place = le-trans (sheet-length-least F (omega arith) less) short;
-            });
-      }
-
-  tidied-placed : (f : Formula) → Placed f → Placed (tidied f)
-  unfolding tidied
-  tidied-placed f i =
-      let less = rows-tidy (f .matrix) in
-      let p = proper-tidied f (i .within .is-distinct) (i .within .is-closed) in
-      record {
-        within =
-            record {
-              few-variables = i .within .few-variables;
-              few-nodes = le-trans less (i .within .few-nodes);
-              is-numbered = i .within .is-numbered;
-              is-distinct = p .is-distinct;
-              is-closed = p .is-closed;
-            };
-        has-place = le-trans (sheet-length-least F (omega arith) less) (i .has-place);
-      }
-
-  solve-placed : (f : Formula) → Placed f → Placed (((solve (fits F most) f) .state) .formula)
-  unfolding solve
-  solve-placed f i =
-      run-keeps (fits F most) Placed placed-keeps (suc (length (f .prefix))) (record { formula = tidied f; settles = 0; expands = 0 })
-      (proper-tidied f (i .within .is-distinct) (i .within .is-closed)) (tidied-placed f i)
 
 -- a state that came from a stop
 

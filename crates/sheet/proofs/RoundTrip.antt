@@ -9,11 +9,11 @@ use lib.ListN.{length, length-append, length-map}
 use lib.Seq.{take-at, drop-at}
 use borrow.Author.Tests.{not-true, not-false}
 use Rattle.formula.specs.Tree.{Quantifier, and, or, Prefix, Formula, binds, rows, closed}
-use Rattle.sheet.specs.Format.{Bytes, Format, sheet-length, number, digits, variables, nodes, Row, zip-rows, all-rows, prefix-rows, node-rows}
+use Rattle.sheet.specs.Format.{Bytes, Format, sheet-length, number, digits, variables, nodes, Row, zip-rows, all-rows, prefix-rows, node-rows, Every, IsByte, AllBytes}
 use Rattle.sheet.specs.Sheet.{quantifier-kind, binding-row, tree-rows, formula, formula-rows, row-kinds, row-arguments, sheet}
 use Rattle.sheet.specs.Check.{accepted, passes, check-tests, check}
-use Rattle.sheet.proofs.Every.{Every, every-++, every-map}
-use Rattle.sheet.proofs.Numbers.{IsByte, AllBytes, length-digits, digits-bytes, number-digits}
+use Rattle.sheet.proofs.Every.{every-++, every-map}
+use Rattle.sheet.proofs.Numbers.{length-digits, digits-bytes, number-digits}
 use Rattle.sheet.proofs.Tests.{answer-passes}
 use Rattle.sheet.specs.Limits.{Sound, numbered, Within}
 use Rattle.sheet.proofs.Limits.{numbered-∷, binds-numbered}

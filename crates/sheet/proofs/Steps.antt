@@ -22,8 +22,9 @@ use Rattle.sheet.specs.Operations.{Written, padded, output-after, write,
 use Rattle.sheet.specs.Calls.{Call, perform, Held, held-after, perform-all, held, none-outer}
 use Rattle.sheet.specs.Steps.{Operation, settling, expanding, Step, single, call-of, calls, after, fill, filled, given, reached, Listed, listed, steps-call, acceptance, acceptances, Steps-demand-3}
 use Rattle.sheet.specs.Limits.{Sound}
-use Rattle.sheet.proofs.Tests.{answer-++, accepted-passes, refused-first}
+use Rattle.sheet.proofs.Tests.{passed-++, answer-++, accepted-passes, refused-first}
 use Rattle.sheet.proofs.Calls.{front-written, demand-3, demand-3-counts}
+use Rattle.sheet.specs.Steps.{nine}
 
 -- by place
 
@@ -140,10 +141,6 @@ accepted-short F o x out b n e l =
 
 -- a sheet that isn't tidy
 
--- 9 at the first operator at fault
-pub nine : Format → Bytes → Answer ℕ
-nine F b = refused 9 (variables F b + first-fault ((formula F b) .matrix))
-
 module _ (F : Format) (b : Bytes) (checked : passes (check-tests F b) ≡ true) (untidy : is-tidy ((formula F b) .matrix) ≡ false) where
   first-tests : (x : ℕ) → nine F b ≡ answer (check-tests F b ++ tidy-and-bound-tests F b x) x
   unfolding answer tidy-and-bound-tests nine
@@ -171,6 +168,10 @@ module _ (F : Format) (b : Bytes) (checked : passes (check-tests F b) ≡ true) 
   unfolding perform-all calls after
   untidy-end n [] = refl
   untidy-end n (s ∷ ss) = ap (perform-all F (calls n ss)) (untidy-stays n s) ∙ untidy-end n ss
+
+  pub untidy-held : (n : ℕ) (ss : List Step) → (held F b (calls n ss)) .sheet ≡ b
+  unfolding held
+  untidy-held n ss = ap (λ (h : Held). h .sheet) (untidy-end n ss)
 
   -- each record says 9
   untidy-records : (n : ℕ) (ss : List Step) (i : ℕ) (d : Step) → i < length ss → (getD (filled F n ss (given b)) i d) .answer ≡ nine F b
@@ -236,25 +237,63 @@ steps-none-outer n (s ∷ ss) = by (s .operation) (steps-none-outer n ss)
     by settling e = e
     by expanding e = e
 
-pub steps-demand-3 : (F : Format) → Sound F → (b : Bytes) (s : Sizes) → check F b ≡ accepted s → is-tidy ((formula F b) .matrix) ≡ true
-    → (steps : List Step) (first second : Bytes) (n : ℕ) → (steps-call F b steps first second) .answer ≡ accepted n
-    → Steps-demand-3 F b steps first second n
-unfolding steps-call held
-steps-demand-3 F sound b s h t steps first second n e =
+-- a list that is taken was checked, and the sheet held at its end stands at the front of the first buffer; its records are filled
+pub record Taken (F : Format) (b : Bytes) (steps : List Step) (first second : Bytes) (n : ℕ) : Type 0 where
+  pub checked : passes (check-tests F b) ≡ true
+  pub at-front : take n ((steps-call F b steps first second) .first) ≡ (held F b (calls (min (length first) (length second)) steps)) .sheet
+  pub records : (steps-call F b steps first second) .steps ≡ filled F (min (length first) (length second)) steps (given b)
+
+pub steps-taken : (F : Format) (b : Bytes) (steps : List Step) (first second : Bytes) (n : ℕ)
+    → (steps-call F b steps first second) .answer ≡ accepted n → Taken F b steps first second n
+unfolding steps-call tidy-tests listed
+steps-taken F b steps first second n e =
     let shorter = min (length first) (length second) in
     let tests = tidy-tests F b shorter in
     let last = (held F b (calls shorter steps)) .sheet in
-    let left = listed-accepted steps (filled F shorter steps (given b)) first second last n (answer tests last)
-    (λ c is. accepted-passes tests last c is .1) e in
-    let told = (steps-call F b steps first second) .steps in
+    let done = filled F shorter steps (given b) in
+    let left = listed-accepted steps done first second last n (answer tests last) (λ c is. accepted-passes tests last c is .1) e in
+    record { checked = passed-++ (check-tests F b) _ (passed tests last done (answer tests last) refl e) .0; at-front = left .0; records = left .1 }
+  where
+    passed : (tests : List Test) (last : Bytes) (done : List Step) (a : Answer Bytes) → answer tests last ≡ a
+        → (listed steps done first second a) .answer ≡ accepted n → passes tests ≡ true
+    passed tests last done (refused k i) h is = let z : _≡_ {A = ℕ} 0 1 = cc in absurd (omega arith)
+    passed tests last done (accepted c) h is = accepted-passes tests last c h .0
+
+-- refused, no record and no byte changes
+pub steps-refused : (F : Format) (b : Bytes) (steps : List Step) (first second : Bytes) (n i : ℕ)
+    → (steps-call F b steps first second) .answer ≡ refused n i
+    → ((steps-call F b steps first second) .steps ≡ steps) × ((steps-call F b steps first second) .first ≡ first) ×
+    ((steps-call F b steps first second) .second ≡ second)
+unfolding steps-call listed
+steps-refused F b steps first second n i e =
+    let shorter = min (length first) (length second) in
+    by (answer (tidy-tests F b shorter) ((held F b (calls shorter steps)) .sheet)) e
+  where
+    done : List Step
+    done = filled F (min (length first) (length second)) steps (given b)
+
+    by : (a : Answer Bytes) → (listed steps done first second a) .answer ≡ refused n i
+        → ((listed steps done first second a) .steps ≡ steps) × ((listed steps done first second a) .first ≡ first) ×
+        ((listed steps done first second a) .second ≡ second)
+    by (refused k j) h = (refl, refl, refl)
+    by (accepted c) h = let z : _≡_ {A = ℕ} 0 1 = cc in absurd (omega arith)
+
+pub steps-demand-3 : (F : Format) → Sound F → (b : Bytes) (s : Sizes) → check F b ≡ accepted s → is-tidy ((formula F b) .matrix) ≡ true
+    → (steps : List Step) (first second : Bytes) (n : ℕ) → (steps-call F b steps first second) .answer ≡ accepted n
+    → Steps-demand-3 F b steps first second n
+unfolding held
+steps-demand-3 F sound b s h t steps first second n e =
+    let shorter = min (length first) (length second) in
+    let left = steps-taken F b steps first second n e in
     let front = take n ((steps-call F b steps first second) .first) in
-    let records : acceptances told ≡ (held F b (calls shorter steps)) .accepted-calls = ap acceptances (left .1) ∙ sym (add-zero (acceptances (filled F shorter steps (given b)))) ∙ acceptances-are F shorter steps (given b) in
+    let records : acceptances ((steps-call F b steps first second) .steps) ≡ (held F b (calls shorter steps)) .accepted-calls
+    = ap acceptances (left .records) ∙ sym (add-zero (acceptances (filled F shorter steps (given b)))) ∙ acceptances-are F shorter steps (given b) in
     record {
-      at-front = left .0;
+      at-front = left .at-front;
       records = records;
       counts =
           ap (λ (k : ℕ). k + variables F front) records ∙
-          ap (λ (c : Bytes). (held F b (calls shorter steps)) .accepted-calls + variables F c) (left .0) ∙
+          ap (λ (c : Bytes). (held F b (calls shorter steps)) .accepted-calls + variables F c) (left .at-front) ∙
           demand-3-counts F sound b s h t (calls shorter steps) (steps-none-outer shorter steps);
       demand = demand-3 F sound b s h t (calls shorter steps);
     }

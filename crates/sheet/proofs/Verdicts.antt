@@ -3,107 +3,129 @@
 use mathlib.Core.Path.{_≡_, refl, sym, _∙_, ap, subst, subst₂}
 use mathlib.Core.List.{_++_}
 use mathlib.Core.Bool.{Bool}
-use Prim.Native.Nat.{ℕ, _+_, _≤_, _^_, min}
+use Prim.Native.Nat.{ℕ, _≤_, _^_}
 use native.Mathlib.Omega.{arith}
-use lib.ListN.{length, replicate}
+use lib.ListN.{length}
+use borrow.Author.Tests.{ltb-false}
 use Rattle.formula.specs.Tree.{Formula}
 use Rattle.formula.specs.Truth.{truth}
-use Rattle.formula.specs.Solve.{End, ended, stopped, Run, solve}
+use Rattle.formula.specs.Solve.{State, End, ended, stopped, Run, solve}
 use Rattle.formula.specs.Trial.{Tried, trial}
 use Rattle.formula.specs.Right.{Stuck, SolveRight}
 use Rattle.formula.proofs.Solve.{solve-right}
 use Rattle.formula.proofs.Trial.{trial-verdict, trial-leaves}
-use Rattle.sheet.specs.Format.{Bytes, Format, fits, variables}
+use Rattle.sheet.specs.Format.{Bytes, Format, sheet-length, fits, variables}
 use Rattle.sheet.specs.Sheet.{formula, sheet}
 use Rattle.sheet.specs.Check.{Answer, refused, accepted, answer, check-tests}
 use Rattle.sheet.specs.Operations.{padded, tidy-tests, Solved, is-refused, is-stopped, is-ended, solved, solving, solve-call, trial-call}
+use Rattle.sheet.specs.Trace.{room}
 use Rattle.sheet.specs.Reliance.{Reached}
-use Rattle.sheet.proofs.Tests.{passed-++, answer-passes, accepted-passes}
-use Rattle.sheet.proofs.Accepted.{accepted-within, accepted-variables}
+use Rattle.sheet.proofs.Tests.{passed-∷, passed-++, answer-passes, accepted-passes}
+use Rattle.sheet.proofs.Accepted.{accepted-length, accepted-within, accepted-variables, accepted-nodes}
+use Rattle.sheet.proofs.Placed.{solve-placed}
 
 module _ (F : Format) (b first second : Bytes) where
-  abbrev shorter : ℕ
-  shorter = min (length first) (length second)
-
   reached : Run
-  reached = solve (fits F shorter) (formula F b)
+  reached = solve (fits F (room first second)) (formula F b)
+
+  -- an answer is known by its parts
+
+  ended-parts : {v w : Bool} {n m k l : ℕ} → is-ended v n m ≡ is-ended w k l → (v ≡ w) × (n ≡ k) × (m ≡ l)
+  ended-parts e = (cc, cc, cc)
+
+  stopped-parts : {x y n m k l : ℕ} → is-stopped x n m ≡ is-stopped y k l → (x ≡ y) × (n ≡ k) × (m ≡ l)
+  stopped-parts e = (cc, cc, cc)
+
+  ended-by : (e : End) (s : State) (v : Bool) {n m : ℕ} → solved e s ≡ is-ended v n m → (e ≡ ended v) × (s .settles ≡ n) × (s .expands ≡ m)
+  unfolding solved
+  ended-by (ended w) s v h = let k = ended-parts h in (ap ended (k .0), k .1, k .2)
+  ended-by (stopped x) s v h = let z : _≡_ {A = ℕ} 0 1 = cc in absurd (omega arith)
+
+  stopped-by : (e : End) (s : State) (x : ℕ) {n m : ℕ} → solved e s ≡ is-stopped x n m → (e ≡ stopped x) × (s .settles ≡ n) × (s .expands ≡ m)
+  unfolding solved
+  stopped-by (ended w) s x h = let z : _≡_ {A = ℕ} 0 1 = cc in absurd (omega arith)
+  stopped-by (stopped y) s x h = let k = stopped-parts h in (ap stopped (k .0), k .1, k .2)
 
   -- an accepted call shows its run
   record Shown : Type 0 where
-    run-right : SolveRight (fits F shorter) (formula F b) reached
+    run-right : SolveRight (fits F (room first second)) (formula F b) reached
     answers : (solve-call F b first second) .answer ≡ solved (reached .end) (reached .state)
-    holds :
-        Reached F b first second ((reached .state) .formula) ((reached .state) .settles) ((reached .state) .expands)
+    holds : Reached F b first second ((reached .state) .formula) ((reached .state) .settles) ((reached .state) .expands)
+
+  -- an answer that is no refusal comes from a run
+  shown : ((n i : ℕ) → (solve-call F b first second) .answer ≡ is-refused n i → ⊥) → Shown
+  unfolding solve-call solving tidy-tests reached solved
+  shown no-refusal = by (answer (tidy-tests F b (room first second)) reached) refl
+    where
+      answer-of : Answer Run → Solved
+      answer-of a = (solving F first second a) .answer
+
+      by : (a : Answer Run) → answer (tidy-tests F b (room first second)) reached ≡ a → Shown
+      by (refused n i) e = absurd (no-refusal n i (ap answer-of e))
+      by (accepted r) e =
+          let passed = accepted-passes (tidy-tests F b (room first second)) reached r e in
+          let checked = passed-++ (check-tests F b) _ (passed .0) .0 in
+          let w = accepted-within F b checked in
+          let right = solve-right (fits F (room first second)) (formula F b) (w .is-distinct) (w .is-closed) in
+          let done : answer (tidy-tests F b (room first second)) reached ≡ accepted reached
+          = answer-passes (tidy-tests F b (room first second)) reached (passed .0) in
+          let says = ap answer-of done in
+          let short = passed-∷ _ _ (passed-++ (check-tests F b) _ (passed .0) .1) .0 in
+          let placed = solve-placed F (room first second) (formula F b)
+          (record {
+            within = w;
+            has-place =
+                subst₂ (λ v n. sheet-length F v n ≤ room first second) (sym (accepted-variables F b checked)) (sym (accepted-nodes F b checked))
+                (omega (arith, ltb-false (room first second) (length b) short, accepted-length F b checked));
+          }) in
+          record {
+            run-right = right;
+            answers = says;
+            holds =
+                record {
+                  in-first = ap (λ (x : Answer Run). (solving F first second x) .first) done;
+                  in-second = ap (λ (x : Answer Run). (solving F first second x) .second) done;
+                  within = placed .within;
+                  is-neat = right .is-neat;
+                  same-truth = right .same-truth;
+                  counts = right .counts ∙ accepted-variables F b checked;
+                  ends =
+                      λ v. (
+                        (λ h. right .ends v .0 (ended-by (reached .end) (reached .state) v (sym says ∙ h) .0)),
+                        (λ d. says ∙ ap (λ (e : End). solved e (reached .state)) (right .ends v .1 d)),
+                      );
+                  stops =
+                      λ x. (
+                        (λ h. right .stops x .0 (stopped-by (reached .end) (reached .state) x (sym says ∙ h) .0)),
+                        (λ d. says ∙ ap (λ (e : End). solved e (reached .state)) (right .stops x .1 d)),
+                      );
+                };
+          }
+
+  -- A call that isn't refused reached a formula.
+  pub solve-reaches : ((n i : ℕ) → (solve-call F b first second) .answer ≡ is-refused n i → ⊥)
+      → (f : Formula) × (settles : ℕ) × (expands : ℕ) × Reached F b first second f settles expands
+  solve-reaches no-refusal = ((reached .state) .formula, (reached .state) .settles, (reached .state) .expands, shown no-refusal .holds)
 
   counted : Shown → {n m : ℕ} → (reached .state) .settles ≡ n → (reached .state) .expands ≡ m
       → Reached F b first second ((reached .state) .formula) n m
   counted r e₁ e₂ = subst₂ (Reached F b first second ((reached .state) .formula)) e₁ e₂ (r .holds)
 
-  -- an answer that is no refusal comes from a run
-  shown : ((n i : ℕ) → (solve-call F b first second) .answer ≡ is-refused n i → ⊥) → Shown
-  unfolding solve-call solving tidy-tests reached
-  shown no-refusal = by (answer (tidy-tests F b shorter) reached) refl
-    where
-      answer-of : Answer Run → Solved
-      answer-of a = (solving F first second a) .answer
-
-      by : (a : Answer Run) → answer (tidy-tests F b shorter) reached ≡ a → Shown
-      by (refused n i) e = absurd (no-refusal n i (ap answer-of e))
-      by (accepted r) e =
-          let passed = accepted-passes (tidy-tests F b shorter) reached r e in
-          let checked = passed-++ (check-tests F b) _ (passed .0) .0 in
-          let w = accepted-within F b checked in
-          let right = solve-right (fits F shorter) (formula F b) (w .is-distinct) (w .is-closed) in
-          let done : answer (tidy-tests F b shorter) reached ≡ accepted reached
-          = answer-passes (tidy-tests F b shorter) reached (passed .0) in
-          record {
-            run-right = right;
-            answers = ap answer-of done;
-            holds =
-                record {
-                  in-first = ap (λ (x : Answer Run). (solving F first second x) .first) done;
-                  in-second = ap (λ (x : Answer Run). (solving F first second x) .second) done;
-                  same-truth = right .same-truth;
-                  counts = right .counts ∙ accepted-variables F b checked;
-                };
-          }
-
   -- Solve says true only for a sheet that is true, and false only for one that isn't.
   pub solve-ended : (v : Bool) (settles expands : ℕ) → (solve-call F b first second) .answer ≡ is-ended v settles expands
       → (v ≡ truth (formula F b)) × ((f : Formula) × Reached F b first second f settles expands)
-  unfolding solved
   solve-ended v settles expands h =
       let r = shown (λ n i k. let z : _≡_ {A = ℕ} 0 1 = cc in omega arith) in
-      by r (reached .end) refl (sym (r .answers) ∙ h)
-    where
-      by : Shown → (e : End) → reached .end ≡ e → solved e (reached .state) ≡ is-ended v settles expands
-          → (v ≡ truth (formula F b)) × ((f : Formula) × Reached F b first second f settles expands)
-      by r (ended w) k a =
-          let same : w ≡ v = cc in
-          let n : (reached .state) .settles ≡ settles = cc in
-          let m : (reached .state) .expands ≡ expands = cc in
-          (sym same ∙ (r .run-right) .on-ended w k, ((reached .state) .formula, counted r n m))
-      by r (stopped x) k a = let z : _≡_ {A = ℕ} 0 1 = cc in absurd (omega arith)
+      let e = ended-by (reached .end) (reached .state) v (sym (r .answers) ∙ h) in
+      ((r .run-right) .on-ended v (e .0), ((reached .state) .formula, counted r (e .1) (e .2)))
 
   -- Solve stops exactly where nothing can be settled and the cheapest innermost expansion doesn't fit.
   pub solve-stopped : (x settles expands : ℕ) → (solve-call F b first second) .answer ≡ is-stopped x settles expands
-      → (f : Formula) × Reached F b first second f settles expands × Stuck (fits F shorter) f x
-  unfolding solved
+      → (f : Formula) × Reached F b first second f settles expands × Stuck (fits F (room first second)) f x
   solve-stopped x settles expands h =
       let r = shown (λ n i k. let z : _≡_ {A = ℕ} 0 1 = cc in omega arith) in
-      by r (reached .end) refl (sym (r .answers) ∙ h)
-    where
-      by : Shown → (e : End) → reached .end ≡ e → solved e (reached .state) ≡ is-stopped x settles expands
-          → (f : Formula) × Reached F b first second f settles expands × Stuck (fits F shorter) f x
-      by r (ended w) k a = let z : _≡_ {A = ℕ} 0 1 = cc in absurd (omega arith)
-      by r (stopped y) k a =
-          let same : y ≡ x = cc in
-          let n : (reached .state) .settles ≡ settles = cc in
-          let m : (reached .state) .expands ≡ expands = cc in (
-            (reached .state) .formula,
-            counted r n m,
-            subst (λ (v : ℕ). Stuck (fits F shorter) ((reached .state) .formula) v) same ((r .run-right) .on-stopped y k),
-          )
+      let e = stopped-by (reached .end) (reached .state) x (sym (r .answers) ∙ h) in
+      ((reached .state) .formula, counted r (e .1) (e .2), (r .run-right) .stops x .0 (e .0))
 
 -- Trial's verdict is the truth of the sheet, and its leaves are at most 2 to the power V.
 pub trial-right : (F : Format) (b : Bytes) (t : Tried) → trial-call F b ≡ accepted t

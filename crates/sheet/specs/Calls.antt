@@ -96,3 +96,7 @@ pub record Demand-3 (F : Format) (b : Bytes) (cs : List Call) : Type 0 where
   -- so any two lists that reach a verdict agree
   pub agree : (others : List Call) (v w : Bool) → sheet-verdict F ((held F b cs) .sheet) ≡ some v
       → sheet-verdict F ((held F b others) .sheet) ≡ some w → v ≡ w
+
+-- demand 3, of the sheets of a format
+abbrev pub Demand-3-of : Format → Type 0
+Demand-3-of F = (b : Bytes) (s : Sizes) → check F b ≡ accepted s → is-tidy ((formula F b) .matrix) ≡ true → (cs : List Call) → Demand-3 F b cs

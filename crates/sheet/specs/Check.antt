@@ -2,11 +2,12 @@
 -- Assumes nothing.
 use mathlib.Core.Bool.{Bool, true, false, not, _&&_, _||_, cond}
 use mathlib.Core.List.{List, [], _∷_, _++_}
-use Prim.Native.Nat.{ℕ, zero, suc, _+_}
+use Prim.Native.Nat.{ℕ, zero, suc, _+_, _≤_}
 use lib.Dec.{eqb, ltb, leb}
 use lib.ListN.{length}
 use Rattle.sheet.specs.Format.{Bytes, Format, Row, header, sheet-length, variables, nodes, prefix-rows, node-rows, children}
 use Rattle.sheet.specs.Refusals.{too-short, size-outside, wrong-length, bad-kind, bad-number, bound-twice, unbound, not-one-tree}
+use mathlib.Core.Path.{_≡_}
 
 -- an answer: refused with number and place, or accepted with a value
 pub data Answer (A : Type 0) : Type 0 where
@@ -85,3 +86,18 @@ pub record Sizes : Type 0 where
 
 unfoldable pub check : Format → Bytes → Answer Sizes
 check F b = answer (check-tests F b) (record { variables = variables F b; nodes = nodes F b })
+
+-- refusals are numbered 1 to 25
+pub record IsKnown (n : ℕ) : Type 0 where
+  pub least : 1 ≤ n
+  pub most : n ≤ 25
+
+abbrev pub is-known : ℕ → Bool
+is-known n = leb 1 n && leb n 25
+
+unfoldable pub known : List Test → Bool
+known [] = true
+known (t ∷ ts) = is-known (t .number) && known ts
+
+abbrev pub Known : List Test → Type 0
+Known ts = known ts ≡ true

@@ -2,12 +2,23 @@
 -- Assumes nothing.
 use mathlib.Core.Bool.{Bool, _&&_, cond}
 use mathlib.Core.List.{List, [], _∷_}
-use Prim.Native.Nat.{ℕ, zero, suc, _+_, _*_, _/_, _%_}
+use Prim.Native.Nat.{ℕ, zero, suc, _+_, _*_, _/_, _%_, _<_}
 use lib.Dec.{leb}
 use lib.ListN.{take, drop}
 
 abbrev pub Bytes : Type 0
 Bytes = List ℕ
+
+-- the bytes of a call are numbers below 256
+abbrev pub Every : {A : Type 0} → (A → Type 0) → List A → Type 0
+Every P [] = Unit {0}
+Every P (x ∷ xs) = P x × Every P xs
+
+abbrev pub IsByte : ℕ → Type 0
+IsByte b = b < 256
+
+abbrev pub AllBytes : Bytes → Type 0
+AllBytes = Every IsByte
 
 -- bytes to a number, most variables (and the highest variable number), most nodes
 pub record Format : Type 0 where

@@ -1,19 +1,24 @@
--- Document 01 on bytes, in the document's order.
+-- Documents 01 and 02 on bytes, in their order.
 pub mod Format
 pub mod Sheet
 pub mod Refusals
 pub mod Check
 pub mod Operations
-pub mod Carrying
-pub mod Qdimacs
-pub mod Outer
-pub mod Order
-pub mod Trace
-pub mod Guards
-pub mod Resume
 pub mod Calls
-pub mod Steps
-pub mod Limits
-pub mod Force
-pub mod Reliance
 pub mod Starred
+-- N1, N2, N6, N9, N10, N11, N12, N13, N14
+pub mod Qdimacs
+pub mod Texts
+pub mod Steps
+pub mod Outer
+pub mod Force
+pub mod Guards
+pub mod Carrying
+pub mod Trace
+pub mod Resume
+pub mod Order
+-- what is relied on
+pub mod Limits
+pub mod Reliance
+pub mod Results
+pub mod Truthful

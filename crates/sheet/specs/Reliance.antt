@@ -1,26 +1,35 @@
 -- What Solve is relied on for, on bytes: what it reached, what its buffers show of its states, and what longer buffers change.
 -- Assumes nothing.
 use mathlib.Core.Path.{_≡_}
-use mathlib.Core.Bool.{Bool}
+use mathlib.Core.Bool.{Bool, true}
 use mathlib.Core.List.{[], IsPrefix, getLast?}
+use mathlib.Core.Logic.{_↔_}
 use mathlib.Core.Option.{some}
 use Prim.Native.Nat.{ℕ, _+_}
 use lib.ListN.{length, replicate}
 use Rattle.formula.specs.Tree.{Formula}
 use Rattle.formula.specs.Truth.{truth}
+use Rattle.formula.specs.Tidy.{is-tidy, verdict}
 use Rattle.formula.specs.Solve.{State, End}
-use Rattle.sheet.specs.Format.{Bytes, Format, variables}
+use Rattle.formula.specs.Right.{Stuck}
+use Rattle.sheet.specs.Format.{Bytes, Format, fits, variables}
 use Rattle.sheet.specs.Sheet.{formula, sheet}
-use Rattle.sheet.specs.Operations.{padded, is-refused, is-ended, solved, solve-call}
-use Rattle.sheet.specs.Trace.{solve-states}
+use Rattle.sheet.specs.Operations.{padded, is-refused, is-stopped, is-ended, solved, solve-call}
+use Rattle.sheet.specs.Limits.{Within}
+use Rattle.sheet.specs.Trace.{room, solve-states}
 
--- The formula that a run of Solve reached, with its counts: both buffers show it, its truth is the first sheet's, and every step took
--- one variable away.
+-- The formula that a run of Solve reached, with its counts: both buffers show it, it is within the limits and tidy, its truth is the first
+-- sheet's, and every step took one variable away. Solve ends with a verdict exactly if this formula has it, and stops at a variable exactly if nothing in it
+-- can be settled and that variable, its cheapest, doesn't fit.
 pub record Reached (F : Format) (b first second : Bytes) (f : Formula) (settles expands : ℕ) : Type 0 where
   pub in-first : (solve-call F b first second) .first ≡ padded (length first) (sheet F f)
   pub in-second : (solve-call F b first second) .second ≡ replicate (length second) 0
+  pub within : Within F f
+  pub is-neat : is-tidy (f .matrix) ≡ true
   pub same-truth : truth f ≡ truth (formula F b)
   pub counts : settles + expands + length (f .prefix) ≡ variables F b
+  pub ends : (v : Bool) → ((solve-call F b first second) .answer ≡ is-ended v settles expands) ↔ (verdict (f .matrix) ≡ some v)
+  pub stops : (x : ℕ) → ((solve-call F b first second) .answer ≡ is-stopped x settles expands) ↔ Stuck (fits F (room first second)) f x
 
 module _ (F : Format) (b first second : Bytes) where
   -- What a call shows of its states: refused there is none; else it is the last, with its counts in the answer and its sheet in the

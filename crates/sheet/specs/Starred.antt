@@ -94,3 +94,19 @@ expected (tries F b v n) = answers (accepted (record { verdict = v; leaves = n }
 unfoldable pub computed : Tested → Result
 computed (solves F b n l) = writes (line-of ((solve-call F b (replicate n 0) (replicate n 0)) .answer))
 computed (tries F b v n) = answers (trial-call F b)
+
+-- for all 1, exists 2, 3: (not 2 or 3) (2 or not 3) (not 1 or not 2) (1 or 2); 3 depends on 1 by way of 2, and their copies are 4 and 5
+abbrev pub linked : Bytes
+linked = 3 ∷ 0 ∷ 13 ∷ 0 ∷ 2 ∷ 1 ∷ 1 ∷ 5 ∷ 6 ∷ 4 ∷ 3 ∷ 6 ∷ 3 ∷ 4 ∷ 6 ∷ 4 ∷ 4 ∷ 6 ∷ 3 ∷ 3 ∷ 1 ∷ 0 ∷ 2 ∷ 0 ∷ 3 ∷ 0 ∷ 4 ∷ 0 ∷ 2 ∷ 0 ∷ 2 ∷ 0 ∷ 3 ∷ 0 ∷ 2 ∷ 0 ∷ 2 ∷ 0 ∷ 3 ∷ 0 ∷ 2 ∷ 0 ∷ 1 ∷ 0 ∷ 2 ∷ 0 ∷ 2 ∷ 0 ∷ 1 ∷ 0 ∷ 2 ∷ 0 ∷ []
+
+-- exists 2, 3, 4, 5: (not 2 or 3) (2 or not 3) 2 (not 4 or 5) (4 or not 5) (not 4)
+abbrev pub linked-expanded : Bytes
+linked-expanded = 4 ∷ 0 ∷ 15 ∷ 0 ∷ 1 ∷ 1 ∷ 1 ∷ 1 ∷ 5 ∷ 6 ∷ 4 ∷ 3 ∷ 6 ∷ 3 ∷ 4 ∷ 3 ∷ 6 ∷ 4 ∷ 3 ∷ 6 ∷ 3 ∷ 4 ∷ 4 ∷ 2 ∷ 0 ∷ 3 ∷ 0 ∷ 4 ∷ 0 ∷ 5 ∷ 0 ∷ 6 ∷ 0 ∷ 2 ∷ 0 ∷ 2 ∷ 0 ∷ 3 ∷ 0 ∷ 2 ∷ 0 ∷ 2 ∷ 0 ∷ 3 ∷ 0 ∷ 2 ∷ 0 ∷ 2 ∷ 0 ∷ 4 ∷ 0 ∷ 5 ∷ 0 ∷ 2 ∷ 0 ∷ 4 ∷ 0 ∷ 5 ∷ 0 ∷ 4 ∷ 0 ∷ []
+
+-- the same with 3 and 5 for 2 and 3, and the block begins with 5: its copy is 2, that of 3 is 4
+abbrev pub crossed : Bytes
+crossed = 3 ∷ 0 ∷ 13 ∷ 0 ∷ 2 ∷ 1 ∷ 1 ∷ 5 ∷ 6 ∷ 4 ∷ 3 ∷ 6 ∷ 3 ∷ 4 ∷ 6 ∷ 4 ∷ 4 ∷ 6 ∷ 3 ∷ 3 ∷ 1 ∷ 0 ∷ 5 ∷ 0 ∷ 3 ∷ 0 ∷ 4 ∷ 0 ∷ 2 ∷ 0 ∷ 3 ∷ 0 ∷ 5 ∷ 0 ∷ 2 ∷ 0 ∷ 3 ∷ 0 ∷ 5 ∷ 0 ∷ 2 ∷ 0 ∷ 1 ∷ 0 ∷ 3 ∷ 0 ∷ 2 ∷ 0 ∷ 1 ∷ 0 ∷ 3 ∷ 0 ∷ []
+
+-- exists 5, 3, 2, 4: (not 3 or 5) (3 or not 5) 3 (not 4 or 2) (4 or not 2) (not 4)
+abbrev pub crossed-expanded : Bytes
+crossed-expanded = 4 ∷ 0 ∷ 15 ∷ 0 ∷ 1 ∷ 1 ∷ 1 ∷ 1 ∷ 5 ∷ 6 ∷ 4 ∷ 3 ∷ 6 ∷ 3 ∷ 4 ∷ 3 ∷ 6 ∷ 4 ∷ 3 ∷ 6 ∷ 3 ∷ 4 ∷ 4 ∷ 5 ∷ 0 ∷ 3 ∷ 0 ∷ 2 ∷ 0 ∷ 4 ∷ 0 ∷ 6 ∷ 0 ∷ 2 ∷ 0 ∷ 3 ∷ 0 ∷ 5 ∷ 0 ∷ 2 ∷ 0 ∷ 3 ∷ 0 ∷ 5 ∷ 0 ∷ 3 ∷ 0 ∷ 2 ∷ 0 ∷ 4 ∷ 0 ∷ 2 ∷ 0 ∷ 2 ∷ 0 ∷ 4 ∷ 0 ∷ 2 ∷ 0 ∷ 4 ∷ 0 ∷ []

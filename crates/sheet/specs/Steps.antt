@@ -8,6 +8,8 @@ use Rattle.sheet.specs.Format.{Bytes, Format, variables}
 use Rattle.sheet.specs.Check.{Answer, refused, accepted, answer}
 use Rattle.sheet.specs.Operations.{padded, tidy-tests}
 use Rattle.sheet.specs.Calls.{Call, settle, expand, perform, Held, held-after, held, Demand-3}
+use Rattle.formula.specs.Tidy.{first-fault}
+use Rattle.sheet.specs.Sheet.{formula}
 
 pub data Operation : Type 0 where
   settling expanding : Operation
@@ -100,3 +102,7 @@ pub record Steps-demand-3 (F : Format) (b : Bytes) (steps : List Step) (first se
   -- accepted steps + variables left = variables at the start
   pub counts : acceptances ((steps-call F b steps first second) .steps) + variables F (take n ((steps-call F b steps first second) .first)) ≡ variables F b
   pub demand : Demand-3 F b (calls (min (length first) (length second)) steps)
+
+-- 9 at the first operator at fault
+unfoldable pub nine : Format → Bytes → Answer ℕ
+nine F b = refused 9 (variables F b + first-fault ((formula F b) .matrix))

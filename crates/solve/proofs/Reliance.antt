@@ -1,5 +1,5 @@
--- What the code's own answers can be relied on for: Solve says true only for a sheet that is true, and false only for one that isn't
--- (demand 2); and with longer buffers it says the same.
+-- What the code's own answers can be relied on for, beside what its contract says: a stop shows its last state, and with longer buffers Solve
+-- says the same.
 -- Assumes nothing.
 use mathlib.Core.Path.{_≡_, refl, sym, ap, _∙_}
 use mathlib.Core.Bool.{true, false, true≢false}
@@ -8,13 +8,11 @@ use Prim.Native.Nat.{ℕ, _≤_}
 use native.Mathlib.Omega.{arith}
 use lib.ListN.{length}
 use Rattle.formula.specs.Tree.{Formula}
-use Rattle.formula.specs.Truth.{truth}
 use Rattle.formula.specs.Solve.{ended as run-ended, stopped as run-stopped}
 use Rattle.sheet.specs.Format.{Bytes, Format}
-use Rattle.sheet.specs.Sheet.{formula, sheet as sheet-of}
+use Rattle.sheet.specs.Sheet.{sheet as sheet-of}
 use Rattle.sheet.specs.Operations.{padded, is-refused, is-stopped, is-ended, solved, solve-call}
 use Rattle.sheet.specs.Trace.{solve-states}
-use Rattle.sheet.proofs.Verdicts.{solve-ended}
 use Rattle.sheet.specs.Reliance.{Shows, no-state, last-state, Longer}
 use Rattle.sheet.proofs.Longer.{solve-shows, longer-buffers, both-ended}
 use Rattle.solve.specs.declared.Verdict.{Verdict}
@@ -26,16 +24,6 @@ use Rattle.solve.specs.Stops.{Stop}
 
 -- an answer r of a call of Solve on a format's sheet, as its contract has it
 module _ (F : Format) (sheet first second : Bytes) (r : Solved) (contract : solved-answer r ≡ (solve-call F sheet first second) .answer) where
-  ended : {v : Verdict} {settled expanded : ℕ} → r ≡ Ended v settled expanded → truth (formula F sheet) ≡ verdict-of v
-  ended {v} {settled} {expanded} e =
-      sym (solve-ended F sheet first second (verdict-of v) settled expanded (sym contract ∙ ap solved-answer e) .0)
-
-  pub true-only-if-true : {settled expanded : ℕ} → r ≡ Ended True settled expanded → truth (formula F sheet) ≡ true
-  true-only-if-true e = ended e
-
-  pub false-only-if-false : {settled expanded : ℕ} → r ≡ Ended False settled expanded → truth (formula F sheet) ≡ false
-  false-only-if-false e = ended e
-
   -- a stop: the last of the states, which the answer shows, and what the first buffer then holds
   module _ (held : Bytes) (holds : held ≡ (solve-call F sheet first second) .first) where
     pub stop-shown : {x settled expanded : ℕ} → r ≡ Stopped x settled expanded → Stop F sheet first second held settled expanded

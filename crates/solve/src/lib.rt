@@ -13,6 +13,7 @@ use rows::refusals::NO_ROOM;
 use tidying::tidy_in_place;
 ghost use mathlib.Core.Path.{_≡_};
 ghost use Rattle.sheet.specs.Operations.{solve-call};
+ghost use Rattle.sheet.specs.Truthful.{truth-of, TruthfulSolve};
 ghost use Rattle.rows.specs.Formats.{format-of};
 ghost use Rattle.rows.specs.Layouts.{format-in};
 ghost use Rattle.checking.specs.Sheets.{Sheet};
@@ -20,7 +21,7 @@ ghost use Rattle.solve.specs.Answers.{solved-answer, leaves};
 ghost use Rattle.solve.specs.Inner.Running.{Ready, RawReady, Goes, run-call, raw-call};
 
 pub mod line;
-pub mod step;
+mod step;
 pub mod verdicts;
 
 pub enum Verdict {
@@ -101,6 +102,7 @@ fn solve_checked(sheet: &[u8], s: Layout, first: &mut [u8], second: &mut [u8]) -
 // they were.
 pub fn solve(sheet: &[u8], f: Format, first: &mut [u8], second: &mut [u8]) -> Solved
     ensures { λ r. ⌜ leaves r (now (first .exit)) (now (second .exit)) ≡ solve-call (format-of f) (now (sheet .entry)) (now (first .entry)) (now (second .entry)) ⌝ }
+    ensures { λ r. ⌜ TruthfulSolve (format-of f) (truth-of (format-of f) (now (sheet .entry))) (leaves r (now (first .exit)) (now (second .exit))) ⌝ }
 {
     let c = checking::check(sheet, f);
     match c {

@@ -12,9 +12,8 @@ use borrow.Author.Tests.{le-leb, lt-leb, leb-true, leb-false}
 use Rattle.formula.specs.Tree.{Op, and, or, Tree, lit, node, Forest, ∅, _▸_, count}
 use Rattle.formula.specs.Order.{Ordering, before, same, after, _then_, compare-numbers, sign-rank, operator-rank, compare-trees, compare-children}
 use Rattle.formula.proofs.Ordering.{then-where, then-assoc, numbers-equal}
-use Rattle.sheet.specs.Format.{Bytes, Row, row}
+use Rattle.sheet.specs.Format.{Bytes, Row, row, Every}
 use Rattle.sheet.specs.Sheet.{literal-kind, operator-kind, tree-rows, forest-rows}
-use Rattle.sheet.proofs.Every.{Every}
 use Rattle.rows.specs.Layouts.{rows-in}
 use Rattle.rows.specs.declared.Layout.{Layout}
 use Rattle.rows.proofs.Formulas.{node-row}

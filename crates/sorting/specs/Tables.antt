@@ -5,9 +5,8 @@ use mathlib.Core.List.{List, [], _∷_, _++_, map}
 use Prim.Native.Nat.{ℕ, suc, _-_, _≤_, _<_}
 use lib.ListN.{length, getD}
 use Rattle.formula.specs.Tree.{Tree, lit, node, Forest, ∅, _▸_, rows-all, count}
-use Rattle.sheet.specs.Format.{Bytes, Row, row}
+use Rattle.sheet.specs.Format.{Bytes, Row, row, Every}
 use Rattle.sheet.specs.Sheet.{literal-kind, operator-kind, trees}
-use Rattle.sheet.proofs.Every.{Every}
 use Rattle.rows.specs.Formulas.{node-rows-in}
 use Rattle.rows.specs.declared.Layout.{Layout}
 

@@ -13,7 +13,7 @@ ghost use lib.ListN.{length};
 ghost use Rattle.sheet.specs.Calls.{perform};
 ghost use Rattle.sheet.specs.Steps.{single};
 ghost use Rattle.rows.specs.Formats.{format-of};
-ghost use Rattle.checking.specs.Answers.{written-answer};
+ghost use Rattle.checking.specs.Answers.{written-answer, wrote};
 ghost use Rattle.steps.specs.Answers.{operation-of, left, steps-on};
 ghost use Rattle.steps.specs.Inner.Turns.{room, Begins, Kept, Keeps, Took, Finishes};
 
@@ -46,7 +46,7 @@ pub struct Turn {
 
 // Tests 1 to 8, then 13: a buffer shorter than the sheet. Passed, the sheet stands at the front of the first buffer, and a turn is taken
 // for each of `count` records.
-pub fn begin(sheet: &[u8], f: Format, count: usize, first: &mut [u8], second: &mut [u8]) -> Begun
+fn begin(sheet: &[u8], f: Format, count: usize, first: &mut [u8], second: &mut [u8]) -> Begun
     ensures { λ r. ⌜ Begins (format-of f) (now (sheet .entry)) count (now (first .entry)) (now (second .entry)) (now (first .exit)) (now (second .exit)) (r .turns) (r .held) (r .answer) ⌝ }
 {
     let c = checking::check(sheet, f);
@@ -77,7 +77,7 @@ pub fn begin(sheet: &[u8], f: Format, count: usize, first: &mut [u8], second: &m
 
 // The single call.
 fn call(operation: Operation, f: Format, x: usize, sheet: &[u8], out: &mut [u8]) -> Written
-    ensures { λ r. ⌜ record { answer = written-answer r; output = now (out .exit) } ≡ perform (format-of f) (single (operation-of operation) x (now (out .entry))) (now (sheet .entry)) ⌝ }
+    ensures { λ r. ⌜ wrote r (now (out .exit)) ≡ perform (format-of f) (single (operation-of operation) x (now (out .entry))) (now (sheet .entry)) ⌝ }
 {
     match operation {
         Operation::Settle => settle::settle(sheet, f, x, out),
@@ -100,7 +100,7 @@ fn keep(answer: Written, held: usize, first: &mut [u8], second: &[u8]) -> usize
 }
 
 // One turn: the record `s` with its single call's answer, and the sheet then held.
-pub fn one(s: Step, f: Format, held: usize, first: &mut [u8], second: &mut [u8]) -> Turn
+fn one(s: Step, f: Format, held: usize, first: &mut [u8], second: &mut [u8]) -> Turn
     requires { ⌜ held ≤ room (now first) (now second) ⌝ }
     ensures { λ r. ⌜ Took (format-of f) s held (now (first .entry)) (now (second .entry)) (now (first .exit)) r ⌝ }
 {
@@ -120,7 +120,7 @@ pub fn one(s: Step, f: Format, held: usize, first: &mut [u8], second: &mut [u8])
 }
 
 // Accepted, the sheet held and zeros are left in the first buffer, zeros in the second.
-pub fn finish(b: Begun, held: usize, first: &mut [u8], second: &mut [u8]) -> Written
+fn finish(b: Begun, held: usize, first: &mut [u8], second: &mut [u8]) -> Written
     requires { ⌜ held ≤ length (now first) ⌝ }
     ensures { λ r. ⌜ Finishes held (now (first .entry)) (now (second .entry)) (now (first .exit)) (now (second .exit)) (written-answer r) (b .answer) ⌝ }
 {

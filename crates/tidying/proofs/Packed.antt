@@ -10,10 +10,10 @@ use lib.ListN.{length, getD, take, drop, set, length-drop, take-append-drop}
 use lib.Seq.{take-suc-set, drop-set-lt, drop-drop, drop-append-le, drop-at, take-at, length-take-le}
 use borrow.Author.Tests.{eq-eqb, ne-eqb}
 use Rattle.formula.specs.Tree.{and, or, node}
-use Rattle.sheet.specs.Format.{Bytes, Row, row, number}
+use Rattle.sheet.specs.Format.{Bytes, Row, row, number, IsByte, AllBytes}
 use Rattle.sheet.specs.Sheet.{forest-rows}
 use Rattle.sheet.proofs.Every.{every-take, every-drop}
-use Rattle.sheet.proofs.Numbers.{IsByte, AllBytes, number-bound}
+use Rattle.sheet.proofs.Numbers.{number-bound}
 use Rattle.rows.specs.Layouts.{width, rows-in, Room, total}
 use Rattle.rows.specs.declared.Layout.{Layout}
 use Rattle.rows.proofs.Layouts.{row-in, argument-within}

@@ -14,10 +14,11 @@ ghost use lib.ListN.{length};
 ghost use Rattle.formula.specs.Tidy.{tidied};
 ghost use Rattle.sheet.specs.Sheet.{formula, sheet};
 ghost use Rattle.sheet.specs.Operations.{padded, tidy-call};
+ghost use Rattle.sheet.specs.Truthful.{truth-of, TruthfulSheet};
 ghost use Rattle.rows.specs.Formats.{format-of};
 ghost use Rattle.rows.specs.Layouts.{format-in};
 ghost use Rattle.rows.specs.Formulas.{formula-in, layout-for};
-ghost use Rattle.checking.specs.Answers.{written-answer};
+ghost use Rattle.checking.specs.Answers.{wrote};
 ghost use Rattle.checking.specs.Sheets.{Sheet};
 ghost use Rattle.tidying.specs.Limits.{Raw};
 
@@ -49,7 +50,7 @@ pub fn tidy_into(source: &[u8], s: Layout, out: &mut [u8]) -> Layout
 // Tidies a sheet that Check accepts, of this layout: 13 output shorter than the sheet.
 fn tidy_checked(sheet: &[u8], s: Layout, out: &mut [u8]) -> Written
     requires { ⌜ Sheet (s .format) (now sheet) s ⌝ }
-    ensures { λ r. ⌜ record { answer = written-answer r; output = now (out .exit) } ≡ tidy-call (format-in s) (now (sheet .entry)) (now (out .entry)) ⌝ }
+    ensures { λ r. ⌜ wrote r (now (out .exit)) ≡ tidy-call (format-in s) (now (sheet .entry)) (now (out .entry)) ⌝ }
 {
     if out.len() < sheet.len() {
         return Written::Refused(NO_ROOM, 0);
@@ -62,7 +63,8 @@ fn tidy_checked(sheet: &[u8], s: Layout, out: &mut [u8]) -> Written
 // Writes the tidied sheet to the front of `out`, with zeros behind it, and returns its length; or refuses the sheet or the output,
 // and alters nothing.
 pub fn tidy(sheet: &[u8], f: Format, out: &mut [u8]) -> Written
-    ensures { λ r. ⌜ record { answer = written-answer r; output = now (out .exit) } ≡ tidy-call (format-of f) (now (sheet .entry)) (now (out .entry)) ⌝ }
+    ensures { λ r. ⌜ wrote r (now (out .exit)) ≡ tidy-call (format-of f) (now (sheet .entry)) (now (out .entry)) ⌝ }
+    ensures { λ r. ⌜ TruthfulSheet (format-of f) (truth-of (format-of f) (now (sheet .entry))) (wrote r (now (out .exit))) ⌝ }
 {
     let c = check(sheet, f);
     match c {

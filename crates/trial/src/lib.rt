@@ -16,6 +16,7 @@ ghost use lib.ListN.{length, getD};
 ghost use Rattle.formula.specs.Truth.{eval};
 ghost use Rattle.sheet.specs.Format.{row};
 ghost use Rattle.sheet.specs.Operations.{trial-call};
+ghost use Rattle.sheet.specs.Truthful.{truth-of, TruthfulTrial};
 ghost use Rattle.rows.specs.Formats.{format-of};
 ghost use Rattle.rows.specs.Formulas.{node-rows-in, matrix-in, Readable};
 ghost use Rattle.rows.specs.Tables.{NUMBERS};
@@ -267,6 +268,7 @@ fn semantic_tree(sheet: &[u8], s: Layout) -> Outcome
 // Decides a sheet by trying values: the verdict and the leaves tried, or refused with number and place, 1 to 8, then 14.
 pub fn trial(sheet: &[u8], f: Format) -> Tried
     ensures { λ r. ⌜ tried-answer r ≡ trial-call (format-of f) (now (sheet .entry)) ⌝ }
+    ensures { λ r. ⌜ TruthfulTrial (truth-of (format-of f) (now (sheet .entry))) (tried-answer r) ⌝ }
 {
     let checked = checking::check(sheet, f);
     match checked {

@@ -13,7 +13,7 @@ use lib.Seq.{slice, slice-cons, length-slice, drop-drop, take-nil}
 use borrow.Author.Tests.{eq-eqb, ne-eqb, leb-true, lt-leb}
 use Rattle.sheet.specs.Format.{Bytes}
 use Rattle.sheet.specs.Qdimacs.{split, nonempty, is-nil, digit, all, unsigned, number-from, negative, magnitude, is-word}
-use Rattle.sheet.proofs.Qdimacs.Words.{separator, separated}
+use Rattle.sheet.specs.Texts.{separator, separated}
 use Rattle.words.specs.Words.{lead, gap}
 use Rattle.words.specs.Numbers.{Capped, largest}
 use Rattle.words.specs.Tokens.{name-of, number-class, class-of, first-class, Plain, Negated, Says, Reads}

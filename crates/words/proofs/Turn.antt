@@ -9,7 +9,7 @@ use native.Mathlib.Omega.{arith}
 use lib.ListN.{length, drop, getD, drop-of-length-le}
 use lib.Seq.{drop-cons}
 use Rattle.sheet.specs.Format.{Bytes}
-use Rattle.sheet.proofs.Qdimacs.Words.{separator}
+use Rattle.sheet.specs.Texts.{separator}
 use Rattle.words.specs.Words.{lead, gap}
 
 -- end_of: what leads from `at` on ends where what leads from `to` on does

@@ -9,7 +9,7 @@ use lib.ListN.{length, take, drop, getD}
 use lib.Seq.{slice, take-nil}
 use Rattle.sheet.specs.Format.{Bytes}
 use Rattle.sheet.specs.Qdimacs.{onto-first, split, is-nil, nonempty, all, line-end, blank}
-use Rattle.sheet.proofs.Qdimacs.Words.{separator, separated}
+use Rattle.sheet.specs.Texts.{separator, separated}
 use Rattle.words.specs.Words.{lead, gap}
 
 -- lead and gap

@@ -8,7 +8,7 @@ use lib.Dec.{eqb}
 use lib.ListN.{length, drop, getD}
 use Rattle.sheet.specs.Format.{Bytes}
 use Rattle.sheet.specs.Qdimacs.{unsigned, number-from, negative, magnitude, is-word, is-e, is-a}
-use Rattle.sheet.proofs.Qdimacs.Words.{separated}
+use Rattle.sheet.specs.Texts.{separated}
 use Rattle.words.specs.Numbers.{Capped, largest}
 use Rattle.words.specs.declared.token.Token.{Token}
 

@@ -5,7 +5,7 @@ use mathlib.Core.List.{List, [], _∷_}
 use Prim.Native.Nat.{ℕ, zero, suc}
 use Rattle.sheet.specs.Format.{Bytes}
 use Rattle.sheet.specs.Qdimacs.{line-end}
-use Rattle.sheet.proofs.Qdimacs.Words.{separator}
+use Rattle.sheet.specs.Texts.{separator}
 
 -- what ends a line, or else a word
 abbrev pub ends : Bool → ℕ → Bool

@@ -2,7 +2,7 @@
 ghost use mathlib.Core.Path.{_≡_};
 ghost use Prim.Native.Nat.{_+_, _≤_};
 ghost use lib.ListN.{length, drop};
-ghost use Rattle.sheet.proofs.Qdimacs.Words.{separator};
+ghost use Rattle.sheet.specs.Texts.{separator};
 ghost use Rattle.words.specs.Words.{ends, lead, gap};
 
 // Space, tab, carriage return or line end.

@@ -2,10 +2,14 @@
 use borrow.Author.Needs.{needs}
 use Rattle.sheet.proofs.Carrying.{bring-back-unchecked}
 use Rattle.sheet.proofs.Writing.{written}
+use Rattle.sheet.proofs.Truthful.{bring-back-truthful}
 use Rattle.rows.specs.declared.Format.the-variants.{Wide}
 use Rattle.checking.proofs.CheckedSheets.{sheet-checked, sheet-refused}
 use Rattle.carrying.proofs.bring_back.Statement.{statement}
 use Rattle.carrying.proofs.bring_back.Tie as tie
+
+abbrev start : tie.After-check → tie.Start
+start c = c .before .before .before
 
 check-requires : tie.Need-check-requires
 check-requires c κs = search needs
@@ -25,15 +29,20 @@ same-length : tie.Need-same-length
 same-length c = search needs
 
 returns : tie.Need-returns
-returns c = search needs
+returns c =
+    let call = c .before .before in
+    let a = start (call .before .before .before .before .before) .args in
+    let e = call .bring-back-checked .ensures in
+    (e, bring-back-truthful (a .sheet .now) (a .out .now) e)
 
 returns-2 : tie.Need-returns-2
 returns-2 c =
     let told = c .before in
     let checked = told .before .before in
-    let a = checked .before .before .before .args in
-    written
-    (bring-back-unchecked (a .sheet .now) (a .out .now) (sheet-refused Wide (a .sheet .now) (told .c2 .given .1) (checked .check .ensures)))
+    let a = start checked .args in
+    let e = written
+    (bring-back-unchecked (a .sheet .now) (a .out .now) (sheet-refused Wide (a .sheet .now) (told .c2 .given .1) (checked .check .ensures))) in
+    (e, bring-back-truthful (a .sheet .now) (a .out .now) e)
 
 pub bring-back-spec : {M : Type 1} → statement M
 bring-back-spec =

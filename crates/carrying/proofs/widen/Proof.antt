@@ -2,6 +2,7 @@
 use borrow.Author.Needs.{needs}
 use Rattle.sheet.proofs.Carrying.{widen-unchecked}
 use Rattle.sheet.proofs.Writing.{written}
+use Rattle.sheet.proofs.Truthful.{widen-truthful}
 use Rattle.rows.specs.declared.Format.the-variants.{Narrow}
 use Rattle.checking.specs.Sheets.{Sheet}
 use Rattle.checking.proofs.CheckedSheets.{sheet-checked, sheet-refused}
@@ -35,15 +36,18 @@ returns : tie.Need-returns
 returns c =
     let wrote = c .before .before in
     let told = wrote .before .before .before in
-    widen-checked (accepted told) (start (told .before .before) .args .out .now) (wrote .carry-within .ensures)
+    let a = start (told .before .before) .args in
+    let e = widen-checked (accepted told) (a .out .now) (wrote .carry-within .ensures) in
+    (e, widen-truthful (a .sheet .now) (a .out .now) e)
 
 returns-2 : tie.Need-returns-2
 returns-2 c =
     let told = c .before in
     let checked = told .before .before in
     let a = start checked .args in
-    written
-    (widen-unchecked (a .sheet .now) (a .out .now) (sheet-refused Narrow (a .sheet .now) (told .c2 .given .1) (checked .check .ensures)))
+    let e = written
+    (widen-unchecked (a .sheet .now) (a .out .now) (sheet-refused Narrow (a .sheet .now) (told .c2 .given .1) (checked .check .ensures))) in
+    (e, widen-truthful (a .sheet .now) (a .out .now) e)
 
 pub widen-spec : {M : Type 1} → statement M
 widen-spec =

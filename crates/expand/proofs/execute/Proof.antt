@@ -2,7 +2,9 @@
 use mathlib.Core.Path.{sym, ap, _∙_, subst}
 use borrow.Author.Needs.{needs}
 use Rattle.sheet.specs.Operations.{execute-call}
+use Rattle.sheet.proofs.Truthful.{execute-truthful}
 use Rattle.rows.specs.Formats.{format-of}
+use Rattle.rows.proofs.Limits.{sound}
 use Rattle.expand.specs.Inner.Plan.{Plans}
 use Rattle.expand.specs.declared.plan.Plan.the-variants.{Expands}
 use Rattle.expand.proofs.Deciding.{refused-execution, above-ceiling, within-ceiling}
@@ -39,8 +41,9 @@ returns c =
     let told = c .before .before .before in
     let a = start (plan told) .args in
     let is = planned told in
-    above-ceiling (is .1) (a .ceiling) (a .out .now) (c .if1 .taken) ∙
-    ap (λ f. execute-call (format-of f) (a .sheet .now) (a .x) (a .ceiling) (a .out .now)) (is .0)
+    let e = above-ceiling (is .1) (a .ceiling) (a .out .now) (c .if1 .taken) ∙
+    ap (λ f. execute-call (format-of f) (a .sheet .now) (a .x) (a .ceiling) (a .out .now)) (is .0) in
+    (e, execute-truthful (format-of (a .f)) (sound (a .f)) (a .sheet .now) (a .x) (a .ceiling) (a .out .now) e)
 
 slice-aggregate-expand-planned : tie.Need-slice-aggregate-expand-planned
 slice-aggregate-expand-planned c = search needs
@@ -53,8 +56,9 @@ returns-2 c =
     let told = c .before in
     let plan = told .before .before .before in
     let a = start plan .args in
-    refused-execution (format-of (a .f)) (a .sheet .now) (a .x) (a .ceiling) (a .out .now)
-    (subst (Plans (a .f) (a .sheet .now) (a .x) _) (told .p .given .1) (plan .plan-expand .ensures))
+    let e = refused-execution (format-of (a .f)) (a .sheet .now) (a .x) (a .ceiling) (a .out .now)
+    (subst (Plans (a .f) (a .sheet .now) (a .x) _) (told .p .given .1) (plan .plan-expand .ensures)) in
+    (e, execute-truthful (format-of (a .f)) (sound (a .f)) (a .sheet .now) (a .x) (a .ceiling) (a .out .now) e)
 
 same-length : tie.Need-same-length
 same-length c = search needs
@@ -66,8 +70,9 @@ returns-3 c =
     let told = within .before .before .before in
     let a = start (plan told) .args in
     let is = planned told in
-    carried .expand-planned .ensures ∙ sym (within-ceiling (is .1) (a .ceiling) (a .out .now) (within .if1 .left)) ∙
-    ap (λ f. execute-call (format-of f) (a .sheet .now) (a .x) (a .ceiling) (a .out .now)) (is .0)
+    let e = carried .expand-planned .ensures ∙ sym (within-ceiling (is .1) (a .ceiling) (a .out .now) (within .if1 .left)) ∙
+    ap (λ f. execute-call (format-of f) (a .sheet .now) (a .x) (a .ceiling) (a .out .now)) (is .0) in
+    (e, execute-truthful (format-of (a .f)) (sound (a .f)) (a .sheet .now) (a .x) (a .ceiling) (a .out .now) e)
 
 pub execute-spec : {M : Type 1} → statement M
 execute-spec =

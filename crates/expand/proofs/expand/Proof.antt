@@ -3,7 +3,9 @@ use mathlib.Core.Path.{ap, _∙_, subst}
 use borrow.Author.Needs.{needs}
 use lib.ListN.{length}
 use Rattle.sheet.specs.Operations.{expand-call}
+use Rattle.sheet.proofs.Truthful.{expand-truthful}
 use Rattle.rows.specs.Formats.{format-of}
+use Rattle.rows.proofs.Limits.{sound}
 use Rattle.expand.specs.Inner.Plan.{Plans}
 use Rattle.expand.specs.declared.plan.Plan.the-variants.{Expands}
 use Rattle.expand.proofs.Deciding.{refused-quote, refused-call}
@@ -46,9 +48,10 @@ returns c =
     let told = c .before in
     let plan = told .before .before .before in
     let a = start plan .args in
-    refused-call (format-of (a .f)) (a .sheet .now) (a .x) (a .out .now)
+    let e = refused-call (format-of (a .f)) (a .sheet .now) (a .x) (a .out .now)
     (refused-quote (format-of (a .f)) (a .sheet .now) (a .x) (length (a .out .now))
-    (subst (Plans (a .f) (a .sheet .now) (a .x) _) (told .p .given .1) (plan .plan-expand .ensures)))
+    (subst (Plans (a .f) (a .sheet .now) (a .x) _) (told .p .given .1) (plan .plan-expand .ensures))) in
+    (e, expand-truthful (format-of (a .f)) (sound (a .f)) (a .sheet .now) (a .x) (a .out .now) e)
 
 same-length : tie.Need-same-length
 same-length c = search needs
@@ -58,7 +61,8 @@ returns-2 c =
     let carried = c .before .before in
     let told = carried .before .before .before .before in
     let a = start (plan told) .args in
-    carried .expand-planned .ensures ∙ ap (λ f. expand-call (format-of f) (a .sheet .now) (a .x) (a .out .now)) (planned told .0)
+    let e = carried .expand-planned .ensures ∙ ap (λ f. expand-call (format-of f) (a .sheet .now) (a .x) (a .out .now)) (planned told .0) in
+    (e, expand-truthful (format-of (a .f)) (sound (a .f)) (a .sheet .now) (a .x) (a .out .now) e)
 
 pub expand-spec : {M : Type 1} → statement M
 expand-spec =

@@ -1,6 +1,7 @@
 -- `force::force` meets its contract. Assumes nothing.
 use mathlib.Core.Path.{ap, _∙_}
 use Rattle.sheet.specs.Force.{force-call}
+use Rattle.sheet.proofs.Truthful.{force-truthful}
 use Rattle.rows.specs.Formats.{format-of}
 use Rattle.checking.specs.Sheets.{Sheet}
 use Rattle.checking.proofs.CheckedSheets.{sheet-checked, sheet-refused, sheet-format, sheet-own}
@@ -32,8 +33,9 @@ returns c =
     let told = c .before in
     let checked = told .before .before in
     let a = start checked .args in
-    unchecked-call (format-of (a .f)) (a .sheet .now) (a .values .now) (a .first .now) (a .second .now)
-    (sheet-refused (a .f) (a .sheet .now) (told .c .given .1) (checked .check .ensures))
+    let e = unchecked-call (format-of (a .f)) (a .sheet .now) (a .values .now) (a .first .now) (a .second .now)
+    (sheet-refused (a .f) (a .sheet .now) (told .c .given .1) (checked .check .ensures)) in
+    (e, force-truthful (format-of (a .f)) (a .sheet .now) (a .values .now) (a .first .now) (a .second .now) e)
 
 same-length : tie.Need-same-length
 same-length c = search needs
@@ -46,8 +48,9 @@ returns-2 c =
     let call = c .before .before .before .before in
     let told = call .before .before .before .before in
     let a = start (told .before .before) .args in
-    call .force-checked .ensures ∙
-    ap (λ g. force-call (format-of g) (a .sheet .now) (a .values .now) (a .first .now) (a .second .now)) (sheet-format (accepted told))
+    let e = call .force-checked .ensures ∙
+    ap (λ g. force-call (format-of g) (a .sheet .now) (a .values .now) (a .first .now) (a .second .now)) (sheet-format (accepted told)) in
+    (e, force-truthful (format-of (a .f)) (a .sheet .now) (a .values .now) (a .first .now) (a .second .now) e)
 
 pub force-spec : {M : Type 1} → statement M
 force-spec =

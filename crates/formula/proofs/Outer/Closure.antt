@@ -11,7 +11,8 @@ use lib.ListN.{length}
 use borrow.Author.Tests.{eqb-true, eq-eqb, ne-eqb}
 use Rattle.formula.specs.Tree.{Tree, Binding, Prefix, Literals, of, has, binds}
 use Rattle.formula.specs.Outer.{within, touches, some-row, touched, grown, stage, chosen-by}
-use Rattle.formula.proofs.Booleans.{Leads, and-parts, or-parts, or-cases, or-later}
+use Rattle.formula.proofs.Booleans.{and-parts, or-parts, or-cases, or-later}
+use Rattle.formula.specs.Truth.{Leads}
 use Rattle.formula.proofs.Outer.Apart.{members, Linked, apart}
 
 -- tests on rows

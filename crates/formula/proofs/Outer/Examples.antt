@@ -7,7 +7,7 @@ use Rattle.formula.specs.Tree.{binds, quantifier-of, without, rows, rows
 use Rattle.formula.specs.Expand.{all-of, after, among, occurring, later, relevant, one-relevant, all-relevant, copies, at-first, expand-tree, raw-tree, growth, raw-rows}
 use Rattle.formula.specs.Solve.{those}
 use Rattle.formula.specs.Outer.{universal-then-existential, one-block-out, existentials, block, within, touches, some-row, touched, grown, stage, depends, dependents, unused, copies-of, too-few, renamed, outer-copying, raw-outer, outer-rows, lowest-of}
-use Rattle.formula.specs.OuterExamples.{linked, linked-expanded}
+use Rattle.formula.proofs.Outer.Linked.{linked, linked-expanded}
 
 pub linked-allowed : one-block-out 1 linked ≡ true
 unfolding linked one-block-out universal-then-existential all-of after among occurring later binds quantifier-of has has-any

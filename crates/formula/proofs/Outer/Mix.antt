@@ -7,9 +7,9 @@ use Prim.Native.Nat.{ℕ}
 use lib.Dec.{eqb}
 use borrow.Author.Tests.{eqb-true, not-true}
 use Rattle.formula.specs.Tree.{Tree, Prefix, Literals, of, has, binds}
-use Rattle.formula.specs.Truth.{Assignment, put, eval}
+use Rattle.formula.specs.Truth.{Assignment, put, eval, Leads}
 use Rattle.formula.specs.Outer.{within, chosen-by}
-use Rattle.formula.proofs.Booleans.{Leads, false-leads, and-parts, or-parts}
+use Rattle.formula.proofs.Booleans.{false-leads, and-parts, or-parts}
 use Rattle.formula.proofs.Evaluation.{eval-same}
 use Rattle.formula.proofs.Outer.Part.{part-value, rises, part-same}
 use Rattle.formula.proofs.Outer.Apart.{members, within-member}

@@ -4,10 +4,10 @@ use mathlib.Core.Path.{_≡_, refl, sym, _∙_, ap}
 use mathlib.Core.Bool.{Bool, true, false, not, cond, Bool·beq}
 use Prim.Native.Nat.{ℕ}
 use Rattle.formula.specs.Tree.{Op, Tree, lit, node, Forest, ∅, _▸_, Literals, has, has-any, count, keep}
-use Rattle.formula.specs.Truth.{Assignment, join, eval, eval-all}
+use Rattle.formula.specs.Truth.{Assignment, join, eval, eval-all, Leads}
 use Rattle.formula.specs.Expand.{relevant, one-relevant}
 use Rattle.formula.specs.Outer.{within, within-below}
-use Rattle.formula.proofs.Booleans.{Leads, leads-eq, join-leads}
+use Rattle.formula.proofs.Booleans.{leads-eq, join-leads}
 use Rattle.formula.proofs.Evaluation.{eval-same, eval-all-same}
 use Rattle.formula.proofs.Expand.{eval-divided, has-any-kept-out, one-first, one-later, one-counts, no-child}
 

@@ -9,11 +9,11 @@ use lib.Dec.{eqb}
 use lib.ListN.{length}
 use borrow.Author.Tests.{eqb-true, eq-eqb, ne-eqb, not-true, not-false}
 use Rattle.formula.specs.Tree.{Op, and, or, same-op, exists, for-all, Tree, Binding, Prefix, Literals, of, has, binds, quantifier-of, without, distinct}
-use Rattle.formula.specs.Truth.{Assignment, put, join, eval, bind}
+use Rattle.formula.specs.Truth.{Assignment, put, join, eval, bind, Leads, Ignores}
 use Rattle.formula.specs.Expand.{all-of, after, among, occurs}
 use Rattle.formula.specs.Outer.{universal-then-existential, existentials, within, renamed, chosen-by}
-use Rattle.formula.proofs.Booleans.{Leads, and-parts, or-parts, or-none, or-later, join-swap}
-use Rattle.formula.proofs.Binding.{Ignores, ignores-put, bind-put, bind-among}
+use Rattle.formula.proofs.Booleans.{and-parts, or-parts, or-none, or-later, join-swap}
+use Rattle.formula.proofs.Binding.{ignores-put, bind-put, bind-among}
 use Rattle.formula.proofs.Evaluation.{eval-same, has-cover}
 use Rattle.formula.proofs.Expand.{eval-ignores}
 use Rattle.formula.proofs.Closed.{unbound}

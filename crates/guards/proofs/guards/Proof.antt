@@ -1,7 +1,9 @@
 -- `guards::guards` meets its contract. Assumes nothing.
 use mathlib.Core.Path.{ap, _∙_}
 use Rattle.sheet.specs.Guards.{guards-call}
+use Rattle.sheet.proofs.Truthful.{guards-truthful}
 use Rattle.rows.specs.Formats.{format-of}
+use Rattle.rows.proofs.Limits.{sound}
 use Rattle.checking.specs.Sheets.{Sheet}
 use Rattle.checking.proofs.CheckedSheets.{sheet-checked, sheet-refused, sheet-format, sheet-own}
 use Rattle.guards.proofs.Deciding.{unchecked-call}
@@ -32,8 +34,9 @@ returns c =
     let told = c .before in
     let checked = told .before .before in
     let a = start checked .args in
-    unchecked-call (format-of (a .f)) (a .sheet .now) (a .out .now) (a .first .now) (a .second .now)
-    (sheet-refused (a .f) (a .sheet .now) (told .c .given .1) (checked .check .ensures))
+    let e = unchecked-call (format-of (a .f)) (a .sheet .now) (a .out .now) (a .first .now) (a .second .now)
+    (sheet-refused (a .f) (a .sheet .now) (told .c .given .1) (checked .check .ensures)) in
+    (e, guards-truthful (format-of (a .f)) (sound (a .f)) (a .sheet .now) (a .out .now) (a .first .now) (a .second .now) e)
 
 same-length : tie.Need-same-length
 same-length c = search needs
@@ -49,8 +52,9 @@ returns-2 c =
     let call = c .before .before .before .before .before .before in
     let told = call .before .before .before .before .before in
     let a = start (told .before .before) .args in
-    call .guards-checked .ensures ∙
-    ap (λ g. guards-call (format-of g) (a .sheet .now) (a .out .now) (a .first .now) (a .second .now)) (sheet-format (accepted told))
+    let e = call .guards-checked .ensures ∙
+    ap (λ g. guards-call (format-of g) (a .sheet .now) (a .out .now) (a .first .now) (a .second .now)) (sheet-format (accepted told)) in
+    (e, guards-truthful (format-of (a .f)) (sound (a .f)) (a .sheet .now) (a .out .now) (a .first .now) (a .second .now) e)
 
 pub guards-spec : {M : Type 1} → statement M
 guards-spec =

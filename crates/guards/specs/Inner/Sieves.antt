@@ -6,8 +6,7 @@ use mathlib.Core.List.{List}
 use Prim.Native.Nat.{ℕ, _+_, _-_, _≤_}
 use lib.ListN.{length, take}
 use Rattle.formula.specs.Solve.{End, ended, stopped, Run, solve}
-use Rattle.formula.specs.Guards.{is-and, conjoined, Kept, clashing, clash, guarded}
-use Rattle.formula.specs.Guards.{Guarded as Finding}
+use Rattle.formula.specs.Guards.{is-and, conjoined, Kept, clashing, clash, guarded, Guarded as Finding}
 use Rattle.sheet.specs.Format.{Bytes, fits}
 use Rattle.sheet.specs.Guards.{Guards, guards-answer, guards-output}
 use Rattle.rows.specs.Tables.{ROWS}

@@ -8,6 +8,7 @@ use Rattle.outer.specs.Answers.{outer-written}
 use Rattle.outer.specs.Inner.Plan.{Plans}
 use Rattle.outer.specs.declared.plan.Plan.the-variants.{Copies}
 use Rattle.outer.proofs.Sheets.{refused-plan}
+use Rattle.outer.proofs.Telling.{outer-told}
 use Rattle.outer.proofs.outer.Statement.{statement}
 use Rattle.outer.proofs.outer.Tie as tie
 
@@ -53,8 +54,9 @@ returns c =
     let told = c .before in
     let plan = told .before .before .before .before in
     let a = start plan .args in
-    refused-plan (format-of (a .f)) (a .sheet .now) (a .x) (a .out .now)
-    (subst (Plans (a .f) (a .sheet .now) (a .x) _ _) (told .p .given .1) (plan .plan-outer .ensures))
+    outer-told (a .f) (a .sheet .now) (a .x) (a .out .now)
+    (refused-plan (format-of (a .f)) (a .sheet .now) (a .x) (a .out .now)
+    (subst (Plans (a .f) (a .sheet .now) (a .x) _ _) (told .p .given .1) (plan .plan-outer .ensures)))
 
 same-length : tie.Need-same-length
 same-length c = search needs
@@ -65,7 +67,8 @@ returns-2 c =
     let told = carried .before .before .before .before .before in
     let a = start (told .before .before .before .before) .args in
     let is = planned told in
-    carried .outer-planned .ensures ∙ ap₂ (λ (g : Format) (y : ℕ). outer-written (format-of g) (a .sheet .now) y (a .out .now)) (is .0) (is .1)
+    outer-told (a .f) (a .sheet .now) (a .x) (a .out .now)
+    (carried .outer-planned .ensures ∙ ap₂ (λ (g : Format) (y : ℕ). outer-written (format-of g) (a .sheet .now) y (a .out .now)) (is .0) (is .1))
 
 pub outer-spec : {M : Type 1} → statement M
 outer-spec =

@@ -9,7 +9,7 @@ use Rattle.sheet.specs.Format.{Bytes, Format, Row, row, digits}
 use Rattle.sheet.specs.Sheet.{binding-row, row-kinds, row-arguments}
 use Rattle.sheet.specs.Check.{Answer}
 use Rattle.sheet.specs.Qdimacs.{text-header, tokens-below, qdimacs-call}
-use Rattle.sheet.proofs.Qdimacs.Answers.{bad-header, bad-counts}
+use Rattle.sheet.specs.Texts.{header-fails, counts-fail}
 use Rattle.rows.specs.Layouts.{width, Fits, total, Room}
 use Rattle.rows.specs.declared.Layout.{Layout}
 use Rattle.checking.specs.Answers.{written-answer}
@@ -51,7 +51,7 @@ laid s rs len =
 -- a text with these words below a header that is as it should be
 pub record Below (F : Format) (t b : Bytes) (n : ℕ) : Type 0 where
   pub tokens-are : tokens-below t ≡ tokens-at b 0
-  pub header-good : bad-header F (text-header t) ≡ false
+  pub header-good : header-fails F (text-header t) ≡ false
   pub variables-are : (text-header t) .variable-count ≡ n
 
 -- the call of a text answers so, and leaves such an output
@@ -59,7 +59,7 @@ abbrev pub CallAnswers : Format → Bytes → Bytes → Answer ℕ → Bytes →
 CallAnswers F t out a new = record { answer = a; output = new } ≡ qdimacs-call F t out
 
 pub record CountedAnswers (F : Format) (b : Bytes) (k : Body) (out : Bytes) (r : Written) (new : Bytes) : Type 0 where
-  pub answers : (t : Bytes) → Below F t b (k .most) → bad-counts (text-header t) (tokens-below t) ≡ false
+  pub answers : (t : Bytes) → Below F t b (k .most) → counts-fail (text-header t) (tokens-below t) ≡ false
       → CallAnswers F t out (written-answer r) new
 
 pub record Answers (F : Format) (b : Bytes) (h : Header) (out : Bytes) (r : Written) (new : Bytes) : Type 0 where

@@ -9,7 +9,7 @@ use lib.ListN.{length, drop}
 use Rattle.formula.specs.Tree.{and, or}
 use Rattle.sheet.specs.Format.{Bytes}
 use Rattle.sheet.specs.Qdimacs.{Token, token}
-use Rattle.sheet.proofs.Qdimacs.Words.{separated}
+use Rattle.sheet.specs.Texts.{separated}
 use Rattle.qdimacs.specs.Inner.Lists.{State, between, within, ordered, clause-tokens}
 use Rattle.qdimacs.specs.declared.prefix.Cut.{Cut}
 

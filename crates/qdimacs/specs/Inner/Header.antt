@@ -9,7 +9,7 @@ use lib.ListN.{length, take, drop}
 use Rattle.sheet.specs.Format.{Bytes}
 use Rattle.sheet.specs.Qdimacs.{line-end, words}
 use Rattle.sheet.specs.Qdimacs as text
-use Rattle.sheet.proofs.Qdimacs.Words.{TextWords, separated}
+use Rattle.sheet.specs.Texts.{TextWords, separated}
 use Rattle.words.specs.Words.{lead}
 use Rattle.words.specs.Numbers.{Capped, largest}
 use Rattle.qdimacs.specs.declared.header.Header.{Header}

@@ -10,7 +10,7 @@ use lib.ListN.{length, getD, set}
 use Rattle.formula.specs.Tree.{exists, Prefix, binds, distinct}
 use Rattle.sheet.specs.Format.{Bytes}
 use Rattle.sheet.specs.Qdimacs.{Token, all, named}
-use Rattle.sheet.proofs.Qdimacs.Accepted.{up-to}
+use Rattle.sheet.specs.Texts.{up-to}
 use Rattle.words.specs.declared.token.Token as code
 use Rattle.qdimacs.specs.Inner.Lists.{between, ordered, clause-tokens, bound-from, whole-lists}
 use Rattle.qdimacs.specs.Inner.Cursor.{tokens-at}

@@ -9,8 +9,7 @@ use lib.ListN.{length, take, drop, set}
 use Rattle.sheet.specs.Format.{Bytes, Row, row}
 use Rattle.sheet.specs.Sheet.{forest-rows}
 use Rattle.sheet.specs.Qdimacs.{Token, all, clause-trees}
-use Rattle.sheet.proofs.Qdimacs.Accepted.{up-to}
-use Rattle.sheet.proofs.Qdimacs.Answers.{lists}
+use Rattle.sheet.specs.Texts.{up-to, lists}
 use Rattle.rows.specs.Layouts.{Fits, total, Room}
 use Rattle.rows.specs.declared.Layout.{Layout}
 use Rattle.words.specs.Numbers.{largest}

@@ -41,13 +41,16 @@ use denote.Triple.Clauses.{ensured, lasts}
 use denote.Triple.Table.{entered, cited}
 use denote.Triple.Walked.{says, Stays, stay-none, stay-none-slice, gave-slice, walkOf, goes-none, goes-none-slice, goes-gave-slice, Walks, ends-at, walked, walk-meets}
 use denote.Exit.{yes}
-use Rattle.sheet.specs.Operations as sheet
-use Rattle.sheet.specs.Qdimacs.{qdimacs-call}
+use Rattle.formula.specs.Truth.{truth}
+use Rattle.sheet.specs.Qdimacs.{qdimacs, qdimacs-call}
+use Rattle.sheet.specs.Truthful.{TruthfulSheet}
+use Rattle.sheet.proofs.Truthful.{qdimacs-truthful}
 use Rattle.rows.specs.Formats.{format-of}
 use Rattle.rows.specs.declared.Format.{Format}
+use Rattle.rows.proofs.Limits.{sound as format-sound}
 use Rattle.rows.proofs.Format as F
 use Rattle.rows.proofs.Format.Laws as F′
-use Rattle.checking.specs.Answers.{written-answer}
+use Rattle.checking.specs.Answers.{written-answer, wrote}
 use Rattle.checking.specs.declared.Written.{Written}
 use Rattle.checking.proofs.Written as R
 use Rattle.checking.proofs.Written.Laws as R′
@@ -211,7 +214,8 @@ module _ {M : Type 1} (𝓤 : URA M) (H : Heap 𝓤) (A : Atoms 𝓤) (W : Given
       keep ! (0 ∷ []) $ done !)))
 
   abbrev Whole : Written → List ℕ → Type 0
-  Whole r zs = _≡_ {A = sheet.Written} (record { answer = written-answer r; output = zs }) (qdimacs-call (format-of f) (now x₀) (now x₁))
+  Whole r zs =
+      (wrote r zs ≡ qdimacs-call (format-of f) (now x₀) (now x₁)) × TruthfulSheet (format-of f) (truth (qdimacs (now x₀))) (wrote r zs)
 
   exits : (r : Written) (zs : List ℕ) → length zs ≡ length (x₁ .now) → Whole r zs → (w : Val)
       → ent 𝓤 (⋆ 𝓤 H A (Tokens ∷ ‵ (Text α x₀) ∷ ‵ (finally u8 (x₁ .name) zs) ∷ ‵ (R.the-row .own r (w ∷ [])) ∷ [])) (Post w)
@@ -226,7 +230,8 @@ module _ {M : Type 1} (𝓤 : URA M) (H : Heap 𝓤) (A : Atoms 𝓤) (W : Given
 
     through : (r : Written) (o : Left x₁ (Said e (h .header) r)) → Whole r (o .bytes)
     through r o =
-        read-through (now x₀) h (ap (λ (y : RefT (List ℕ)). now y) (is .0)) (is .1) headed (ap (λ (y : RefT (List ℕ)). now y) (is-moved .0)) (is-moved .1) (format-of f) (now x₁) (o .said)
+        let e = read-through (now x₀) h (ap (λ (y : RefT (List ℕ)). now y) (is .0)) (is .1) headed (ap (λ (y : RefT (List ℕ)). now y) (is-moved .0)) (is-moved .1) (format-of f) (now x₁) (o .said) in
+        (e, qdimacs-truthful (format-of f) (format-sound f) (now x₀) (now x₁) e)
 
   module _ (C : Calls 𝓤 H) (Λ : Loops 𝓤 H) (fm : FmC 𝓤 H (W .laws) C)
       (known-open : Triple 𝓤 (C #reader·open-text) (OpenText 𝓤 H A at-mem run)) (known-header : Triple 𝓤 (C #reader·header-next) (HeaderNext 𝓤 H A at-mem run))

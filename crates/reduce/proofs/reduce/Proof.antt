@@ -3,7 +3,9 @@ use borrow.Author.Needs.{needs}
 use mathlib.Core.Path.{_≡_, sym, ap, _∙_, subst}
 use lib.ListN.{length}
 use Rattle.sheet.specs.Operations.{reduce-call}
+use Rattle.sheet.proofs.Truthful.{reduce-truthful}
 use Rattle.rows.specs.Formats.{format-of}
+use Rattle.rows.proofs.Limits.{sound}
 use Rattle.checking.proofs.CheckedSheets.{sheet-format}
 use Rattle.reduce.specs.Inner.Plan.{Planned, Plans}
 use Rattle.reduce.proofs.Deciding.{refused-call, reduced-call}
@@ -48,8 +50,9 @@ returns c =
     let told = c .before in
     let plan = told .before .before in
     let a = start plan .args in
-    refused-call (format-of (a .f)) (a .sheet .now) (a .out .now)
-    (subst (Plans (a .f) (a .sheet .now) (length (a .out .now))) (told .p .given .1) (plan .plan-reduce .ensures))
+    let e = refused-call (format-of (a .f)) (a .sheet .now) (a .out .now)
+    (subst (Plans (a .f) (a .sheet .now) (length (a .out .now))) (told .p .given .1) (plan .plan-reduce .ensures)) in
+    (e, reduce-truthful (format-of (a .f)) (sound (a .f)) (a .sheet .now) (a .out .now) e)
 
 same-length : tie.Need-same-length
 same-length c = search needs
@@ -59,8 +62,9 @@ returns-2 c =
     let reduced = c .before .before in
     let told = reduced .before .before .before in
     let a = start (told .before .before) .args in
-    reduced-call (a .out .now) (own told) (reduced .reduce-into .ensures .1) (reduced .reduce-into .ensures .0) ∙
-    ap (λ g. reduce-call (format-of g) (a .sheet .now) (a .out .now)) (same-format told)
+    let e = reduced-call (a .out .now) (own told) (reduced .reduce-into .ensures .1) (reduced .reduce-into .ensures .0) ∙
+    ap (λ g. reduce-call (format-of g) (a .sheet .now) (a .out .now)) (same-format told) in
+    (e, reduce-truthful (format-of (a .f)) (sound (a .f)) (a .sheet .now) (a .out .now) e)
 
 pub reduce-spec : {M : Type 1} → statement M
 reduce-spec =

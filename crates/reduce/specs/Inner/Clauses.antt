@@ -9,7 +9,7 @@ use lib.ListN.{length, take, drop}
 use lib.Seq.{slice}
 use Rattle.formula.specs.Tree.{same-op, for-all, Prefix, Formula, distinct, closed, quantifier-of}
 use Rattle.formula.specs.Reduce.{in-profile}
-use Rattle.formula.proofs.Reduce.{blank-tree}
+use Rattle.formula.specs.Inner.Clauses.{blank-tree}
 use Rattle.sheet.specs.Format.{Bytes, Row, row}
 use Rattle.rows.specs.Layouts.{total, rows-in, Room}
 use Rattle.rows.specs.Formulas.{prefix-in, formula-in}

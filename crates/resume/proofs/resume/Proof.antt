@@ -3,7 +3,7 @@ use borrow.Author.Needs.{needs}
 use Rattle.rows.specs.declared.Layout.{Layout}
 use Rattle.checking.specs.Sheets.{Sheet}
 use Rattle.checking.proofs.CheckedSheets.{sheet-checked, sheet-refused}
-use Rattle.resume.proofs.Answered.{sheet-placed, resume-checked, resume-refused}
+use Rattle.resume.proofs.Answered.{resume-told, sheet-placed, resume-checked, resume-refused}
 use Rattle.resume.proofs.resume.Statement.{statement}
 use Rattle.resume.proofs.resume.Tie as tie
 
@@ -36,8 +36,9 @@ returns c =
     let told = c .before in
     let checked = told .before .before in
     let a = start checked .args in
-    resume-refused (a .c) (a .sheet .now) (a .f) (a .first .now) (a .second .now)
-    (sheet-refused (a .f) (a .sheet .now) (told .checked .given .1) (checked .check .ensures))
+    resume-told (a .c) (a .sheet .now) (a .f) (a .first .now) (a .second .now)
+    (resume-refused (a .c) (a .sheet .now) (a .f) (a .first .now) (a .second .now)
+    (sheet-refused (a .f) (a .sheet .now) (told .checked .given .1) (checked .check .ensures)))
 
 same-length : tie.Need-same-length
 same-length c = search needs
@@ -50,7 +51,8 @@ returns-2 c =
     let went = c .before .before .before .before in
     let told = went .before .before .before .before in
     let a = start (told .before .before) .args in
-    resume-checked _ (a .c) (a .sheet .now) (a .first .now) (a .second .now) (accepted told) (went .resume-checked .ensures)
+    resume-told (a .c) (a .sheet .now) (a .f) (a .first .now) (a .second .now)
+    (resume-checked _ (a .c) (a .sheet .now) (a .first .now) (a .second .now) (accepted told) (went .resume-checked .ensures))
 
 pub resume-spec : {M : Type 1} → statement M
 resume-spec =

@@ -5,7 +5,9 @@ use borrow.Author.Needs.{needs}
 use lib.ListN.{length}
 use Rattle.sheet.specs.Format.{sheet-length}
 use Rattle.sheet.specs.Operations.{settle-call}
+use Rattle.sheet.proofs.Truthful.{settle-truthful}
 use Rattle.rows.specs.Formats.{format-of}
+use Rattle.rows.proofs.Limits.{sound}
 use Rattle.settle.specs.Inner.Plan.{Plans}
 use Rattle.settle.specs.declared.plan.Plan.the-variants.{Settles}
 use Rattle.settle.proofs.Deciding.{refused-call, settled-call}
@@ -50,8 +52,9 @@ returns c =
     let told = c .before in
     let plan = told .before .before in
     let a = start plan .args in
-    refused-call (format-of (a .f)) (a .sheet .now) (a .x) (a .out .now)
-    (subst (Plans (a .f) (a .sheet .now) (a .x) (length (a .out .now))) (told .p .given .1) (plan .plan-settle .ensures))
+    let e = refused-call (format-of (a .f)) (a .sheet .now) (a .x) (a .out .now)
+    (subst (Plans (a .f) (a .sheet .now) (a .x) (length (a .out .now))) (told .p .given .1) (plan .plan-settle .ensures)) in
+    (e, settle-truthful (format-of (a .f)) (sound (a .f)) (a .sheet .now) (a .x) (a .out .now) e)
 
 same-length : tie.Need-same-length
 same-length c = search needs
@@ -61,10 +64,11 @@ returns-2 c =
     let wrote = c .before .before .before in
     let a = start (told wrote .before .before) .args in
     let is = planned (told wrote) in
-    let e = wrote .settle-into .ensures in
+    let written = wrote .settle-into .ensures in
     let t = wrote .settle-into .result in
     let long = c .sheet-length .ensures ∙ ap (λ f. sheet-length (format-of f) (t .variables) (t .nodes)) (sym (is .0)) in
-    settled-call (a .out .now) (is .1) (e .1 .0) long (e .0) ∙ ap (λ f. settle-call (format-of f) (a .sheet .now) (a .x) (a .out .now)) (is .0)
+    let e = settled-call (a .out .now) (is .1) (written .1 .0) long (written .0) ∙ ap (λ f. settle-call (format-of f) (a .sheet .now) (a .x) (a .out .now)) (is .0) in
+    (e, settle-truthful (format-of (a .f)) (sound (a .f)) (a .sheet .now) (a .x) (a .out .now) e)
 
 pub settle-spec : {M : Type 1} → statement M
 settle-spec =

@@ -15,16 +15,14 @@ use Rattle.formula.proofs.Outer.Fresh.{unused-many}
 use Rattle.formula.proofs.Outer.Truth.{binds-++}
 use Rattle.formula.proofs.Outer.Step.{distinct-++}
 use Rattle.sheet.specs.Qdimacs.{all, Token, opener, plain, minus, other, is-plain, is-whole, absolute, is-end, is-opener, is-quantified, are-clauses, in-order, quantified, bindings, bound, clauses, literals, clause-trees, matrix-of, named, is-free, free-up-to, numbers-of}
-use Rattle.sheet.proofs.Every.{Every}
-use Rattle.sheet.proofs.Qdimacs.Lists.{all-++, all-leads, Uncut}
+use Rattle.sheet.specs.Format.{Every}
+use Rattle.sheet.proofs.Qdimacs.Lists.{all-++, all-leads}
+use Rattle.sheet.specs.Texts.{Uncut, up-to}
 
 -- numbers
 
 abbrev pub positive : Token → Bool
 positive t = leb 1 (absolute t)
-
-abbrev pub up-to : ℕ → Token → Bool
-up-to n t = leb (absolute t) n
 
 -- a whole number that ends no list
 whole-positive : (t : Token) → is-whole t ≡ true → not (is-end t) ≡ true → positive t ≡ true

@@ -11,31 +11,21 @@ use lib.Seq.{take-append-seam, drop-append-seam}
 use borrow.Author.Tests.{ltb-false, lt-ltb, le-ltb, not-false}
 use Rattle.formula.specs.Tree.{distinct, rows}
 use Rattle.formula.proofs.Booleans.{and-parts, or-parts}
-use Rattle.sheet.specs.Format.{Bytes, Format, sheet-length}
+use Rattle.sheet.specs.Format.{Bytes, Format, sheet-length, Every}
 use Rattle.sheet.specs.Sheet.{formula, sheet}
 use Rattle.sheet.specs.Check.{Answer, refused, accepted, answer, passes, check}
 use Rattle.sheet.specs.Operations.{padded, output-after, write}
 use Rattle.sheet.specs.Limits.{Sound, Within}
 use Rattle.sheet.specs.Qdimacs.{all, Token, is-end, Header, text-header, tokens-below, pieces, ended-lists, open-list, is-nil, in-order, well-listed, bound, clauses, numbers-of, matrix-of, said, qdimacs, above-count, said-tests, qdimacs-tests, qdimacs-call}
-use Rattle.sheet.proofs.Every.{Every}
 use Rattle.sheet.proofs.Tests.{passed-∷, accepted-passes}
 use Rattle.sheet.proofs.Limits.{numbered-by}
 use Rattle.sheet.proofs.RoundTrip.{formula-sheet, check-sheet, length-sheet}
 use Rattle.sheet.proofs.Refusals.{written-refused}
-use Rattle.sheet.proofs.Carrying.{holds}
-use Rattle.sheet.proofs.Qdimacs.Lists.{all-both, Uncut, pieces-uncut}
-use Rattle.sheet.proofs.Qdimacs.Accepted.{positive, up-to, in-order-positive, prefix-range, prefix-distinct, prefix-few, said-closed}
-
--- the lists that a 0 ends
-abbrev pub lists : List Token → List (List Token)
-lists ts = ended-lists (pieces ts)
-
--- the tests of 15 and 17
-abbrev pub bad-header : Format → Header → Bool
-bad-header F h = not (h .well-formed) || ltb (F .most-variables) (h .variable-count)
-
-abbrev pub bad-counts : Header → List Token → Bool
-bad-counts h ts = above-count (h .variable-count) (lists ts) || not (eqb (length (clauses (lists ts))) (h .clause-count))
+use Rattle.sheet.specs.Operations.{holds}
+use Rattle.sheet.proofs.Qdimacs.Lists.{all-both, pieces-uncut}
+use Rattle.sheet.specs.Texts.{Uncut, up-to, lists, header-fails, counts-fail}
+use Rattle.sheet.proofs.Qdimacs.Accepted.{positive, in-order-positive, prefix-range, prefix-distinct, prefix-few, said-closed}
+use Rattle.sheet.specs.Results.{TextRead}
 
 -- what the tests show
 
@@ -81,16 +71,8 @@ module _ (F : Format) (h : Header) (ts : List Token) (len : ℕ) (passed : passe
       let p13 = passed-∷ _ _ (passed-∷ _ _ (p2 .1) .1) in
       omega (arith, length-sheet F (said h ts), ltb-false len _ (p13 .0))
 
--- What an accepted call of length n leaves: the output is as long as before; its front is a sheet that Check accepts, with as many rows
--- as prefix and matrix have, and says what the text says; behind it are zeros.
-pub record TextRead (F : Format) (t out : Bytes) (n : ℕ) (new : Bytes) : Type 0 where
-  pub same-length : length new ≡ length out
-  pub is-checked : check F (take n new) ≡ accepted (record { variables = length ((qdimacs t) .prefix); nodes = rows ((qdimacs t) .matrix) })
-  pub same-formula : formula F (take n new) ≡ qdimacs t
-  pub zeros-behind : drop n new ≡ replicate (length out - n) 0
-
 module _ (F : Format) (t out : Bytes) where
-  abbrev pub read-answer : Answer ℕ
+  abbrev read-answer : Answer ℕ
   read-answer = (qdimacs-call F t out) .answer
 
   pub qdimacs-right : Sound F → (n : ℕ) → read-answer ≡ accepted n → TextRead F t out n ((qdimacs-call F t out) .output)
@@ -131,23 +113,23 @@ module _ (F : Format) (t out : Bytes) where
       (cond short (refused 13 0) (accepted (length (sheet F (qdimacs t)))))))))
 
   tested : read-answer ≡
-      by-tests (bad-header F head) (well-listed body) (bad-counts head body) (distinct (bound (lists body))) (ltb (F .most-nodes) (rows ((qdimacs t) .matrix)))
+      by-tests (header-fails F head) (well-listed body) (counts-fail head body) (distinct (bound (lists body))) (ltb (F .most-nodes) (rows ((qdimacs t) .matrix)))
       (ltb (length out) (sheet-length F (length ((qdimacs t) .prefix)) (rows ((qdimacs t) .matrix))))
   unfolding qdimacs-call qdimacs-tests said-tests qdimacs write answer
   tested = refl
 
-  pub refused-15 : bad-header F head ≡ true → read-answer ≡ refused 15 0
+  pub refused-15 : header-fails F head ≡ true → read-answer ≡ refused 15 0
   refused-15 e = tested ∙ rw e
 
-  module _ (header : bad-header F head ≡ false) where
+  module _ (header : header-fails F head ≡ false) where
     pub refused-16 : well-listed body ≡ false → read-answer ≡ refused 16 0
     refused-16 e = tested ∙ rw (header, e)
 
     module _ (listed : well-listed body ≡ true) where
-      pub refused-17 : bad-counts head body ≡ true → read-answer ≡ refused 17 0
+      pub refused-17 : counts-fail head body ≡ true → read-answer ≡ refused 17 0
       refused-17 e = tested ∙ rw (header, listed, e)
 
-      module _ (counts : bad-counts head body ≡ false) where
+      module _ (counts : counts-fail head body ≡ false) where
         pub refused-6 : distinct (bound (lists body)) ≡ false → read-answer ≡ refused 6 0
         refused-6 e = tested ∙ rw (header, listed, counts, e)
 

@@ -5,10 +5,10 @@ use mathlib.Core.Bool.{true, false, _&&_, false≢true}
 use mathlib.Core.List.{List, [], _∷_, _++_, append-assoc, flatMap}
 use Rattle.formula.proofs.Booleans.{and-parts}
 use Rattle.sheet.specs.Qdimacs.{split, is-nil, all, Token, opener, plain, minus, other, is-whole, is-end, pieces, ended-lists, open-list, is-quantified, are-clauses, in-order, well-listed, bindings, bound, clauses}
-use Rattle.sheet.proofs.Every.{Every}
-use Rattle.sheet.proofs.Qdimacs.Lists.{Uncut, split-piece}
+use Rattle.sheet.specs.Format.{Every}
+use Rattle.sheet.proofs.Qdimacs.Lists.{split-piece}
+use Rattle.sheet.specs.Texts.{Uncut, lists}
 use Rattle.sheet.proofs.Qdimacs.Accepted.{whole-unquantified}
-use Rattle.sheet.proofs.Qdimacs.Answers.{lists}
 
 -- lists, each with a 0 behind it
 abbrev pub joined : List (List Token) → List Token

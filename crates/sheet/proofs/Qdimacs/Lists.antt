@@ -4,8 +4,9 @@ use mathlib.Core.Path.{_≡_, refl, sym, _∙_, ap, ap₂}
 use mathlib.Core.Bool.{Bool, true, false, not, _&&_, _||_, cond, and-assoc, false≢true}
 use mathlib.Core.List.{List, [], _∷_, _++_, flatMap}
 use Rattle.sheet.specs.Qdimacs.{onto-first, split, is-nil, nonempty, all}
-use Rattle.sheet.proofs.Every.{Every}
+use Rattle.sheet.specs.Format.{Every}
 use Rattle.formula.proofs.Booleans.{and-parts}
+use Rattle.sheet.specs.Texts.{Uncut}
 
 -- all
 
@@ -78,32 +79,30 @@ module _ {A : Type 0} (p : A → Bool) where
       by false ih = ap (onto-first b) ih ∙ onto-first-++ b l (split p r)
 
   -- a list without a separator is one piece, and such is every piece
-  abbrev pub Uncut : List A → Type 0
-  Uncut l = all (λ a. not (p a)) l ≡ true
 
-  pub split-uncut : (l : List A) → Uncut l → split p l ≡ l ∷ []
+  pub split-uncut : (l : List A) → Uncut p l → split p l ≡ l ∷ []
   unfolding split all onto-first
   split-uncut [] h = refl
   split-uncut (a ∷ l) h = by (p a) h (split-uncut l)
     where
-      by : (m : Bool) → (not m && all (λ b. not (p b)) l) ≡ true → (Uncut l → split p l ≡ l ∷ [])
+      by : (m : Bool) → (not m && all (λ b. not (p b)) l) ≡ true → (Uncut p l → split p l ≡ l ∷ [])
           → cond m ([] ∷ split p l) (onto-first a (split p l)) ≡ (a ∷ l) ∷ []
       by true k ih = absurd (false≢true k)
       by false k ih = ap (onto-first a) (ih k)
 
-  pub split-piece : (l : List A) (a : A) (r : List A) → Uncut l → p a ≡ true → split p (l ++ a ∷ r) ≡ l ∷ split p r
+  pub split-piece : (l : List A) (a : A) (r : List A) → Uncut p l → p a ≡ true → split p (l ++ a ∷ r) ≡ l ∷ split p r
   split-piece l a r h e = split-++ l a r e ∙ ap {B = List (List A)} (λ qs. qs ++ split p r) (split-uncut l h)
 
-  pub pieces-uncut : (l : List A) → Every Uncut (split p l)
+  pub pieces-uncut : (l : List A) → Every (Uncut p) (split p l)
   unfolding split all onto-first
   pieces-uncut [] = (refl, tt)
   pieces-uncut (a ∷ l) = by (p a) refl (pieces-uncut l)
     where
-      onto : (qs : List (List A)) → p a ≡ false → Every Uncut qs → Every Uncut (onto-first a qs)
+      onto : (qs : List (List A)) → p a ≡ false → Every (Uncut p) qs → Every (Uncut p) (onto-first a qs)
       onto [] e h = (rw e, tt)
       onto (q ∷ qs) e h = (rw e (h .0), h .1)
 
-      by : (m : Bool) → p a ≡ m → Every Uncut (split p l) → Every Uncut (cond m ([] ∷ split p l) (onto-first a (split p l)))
+      by : (m : Bool) → p a ≡ m → Every (Uncut p) (split p l) → Every (Uncut p) (cond m ([] ∷ split p l) (onto-first a (split p l)))
       by true e h = (refl, h)
       by false e h = onto (split p l) e h
 

@@ -12,17 +12,18 @@ use borrow.Author.Tests.{ltb-true, ltb-false, le-ltb, le-leb, leb-true, eqb-true
 use Rattle.formula.specs.Tree.{and, or, Quantifier, Tree, lit, node, Forest, ∅, _▸_, Binding, Prefix, Formula, Literals, binds, distinct, rows, has, has-any, closed, some-child}
 use Rattle.formula.specs.Reduce.{is-literal, is-clause}
 use Rattle.formula.proofs.Booleans.{and-parts, or-none, or-parts, or-cases, or-later}
-use Rattle.sheet.specs.Format.{Bytes, Format}
+use Rattle.sheet.specs.Format.{Bytes, Format, Every}
 use Rattle.sheet.specs.Qdimacs.{split, is-nil, nonempty, all, line-end, blank, words, digit, unsigned, number-from, decimal-before, decimal, magnitude, is-word, Token, opener, plain, token, is-plain, is-whole, absolute, is-end, are-clauses, is-quantified, in-order, quantified, bindings, bound, clauses, literals, clause-trees, named, is-free, free-up-to, is-comment, Header, header-of, text-header, tokens-below, matrix-of, said, qdimacs, above-count, numbers-of, well-listed, qdimacs-call, header-text, list-text, literal-word, literal-words, clause-words, clauses-words, row-words, letter, highest, printed, is-clause-set}
 use Rattle.sheet.specs.Sheet.{sheet}
 use Rattle.sheet.specs.Limits.{numbered, Within}
-use Rattle.sheet.proofs.Every.{Every, every-++}
+use Rattle.sheet.proofs.Every.{every-++}
 use Rattle.sheet.proofs.Limits.{numbered-∷, binds-positive}
-use Rattle.sheet.proofs.Qdimacs.Lists.{all-++, all-leads, Uncut}
-use Rattle.sheet.proofs.Qdimacs.Words.{separator, separated, nonempty-word, nonempty-last, separated-word, is-skipped, TextWords, at-header, unsigned-magnitude, plain-token, negated, minus-token}
+use Rattle.sheet.proofs.Qdimacs.Lists.{all-++, all-leads}
+use Rattle.sheet.specs.Texts.{Uncut, separator, separated, is-skipped, TextWords, lists, header-fails, counts-fail}
+use Rattle.sheet.proofs.Qdimacs.Words.{nonempty-word, nonempty-last, separated-word, at-header, unsigned-magnitude, plain-token, negated, minus-token}
 use Rattle.sheet.proofs.Qdimacs.Joined.{joined, clauses-all, clauses-bind-none, lists-joined, well-listed-joined}
-use Rattle.sheet.proofs.Qdimacs.Answers.{lists, bad-header, bad-counts, accepts}
-use Rattle.sheet.proofs.Carrying.{holds}
+use Rattle.sheet.proofs.Qdimacs.Answers.{accepts}
+use Rattle.sheet.specs.Operations.{holds}
 use Rattle.sheet.proofs.Qdimacs.Accepted.{whole-unquantified, named-++, named-lists}
 
 -- decimal
@@ -469,7 +470,7 @@ module _ (F : Format) (p : Prefix) (ts : Forest) (w : Within F (record { prefix 
       (or-cases (binds (bound (lists (tokens-below text))) x) (named x (flatten (clauses (lists (tokens-below text)))))
       (sym (named-lists x (lists (tokens-below text))) ∙ k))
 
-  counts-read : bad-counts (text-header text) (tokens-below text) ≡ false
+  counts-read : counts-fail (text-header text) (tokens-below text) ≡ false
   unfolding above-count
   counts-read =
       or-none
@@ -480,7 +481,7 @@ module _ (F : Format) (p : Prefix) (ts : Forest) (w : Within F (record { prefix 
 
   printed-read-so : (out : Bytes) → length (sheet F f) ≤ length out → qdimacs-call F text out ≡ holds (sheet F f) out
   printed-read-so out l =
-      accepts F text out (ap (bad-header F) head-read ∙ le-ltb (F .most-variables) (highest p) (highest-numbered F p (w .is-numbered))) well-read
+      accepts F text out (ap (header-fails F) head-read ∙ le-ltb (F .most-variables) (highest p) (highest-numbered F p (w .is-numbered))) well-read
       counts-read (ap distinct bound-read ∙ w .is-distinct) (subst (λ (g : Formula). rows (g .matrix) ≤ F .most-nodes) (sym formula-read) (w .few-nodes))
       (subst (λ (g : Formula). length (sheet F g) ≤ length out) (sym formula-read) l) ∙
       ap (λ (g : Formula). holds (sheet F g) out) formula-read

@@ -14,15 +14,11 @@ use Rattle.sheet.specs.Format.{Bytes, Format}
 use Rattle.sheet.specs.Sheet.{sheet}
 use Rattle.sheet.specs.Operations.{write}
 use Rattle.sheet.specs.Qdimacs.{split, is-nil, nonempty, all, line-end, blank, lines, words, digit, unsigned, number-from, negative, magnitude, is-word, Token, plain, minus, other, token, is-comment, from-header, Header, header-of, text-header, words-below, tokens-below, said, qdimacs, said-tests, qdimacs-tests, qdimacs-call}
-use Rattle.sheet.proofs.Qdimacs.Lists.{Uncut, split-++, split-separator, split-uncut, split-piece, split-either, nonempty-++, nonempty-flatMap}
+use Rattle.sheet.proofs.Qdimacs.Lists.{split-++, split-separator, split-uncut, split-piece, split-either, nonempty-++, nonempty-flatMap}
+use Rattle.sheet.specs.Texts.{Uncut, separator, separated, Line, is-skipped, header-words, TextWords}
+use Rattle.sheet.specs.Texts.{LeadingZeros, SameWords, as-it-is, unsigned-zeros, negative-zeros}
 
 -- separators
-
-abbrev pub separator : ℕ → Bool
-separator c = blank c || line-end c
-
-unfoldable pub separated : Bytes → List Bytes
-separated b = nonempty (split separator b)
 
 -- the words of all lines are what blanks and line ends alike separate
 pub words-of-lines : (b : Bytes) → flatMap words (lines b) ≡ separated b
@@ -67,21 +63,6 @@ separated-last w h u = nonempty-last separator w h u
 
 -- lines
 
-abbrev pub Line : Bytes → Type 0
-Line l = Uncut line-end l
-
--- above the header: comment lines and blank ones
-abbrev pub is-skipped : Bytes → Bool
-is-skipped l = is-comment l || is-nil (words l)
-
--- the words of the header's line
-abbrev pub header-words : Bytes → List Bytes
-header-words t = words (getD (from-header (lines t)) 0 [])
-
-pub record TextWords (t : Bytes) (hs ws : List Bytes) : Type 0 where
-  pub of-header : header-words t ≡ hs
-  pub below : words-below t ≡ ws
-
 module _ (l : Bytes) (line : Line l) where
   lines-∷ : (r : Bytes) → lines (l ++ 10 ∷ r) ≡ l ∷ lines r
   unfolding lines
@@ -108,12 +89,6 @@ module _ (l : Bytes) (line : Line l) where
   last-header e = record { of-header = rw (lines-one, e); below = rw (lines-one, e) }
 
 -- leading zeros
-
--- A word, and the same with zeros in front of its digits, behind the sign if it has one.
-pub data LeadingZeros : Bytes → Bytes → Type 0 where
-  as-it-is : {w : Bytes} → LeadingZeros w w
-  unsigned-zeros : (k : ℕ) {w : Bytes} → unsigned w ≡ true → LeadingZeros w (replicate k 48 ++ w)
-  negative-zeros : (k : ℕ) {w : Bytes} → unsigned w ≡ true → LeadingZeros (45 ∷ w) (45 ∷ replicate k 48 ++ w)
 
 pub number-zeros : (k : ℕ) (w : Bytes) → number-from 0 (replicate k 48 ++ w) ≡ number-from 0 w
 unfolding number-from
@@ -179,13 +154,6 @@ word-zeros d ds l (unsigned-zeros k {w} h) = unsigned-word w d ds h l ∙ sym (u
 word-zeros d ds l (negative-zeros k {w} h) =
     ap (λ (m : Bool). m && is-word w ds) (ne-eqb 45 d (λ e. omega arith)) ∙
     sym (ap (λ (m : Bool). m && is-word (replicate k 48 ++ w) ds) (ne-eqb 45 d (λ e. omega arith)))
-
--- word for word
-abbrev pub SameWords : List Bytes → List Bytes → Type 0
-SameWords [] [] = Unit {0}
-SameWords [] (w ∷ ws) = ⊥
-SameWords (v ∷ vs) [] = ⊥
-SameWords (v ∷ vs) (w ∷ ws) = LeadingZeros v w × SameWords vs ws
 
 tokens-same : (vs ws : List Bytes) → SameWords vs ws → map token vs ≡ map token ws
 tokens-same [] [] h = refl

@@ -2,7 +2,9 @@
 use mathlib.Core.Path.{ap, _∙_}
 use borrow.Author.Needs.{needs}
 use Rattle.sheet.specs.Operations.{solve-call}
+use Rattle.sheet.proofs.Truthful.{solve-truthful}
 use Rattle.rows.specs.Formats.{format-of}
+use Rattle.rows.proofs.Limits.{sound}
 use Rattle.checking.specs.Sheets.{Sheet}
 use Rattle.checking.proofs.CheckedSheets.{sheet-checked, sheet-refused, sheet-format, sheet-own}
 use Rattle.solve.proofs.Answering.{unchecked-call}
@@ -32,8 +34,9 @@ returns c =
     let told = c .before in
     let check = told .before .before in
     let a = start check .args in
-    unchecked-call (format-of (a .f)) (a .sheet .now) (a .first .now) (a .second .now)
-    (sheet-refused (a .f) (a .sheet .now) (told .c .given .1) (check .check .ensures))
+    let e = unchecked-call (format-of (a .f)) (a .sheet .now) (a .first .now) (a .second .now)
+    (sheet-refused (a .f) (a .sheet .now) (told .c .given .1) (check .check .ensures)) in
+    (e, solve-truthful (format-of (a .f)) (sound (a .f)) (a .sheet .now) (a .first .now) (a .second .now) e)
 
 same-length : tie.Need-same-length
 same-length c = search needs
@@ -46,8 +49,9 @@ returns-2 c =
     let solved = c .before .before .before .before in
     let told = solved .before .before .before .before in
     let a = start (told .before .before) .args in
-    solved .solve-checked .ensures ∙
-    ap (λ f. solve-call (format-of f) (a .sheet .now) (a .first .now) (a .second .now)) (sheet-format (checked told))
+    let e = solved .solve-checked .ensures ∙
+    ap (λ f. solve-call (format-of f) (a .sheet .now) (a .first .now) (a .second .now)) (sheet-format (checked told)) in
+    (e, solve-truthful (format-of (a .f)) (sound (a .f)) (a .sheet .now) (a .first .now) (a .second .now) e)
 
 pub solve-spec : {M : Type 1} → statement M
 solve-spec =

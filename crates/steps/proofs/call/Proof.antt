@@ -34,7 +34,7 @@ unfolding perform
 returns c =
     let call = c .before .before in
     let told = call .before .before in
-    call .settle .ensures ∙ ap (does (told .before .before .before .before)) (sym (told .enum-told .given .1))
+    call .settle .ensures .0 ∙ ap (does (told .before .before .before .before)) (sym (told .enum-told .given .1))
 
 same-length-2 : tie.Need-same-length-2
 same-length-2 c = search needs
@@ -44,7 +44,7 @@ unfolding perform
 returns-2 c =
     let call = c .before .before in
     let told = call .before .before in
-    call .expand .ensures ∙ ap (does (told .before .before .before .before)) (sym (told .enum-told2 .given .1))
+    call .expand .ensures .0 ∙ ap (does (told .before .before .before .before)) (sym (told .enum-told2 .given .1))
 
 pub call-spec : {M : Type 1} → statement M
 call-spec =

@@ -1,6 +1,7 @@
 -- `trial::trial` meets its contract: a refusal of Check is Trial's, 14 follows, and else the semantic tree answers.
 -- Assumes nothing.
 use borrow.Author.Needs.{needs}
+use Rattle.sheet.proofs.Truthful.{trial-truthful}
 use Rattle.rows.specs.Formats.{format-of}
 use Rattle.rows.specs.declared.Layout.{Layout}
 use Rattle.checking.specs.Sheets.{Sheet}
@@ -33,7 +34,10 @@ abbrev counted : tie.After-struct-known → tie.After-checked2
 counted c = c .before .before
 
 returns : tie.Need-returns
-returns c = many-refused (accepted (counted (c .before))) (c .if1 .taken)
+returns c =
+    let a = start (counted (c .before)) .args in
+    let e = many-refused (accepted (counted (c .before))) (c .if1 .taken) in
+    (e, trial-truthful (format-of (a .f)) (a .sheet .now) e)
 
 semantic-tree-requires : tie.Need-semantic-tree-requires
 semantic-tree-requires c κs = playable (accepted (counted (c .before))) (c .if1 .left)
@@ -43,10 +47,14 @@ returns-2 c =
     let told = c .before in
     let checked = told .before .before in
     let a = checked .before .before .args in
-    check-refuses (format-of (a .f)) (a .sheet .now) (sheet-refused (a .f) (a .sheet .now) (told .checked .given .1) (checked .check .ensures))
+    let e = check-refuses (format-of (a .f)) (a .sheet .now) (sheet-refused (a .f) (a .sheet .now) (told .checked .given .1) (checked .check .ensures)) in
+    (e, trial-truthful (format-of (a .f)) (a .sheet .now) e)
 
 returns-3 : tie.Need-returns-3
-returns-3 c = tree-answered (accepted (counted (c .before .before))) _ (c .before .if1 .left) (c .semantic-tree .ensures)
+returns-3 c =
+    let a = start (counted (c .before .before)) .args in
+    let e = tree-answered (accepted (counted (c .before .before))) _ (c .before .if1 .left) (c .semantic-tree .ensures) in
+    (e, trial-truthful (format-of (a .f)) (a .sheet .now) e)
 
 pub trial-spec : {M : Type 1} → statement M
 trial-spec =

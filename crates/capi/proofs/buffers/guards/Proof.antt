@@ -25,7 +25,7 @@ abbrev called : tie.After-pack-guarded → tie.After-guards
 called c = c .before .before .before .before .before .before .before
 
 returns : tie.Need-returns
-returns c = rw (c .pack-guarded .ensures) (ap packed-guarding (called c .guards .ensures))
+returns c = rw (c .pack-guarded .ensures) (ap packed-guarding (called c .guards .ensures .0))
 
 pub guards-spec : {M : Type 1} → statement M
 guards-spec = tie.close (tie.spec guards-requires pack-guarded-requires same-length same-length-2 same-length-3 returns)

@@ -22,7 +22,7 @@ abbrev called : tie.After-pack-solved → tie.After-solve
 called c = c .before .before .before .before .before
 
 returns : tie.Need-returns
-returns c = rw (c .pack-solved .ensures) (ap packed-solving (called c .solve .ensures))
+returns c = rw (c .pack-solved .ensures) (ap packed-solving (called c .solve .ensures .0))
 
 pub solve-spec : {M : Type 1} → statement M
 solve-spec = tie.close (tie.spec solve-requires pack-solved-requires same-length same-length-2 returns)

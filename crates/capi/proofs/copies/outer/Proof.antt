@@ -16,7 +16,7 @@ same-length : tie.Need-same-length
 same-length c = search needs
 
 returns : tie.Need-returns
-returns c = rw (c .pack-copied .ensures) (ap packed-copying (c .before .before .before .outer .ensures))
+returns c = rw (c .pack-copied .ensures) (ap packed-copying (c .before .before .before .outer .ensures .0))
 
 pub outer-spec : {M : Type 1} → statement M
 outer-spec = tie.close (tie.spec outer-requires pack-copied-requires same-length returns)

@@ -22,7 +22,7 @@ abbrev called : tie.After-pack-forced → tie.After-force
 called c = c .before .before .before .before .before
 
 returns : tie.Need-returns
-returns c = rw (c .pack-forced .ensures) (ap packed-forcing (called c .force .ensures))
+returns c = rw (c .pack-forced .ensures) (ap packed-forcing (called c .force .ensures .0))
 
 pub force-spec : {M : Type 1} → statement M
 force-spec = tie.close (tie.spec force-requires pack-forced-requires same-length same-length-2 returns)

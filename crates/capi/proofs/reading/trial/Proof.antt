@@ -13,7 +13,7 @@ pack-tried-requires : tie.Need-pack-tried-requires
 pack-tried-requires c κs = search needs
 
 returns : tie.Need-returns
-returns c = c .pack-tried .ensures ∙ ap packed-trial (c .before .trial .ensures)
+returns c = c .pack-tried .ensures ∙ ap packed-trial (c .before .trial .ensures .0)
 
 pub trial-spec : {M : Type 1} → statement M
 trial-spec = tie.close (tie.spec trial-requires pack-tried-requires returns)

@@ -26,7 +26,7 @@ called c = c .before .before .before .before .before
 
 returns : tie.Need-returns
 returns c =
-    rw (c .pack-solved .ensures, ← (called c .before .before .before .named-format .ensures)) (ap packed-solving (called c .resume .ensures))
+    rw (c .pack-solved .ensures, ← (called c .before .before .before .named-format .ensures)) (ap packed-solving (called c .resume .ensures .0))
 
 pub plumanchor-resume-spec : {M : Type 1} → statement M
 plumanchor-resume-spec =

@@ -16,7 +16,7 @@ same-length : tie.Need-same-length
 same-length c = search needs
 
 returns : tie.Need-returns
-returns c = rw (c .pack-written .ensures) (ap packed-writing (c .before .before .before .qdimacs .ensures))
+returns c = rw (c .pack-written .ensures) (ap packed-writing (c .before .before .before .qdimacs .ensures .0))
 
 pub qdimacs-spec : {M : Type 1} → statement M
 qdimacs-spec = tie.close (tie.spec qdimacs-requires pack-written-requires same-length returns)

@@ -16,7 +16,7 @@ same-length : tie.Need-same-length
 same-length c = search needs
 
 returns : tie.Need-returns
-returns c = rw (c .pack-written .ensures) (ap packed-writing (c .before .before .before .execute .ensures))
+returns c = rw (c .pack-written .ensures) (ap packed-writing (c .before .before .before .execute .ensures .0))
 
 pub execute-spec : {M : Type 1} → statement M
 execute-spec = tie.close (tie.spec execute-requires pack-written-requires same-length returns)

@@ -16,7 +16,7 @@ same-length : tie.Need-same-length
 same-length c = search needs
 
 returns : tie.Need-returns
-returns c = rw (c .pack-written .ensures) (ap packed-writing (c .before .before .before .expand .ensures))
+returns c = rw (c .pack-written .ensures) (ap packed-writing (c .before .before .before .expand .ensures .0))
 
 pub expand-spec : {M : Type 1} → statement M
 expand-spec = tie.close (tie.spec expand-requires pack-written-requires same-length returns)

@@ -16,7 +16,7 @@ same-length : tie.Need-same-length
 same-length c = search needs
 
 returns : tie.Need-returns
-returns c = rw (c .pack-written .ensures) (ap packed-writing (c .before .before .before .bring-back .ensures))
+returns c = rw (c .pack-written .ensures) (ap packed-writing (c .before .before .before .bring-back .ensures .0))
 
 pub plumanchor-narrow-spec : {M : Type 1} → statement M
 plumanchor-narrow-spec = tie.close (tie.spec bring-back-requires pack-written-requires same-length returns)

@@ -16,7 +16,7 @@ same-length : tie.Need-same-length
 same-length c = search needs
 
 returns : tie.Need-returns
-returns c = rw (c .pack-written .ensures) (ap packed-writing (c .before .before .before .widen .ensures))
+returns c = rw (c .pack-written .ensures) (ap packed-writing (c .before .before .before .widen .ensures .0))
 
 pub plumanchor-widen-spec : {M : Type 1} → statement M
 plumanchor-widen-spec = tie.close (tie.spec widen-requires pack-written-requires same-length returns)

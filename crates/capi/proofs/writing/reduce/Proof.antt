@@ -16,7 +16,7 @@ same-length : tie.Need-same-length
 same-length c = search needs
 
 returns : tie.Need-returns
-returns c = rw (c .pack-written .ensures) (ap packed-writing (c .before .before .before .reduce .ensures))
+returns c = rw (c .pack-written .ensures) (ap packed-writing (c .before .before .before .reduce .ensures .0))
 
 pub reduce-spec : {M : Type 1} → statement M
 reduce-spec = tie.close (tie.spec reduce-requires pack-written-requires same-length returns)

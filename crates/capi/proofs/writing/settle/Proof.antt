@@ -16,7 +16,7 @@ same-length : tie.Need-same-length
 same-length c = search needs
 
 returns : tie.Need-returns
-returns c = rw (c .pack-written .ensures) (ap packed-writing (c .before .before .before .settle .ensures))
+returns c = rw (c .pack-written .ensures) (ap packed-writing (c .before .before .before .settle .ensures .0))
 
 pub settle-spec : {M : Type 1} → statement M
 settle-spec = tie.close (tie.spec settle-requires pack-written-requires same-length returns)

@@ -16,7 +16,7 @@ same-length : tie.Need-same-length
 same-length c = search needs
 
 returns : tie.Need-returns
-returns c = rw (c .pack-written .ensures) (ap packed-writing (c .before .before .before .sort .ensures))
+returns c = rw (c .pack-written .ensures) (ap packed-writing (c .before .before .before .sort .ensures .0))
 
 pub sort-spec : {M : Type 1} → statement M
 sort-spec = tie.close (tie.spec sort-requires pack-written-requires same-length returns)

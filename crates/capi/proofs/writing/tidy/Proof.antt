@@ -16,7 +16,7 @@ same-length : tie.Need-same-length
 same-length c = search needs
 
 returns : tie.Need-returns
-returns c = rw (c .pack-written .ensures) (ap packed-writing (c .before .before .before .tidy .ensures))
+returns c = rw (c .pack-written .ensures) (ap packed-writing (c .before .before .before .tidy .ensures .0))
 
 pub tidy-spec : {M : Type 1} → statement M
 tidy-spec = tie.close (tie.spec tidy-requires pack-written-requires same-length returns)

@@ -1,7 +1,9 @@
 -- `order::sort::sort` meets its contract. Assumes nothing.
 use mathlib.Core.Path.{ap, _∙_}
 use Rattle.sheet.specs.Order.{sort-call}
+use Rattle.sheet.proofs.Truthful.{sort-truthful}
 use Rattle.rows.specs.Formats.{format-of}
+use Rattle.rows.proofs.Limits.{sound}
 use Rattle.checking.specs.Sheets.{Sheet}
 use Rattle.checking.proofs.CheckedSheets.{sheet-checked, sheet-refused, sheet-format, sheet-own}
 use Rattle.order.proofs.Sorts.{unchecked-sort}
@@ -35,14 +37,16 @@ returns c =
     let call = c .before .before in
     let told = call .before .before .before in
     let a = start (told .before .before) .args in
-    call .sort-checked .ensures ∙ ap (λ g. sort-call (format-of g) (a .sheet .now) (a .out .now)) (sheet-format (accepted told))
+    let e = call .sort-checked .ensures ∙ ap (λ g. sort-call (format-of g) (a .sheet .now) (a .out .now)) (sheet-format (accepted told)) in
+    (e, sort-truthful (format-of (a .f)) (sound (a .f)) (a .sheet .now) (a .out .now) e)
 
 returns-2 : tie.Need-returns-2
 returns-2 c =
     let told = c .before in
     let checked = told .before .before in
     let a = start checked .args in
-    unchecked-sort (format-of (a .f)) (a .sheet .now) (a .out .now) (sheet-refused (a .f) (a .sheet .now) (told .c2 .given .1) (checked .check .ensures))
+    let e = unchecked-sort (format-of (a .f)) (a .sheet .now) (a .out .now) (sheet-refused (a .f) (a .sheet .now) (told .c2 .given .1) (checked .check .ensures)) in
+    (e, sort-truthful (format-of (a .f)) (sound (a .f)) (a .sheet .now) (a .out .now) e)
 
 pub sort-spec : {M : Type 1} → statement M
 sort-spec =

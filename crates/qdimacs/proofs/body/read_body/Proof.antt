@@ -6,7 +6,7 @@ use native.Mathlib.Omega.{arith}
 use lib.Dec.{eqb}
 use borrow.Author.Tests.{not-true, not-false, eq-eqb, ne-eqb}
 use Rattle.sheet.specs.Qdimacs.{all, text-header}
-use Rattle.sheet.proofs.Qdimacs.Accepted.{up-to}
+use Rattle.sheet.specs.Texts.{up-to}
 use Rattle.words.specs.Numbers.{Capped, largest}
 use Rattle.qdimacs.specs.Inner.Lists.{between, clause-tokens, ends}
 use Rattle.qdimacs.specs.Inner.Cursor.{tokens-at}

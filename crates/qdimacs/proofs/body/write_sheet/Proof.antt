@@ -11,8 +11,7 @@ use Rattle.sheet.specs.Format.{row}
 use Rattle.sheet.specs.Sheet.{binding-row}
 use Rattle.sheet.proofs.Preorder.{length-forest-rows}
 use Rattle.sheet.specs.Qdimacs.{all, clause-trees}
-use Rattle.sheet.proofs.Qdimacs.Accepted.{up-to}
-use Rattle.sheet.proofs.Qdimacs.Answers.{lists}
+use Rattle.sheet.specs.Texts.{up-to, lists}
 use Rattle.rows.specs.Layouts.{total, rows-in, Room, sealed}
 use Rattle.rows.proofs.Layouts.{length-rows-in}
 use Rattle.qdimacs.specs.Inner.Lists.{between, ordered, clause-tokens, whole-lists}

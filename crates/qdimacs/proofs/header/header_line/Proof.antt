@@ -6,7 +6,7 @@ use native.Mathlib.Omega.{arith}
 use lib.ListN.{length}
 use lib.Seq.{slice}
 use borrow.Author.Tests.{not-true, not-false}
-use Rattle.sheet.proofs.Qdimacs.Words.{is-skipped}
+use Rattle.sheet.specs.Texts.{is-skipped}
 use Rattle.qdimacs.proofs.HeaderLines.{Sought, sought-none, line-inside, line-clean, sought-found, next-onward, sought-more, sought-all}
 use Rattle.qdimacs.proofs.header.header_line.Statement.{statement}
 use Rattle.qdimacs.proofs.header.header_line.Tie as tie

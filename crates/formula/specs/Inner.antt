@@ -1,0 +1,2 @@
+-- Definitions that no entry point cites.
+pub mod Clauses

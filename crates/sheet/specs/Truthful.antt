@@ -1,0 +1,61 @@
+-- What the answers of the operations say about truth, a definition for each kind of answer. The contract of every entry point that
+-- answers with a verdict, a sheet or a claim has one of them, so that it needs no other page to be relied on.
+-- Assumes nothing.
+use mathlib.Core.Path.{_≡_}
+use mathlib.Core.Bool.{Bool, true, false}
+use Prim.Native.Nat.{ℕ, _-_}
+use lib.ListN.{length, take, drop, replicate}
+use Rattle.formula.specs.Truth.{truth}
+use Rattle.formula.specs.Force.{Told, turn-after, ForceRight}
+use Rattle.formula.specs.Trial.{Tried}
+use Rattle.sheet.specs.Format.{Bytes, Format}
+use Rattle.sheet.specs.Sheet.{formula}
+use Rattle.sheet.specs.Check.{Answer, accepted, passes, check-tests}
+use Rattle.sheet.specs.Operations.{Written, is-stopped, is-ended, Solving}
+use Rattle.sheet.specs.Steps.{Listed}
+use Rattle.sheet.specs.Guards.{guards-stopped, guards-true, guards-kept, Guarding, Clashing}
+use Rattle.sheet.specs.Force.{values-of, Panel, Forcing}
+
+-- the truth of a sheet's formula
+abbrev pub truth-of : Format → Bytes → Bool
+truth-of F b = truth (formula F b)
+
+-- bytes that Check accepts, of this truth
+pub record SheetOf (F : Format) (t : Bool) (b : Bytes) : Type 0 where
+  pub is-accepted : passes (check-tests F b) ≡ true
+  pub is-truth : truth-of F b ≡ t
+
+-- Tidy, Settle, Expand, Execute, Outer, Reduce, Sort and the reader of QDIMACS: an accepted call's new sheet has the truth of what was
+-- given.
+pub record TruthfulSheet (F : Format) (t : Bool) (w : Written) : Type 0 where
+  pub on-accepted : (n : ℕ) → w .answer ≡ accepted n → SheetOf F t (take n (w .output))
+
+-- a list of steps: so has the sheet that it ends with
+pub record TruthfulSteps (F : Format) (t : Bool) (l : Listed) : Type 0 where
+  pub on-accepted : (n : ℕ) → l .answer ≡ accepted n → SheetOf F t (take n (l .first))
+
+-- Trial: its verdict is the truth of the sheet given
+pub record TruthfulTrial (t : Bool) (a : Answer Tried) : Type 0 where
+  pub on-accepted : (r : Tried) → a ≡ accepted r → r .verdict ≡ t
+
+-- a buffer with such a sheet at its front, and zeros behind it
+pub record Holds (F : Format) (t : Bool) (b : Bytes) : Type 0 where
+  pub size : ℕ
+  pub at-front : SheetOf F t (take size b)
+  pub zeros-behind : drop size b ≡ replicate (length b - size) 0
+
+-- Solve and Resume: a verdict is the truth of the sheet given; where a run stops, the first buffer holds a sheet of the same truth
+pub record TruthfulSolve (F : Format) (t : Bool) (s : Solving) : Type 0 where
+  pub on-ended : (v : Bool) (settles expands : ℕ) → s .answer ≡ is-ended v settles expands → v ≡ t
+  pub on-stopped : (x settles expands : ℕ) → s .answer ≡ is-stopped x settles expands → Holds F t (s .first)
+
+-- Guards: "true" is said of a true sheet; children are kept of a false one, and the sheet that they make is false, and true without any
+-- one of them if no run stopped
+pub record TruthfulGuards (F : Format) (b : Bytes) (g : Guarding) : Type 0 where
+  pub on-true : (n m : ℕ) → g .answer ≡ guards-true n m → truth-of F b ≡ true
+  pub on-kept : (n stops : ℕ) → g .answer ≡ guards-kept n stops → (truth-of F b ≡ false) × Clashing F b (take n (g .output)) stops
+
+-- Force: the turn is that of the first row without a value, and where no run stops, a value is named exactly if it wins
+pub record TruthfulForce (F : Format) (b vs : Bytes) (w : Forcing) : Type 0 where
+  pub whose-turn : (a : Panel) → w .answer ≡ accepted a → a .turn ≡ turn-after (values-of vs) (formula F b)
+  pub which-wins : (a : Panel) → w .answer ≡ accepted a → Told (a .outcome) → ForceRight (values-of vs) (formula F b) (a .outcome)
