@@ -4,11 +4,12 @@ use packing::pack_quoted;
 use packing::pack_tried;
 use rows::Format;
 ghost use mathlib.Core.Path.{_≡_};
-ghost use lib.ListN.{length};
+ghost use lib.ListN.{length, take, drop};
 ghost use Rattle.sheet.specs.Format.{narrow, wide};
 ghost use Rattle.sheet.specs.Check.{check};
 ghost use Rattle.sheet.specs.Operations.{trial-call, part-call, quote-call};
 ghost use Rattle.rows.specs.Formats.{format-of};
+ghost use Rattle.part.specs.Places.{part-place};
 ghost use Rattle.packing.specs.Packed.{packed-check, packed-trial, packed-quote};
 
 // Check: refusal number and place, or V and N.
@@ -57,6 +58,7 @@ pub extern "C" fn plumanchor_trial_wide(sheet: &[u8]) -> u64
 // node is bad.
 fn part(sheet: &[u8], f: Format, node: usize) -> usize
     ensures { λ r. ⌜ r ≡ length (part-call (format-of f) (now (sheet .entry)) node) ⌝ }
+    ensures { λ r. ⌜ part-call (format-of f) (now (sheet .entry)) node ≡ take r (drop (part-place (format-of f) (now (sheet .entry)) node) (now (sheet .entry))) ⌝ }
 {
     part::part(sheet, f, node).len()
 }
@@ -64,6 +66,7 @@ fn part(sheet: &[u8], f: Format, node: usize) -> usize
 #[no_mangle]
 pub extern "C" fn plumanchor_part(sheet: &[u8], node: usize) -> usize
     ensures { λ r. ⌜ r ≡ length (part-call narrow (now (sheet .entry)) node) ⌝ }
+    ensures { λ r. ⌜ part-call narrow (now (sheet .entry)) node ≡ take r (drop (part-place narrow (now (sheet .entry)) node) (now (sheet .entry))) ⌝ }
 {
     part(sheet, Format::Narrow, node)
 }
@@ -71,6 +74,7 @@ pub extern "C" fn plumanchor_part(sheet: &[u8], node: usize) -> usize
 #[no_mangle]
 pub extern "C" fn plumanchor_part_wide(sheet: &[u8], node: usize) -> usize
     ensures { λ r. ⌜ r ≡ length (part-call wide (now (sheet .entry)) node) ⌝ }
+    ensures { λ r. ⌜ part-call wide (now (sheet .entry)) node ≡ take r (drop (part-place wide (now (sheet .entry)) node) (now (sheet .entry))) ⌝ }
 {
     part(sheet, Format::Wide, node)
 }

@@ -2,7 +2,7 @@
 -- Assumes nothing.
 use mathlib.Core.Path.{_≡_, refl, sym, _∙_, ap, ap₂}
 use mathlib.Core.Bool.{Bool, true, false, not, _||_, cond, Bool·beq, false≢true, true≢false}
-use Prim.Native.Nat.{ℕ, suc, _+_}
+use Prim.Native.Nat.{ℕ, suc, _+_, _≤_}
 use native.Mathlib.Omega.{arith}
 use borrow.Author.Tests.{eqb-true, not-true, not-false}
 use Rattle.formula.specs.Tree.{Op, Quantifier, Tree, lit, node, Forest, ∅, _▸_, Formula, Literals, of, rows, rows-all, has, has-any, replace-all, binds, quantifier-of, without, distinct, count, some-child, keep}
@@ -319,3 +319,34 @@ rows-raw-tree q x t = by (has (of x) t) refl
     by : (m : Bool) → has (of x) t ≡ m → rows (cond m (expand-tree (copying q x) t) t) ≡ cond m (rows t + growth (of x) t) (rows t)
     by true e = rows-expand (copying q x) (rows-assigned x false) (rows-assigned x true) t e
     by false e = refl
+
+-- the raw tree has at most twice the rows, and two
+
+mutual
+  unfolding growth rows
+
+  growth-most : (L : Literals) (t : Tree) → growth L t ≤ rows t + 2
+  growth-most L (lit s v) = omega arith
+  growth-most L (node o ts) = by (one-relevant L ts) (all-relevant L ts) (growth-below-most L ts) (rows-split L ts)
+    where
+      by : (m n : Bool) → growth-below L ts ≤ rows-all ts + 2 → rows-all ts ≡ rows-all (relevant L ts) + rows-all (keep (λ t. not (has L t)) ts)
+          → cond m (growth-below L ts) (cond n (1 + rows-all (relevant L ts) + 1) (1 + rows-all (relevant L ts) + 2)) ≤ suc (rows-all ts) + 2
+      by true n l e = omega arith
+      by false true l e = omega arith
+      by false false l e = omega arith
+
+  growth-below-most : (L : Literals) (ts : Forest) → growth-below L ts ≤ rows-all ts + 2
+  growth-below-most L ∅ = omega arith
+  growth-below-most L (t ▸ ts) = by (has L t) (growth-most L t) (growth-below-most L ts)
+    where
+      by : (m : Bool) → growth L t ≤ rows t + 2 → growth-below L ts ≤ rows-all ts + 2 → cond m (growth L t) (growth-below L ts) ≤ rows t + rows-all ts + 2
+      by true l k = omega arith
+      by false l k = omega arith
+
+pub raw-rows-most : (L : Literals) (t : Tree) → raw-rows L t ≤ rows t + rows t + 2
+unfolding raw-rows
+raw-rows-most L t = by (has L t) (growth-most L t)
+  where
+    by : (m : Bool) → growth L t ≤ rows t + 2 → cond m (rows t + growth L t) (rows t) ≤ rows t + rows t + 2
+    by true l = omega arith
+    by false l = omega arith

@@ -6,7 +6,7 @@ use mathlib.Core.Logic.{_⊎_, inl, inr}
 use Prim.Native.Nat.{ℕ, zero, suc, _≤_, _<_}
 use native.Mathlib.Omega.{arith}
 use borrow.Author.Tests.{not-true}
-use Rattle.formula.specs.Tree.{and, or, Tree, lit, node, Forest, ∅, _▸_, _⧺_, Prefix, Formula, Literals, rows-all, has, has-any, count, distinct, closed}
+use Rattle.formula.specs.Tree.{and, or, Tree, lit, node, Forest, ∅, _▸_, _⧺_, Prefix, Formula, Literals, rows, rows-all, has, has-any, count, distinct, closed}
 use Rattle.formula.specs.Truth.{Assignment, eval, eval-all, truth, Leads}
 use Rattle.formula.specs.Solve.{End, ended, stopped, Fits, solve}
 use Rattle.formula.specs.Guards.{is-and, guards, conjoined, Kept, judged, sift, says, clashing, clash, after-run, guarded, removed, weakened}
@@ -203,3 +203,36 @@ guarded-right fits f d c a g n h =
         let same : conjoined p (k .those) ≡ g = cc in
         let counted : k .stops ≡ n = cc in
         subst (λ (m : ℕ). Blamed f g m) counted (subst (λ (h : Formula). Blamed f h (k .stops)) same (found (sym (v false refl))))
+
+-- no more runs stop than there are guards
+
+stops-most : (says : Forest → End) (kept ts : Forest) → (sift says kept ts) .stops ≤ count ts
+unfolding sift judged count
+stops-most says kept ∅ = omega arith
+stops-most says kept (t ▸ rest) =
+    by (says (kept ⧺ rest)) (sift says kept rest) (sift says (kept ⧺ (t ▸ ∅)) rest) (stops-most says kept rest) (stops-most says (kept ⧺ (t ▸ ∅)) rest)
+  where
+    by : (e : End) (without with : Kept) → without .stops ≤ count rest → with .stops ≤ count rest → (judged e without with) .stops ≤ suc (count rest)
+    by (ended false) without with l m = omega arith
+    by (ended true) without with l m = omega arith
+    by (stopped x) without with l m = omega arith
+
+rows-some : (t : Tree) → 1 ≤ rows t
+unfolding rows
+rows-some (lit s v) = omega arith
+rows-some (node o ts) = omega arith
+
+count-most : (ts : Forest) → count ts ≤ rows-all ts
+unfolding count rows
+count-most ∅ = omega arith
+count-most (t ▸ ts) = omega (arith, rows-some t, count-most ts)
+
+guards-most : (t : Tree) → count (guards t) ≤ rows t
+unfolding guards rows count
+guards-most (lit s v) = omega arith
+guards-most (node o ts) = omega (arith, count-most ts)
+
+pub clashing-most : (fits : Fits) (f : Formula) → (clashing fits f) .stops ≤ rows (f .matrix)
+unfolding clashing
+clashing-most fits f =
+    omega (arith, stops-most (says fits (f .prefix)) ∅ (guards (f .matrix)), guards-most (f .matrix))

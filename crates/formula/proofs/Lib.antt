@@ -3,6 +3,7 @@ pub mod Binding
 pub mod Evaluation
 pub mod Splitting
 pub mod Tidy
+pub mod Faults
 pub mod Settle
 pub mod Expand
 pub mod Closed

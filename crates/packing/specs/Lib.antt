@@ -3,3 +3,4 @@ pub mod Packed
 pub mod Panel
 pub mod Order
 pub mod Copies
+pub mod Unpacked

@@ -21,6 +21,7 @@ use Rattle.checking.specs.declared.Reached.{Reached}
 use Rattle.checking.specs.Sheets.{Sheet}
 use Rattle.checking.specs.Inner.Stages.{pay}
 use Rattle.checking.proofs.Debt.{pay-span, span-length}
+use Rattle.part.specs.Places.{part-place, moved-on}
 
 -- a part of the front, taken from the whole
 take-drop-take : {A : Type 0} (k s m : ℕ) (l : List A) → k + s ≤ m → take s (drop k (take m l)) ≡ take s (drop k l)
@@ -29,9 +30,35 @@ take-drop-take (suc k) s zero l h = absurd (omega arith)
 take-drop-take (suc k) s (suc m) [] h = refl
 take-drop-take (suc k) s (suc m) (x ∷ l) h = take-drop-take k s m l (omega arith)
 
+-- what is taken of a list stands at its front
+take-taken : {A : Type 0} (k : ℕ) (l : List A) → take k l ≡ take (length (take k l)) l
+take-taken zero [] = refl
+take-taken zero (x ∷ l) = refl
+take-taken (suc k) [] = refl
+take-taken (suc k) (x ∷ l) = ap (λ r. x ∷ r) (take-taken k l)
+
+-- a part with what the contract says of it: its contents, and where it stands
+pub record Standing (F : sheet.Format) (b : Bytes) (i from : ℕ) (new : Bytes) : Type 0 where
+  pub contents : new ≡ part-call F b i
+  pub place : from ≡ part-place F b i
+
+abbrev pub Told : sheet.Format → Bytes → ℕ → ℕ × ℕ → ℕ → Bytes → Type 0
+Told F b i p from new =
+    (new ≡ part-call F b i) × ((new ≡ take (length new) (drop (part-place F b i) b)) × (moved-on from p ≡ moved-on (part-place F b i) p))
+
+-- a part of so many bytes from a place on
+pub told : (F : sheet.Format) (b : Bytes) (i : ℕ) (p : ℕ × ℕ) (from count : ℕ) → Standing F b i from (take count (drop from b))
+    → Told F b i p from (take count (drop from b))
+told F b i p from count s =
+    (s .contents, (take-taken count (drop from b) ∙ ap (λ n. take (length (take count (drop from b))) (drop n b)) (s .place), ap (λ n. moved-on n p) (s .place)))
+
 pub bad-sheet : (F : sheet.Format) (b : Bytes) (i : ℕ) → passes (check-tests F b) ≡ false → [] ≡ part-call F b i
 unfolding part-call
 bad-sheet F b i h = rw h
+
+pub bad-sheet-place : (F : sheet.Format) (b : Bytes) (i : ℕ) → passes (check-tests F b) ≡ false → 0 ≡ part-place F b i
+unfolding part-place
+bad-sheet-place F b i h = rw h
 
 module _ {f : Format} {b : Bytes} {s : Layout} (i : ℕ) (h : Sheet f b s) where
   abbrev F : sheet.Format
@@ -43,6 +70,14 @@ module _ {f : Format} {b : Bytes} {s : Layout} (i : ℕ) (h : Sheet f b s) where
   pub bad-node : s .nodes ≤ i → [] ≡ part-call F b i
   unfolding part-call
   bad-node none = rw (h .tests-pass, le-ltb i (nodes F b) (omega (arith, nodes-are)))
+
+  pub bad-node-place : s .nodes ≤ i → 0 ≡ part-place F b i
+  unfolding part-place
+  bad-node-place none = rw (h .tests-pass, le-ltb i (nodes F b) (omega (arith, nodes-are)))
+
+  pub place-here : i < s .nodes → kind-place s (s .variables + i) ≡ part-place F b i
+  unfolding part-place
+  place-here some = rw (h .layout-is, h .tests-pass, lt-ltb i (nodes F b) (omega (arith, nodes-are)))
 
   -- the rows from the node's own on
   abbrev subtree : List Row

@@ -12,6 +12,7 @@ use borrow.Author.Tests.{lt-ltb, le-ltb, not-true}
 use Rattle.formula.specs.Tree.{Tree, Formula, binds, distinct, closed, has}
 use Rattle.formula.specs.Tidy.{tidied, is-tidy, first-fault}
 use Rattle.formula.specs.Reduce.{in-profile, reduced}
+use Rattle.formula.proofs.Faults.{fault-within}
 use Rattle.formula.proofs.Closed.{unbound}
 use Rattle.formula.proofs.Reduce.{profile-and-below, tidy-blank-tree}
 use Rattle.formula.specs.Inner.Clauses.{and-below}
@@ -36,7 +37,7 @@ use Rattle.checking.specs.Sheets.{Sheet}
 use Rattle.checking.proofs.CheckedSheets.{sheet-right, sheet-readable, sheet-formula-in}
 use Rattle.subtrees.specs.Subtrees.{top}
 use Rattle.subtrees.proofs.Forest.{tree-rows-top}
-use Rattle.tidiness.proofs.Tidiness.{fault-within, tidy-by, fault-by}
+use Rattle.tidiness.proofs.Tidiness.{tidy-by, fault-by}
 use Rattle.tidying.specs.Limits.{Raw}
 use Rattle.tidying.proofs.Raw.{few-rows, layout-length, raw-rows, raw-output, raw-sizes}
 use Rattle.reduce.specs.Inner.Places.{Numbered, Placed}

@@ -101,3 +101,7 @@ known (t ∷ ts) = is-known (t .number) && known ts
 
 abbrev pub Known : List Test → Type 0
 Known ts = known ts ≡ true
+
+-- the largest place: behind the last row of the largest sheet
+abbrev pub last-place : Format → ℕ
+last-place F = F .most-variables + F .most-nodes

@@ -1,5 +1,6 @@
 -- `part::part` meets its contract. Assumes nothing.
-use Prim.Native.Nat.{_+_, _≤_}
+use mathlib.Core.Path.{_∙_}
+use Prim.Native.Nat.{_+_, _-_, _≤_}
 use borrow.Author.Needs.{needs}
 use native.Mathlib.Omega.{arith}
 use Rattle.rows.specs.Formats.{format-of}
@@ -9,7 +10,7 @@ use Rattle.rows.specs.declared.Layout.{Layout}
 use Rattle.rows.proofs.Limits.{limits}
 use Rattle.checking.specs.Sheets.{Sheet}
 use Rattle.checking.proofs.CheckedSheets.{refused-sheet, sheet-checked, sheet-readable, sheet-sized}
-use Rattle.part.proofs.Subtree.{bad-sheet, bad-node, ends-behind, ends-within, part-here}
+use Rattle.part.proofs.Subtree.{told as told-at, bad-sheet, bad-sheet-place, bad-node, bad-node-place, ends-behind, ends-within, part-here, place-here}
 use Rattle.part.proofs.part.Statement.{statement}
 use Rattle.part.proofs.part.Tie as tie
 
@@ -36,8 +37,10 @@ returns c =
     let told = c .before in
     let checked = told .before .before in
     let a = checked .before .before .args in
-    bad-sheet (format-of (a .f)) (a .sheet .now) (a .node)
-    (refused-sheet (a .f) (a .sheet .now) (told .enum-told .given .1) (checked .check .ensures))
+    let F = format-of (a .f) in
+    let bad = refused-sheet (a .f) (a .sheet .now) (told .enum-told .given .1) (checked .check .ensures) in
+    told-at F (a .sheet .now) (a .node) (a .sheet .ptr) 0 0
+    (record { contents = bad-sheet F (a .sheet .now) (a .node) bad; place = bad-sheet-place F (a .sheet .now) (a .node) bad })
 
 sub-result-2 : tie.Need-sub-result-2
 sub-result-2 c = search needs
@@ -69,7 +72,11 @@ abbrev accepted : tie.After-struct-known2 → tie.After-c
 accepted c = compared (c .before .before)
 
 returns-2 : tie.Need-returns-2
-returns-2 c = bad-node _ (checked (compared (c .before .before))) (omega arith)
+returns-2 c =
+    let k = compared (c .before .before) in
+    let a = start k .args in
+    told-at (format-of (a .f)) (a .sheet .now) (a .node) (a .sheet .ptr) 0 0
+    (record { contents = bad-node _ (checked k) (omega arith); place = bad-node-place _ (checked k) (omega arith) })
 
 add-first : tie.Need-add-first
 add-first c = omega (arith, readable (accepted c))
@@ -115,8 +122,15 @@ returns-3 c =
     let places = c .before in
     let w = places .before .before in
     let s = walked w in
-    part-here _ (checked s) (readable s .room) (w .before .before .if1 .left) (w .walk .result) (w .walk .ensures)
-    (places .before .kind-place .ensures) (places .kind-place2 .ensures)
+    let a = start s .args in
+    let some = w .before .before .if1 .left in
+    told-at (format-of (a .f)) (a .sheet .now) (a .node) (a .sheet .ptr) (places .before .kind-place .result) (places .kind-place2 .result - places .before .kind-place .result)
+    (record {
+      contents =
+          part-here _ (checked s) (readable s .room) some (w .walk .result) (w .walk .ensures) (places .before .kind-place .ensures)
+          (places .kind-place2 .ensures);
+      place = places .before .kind-place .ensures ∙ place-here _ (checked s) some;
+    })
 
 pub part-spec : {M : Type 1} → statement M
 part-spec =

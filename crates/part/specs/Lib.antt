@@ -1,0 +1,2 @@
+-- Where a part stands.
+pub mod Places
