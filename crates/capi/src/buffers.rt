@@ -8,12 +8,15 @@ ghost use Rattle.sheet.specs.Format.{narrow, wide};
 ghost use Rattle.sheet.specs.Operations.{solve-call};
 ghost use Rattle.sheet.specs.Order.{compare-call};
 ghost use Rattle.sheet.specs.Guards.{guards-call};
+ghost use Rattle.sheet.specs.Truthful.{truth-of};
 ghost use Rattle.rows.specs.Formats.{format-of};
 ghost use Rattle.capi.specs.Returned.{buffers-left, packed-solving, packed-comparing, guards-left, packed-guarding};
+ghost use Rattle.packing.specs.Told.{ToldSolve, ToldGuards};
 
 // Solve: refusal number and place; or a word, the counts and the variable stopped at.
 fn solve(sheet: &[u8], f: Format, first: &mut [u8], second: &mut [u8]) -> u64
     ensures { λ r. ⌜ buffers-left r first second ≡ packed-solving (solve-call (format-of f) (now (sheet .entry)) (now (first .entry)) (now (second .entry))) ⌝ }
+    ensures { λ r. ⌜ ToldSolve (format-of f) (truth-of (format-of f) (now (sheet .entry))) r (now (first .exit)) ⌝ }
 {
     pack_solved(solve::solve(sheet, f, first, second))
 }
@@ -21,6 +24,7 @@ fn solve(sheet: &[u8], f: Format, first: &mut [u8], second: &mut [u8]) -> u64
 #[no_mangle]
 pub extern "C" fn plumanchor_solve(sheet: &[u8], first: &mut [u8], second: &mut [u8]) -> u64
     ensures { λ r. ⌜ buffers-left r first second ≡ packed-solving (solve-call narrow (now (sheet .entry)) (now (first .entry)) (now (second .entry))) ⌝ }
+    ensures { λ r. ⌜ ToldSolve narrow (truth-of narrow (now (sheet .entry))) r (now (first .exit)) ⌝ }
 {
     solve(sheet, Format::Narrow, first, second)
 }
@@ -28,6 +32,7 @@ pub extern "C" fn plumanchor_solve(sheet: &[u8], first: &mut [u8], second: &mut 
 #[no_mangle]
 pub extern "C" fn plumanchor_solve_wide(sheet: &[u8], first: &mut [u8], second: &mut [u8]) -> u64
     ensures { λ r. ⌜ buffers-left r first second ≡ packed-solving (solve-call wide (now (sheet .entry)) (now (first .entry)) (now (second .entry))) ⌝ }
+    ensures { λ r. ⌜ ToldSolve wide (truth-of wide (now (sheet .entry))) r (now (first .exit)) ⌝ }
 {
     solve(sheet, Format::Wide, first, second)
 }
@@ -61,6 +66,7 @@ pub extern "C" fn plumanchor_compare_wide(
 // Guards, with an output: refusal number and place; the initial run as Solve's; or the kept children's sheet by its length, and the count.
 fn guards(sheet: &[u8], f: Format, out: &mut [u8], first: &mut [u8], second: &mut [u8]) -> u64
     ensures { λ r. ⌜ guards-left r out first second ≡ packed-guarding (guards-call (format-of f) (now (sheet .entry)) (now (out .entry)) (now (first .entry)) (now (second .entry))) ⌝ }
+    ensures { λ r. ⌜ ToldGuards (format-of f) (now (sheet .entry)) r (now (out .exit)) ⌝ }
 {
     pack_guarded(guards::guards(sheet, f, out, first, second))
 }
@@ -73,6 +79,7 @@ pub extern "C" fn plumanchor_guards(
     second: &mut [u8],
 ) -> u64
     ensures { λ r. ⌜ guards-left r out first second ≡ packed-guarding (guards-call narrow (now (sheet .entry)) (now (out .entry)) (now (first .entry)) (now (second .entry))) ⌝ }
+    ensures { λ r. ⌜ ToldGuards narrow (now (sheet .entry)) r (now (out .exit)) ⌝ }
 {
     guards(sheet, Format::Narrow, out, first, second)
 }
@@ -85,6 +92,7 @@ pub extern "C" fn plumanchor_guards_wide(
     second: &mut [u8],
 ) -> u64
     ensures { λ r. ⌜ guards-left r out first second ≡ packed-guarding (guards-call wide (now (sheet .entry)) (now (out .entry)) (now (first .entry)) (now (second .entry))) ⌝ }
+    ensures { λ r. ⌜ ToldGuards wide (now (sheet .entry)) r (now (out .exit)) ⌝ }
 {
     guards(sheet, Format::Wide, out, first, second)
 }

@@ -7,9 +7,11 @@ ghost use Rattle.sheet.specs.Format.{narrow, wide};
 ghost use Rattle.sheet.specs.Force.{force-call};
 ghost use Rattle.rows.specs.Formats.{format-of};
 ghost use Rattle.capi.specs.Returned.{buffers-left, packed-forcing};
+ghost use Rattle.packing.specs.Told.{ToldForce};
 
 fn force(sheet: &[u8], f: Format, values: &[u8], first: &mut [u8], second: &mut [u8]) -> u64
     ensures { λ r. ⌜ buffers-left r first second ≡ packed-forcing (force-call (format-of f) (now (sheet .entry)) (now (values .entry)) (now (first .entry)) (now (second .entry))) ⌝ }
+    ensures { λ r. ⌜ ToldForce (format-of f) (now (sheet .entry)) (now (values .entry)) r ⌝ }
 {
     pack_forced(force::force(sheet, f, values, first, second))
 }
@@ -22,6 +24,7 @@ pub extern "C" fn plumanchor_force(
     second: &mut [u8],
 ) -> u64
     ensures { λ r. ⌜ buffers-left r first second ≡ packed-forcing (force-call narrow (now (sheet .entry)) (now (values .entry)) (now (first .entry)) (now (second .entry))) ⌝ }
+    ensures { λ r. ⌜ ToldForce narrow (now (sheet .entry)) (now (values .entry)) r ⌝ }
 {
     force(sheet, Format::Narrow, values, first, second)
 }
@@ -34,6 +37,7 @@ pub extern "C" fn plumanchor_force_wide(
     second: &mut [u8],
 ) -> u64
     ensures { λ r. ⌜ buffers-left r first second ≡ packed-forcing (force-call wide (now (sheet .entry)) (now (values .entry)) (now (first .entry)) (now (second .entry))) ⌝ }
+    ensures { λ r. ⌜ ToldForce wide (now (sheet .entry)) (now (values .entry)) r ⌝ }
 {
     force(sheet, Format::Wide, values, first, second)
 }

@@ -8,9 +8,11 @@ ghost use lib.ListN.{length, take, drop};
 ghost use Rattle.sheet.specs.Format.{narrow, wide};
 ghost use Rattle.sheet.specs.Check.{check};
 ghost use Rattle.sheet.specs.Operations.{trial-call, part-call, quote-call};
+ghost use Rattle.sheet.specs.Truthful.{truth-of};
 ghost use Rattle.rows.specs.Formats.{format-of};
 ghost use Rattle.part.specs.Places.{part-place};
 ghost use Rattle.packing.specs.Packed.{packed-check, packed-trial, packed-quote};
+ghost use Rattle.packing.specs.Told.{ToldTrial};
 
 // Check: refusal number and place, or V and N.
 fn check(sheet: &[u8], f: Format) -> u64
@@ -36,6 +38,7 @@ pub extern "C" fn plumanchor_check_wide(sheet: &[u8]) -> u64
 // Trial: refusal number and place, or the verdict and the leaves tried.
 fn trial(sheet: &[u8], f: Format) -> u64
     ensures { λ r. ⌜ r ≡ packed-trial (trial-call (format-of f) (now (sheet .entry))) ⌝ }
+    ensures { λ r. ⌜ ToldTrial (truth-of (format-of f) (now (sheet .entry))) r ⌝ }
 {
     pack_tried(trial::trial(sheet, f))
 }
@@ -43,6 +46,7 @@ fn trial(sheet: &[u8], f: Format) -> u64
 #[no_mangle]
 pub extern "C" fn plumanchor_trial(sheet: &[u8]) -> u64
     ensures { λ r. ⌜ r ≡ packed-trial (trial-call narrow (now (sheet .entry))) ⌝ }
+    ensures { λ r. ⌜ ToldTrial (truth-of narrow (now (sheet .entry))) r ⌝ }
 {
     trial(sheet, Format::Narrow)
 }
@@ -50,6 +54,7 @@ pub extern "C" fn plumanchor_trial(sheet: &[u8]) -> u64
 #[no_mangle]
 pub extern "C" fn plumanchor_trial_wide(sheet: &[u8]) -> u64
     ensures { λ r. ⌜ r ≡ packed-trial (trial-call wide (now (sheet .entry))) ⌝ }
+    ensures { λ r. ⌜ ToldTrial (truth-of wide (now (sheet .entry))) r ⌝ }
 {
     trial(sheet, Format::Wide)
 }

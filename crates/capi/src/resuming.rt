@@ -5,7 +5,10 @@ use rows::Format;
 ghost use mathlib.Core.Path.{_≡_};
 ghost use mathlib.Core.Bool.{not};
 ghost use lib.Dec.{eqb};
-ghost use Rattle.sheet.specs.Resume.{resume-call};
+ghost use Rattle.sheet.specs.Format.{wide};
+ghost use Rattle.sheet.specs.Resume.{named, resume-call};
+ghost use Rattle.sheet.specs.Truthful.{truth-of};
+ghost use Rattle.packing.specs.Told.{ToldSolve};
 ghost use Rattle.resume.specs.Calls.{is-narrow};
 ghost use Rattle.capi.specs.Returned.{buffers-left, packed-solving};
 
@@ -32,6 +35,7 @@ pub extern "C" fn plumanchor_resume(
     second: &mut [u8],
 ) -> u64
     ensures { λ r. ⌜ buffers-left r first second ≡ packed-solving (resume-call started settled expanded (now (sheet .entry)) (not (eqb narrow 0)) (now (first .entry)) (now (second .entry))) ⌝ }
+    ensures { λ r. ⌜ ToldSolve wide (truth-of (named (not (eqb narrow 0))) (now (sheet .entry))) r (now (first .exit)) ⌝ }
 {
     let counts = Counts {
         started,

@@ -6,11 +6,14 @@ ghost use Rattle.sheet.specs.Format.{narrow, wide};
 ghost use Rattle.sheet.specs.Operations.{tidy-call, settle-call, expand-call, execute-call, reduce-call};
 ghost use Rattle.sheet.specs.Order.{sort-call};
 ghost use Rattle.sheet.specs.Carrying.{widen-call, bring-back-call};
+ghost use Rattle.sheet.specs.Truthful.{truth-of};
 ghost use Rattle.rows.specs.Formats.{format-of};
+ghost use Rattle.packing.specs.Told.{ToldSheet};
 ghost use Rattle.capi.specs.Returned.{output-left, packed-writing};
 
 fn tidy(sheet: &[u8], f: Format, out: &mut [u8]) -> u64
     ensures { λ r. ⌜ output-left r out ≡ packed-writing (tidy-call (format-of f) (now (sheet .entry)) (now (out .entry))) ⌝ }
+    ensures { λ r. ⌜ ToldSheet (format-of f) (truth-of (format-of f) (now (sheet .entry))) r (now (out .exit)) ⌝ }
 {
     pack_written(tidying::tidy(sheet, f, out))
 }
@@ -18,6 +21,7 @@ fn tidy(sheet: &[u8], f: Format, out: &mut [u8]) -> u64
 #[no_mangle]
 pub extern "C" fn plumanchor_tidy(sheet: &[u8], out: &mut [u8]) -> u64
     ensures { λ r. ⌜ output-left r out ≡ packed-writing (tidy-call narrow (now (sheet .entry)) (now (out .entry))) ⌝ }
+    ensures { λ r. ⌜ ToldSheet narrow (truth-of narrow (now (sheet .entry))) r (now (out .exit)) ⌝ }
 {
     tidy(sheet, Format::Narrow, out)
 }
@@ -25,12 +29,14 @@ pub extern "C" fn plumanchor_tidy(sheet: &[u8], out: &mut [u8]) -> u64
 #[no_mangle]
 pub extern "C" fn plumanchor_tidy_wide(sheet: &[u8], out: &mut [u8]) -> u64
     ensures { λ r. ⌜ output-left r out ≡ packed-writing (tidy-call wide (now (sheet .entry)) (now (out .entry))) ⌝ }
+    ensures { λ r. ⌜ ToldSheet wide (truth-of wide (now (sheet .entry))) r (now (out .exit)) ⌝ }
 {
     tidy(sheet, Format::Wide, out)
 }
 
 fn settle(sheet: &[u8], f: Format, x: usize, out: &mut [u8]) -> u64
     ensures { λ r. ⌜ output-left r out ≡ packed-writing (settle-call (format-of f) (now (sheet .entry)) x (now (out .entry))) ⌝ }
+    ensures { λ r. ⌜ ToldSheet (format-of f) (truth-of (format-of f) (now (sheet .entry))) r (now (out .exit)) ⌝ }
 {
     pack_written(settle::settle(sheet, f, x, out))
 }
@@ -38,6 +44,7 @@ fn settle(sheet: &[u8], f: Format, x: usize, out: &mut [u8]) -> u64
 #[no_mangle]
 pub extern "C" fn plumanchor_settle(sheet: &[u8], x: usize, out: &mut [u8]) -> u64
     ensures { λ r. ⌜ output-left r out ≡ packed-writing (settle-call narrow (now (sheet .entry)) x (now (out .entry))) ⌝ }
+    ensures { λ r. ⌜ ToldSheet narrow (truth-of narrow (now (sheet .entry))) r (now (out .exit)) ⌝ }
 {
     settle(sheet, Format::Narrow, x, out)
 }
@@ -45,12 +52,14 @@ pub extern "C" fn plumanchor_settle(sheet: &[u8], x: usize, out: &mut [u8]) -> u
 #[no_mangle]
 pub extern "C" fn plumanchor_settle_wide(sheet: &[u8], x: usize, out: &mut [u8]) -> u64
     ensures { λ r. ⌜ output-left r out ≡ packed-writing (settle-call wide (now (sheet .entry)) x (now (out .entry))) ⌝ }
+    ensures { λ r. ⌜ ToldSheet wide (truth-of wide (now (sheet .entry))) r (now (out .exit)) ⌝ }
 {
     settle(sheet, Format::Wide, x, out)
 }
 
 fn expand(sheet: &[u8], f: Format, x: usize, out: &mut [u8]) -> u64
     ensures { λ r. ⌜ output-left r out ≡ packed-writing (expand-call (format-of f) (now (sheet .entry)) x (now (out .entry))) ⌝ }
+    ensures { λ r. ⌜ ToldSheet (format-of f) (truth-of (format-of f) (now (sheet .entry))) r (now (out .exit)) ⌝ }
 {
     pack_written(expand::expand(sheet, f, x, out))
 }
@@ -58,6 +67,7 @@ fn expand(sheet: &[u8], f: Format, x: usize, out: &mut [u8]) -> u64
 #[no_mangle]
 pub extern "C" fn plumanchor_expand(sheet: &[u8], x: usize, out: &mut [u8]) -> u64
     ensures { λ r. ⌜ output-left r out ≡ packed-writing (expand-call narrow (now (sheet .entry)) x (now (out .entry))) ⌝ }
+    ensures { λ r. ⌜ ToldSheet narrow (truth-of narrow (now (sheet .entry))) r (now (out .exit)) ⌝ }
 {
     expand(sheet, Format::Narrow, x, out)
 }
@@ -65,12 +75,14 @@ pub extern "C" fn plumanchor_expand(sheet: &[u8], x: usize, out: &mut [u8]) -> u
 #[no_mangle]
 pub extern "C" fn plumanchor_expand_wide(sheet: &[u8], x: usize, out: &mut [u8]) -> u64
     ensures { λ r. ⌜ output-left r out ≡ packed-writing (expand-call wide (now (sheet .entry)) x (now (out .entry))) ⌝ }
+    ensures { λ r. ⌜ ToldSheet wide (truth-of wide (now (sheet .entry))) r (now (out .exit)) ⌝ }
 {
     expand(sheet, Format::Wide, x, out)
 }
 
 fn execute(sheet: &[u8], f: Format, x: usize, ceiling: usize, out: &mut [u8]) -> u64
     ensures { λ r. ⌜ output-left r out ≡ packed-writing (execute-call (format-of f) (now (sheet .entry)) x ceiling (now (out .entry))) ⌝ }
+    ensures { λ r. ⌜ ToldSheet (format-of f) (truth-of (format-of f) (now (sheet .entry))) r (now (out .exit)) ⌝ }
 {
     pack_written(expand::execute(sheet, f, x, ceiling, out))
 }
@@ -78,6 +90,7 @@ fn execute(sheet: &[u8], f: Format, x: usize, ceiling: usize, out: &mut [u8]) ->
 #[no_mangle]
 pub extern "C" fn plumanchor_execute(sheet: &[u8], x: usize, ceiling: usize, out: &mut [u8]) -> u64
     ensures { λ r. ⌜ output-left r out ≡ packed-writing (execute-call narrow (now (sheet .entry)) x ceiling (now (out .entry))) ⌝ }
+    ensures { λ r. ⌜ ToldSheet narrow (truth-of narrow (now (sheet .entry))) r (now (out .exit)) ⌝ }
 {
     execute(sheet, Format::Narrow, x, ceiling, out)
 }
@@ -90,12 +103,14 @@ pub extern "C" fn plumanchor_execute_wide(
     out: &mut [u8],
 ) -> u64
     ensures { λ r. ⌜ output-left r out ≡ packed-writing (execute-call wide (now (sheet .entry)) x ceiling (now (out .entry))) ⌝ }
+    ensures { λ r. ⌜ ToldSheet wide (truth-of wide (now (sheet .entry))) r (now (out .exit)) ⌝ }
 {
     execute(sheet, Format::Wide, x, ceiling, out)
 }
 
 fn reduce(sheet: &[u8], f: Format, out: &mut [u8]) -> u64
     ensures { λ r. ⌜ output-left r out ≡ packed-writing (reduce-call (format-of f) (now (sheet .entry)) (now (out .entry))) ⌝ }
+    ensures { λ r. ⌜ ToldSheet (format-of f) (truth-of (format-of f) (now (sheet .entry))) r (now (out .exit)) ⌝ }
 {
     pack_written(reduce::reduce(sheet, f, out))
 }
@@ -103,6 +118,7 @@ fn reduce(sheet: &[u8], f: Format, out: &mut [u8]) -> u64
 #[no_mangle]
 pub extern "C" fn plumanchor_reduce(sheet: &[u8], out: &mut [u8]) -> u64
     ensures { λ r. ⌜ output-left r out ≡ packed-writing (reduce-call narrow (now (sheet .entry)) (now (out .entry))) ⌝ }
+    ensures { λ r. ⌜ ToldSheet narrow (truth-of narrow (now (sheet .entry))) r (now (out .exit)) ⌝ }
 {
     reduce(sheet, Format::Narrow, out)
 }
@@ -110,12 +126,14 @@ pub extern "C" fn plumanchor_reduce(sheet: &[u8], out: &mut [u8]) -> u64
 #[no_mangle]
 pub extern "C" fn plumanchor_reduce_wide(sheet: &[u8], out: &mut [u8]) -> u64
     ensures { λ r. ⌜ output-left r out ≡ packed-writing (reduce-call wide (now (sheet .entry)) (now (out .entry))) ⌝ }
+    ensures { λ r. ⌜ ToldSheet wide (truth-of wide (now (sheet .entry))) r (now (out .exit)) ⌝ }
 {
     reduce(sheet, Format::Wide, out)
 }
 
 fn sort(sheet: &[u8], f: Format, out: &mut [u8]) -> u64
     ensures { λ r. ⌜ output-left r out ≡ packed-writing (sort-call (format-of f) (now (sheet .entry)) (now (out .entry))) ⌝ }
+    ensures { λ r. ⌜ ToldSheet (format-of f) (truth-of (format-of f) (now (sheet .entry))) r (now (out .exit)) ⌝ }
 {
     pack_written(order::sort::sort(sheet, f, out))
 }
@@ -123,6 +141,7 @@ fn sort(sheet: &[u8], f: Format, out: &mut [u8]) -> u64
 #[no_mangle]
 pub extern "C" fn plumanchor_sort(sheet: &[u8], out: &mut [u8]) -> u64
     ensures { λ r. ⌜ output-left r out ≡ packed-writing (sort-call narrow (now (sheet .entry)) (now (out .entry))) ⌝ }
+    ensures { λ r. ⌜ ToldSheet narrow (truth-of narrow (now (sheet .entry))) r (now (out .exit)) ⌝ }
 {
     sort(sheet, Format::Narrow, out)
 }
@@ -130,6 +149,7 @@ pub extern "C" fn plumanchor_sort(sheet: &[u8], out: &mut [u8]) -> u64
 #[no_mangle]
 pub extern "C" fn plumanchor_sort_wide(sheet: &[u8], out: &mut [u8]) -> u64
     ensures { λ r. ⌜ output-left r out ≡ packed-writing (sort-call wide (now (sheet .entry)) (now (out .entry))) ⌝ }
+    ensures { λ r. ⌜ ToldSheet wide (truth-of wide (now (sheet .entry))) r (now (out .exit)) ⌝ }
 {
     sort(sheet, Format::Wide, out)
 }
@@ -138,6 +158,7 @@ pub extern "C" fn plumanchor_sort_wide(sheet: &[u8], out: &mut [u8]) -> u64
 #[no_mangle]
 pub extern "C" fn plumanchor_widen(sheet: &[u8], out: &mut [u8]) -> u64
     ensures { λ r. ⌜ output-left r out ≡ packed-writing (widen-call (now (sheet .entry)) (now (out .entry))) ⌝ }
+    ensures { λ r. ⌜ ToldSheet wide (truth-of narrow (now (sheet .entry))) r (now (out .exit)) ⌝ }
 {
     pack_written(carrying::widen(sheet, out))
 }
@@ -146,6 +167,7 @@ pub extern "C" fn plumanchor_widen(sheet: &[u8], out: &mut [u8]) -> u64
 #[no_mangle]
 pub extern "C" fn plumanchor_narrow(sheet: &[u8], out: &mut [u8]) -> u64
     ensures { λ r. ⌜ output-left r out ≡ packed-writing (bring-back-call (now (sheet .entry)) (now (out .entry))) ⌝ }
+    ensures { λ r. ⌜ ToldSheet narrow (truth-of wide (now (sheet .entry))) r (now (out .exit)) ⌝ }
 {
     pack_written(carrying::bring_back(sheet, out))
 }

@@ -4,4 +4,4 @@ mod Drafting
 mod Written
 mod Deciding
 mod Sheets
-mod Telling
+pub mod Telling

@@ -27,7 +27,7 @@ lengths-answer (t ∷ ts) c = by (t .fails) (lengths-answer ts c)
     by true e = refl
     by false e = e
 
-alone-is : (F : sheet.Format) (b : Bytes) (x : ℕ) (out : Bytes) → length-alone (outer-written F b x out) ≡ outer-call F b x out
+pub alone-is : (F : sheet.Format) (b : Bytes) (x : ℕ) (out : Bytes) → length-alone (outer-written F b x out) ≡ outer-call F b x out
 unfolding outer-answer outer-call write
 alone-is F b x out =
     ap (λ (a : Answer ℕ). record { answer = a; output = (outer-call F b x out) .output }) (lengths-answer (outer-tests F b x (length out)) _)

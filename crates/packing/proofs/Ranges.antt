@@ -57,7 +57,7 @@ use Rattle.rows.proofs.Limits.{sound}
 use Rattle.packing.specs.Unpacked.{Tellable, FitsWritten, FitsCheck, FitsTrial, FitsSolved, FitsGuards, FitsOutcome, FitsForced, FitsCompared}
 
 -- a refusal of a sheet of one of the two formats
-told : (f : Format) {n i : ℕ} → IsKnown n → i ≤ last-place (format-of f) → Tellable n i
+pub told : (f : Format) {n i : ℕ} → IsKnown n → i ≤ last-place (format-of f) → Tellable n i
 told f k l = record { is-number = k .least; small-number = omega (arith, k .most); small-place = by f l }
   where
     by : (f : Format) {i : ℕ} → i ≤ last-place (format-of f) → i < 65536
@@ -65,7 +65,7 @@ told f k l = record { is-number = k .least; small-number = omega (arith, k .most
     by Wide l = omega arith
 
 -- a sheet that Check accepts is short
-short : (f : Format) (b : Bytes) → passes (check-tests (format-of f) b) ≡ true → length b ≤ 46088
+pub short : (f : Format) (b : Bytes) → passes (check-tests (format-of f) b) ≡ true → length b ≤ 46088
 unfolding sheet-length
 short f b p = by f (passed-sizes (format-of f) b (passed (format-of f) b p .sizes))
   where
@@ -161,7 +161,7 @@ qdimacs-fits f t out =
 
 -- Solve
 
-numbers-small : (f : Format) {x : ℕ} → x ≤ (format-of f) .most-variables → x < 65536
+pub numbers-small : (f : Format) {x : ℕ} → x ≤ (format-of f) .most-variables → x < 65536
 numbers-small Narrow l = omega arith
 numbers-small Wide l = omega arith
 

@@ -4,3 +4,4 @@ pub mod Panel
 pub mod Order
 pub mod Copies
 pub mod Unpacked
+pub mod Told

@@ -1,8 +1,7 @@
 -- `capi::buffers::guards` packs what `guards` answers.
 -- Assumes nothing.
-use mathlib.Core.Path.{ap}
-use Rattle.capi.specs.Returned.{packed-guarding}
 use borrow.Author.Needs.{needs}
+use Rattle.capi.proofs.Telling.{guarding-joined, guards-told}
 use Rattle.capi.proofs.buffers.guards.Statement.{statement}
 use Rattle.capi.proofs.buffers.guards.Tie as tie
 
@@ -24,8 +23,14 @@ same-length-3 c = search needs
 abbrev called : tie.After-pack-guarded → tie.After-guards
 called c = c .before .before .before .before .before .before .before
 
+abbrev start : tie.After-guards → tie.Start
+start c = c .before .before .before .before .before .before .before .before
+
 returns : tie.Need-returns
-returns c = rw (c .pack-guarded .ensures) (ap packed-guarding (called c .guards .ensures .0))
+returns c =
+    let a = start (called c) .args in
+    guards-told (a .f) (a .sheet .now) (a .out .now) (a .first .now) (a .second .now)
+    (guarding-joined (c .pack-guarded .ensures) (called c .guards .ensures .0))
 
 pub guards-spec : {M : Type 1} → statement M
 guards-spec = tie.close (tie.spec guards-requires pack-guarded-requires same-length same-length-2 same-length-3 returns)

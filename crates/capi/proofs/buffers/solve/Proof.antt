@@ -1,8 +1,7 @@
 -- `capi::buffers::solve` packs what `solve` answers.
 -- Assumes nothing.
-use mathlib.Core.Path.{ap}
-use Rattle.capi.specs.Returned.{packed-solving}
 use borrow.Author.Needs.{needs}
+use Rattle.capi.proofs.Telling.{solving-joined, solve-told}
 use Rattle.capi.proofs.buffers.solve.Statement.{statement}
 use Rattle.capi.proofs.buffers.solve.Tie as tie
 
@@ -21,8 +20,14 @@ same-length-2 c = search needs
 abbrev called : tie.After-pack-solved → tie.After-solve
 called c = c .before .before .before .before .before
 
+abbrev start : tie.After-solve → tie.Start
+start c = c .before .before .before .before .before .before
+
 returns : tie.Need-returns
-returns c = rw (c .pack-solved .ensures) (ap packed-solving (called c .solve .ensures .0))
+returns c =
+    let a = start (called c) .args in
+    solve-told (a .f) (a .sheet .now) (a .first .now) (a .second .now)
+    (solving-joined (c .pack-solved .ensures) (called c .solve .ensures .0))
 
 pub solve-spec : {M : Type 1} → statement M
 solve-spec = tie.close (tie.spec solve-requires pack-solved-requires same-length same-length-2 returns)

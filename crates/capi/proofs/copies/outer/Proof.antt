@@ -1,8 +1,7 @@
 -- `capi::copies::outer` packs what `outer` answers.
 -- Assumes nothing.
-use mathlib.Core.Path.{ap}
-use Rattle.capi.specs.Returned.{packed-copying}
 use borrow.Author.Needs.{needs}
+use Rattle.capi.proofs.Telling.{copied-joined, outer-said}
 use Rattle.capi.proofs.copies.outer.Statement.{statement}
 use Rattle.capi.proofs.copies.outer.Tie as tie
 
@@ -15,8 +14,17 @@ pack-copied-requires c κs = search needs
 same-length : tie.Need-same-length
 same-length c = search needs
 
+abbrev called : tie.After-pack-copied → tie.After-outer
+called c = c .before .before .before
+
+abbrev start : tie.After-outer → tie.Start
+start c = c .before .before .before .before
+
 returns : tie.Need-returns
-returns c = rw (c .pack-copied .ensures) (ap packed-copying (c .before .before .before .outer .ensures .0))
+returns c =
+    let a = start (called c) .args in
+    outer-said (a .f) (a .sheet .now) (a .x) (a .out .now)
+    (copied-joined (c .pack-copied .ensures) (called c .outer .ensures .0))
 
 pub outer-spec : {M : Type 1} → statement M
 outer-spec = tie.close (tie.spec outer-requires pack-copied-requires same-length returns)

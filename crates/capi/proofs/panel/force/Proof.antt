@@ -1,8 +1,7 @@
 -- `capi::panel::force` packs what `force` answers.
 -- Assumes nothing.
-use mathlib.Core.Path.{ap}
-use Rattle.capi.specs.Returned.{packed-forcing}
 use borrow.Author.Needs.{needs}
+use Rattle.capi.proofs.Telling.{forcing-joined, force-told}
 use Rattle.capi.proofs.panel.force.Statement.{statement}
 use Rattle.capi.proofs.panel.force.Tie as tie
 
@@ -21,8 +20,14 @@ same-length-2 c = search needs
 abbrev called : tie.After-pack-forced → tie.After-force
 called c = c .before .before .before .before .before
 
+abbrev start : tie.After-force → tie.Start
+start c = c .before .before .before .before .before .before .before
+
 returns : tie.Need-returns
-returns c = rw (c .pack-forced .ensures) (ap packed-forcing (called c .force .ensures .0))
+returns c =
+    let a = start (called c) .args in
+    force-told (a .f) (a .sheet .now) (a .values .now) (a .first .now) (a .second .now)
+    (forcing-joined (c .pack-forced .ensures) (called c .force .ensures .0))
 
 pub force-spec : {M : Type 1} → statement M
 force-spec = tie.close (tie.spec force-requires pack-forced-requires same-length same-length-2 returns)

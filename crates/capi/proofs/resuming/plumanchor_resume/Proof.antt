@@ -1,8 +1,11 @@
 -- `capi::resuming::plumanchor_resume` packs what `resume` answers.
 -- Assumes nothing.
-use mathlib.Core.Path.{ap}
-use Rattle.capi.specs.Returned.{packed-solving}
+use mathlib.Core.Path.{ap, _∙_}
+use mathlib.Core.Bool.{not}
+use lib.Dec.{eqb}
 use borrow.Author.Needs.{needs}
+use Rattle.sheet.specs.Resume.{resume-call}
+use Rattle.capi.proofs.Telling.{solving-joined, resume-told}
 use Rattle.capi.proofs.resuming.plumanchor_resume.Statement.{statement}
 use Rattle.capi.proofs.resuming.plumanchor_resume.Tie as tie
 
@@ -24,9 +27,19 @@ same-length-2 c = search needs
 abbrev called : tie.After-pack-solved → tie.After-resume
 called c = c .before .before .before .before .before
 
+abbrev named : tie.After-pack-solved → tie.After-named-format
+named c = called c .before .before .before
+
+abbrev start : tie.After-named-format → tie.Start
+start c = c .before .before .before .before
+
 returns : tie.Need-returns
 returns c =
-    rw (c .pack-solved .ensures, ← (called c .before .before .before .named-format .ensures)) (ap packed-solving (called c .resume .ensures .0))
+    let a = start (named c) .args in
+    resume-told (a .started) (a .settled) (a .expanded) (a .sheet .now) (not (eqb (a .narrow) 0)) (a .first .now) (a .second .now)
+    (solving-joined (c .pack-solved .ensures)
+    (called c .resume .ensures .0 ∙
+    ap (λ w. resume-call (a .started) (a .settled) (a .expanded) (a .sheet .now) w (a .first .now) (a .second .now)) (named c .named-format .ensures)))
 
 pub plumanchor-resume-spec : {M : Type 1} → statement M
 plumanchor-resume-spec =

@@ -1,8 +1,7 @@
 -- `capi::texts::qdimacs` packs what `qdimacs` answers.
 -- Assumes nothing.
-use mathlib.Core.Path.{ap}
-use Rattle.capi.specs.Returned.{packed-writing}
 use borrow.Author.Needs.{needs}
+use Rattle.capi.proofs.Telling.{written-joined, qdimacs-told}
 use Rattle.capi.proofs.texts.qdimacs.Statement.{statement}
 use Rattle.capi.proofs.texts.qdimacs.Tie as tie
 
@@ -15,8 +14,17 @@ pack-written-requires c κs = search needs
 same-length : tie.Need-same-length
 same-length c = search needs
 
+abbrev called : tie.After-pack-written → tie.After-qdimacs
+called c = c .before .before .before
+
+abbrev start : tie.After-qdimacs → tie.Start
+start c = c .before .before .before .before
+
 returns : tie.Need-returns
-returns c = rw (c .pack-written .ensures) (ap packed-writing (c .before .before .before .qdimacs .ensures .0))
+returns c =
+    let a = start (called c) .args in
+    qdimacs-told (a .f) (a .text .now) (a .out .now)
+    (written-joined (c .pack-written .ensures) (called c .qdimacs .ensures .0))
 
 pub qdimacs-spec : {M : Type 1} → statement M
 qdimacs-spec = tie.close (tie.spec qdimacs-requires pack-written-requires same-length returns)

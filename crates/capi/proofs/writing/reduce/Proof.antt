@@ -1,8 +1,7 @@
 -- `capi::writing::reduce` packs what `reduce` answers.
 -- Assumes nothing.
-use mathlib.Core.Path.{ap}
-use Rattle.capi.specs.Returned.{packed-writing}
 use borrow.Author.Needs.{needs}
+use Rattle.capi.proofs.Telling.{written-joined, reduce-told}
 use Rattle.capi.proofs.writing.reduce.Statement.{statement}
 use Rattle.capi.proofs.writing.reduce.Tie as tie
 
@@ -15,8 +14,17 @@ pack-written-requires c κs = search needs
 same-length : tie.Need-same-length
 same-length c = search needs
 
+abbrev called : tie.After-pack-written → tie.After-reduce
+called c = c .before .before .before
+
+abbrev start : tie.After-reduce → tie.Start
+start c = c .before .before .before .before
+
 returns : tie.Need-returns
-returns c = rw (c .pack-written .ensures) (ap packed-writing (c .before .before .before .reduce .ensures .0))
+returns c =
+    let a = start (called c) .args in
+    reduce-told (a .f) (a .sheet .now) (a .out .now)
+    (written-joined (c .pack-written .ensures) (called c .reduce .ensures .0))
 
 pub reduce-spec : {M : Type 1} → statement M
 reduce-spec = tie.close (tie.spec reduce-requires pack-written-requires same-length returns)

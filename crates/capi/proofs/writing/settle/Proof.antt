@@ -1,8 +1,7 @@
 -- `capi::writing::settle` packs what `settle` answers.
 -- Assumes nothing.
-use mathlib.Core.Path.{ap}
-use Rattle.capi.specs.Returned.{packed-writing}
 use borrow.Author.Needs.{needs}
+use Rattle.capi.proofs.Telling.{written-joined, settle-told}
 use Rattle.capi.proofs.writing.settle.Statement.{statement}
 use Rattle.capi.proofs.writing.settle.Tie as tie
 
@@ -15,8 +14,17 @@ pack-written-requires c κs = search needs
 same-length : tie.Need-same-length
 same-length c = search needs
 
+abbrev called : tie.After-pack-written → tie.After-settle
+called c = c .before .before .before
+
+abbrev start : tie.After-settle → tie.Start
+start c = c .before .before .before .before
+
 returns : tie.Need-returns
-returns c = rw (c .pack-written .ensures) (ap packed-writing (c .before .before .before .settle .ensures .0))
+returns c =
+    let a = start (called c) .args in
+    settle-told (a .f) (a .sheet .now) (a .x) (a .out .now)
+    (written-joined (c .pack-written .ensures) (called c .settle .ensures .0))
 
 pub settle-spec : {M : Type 1} → statement M
 settle-spec = tie.close (tie.spec settle-requires pack-written-requires same-length returns)

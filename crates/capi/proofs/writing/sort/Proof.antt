@@ -1,8 +1,7 @@
 -- `capi::writing::sort` packs what `sort` answers.
 -- Assumes nothing.
-use mathlib.Core.Path.{ap}
-use Rattle.capi.specs.Returned.{packed-writing}
 use borrow.Author.Needs.{needs}
+use Rattle.capi.proofs.Telling.{written-joined, sort-told}
 use Rattle.capi.proofs.writing.sort.Statement.{statement}
 use Rattle.capi.proofs.writing.sort.Tie as tie
 
@@ -15,8 +14,17 @@ pack-written-requires c κs = search needs
 same-length : tie.Need-same-length
 same-length c = search needs
 
+abbrev called : tie.After-pack-written → tie.After-sort
+called c = c .before .before .before
+
+abbrev start : tie.After-sort → tie.Start
+start c = c .before .before .before .before
+
 returns : tie.Need-returns
-returns c = rw (c .pack-written .ensures) (ap packed-writing (c .before .before .before .sort .ensures .0))
+returns c =
+    let a = start (called c) .args in
+    sort-told (a .f) (a .sheet .now) (a .out .now)
+    (written-joined (c .pack-written .ensures) (called c .sort .ensures .0))
 
 pub sort-spec : {M : Type 1} → statement M
 sort-spec = tie.close (tie.spec sort-requires pack-written-requires same-length returns)

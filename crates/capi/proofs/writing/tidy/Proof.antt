@@ -1,7 +1,6 @@
 -- `capi::writing::tidy` packs what `tidy` answers.
 -- Assumes nothing.
-use mathlib.Core.Path.{ap}
-use Rattle.capi.specs.Returned.{packed-writing}
+use Rattle.capi.proofs.Telling.{written-joined, tidy-told}
 use borrow.Author.Needs.{needs}
 use Rattle.capi.proofs.writing.tidy.Statement.{statement}
 use Rattle.capi.proofs.writing.tidy.Tie as tie
@@ -15,8 +14,16 @@ pack-written-requires c κs = search needs
 same-length : tie.Need-same-length
 same-length c = search needs
 
+abbrev called : tie.After-pack-written → tie.After-tidy
+called c = c .before .before .before
+
+abbrev start : tie.After-tidy → tie.Start
+start c = c .before .before .before .before
+
 returns : tie.Need-returns
-returns c = rw (c .pack-written .ensures) (ap packed-writing (c .before .before .before .tidy .ensures .0))
+returns c =
+    let a = start (called c) .args in
+    tidy-told (a .f) (a .sheet .now) (a .out .now) (written-joined (c .pack-written .ensures) (called c .tidy .ensures .0))
 
 pub tidy-spec : {M : Type 1} → statement M
 tidy-spec = tie.close (tie.spec tidy-requires pack-written-requires same-length returns)

@@ -1,0 +1,2 @@
+-- What numbers say about truth.
+mod Telling
