@@ -70,6 +70,8 @@ removed (suc i) (t ▸ ts) = t ▸ removed i ts
 abbrev pub weakened : ℕ → Formula → Formula
 weakened i f = conjoined (f .prefix) (removed i (guards (f .matrix)))
 
+-- us are some of the guards ts, as far as rows, truth and literals go: no more rows, true wherever all of ts are, no literal that ts don't
+-- have
 pub record Fewer (us ts : Forest) : Type 0 where
   pub no-more-rows : rows-all us ≤ rows-all ts
   pub still-true : (ρ : Assignment) → Leads (eval-all ts and ρ) (eval-all us and ρ)

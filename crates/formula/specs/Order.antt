@@ -111,9 +111,12 @@ mutual
     exchanged : (t u : Tree) (ts : Forest) → Reordered (t ▸ u ▸ ts) (u ▸ t ▸ ts)
     again : {ts us vs : Forest} → Reordered ts us → Reordered us vs → Reordered ts vs
 
+-- children that break a limit of tidiness which doesn't compare operators: a lone child, a child of the parent's own kind, two literals of
+-- one variable
 unfoldable pub strays : Op → Forest → Bool
 strays o ts = alone ts || some-child (is-op o) ts || some-two same-variable ts
 
+-- an operator below the root, or one below it, is childless or has such children
 unfoldable mutual
   pub astray : Tree → Bool
   astray (lit s v) = false
@@ -123,10 +126,12 @@ unfoldable mutual
   astray-all ∅ = false
   astray-all (t ▸ ts) = astray t || astray-all ts
 
+-- tidy but for equal siblings (N4), which sorting may make
 unfoldable pub nearly-tidy : Tree → Bool
 nearly-tidy (lit s v) = true
 nearly-tidy (node o ts) = not (strays o ts || astray-all ts)
 
+-- two siblings somewhere in a tree are related by R
 unfoldable mutual
   pub siblings : (Tree → Tree → Bool) → Tree → Bool
   siblings R (lit s v) = false
@@ -136,9 +141,11 @@ unfoldable mutual
   siblings-all R ∅ = false
   siblings-all R (t ▸ ts) = siblings R t || siblings-all R ts
 
+-- equal operators once both are sorted
 unfoldable pub alike : Tree → Tree → Bool
 alike t u = twin (sort t) (sort u)
 
+-- the comparison of the same two things the other way round
 abbrev pub turned : Ordering → Ordering
 turned before = after
 turned same = same

@@ -42,6 +42,7 @@ bind (z ∷ p) f ρ = join (z .quantifier) (bind p f (put ρ (z .variable) false
 unfoldable pub truth : Formula → Bool
 truth f = bind (f .prefix) (eval (f .matrix)) (λ _. false)
 
+-- a function of the assignment that doesn't depend on the variable v
 abbrev pub Ignores : (Assignment → Bool) → ℕ → Type 0
 Ignores f v = (ρ : Assignment) (b : Bool) → f (put ρ v b) ≡ f ρ
 

@@ -13,9 +13,8 @@ use words::cursor::end_of;
 ghost use mathlib.Core.Path.{_≡_};
 ghost use Prim.Native.Nat.{_≤_};
 ghost use lib.ListN.{length, drop};
-ghost use Rattle.formula.specs.Truth.{truth};
-ghost use Rattle.sheet.specs.Qdimacs.{qdimacs, qdimacs-call};
-ghost use Rattle.sheet.specs.Truthful.{TruthfulSheet};
+ghost use Rattle.sheet.specs.Qdimacs.{qdimacs-call};
+ghost use Rattle.sheet.specs.Truthful.{TruthfulText};
 ghost use Rattle.rows.specs.Formats.{format-of};
 ghost use Rattle.checking.specs.Answers.{wrote};
 ghost use Rattle.reader.specs.Inner.{Headed-at, Lists-read};
@@ -103,7 +102,7 @@ pub fn lists_next<'a, 'b>(r: Reader<'a>, h: Header, f: Format, out: &'b mut [u8]
 // Writes the sheet of a QDIMACS text to the front of `out`, with zeros behind it, and returns its length; or refuses the text or the
 // output, and alters nothing.
 pub fn qdimacs(text: &[u8], f: Format, out: &mut [u8]) -> Written
-    ensures { λ w. ⌜ (wrote w (now (out .exit)) ≡ qdimacs-call (format-of f) (now (text .entry)) (now (out .entry))) × TruthfulSheet (format-of f) (truth (qdimacs (now (text .entry)))) (wrote w (now (out .exit))) ⌝ }
+    ensures { λ w. ⌜ (wrote w (now (out .exit)) ≡ qdimacs-call (format-of f) (now (text .entry)) (now (out .entry))) × TruthfulText (format-of f) (now (text .entry)) (wrote w (now (out .exit))) ⌝ }
 {
     let r = open_text(text);
     let h = header_next(r);

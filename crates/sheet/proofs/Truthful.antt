@@ -26,7 +26,7 @@ use Rattle.sheet.specs.Resume.{named, widened, with-counts, resume-call}
 use Rattle.sheet.specs.Calls.{Call, settle, expand, execute, outer, perform, held}
 use Rattle.sheet.specs.Steps.{Step, calls, Listed, steps-call}
 use Rattle.sheet.specs.Limits.{Sound, Within}
-use Rattle.sheet.specs.Truthful.{truth-of, SheetOf, TruthfulSheet, TruthfulSteps, TruthfulTrial, Holds, TruthfulSolve, TruthfulGuards, TruthfulForce}
+use Rattle.sheet.specs.Truthful.{truth-of, SheetOf, TruthfulSheet, TruthfulText, TruthfulSteps, TruthfulTrial, Holds, TruthfulSolve, TruthfulGuards, TruthfulForce}
 use Rattle.sheet.proofs.Tests.{passed-∷, passed-++, answer-passes, accepted-passes}
 use Rattle.sheet.proofs.Limits.{narrow-sound, wide-sound}
 use Rattle.sheet.proofs.RoundTrip.{formula-sheet, passes-sheet}
@@ -112,7 +112,7 @@ module _ (F : Format) (sound : Sound F) where
       let r = sort-right F sound b out n h in
       record { is-accepted = r .is-accepted; is-truth = r .same-truth })
 
-  pub qdimacs-truthful : (t out : Bytes) {w : Written} → w ≡ qdimacs-call F t out → TruthfulSheet F (truth (qdimacs t)) w
+  pub qdimacs-truthful : (t out : Bytes) {w : Written} → w ≡ qdimacs-call F t out → TruthfulText F t w
   unfolding check
   qdimacs-truthful t out =
       of-call (λ n h.

@@ -95,6 +95,7 @@ pub record IsKnown (n : ℕ) : Type 0 where
 abbrev pub is-known : ℕ → Bool
 is-known n = leb 1 n && leb n 25
 
+-- tests all of whose refusals have such a number
 unfoldable pub known : List Test → Bool
 known [] = true
 known (t ∷ ts) = is-known (t .number) && known ts

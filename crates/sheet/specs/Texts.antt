@@ -13,12 +13,15 @@ use Rattle.sheet.specs.Qdimacs.{all, split, is-nil, nonempty, line-end, 
 abbrev pub Uncut : {A : Type 0} → (A → Bool) → List A → Type 0
 Uncut p l = all (λ a. not (p a)) l ≡ true
 
+-- "blanks (space, tab, carriage return) and line ends separate words"
 abbrev pub separator : ℕ → Bool
 separator c = blank c || line-end c
 
+-- the words of a stretch of text
 unfoldable pub separated : Bytes → List Bytes
 separated b = nonempty (split separator b)
 
+-- bytes without a line end
 abbrev pub Line : Bytes → Type 0
 Line l = Uncut line-end l
 
@@ -30,10 +33,12 @@ is-skipped l = is-comment l || is-nil (words l)
 abbrev pub header-words : Bytes → List Bytes
 header-words t = words (getD (from-header (lines t)) 0 [])
 
+-- a text whose header has the words hs, with the words ws below it
 pub record TextWords (t : Bytes) (hs ws : List Bytes) : Type 0 where
   pub of-header : header-words t ≡ hs
   pub below : words-below t ≡ ws
 
+-- a number whose variable is n at most
 abbrev pub up-to : ℕ → Token → Bool
 up-to n t = leb (absolute t) n
 

@@ -15,6 +15,7 @@ use Rattle.sheet.specs.Operations.{Written, is-stopped, is-ended, Solvin
 use Rattle.sheet.specs.Steps.{Listed}
 use Rattle.sheet.specs.Guards.{guards-stopped, guards-true, guards-kept, Guarding, Clashing}
 use Rattle.sheet.specs.Force.{values-of, Panel, Forcing}
+use Rattle.sheet.specs.Qdimacs.{qdimacs}
 
 -- the truth of a sheet's formula
 abbrev pub truth-of : Format → Bytes → Bool
@@ -25,10 +26,13 @@ pub record SheetOf (F : Format) (t : Bool) (b : Bytes) : Type 0 where
   pub is-accepted : passes (check-tests F b) ≡ true
   pub is-truth : truth-of F b ≡ t
 
--- Tidy, Settle, Expand, Execute, Outer, Reduce, Sort and the reader of QDIMACS: an accepted call's new sheet has the truth of what was
--- given.
+-- Tidy, Settle, Expand, Execute, Outer, Reduce and Sort: an accepted call's new sheet has the truth of the sheet given
 pub record TruthfulSheet (F : Format) (t : Bool) (w : Written) : Type 0 where
   pub on-accepted : (n : ℕ) → w .answer ≡ accepted n → SheetOf F t (take n (w .output))
+
+-- the reader of QDIMACS: it has the truth of the text's formula
+abbrev pub TruthfulText : Format → Bytes → Written → Type 0
+TruthfulText F text w = TruthfulSheet F (truth (qdimacs text)) w
 
 -- a list of steps: so has the sheet that it ends with
 pub record TruthfulSteps (F : Format) (t : Bool) (l : Listed) : Type 0 where

@@ -41,9 +41,8 @@ use denote.Triple.Clauses.{ensured, lasts}
 use denote.Triple.Table.{entered, cited}
 use denote.Triple.Walked.{says, Stays, stay-none, stay-none-slice, gave-slice, walkOf, goes-none, goes-none-slice, goes-gave-slice, Walks, ends-at, walked, walk-meets}
 use denote.Exit.{yes}
-use Rattle.formula.specs.Truth.{truth}
-use Rattle.sheet.specs.Qdimacs.{qdimacs, qdimacs-call}
-use Rattle.sheet.specs.Truthful.{TruthfulSheet}
+use Rattle.sheet.specs.Qdimacs.{qdimacs-call}
+use Rattle.sheet.specs.Truthful.{TruthfulText}
 use Rattle.sheet.proofs.Truthful.{qdimacs-truthful}
 use Rattle.rows.specs.Formats.{format-of}
 use Rattle.rows.specs.declared.Format.{Format}
@@ -215,7 +214,7 @@ module _ {M : Type 1} (𝓤 : URA M) (H : Heap 𝓤) (A : Atoms 𝓤) (W : Given
 
   abbrev Whole : Written → List ℕ → Type 0
   Whole r zs =
-      (wrote r zs ≡ qdimacs-call (format-of f) (now x₀) (now x₁)) × TruthfulSheet (format-of f) (truth (qdimacs (now x₀))) (wrote r zs)
+      (wrote r zs ≡ qdimacs-call (format-of f) (now x₀) (now x₁)) × TruthfulText (format-of f) (now x₀) (wrote r zs)
 
   exits : (r : Written) (zs : List ℕ) → length zs ≡ length (x₁ .now) → Whole r zs → (w : Val)
       → ent 𝓤 (⋆ 𝓤 H A (Tokens ∷ ‵ (Text α x₀) ∷ ‵ (finally u8 (x₁ .name) zs) ∷ ‵ (R.the-row .own r (w ∷ [])) ∷ [])) (Post w)
