@@ -19,7 +19,7 @@ use Rattle.words.proofs.Classes.{View, view-other, view-exists, view-for-all, v
 use Rattle.words.proofs.Values.{near, near-above}
 use Rattle.qdimacs.specs.Inner.Lists.{whole-lists, ends}
 use Rattle.qdimacs.specs.Inner.Cursor.{tokens-at}
-use Rattle.qdimacs.specs.Inner.Clauses.{count-step, Counts, number-said, is-above}
+use Rattle.qdimacs.specs.Inner.Clauses.{count-step, Counts, variable-said, says-above}
 use Rattle.qdimacs.specs.declared.clauses.Clauses.{Clauses}
 use Rattle.qdimacs.proofs.Pieces.{and-false}
 use Rattle.qdimacs.proofs.Next.{Next, none, word, next}
@@ -108,7 +108,7 @@ beyond n x e = le-leb x n (ltb-false n x e)
 
 -- a word that is above, or that is not
 above-word : (n : ℕ) → n ≤ 1024 → (t : code.Token) {w : Token} {m : ℕ} → View (t .class) w m → (6 ≤ t .class → Capped largest m (t .magnitude))
-    → is-above n t ≡ not (up-to n w)
+    → says-above n t ≡ not (up-to n w)
 above-word n l t {w} {m} v c = go (ltb (t .class) 6) refl
   where
     small : {k m : ℕ} {w : Token} → View k w m → k < 6 → absolute w ≡ 0
@@ -125,15 +125,15 @@ above-word n l t {w} {m} v c = go (ltb (t .class) 6) refl
     opposite x true e = e ∙ sym (ap not (within n x e))
     opposite x false e = e ∙ sym (ap not (beyond n x e))
 
-    go : (p : Bool) → ltb (t .class) 6 ≡ p → cond p false (ltb n (number-said t)) ≡ not (up-to n w)
+    go : (p : Bool) → ltb (t .class) 6 ≡ p → cond p false (ltb n (variable-said t)) ≡ not (up-to n w)
     go true e = rw (small v (ltb-true (t .class) 6 e)) (sym (ap not (leb·zero n)))
     go false e =
         let big = ltb-false (t .class) 6 e in
-        near-above n (number-said t) (absolute w) l (near v big (t .magnitude) (c big)) ∙ opposite (absolute w) (ltb n (absolute w)) refl
+        near-above n (variable-said t) (absolute w) l (near v big (t .magnitude) (c big)) ∙ opposite (absolute w) (ltb n (absolute w)) refl
 
-module _ {n : ℕ} (small : n ≤ 1024) {b : Bytes} {at : ℕ} (h : Lower n b at) {t : code.Token} (r : Reads b at t) {a : Bool} (e : a ≡ is-above n t) where
+module _ {n : ℕ} (small : n ≤ 1024) {b : Bytes} {at : ℕ} (h : Lower n b at) {t : code.Token} (r : Reads b at t) {a : Bool} (e : a ≡ says-above n t) where
   -- nothing is above where there is no word
-  no-word : t .class ≡ 0 → is-above n t ≡ false
+  no-word : t .class ≡ 0 → says-above n t ≡ false
   no-word k = ap (λ j. cond (ltb j 6) false (ltb n (variable (literal (eqb j 8) (t .magnitude))))) k
 
   pub lower-found : a ≡ true → true ≡ not (all (up-to n) (tokens-at b 0))

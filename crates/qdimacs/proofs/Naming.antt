@@ -21,7 +21,7 @@ use Rattle.words.specs.declared.token.Token as code
 use Rattle.words.proofs.Classes.{View, view-other, view-exists, view-for-all, view-p, view-cnf, view-zero, view-plain, view-minus}
 use Rattle.words.proofs.Values.{Near, near}
 use Rattle.qdimacs.specs.Inner.Cursor.{tokens-at}
-use Rattle.qdimacs.specs.Inner.Clauses.{number-said}
+use Rattle.qdimacs.specs.Inner.Clauses.{variable-said}
 use Rattle.qdimacs.specs.Inner.Marks.{named-with, free-with, Names, frees}
 use Rattle.qdimacs.proofs.Next.{Next, none, word, next}
 use Rattle.qdimacs.proofs.Cutting.{no-tokens}
@@ -86,11 +86,11 @@ named-word m t {w} ts x size low high v c = go (ltb (t .class) 6) refl
     number y (inr e) false q = absurd (omega (arith, leb-false 1025 y q, e .0))
 
     go : (b : Bool) → ltb (t .class) 6 ≡ b
-        → Goal (cond b m (cond (leb 1025 (number-said t)) m (cond (eqb (getD m (number-said t) 0) 0) (set m (number-said t) 2) m)))
+        → Goal (cond b m (cond (leb 1025 (variable-said t)) m (cond (eqb (getD m (variable-said t) 0) 0) (set m (variable-said t) 2) m)))
     go true e = other-number m w ts x (ne-eqb (absolute w) x (λ f. absurd (omega (arith, small-zero v (ltb-true (t .class) 6 e), f))))
     go false e =
         let big = ltb-false (t .class) 6 e in
-        number (number-said t) (near v big (t .magnitude) (c big)) (leb 1025 (number-said t)) refl
+        number (variable-said t) (near v big (t .magnitude) (c big)) (leb 1025 (variable-said t)) refl
 
 pub record NamedSoFar (b : Bytes) (from : ℕ) (m₀ m : List ℕ) (at : ℕ) : Type 0 where
   pub inside : at ≤ length b
@@ -101,12 +101,12 @@ pub named-none : (b : Bytes) (from : ℕ) (m : List ℕ) → from ≤ length b �
 named-none b from m l e = record { inside = l; size = e; free-so = λ x p q. refl }
 
 named-size : (t : code.Token) (m : List ℕ) → length (named-with t m) ≡ length m
-named-size t m = go (ltb (t .class) 6) (leb 1025 (number-said t)) (eqb (getD m (number-said t) 0) 0)
+named-size t m = go (ltb (t .class) 6) (leb 1025 (variable-said t)) (eqb (getD m (variable-said t) 0) 0)
   where
-    go : (a b c : Bool) → length (cond a m (cond b m (cond c (set m (number-said t) 2) m))) ≡ length m
+    go : (a b c : Bool) → length (cond a m (cond b m (cond c (set m (variable-said t) 2) m))) ≡ length m
     go true b c = refl
     go false true c = refl
-    go false false true = length-set m (number-said t) 2
+    go false false true = length-set m (variable-said t) 2
     go false false false = refl
 
 pub named-more : {b : Bytes} {from : ℕ} {m₀ m new : List ℕ} {at : ℕ} {t : code.Token} → NamedSoFar b from m₀ m at → Reads b at t → new ≡ named-with t m

@@ -25,8 +25,8 @@ use Rattle.words.proofs.Classes.{View, view-other, view-exists, view-for-all, v
 use Rattle.words.proofs.Values.{near, near-same, literal-kind-is}
 use Rattle.qdimacs.specs.Inner.Lists.{whole-lists, first-length}
 use Rattle.qdimacs.specs.Inner.Cursor.{tokens-at}
-use Rattle.qdimacs.specs.Inner.Clauses.{number-said}
-use Rattle.qdimacs.specs.Inner.Rows.{spliced, clause-rows, begins, open-place, open-rows, word-place, word-rows, Writable}
+use Rattle.qdimacs.specs.Inner.Clauses.{literal-said, variable-said}
+use Rattle.qdimacs.specs.Inner.Rows.{spliced, clause-rows, begins, open-place, open-rows, literal-row, word-place, word-rows, Writable}
 use Rattle.qdimacs.specs.declared.write.Place.{Place}
 use Rattle.qdimacs.proofs.Pieces.{and-false, lists-end, lists-more, onto}
 use Rattle.qdimacs.proofs.Reading.{first, Cons, some-list, rows-lists}
@@ -139,8 +139,8 @@ rest-rows true ls = forest-rows (clause-trees ls)
 rest-rows false [] = []
 rest-rows false (l ∷ ls) = forest-rows (literals l) ++ forest-rows (clause-trees ls)
 
-abbrev literal-row : Token → Row
-literal-row w = row (literal-kind (is-plain w)) (absolute w)
+abbrev said-row : Token → Row
+said-row w = row (literal-kind (is-plain w)) (absolute w)
 
 -- what a word adds
 ends-fresh : (us : List Token) → rest-rows true (lists (plain 0 ∷ us)) ≡ row 6 0 ∷ rest-rows true (lists us)
@@ -151,23 +151,23 @@ ends-within : (us : List Token) → rest-rows false (lists (plain 0 ∷ us)) ≡
 unfolding rest-rows literals forest-rows
 ends-within us = ap (rest-rows false) (lists-end us)
 
-onto-within : (w : Token) {ls : List (List Token)} → Cons ls → rest-rows false (onto w ls) ≡ literal-row w ∷ rest-rows false ls
+onto-within : (w : Token) {ls : List (List Token)} → Cons ls → rest-rows false (onto w ls) ≡ said-row w ∷ rest-rows false ls
 unfolding rest-rows onto literals forest-rows tree-rows
 onto-within w c = rw (c .is)
 
 onto-fresh : (w : Token) {ls : List (List Token)} → Cons ls
-    → rest-rows true (onto w ls) ≡ row 6 (suc (length (first ls))) ∷ literal-row w ∷ rest-rows false ls
+    → rest-rows true (onto w ls) ≡ row 6 (suc (length (first ls))) ∷ said-row w ∷ rest-rows false ls
 unfolding rest-rows onto clause-trees literals forest-rows tree-rows count
 onto-fresh w c = rw (c .is, count-literals)
 
 module _ (w : Token) (us : List Token) (e : is-end w ≡ false) (h : whole-lists true us ≡ true) where
-  literal-within : rest-rows false (lists (w ∷ us)) ≡ literal-row w ∷ rest-rows false (lists us)
+  literal-within : rest-rows false (lists (w ∷ us)) ≡ said-row w ∷ rest-rows false (lists us)
   literal-within = ap (rest-rows false) (lists-more w us e) ∙ onto-within w (some-list us h)
 
-  literal-fresh : rest-rows true (lists (w ∷ us)) ≡ row 6 (suc (first-length us)) ∷ literal-row w ∷ rest-rows false (lists us)
+  literal-fresh : rest-rows true (lists (w ∷ us)) ≡ row 6 (suc (first-length us)) ∷ said-row w ∷ rest-rows false (lists us)
   literal-fresh =
       ap (rest-rows true) (lists-more w us e) ∙ onto-fresh w (some-list us h) ∙
-      ap (λ n. row 6 (suc n) ∷ literal-row w ∷ rest-rows false (lists us)) (sym (first-length-is true us h))
+      ap (λ n. row 6 (suc n) ∷ said-row w ∷ rest-rows false (lists us)) (sym (first-length-is true us h))
 
 -- what a word of clauses is
 
@@ -175,7 +175,7 @@ data Sort (ts us : List Token) (t : code.Token) : Type 0 where
   nothing : t .class ≡ 0 → ts ≡ [] → us ≡ [] → Sort ts us t
   ends : t .class ≡ 6 → ts ≡ plain 0 ∷ us → Sort ts us t
   literal-word : (w : Token) → 7 ≤ t .class → ts ≡ w ∷ us → is-end w ≡ false → whole-lists true us ≡ true → first-length (w ∷ us) ≡ suc (first-length us)
-      → kind (literal (eqb (t .class) 8) (t .magnitude)) ≡ literal-kind (is-plain w) → number-said t ≡ absolute w → absolute w ≤ 1024 → Sort ts us t
+      → kind (literal-said t) ≡ literal-kind (is-plain w) → variable-said t ≡ absolute w → absolute w ≤ 1024 → Sort ts us t
 
 sort-word : (o : Bool) (t : code.Token) (us : List Token) {w : Token} {m : ℕ} → View (t .class) w m → (6 ≤ t .class → Capped largest m (t .magnitude))
     → whole-lists o (w ∷ us) ≡ true → up-to 1024 w ≡ true → Sort (w ∷ us) us t
@@ -268,10 +268,10 @@ module _ {b : Bytes} {from r₀ : ℕ} {rs₀ rs : List Row} {p : Place} (whole 
       ap (λ n. h .done ++ (row 6 n ∷ rest-rows true (lists us))) (sym (ap first-length q))
 
   or-literal : (w : Token) → tokens-at b (p .at) ≡ w ∷ us → is-end w ≡ false → whole-lists true us ≡ true → first-length (w ∷ us) ≡ suc (first-length us) → p .fresh ≡ true
-      → rows-all-are (h .done ++ (or-row ∷ literal-row w ∷ rest-rows false (lists us)))
+      → rows-all-are (h .done ++ (or-row ∷ said-row w ∷ rest-rows false (lists us)))
   or-literal w q e v g f =
       fresh-parts true f q ∙ ap (λ l. h .done ++ l) (literal-fresh w us e v) ∙
-      ap (λ n. h .done ++ (row 6 n ∷ literal-row w ∷ rest-rows false (lists us))) (sym (ap first-length q ∙ g))
+      ap (λ n. h .done ++ (row 6 n ∷ said-row w ∷ rest-rows false (lists us))) (sym (ap first-length q ∙ g))
 
   pub clause-row-there : begins p (t .class) ≡ true → p .row < length rs₀
   clause-row-there e = go what
@@ -282,15 +282,15 @@ module _ {b : Bytes} {from r₀ : ℕ} {rs₀ rs : List Row} {p : Place} (whole 
       go : Sort (tokens-at b (p .at)) us t → p .row < length rs₀
       go (nothing k q r) = absurd (false≢true (sym (ap (λ j. not (eqb j 0)) k) ∙ parts .1))
       go (ends k q) = row-left or-row (rest-rows true (lists us)) (h .put) (or-ends q (parts .0))
-      go (literal-word w l q e v g k n a) = row-left or-row (literal-row w ∷ rest-rows false (lists us)) (h .put) (or-literal w q e v g (parts .0))
+      go (literal-word w l q e v g k n a) = row-left or-row (said-row w ∷ rest-rows false (lists us)) (h .put) (or-literal w q e v g (parts .0))
 
   -- what is left once the OR row is written
   data Opened (rs₁ : List Row) (r₁ : ℕ) : Type 0 where
     no-word : t .class ≡ 0 → tokens-at b (p .at) ≡ us → rs₁ ≡ rs → r₁ ≡ p .row → Opened rs₁ r₁
     end-word : t .class ≡ 6 → whole-lists false us ≡ true → (done : List Row) → Put rs₀ r₀ done rs₁ r₁ → rows-all-are (done ++ rest-rows true (lists us)) → Opened rs₁ r₁
     literal-left : (w : Token) → 7 ≤ t .class → whole-lists true us ≡ true → (done : List Row) → Put rs₀ r₀ done rs₁ r₁
-        → rows-all-are (done ++ (literal-row w ∷ rest-rows false (lists us))) → kind (literal (eqb (t .class) 8) (t .magnitude)) ≡ literal-kind (is-plain w)
-        → number-said t ≡ absolute w → absolute w ≤ 1024 → Opened rs₁ r₁
+        → rows-all-are (done ++ (said-row w ∷ rest-rows false (lists us))) → kind (literal-said t) ≡ literal-kind (is-plain w)
+        → variable-said t ≡ absolute w → absolute w ≤ 1024 → Opened rs₁ r₁
 
   module _ {rs₁ : List Row} {p₁ : Place} (opens : p₁ ≡ open-place p (t .class)) (writes : rs₁ ≡ open-rows b p (t .class) rs) where
     rows-open : (f : Bool) → begins p (t .class) ≡ f → rs₁ ≡ cond f (set rs (p .row) or-row) rs
@@ -339,7 +339,7 @@ module _ {b : Bytes} {from r₀ : ℕ} {rs₀ rs : List Row} {p : Place} (whole 
             no-word k (q ∙ sym r) (rows-open false (begins-none k)) (ap (λ (z : Place). z .row) (place-open false (begins-none k)))
         lit f e (ends k q) = ended f e k q
         lit true e (literal-word w l q i v g k n a) =
-            let o = with-or (begins-word true e (ne-eqb (t .class) 0 (λ z. absurd (omega (arith, l, z))))) (literal-row w ∷ rest-rows false (lists us)) (or-literal w q i v g e) in
+            let o = with-or (begins-word true e (ne-eqb (t .class) 0 (λ z. absurd (omega (arith, l, z))))) (said-row w ∷ rest-rows false (lists us)) (or-literal w q i v g e) in
             literal-left w l v (h .done ++ (or-row ∷ [])) (o .0) (o .1) k n a
         lit false e (literal-word w l q i v g k n a) =
             literal-left w l v (h .done) (without-or (begins-word false e (ne-eqb (t .class) 0 (λ z. absurd (omega (arith, l, z))))))
@@ -355,13 +355,13 @@ module _ {b : Bytes} {from r₀ : ℕ} {rs₀ rs : List Row} {p : Place} (whole 
         by true = refl
         by false = refl
 
-    pub literal-row-there : 7 ≤ t .class → (p₁ .row < length rs₀) × (number-said t ≤ 1024)
+    pub literal-row-there : 7 ≤ t .class → (p₁ .row < length rs₀) × (variable-said t ≤ 1024)
     literal-row-there l = go opened
       where
-        go : Opened rs₁ (p₁ .row) → (p₁ .row < length rs₀) × (number-said t ≤ 1024)
+        go : Opened rs₁ (p₁ .row) → (p₁ .row < length rs₀) × (variable-said t ≤ 1024)
         go (no-word k q e f) = absurd (omega (arith, k))
         go (end-word k v d q e) = absurd (omega (arith, k))
-        go (literal-left w l v d q e k n a) = (row-left (literal-row w) (rest-rows false (lists us)) q e, omega (arith, n, a))
+        go (literal-left w l v d q e k n a) = (row-left (said-row w) (rest-rows false (lists us)) q e, omega (arith, n, a))
 
     pub row-inside : p₁ .row ≤ length rs₀
     row-inside = go opened
@@ -410,8 +410,8 @@ module _ {b : Bytes} {from r₀ : ℕ} {rs₀ rs : List Row} {p : Place} (whole 
         go (end-word k v d q i) =
             made true (p₁ .row) (e ∙ rw k) v d i (subst (λ l. Put rs₀ r₀ d l (p₁ .row)) (sym (f ∙ rw k)) q)
         go (literal-left w l v d q i k n a) =
-            made false (p₁ .row + 1) (e ∙ place) v (d ++ (literal-row w ∷ [])) (i ∙ sym (append-assoc d (literal-row w ∷ []) (rest-rows false (lists us))))
-            (put-row (literal-row w) q (row-left (literal-row w) (rest-rows false (lists us)) q i)
+            made false (p₁ .row + 1) (e ∙ place) v (d ++ (said-row w ∷ [])) (i ∙ sym (append-assoc d (said-row w ∷ []) (rest-rows false (lists us))))
+            (put-row (said-row w) q (row-left (said-row w) (rest-rows false (lists us)) q i)
             (f ∙ written ∙ ap₂ (λ a c. set rs₁ (p₁ .row) (row a c)) k n))
           where
             not-zero : eqb (t .class) 6 ≡ false
@@ -423,7 +423,7 @@ module _ {b : Bytes} {from r₀ : ℕ} {rs₀ rs : List Row} {p : Place} (whole 
             place : word-place t p₁ ≡ record { at = t .to; row = p₁ .row + 1; fresh = false }
             place = rw (not-zero, not-less)
 
-            written : word-rows t p₁ rs₁ ≡ set rs₁ (p₁ .row) (row (kind (literal (eqb (t .class) 8) (t .magnitude))) (number-said t))
+            written : word-rows t p₁ rs₁ ≡ set rs₁ (p₁ .row) (literal-row (literal-said t))
             written = rw (not-zero, not-less)
 
 pub clauses-written-all : {b : Bytes} {from r₀ : ℕ} {rs₀ rs : List Row} {p : Place} → ClausesWritten b from r₀ rs₀ rs p → length b ≤ p .at

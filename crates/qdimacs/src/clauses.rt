@@ -10,14 +10,16 @@ use words::token::next_token;
 ghost use mathlib.Core.Path.{_≡_};
 ghost use mathlib.Core.Bool.{not};
 ghost use Prim.Native.Nat.{_≤_, _<_};
+ghost use lib.Dec.{ltb};
 ghost use lib.ListN.{length};
 ghost use Rattle.sheet.specs.Qdimacs.{all};
 ghost use Rattle.sheet.specs.Texts.{up-to};
 ghost use Rattle.rows.specs.Tables.{HIGHEST};
 ghost use Rattle.words.specs.Numbers.{largest};
+ghost use Rattle.words.specs.Literals.{variable};
 ghost use Rattle.qdimacs.specs.Inner.Lists.{first-length};
 ghost use Rattle.qdimacs.specs.Inner.Cursor.{tokens-at};
-ghost use Rattle.qdimacs.specs.Inner.Clauses.{count-step, Counts, number-said, is-above};
+ghost use Rattle.qdimacs.specs.Inner.Clauses.{count-step, Counts, literal-said, says-above};
 
 // What the clauses are: whether all words are whole numbers, whether one is still open, how many clauses are ended, and
 // how many words there are, those that end clauses too.
@@ -80,21 +82,28 @@ pub fn count_clauses(b: &[u8], from: usize) -> Clauses
     c
 }
 
-// The variable that a number says, as its literal has it.
-pub fn number_said(t: Token) -> usize
-    ensures { λ r. ⌜ r ≡ number-said t ⌝ }
+// The literal that a number is.
+pub fn literal_said(t: Token) -> i32
+    ensures { λ l. ⌜ l ≡ literal-said t ⌝ }
 {
-    variable_of(literal_of(t.class == NEGATIVE, t.magnitude))
+    literal_of(t.class == NEGATIVE, t.magnitude)
+}
+
+// Whether a literal's variable is above `most`.
+fn is_above(literal: i32, most: usize) -> bool
+    ensures { λ r. ⌜ r ≡ ltb most (variable literal) ⌝ }
+{
+    most < variable_of(literal)
 }
 
 // Whether a word is a number above `most`.
-fn is_above(t: Token, most: usize) -> bool
-    ensures { λ r. ⌜ r ≡ is-above most t ⌝ }
+fn says_above(t: Token, most: usize) -> bool
+    ensures { λ r. ⌜ r ≡ says-above most t ⌝ }
 {
     if t.class < ZERO {
         return false;
     }
-    most < number_said(t)
+    is_above(literal_said(t), most)
 }
 
 // Whether a number, of quantifier lines or of clauses, is above `most`.
@@ -105,7 +114,7 @@ pub fn has_above(b: &[u8], most: usize) -> bool
     let mut at: usize = 0;
     while at < b.len() {
         let t = next_token(b, at);
-        if is_above(t, most) {
+        if says_above(t, most) {
             return true;
         }
         at = t.to;

@@ -1,9 +1,10 @@
 // A mark for each variable number: bound by a quantifier line, or else named in a clause and so free.
-use crate::clauses::number_said;
+use crate::clauses::literal_said;
 use crate::prefix::BETWEEN;
 use crate::prefix::CLAUSE;
 use crate::prefix::step;
 use rows::NUMBERS;
+use words::literal::variable_of;
 use words::token::POSITIVE;
 use words::token::Token;
 use words::token::ZERO;
@@ -15,7 +16,7 @@ ghost use lib.Dec.{eqb};
 ghost use lib.ListN.{length, replicate};
 ghost use Rattle.rows.specs.Tables.{HIGHEST, NUMBERS};
 ghost use Rattle.words.specs.Numbers.{largest};
-ghost use Rattle.qdimacs.specs.Inner.Marks.{Listed, found-with, marks-with, Binds, named-with, Names, frees};
+ghost use Rattle.qdimacs.specs.Inner.Marks.{Listed, found-with, marks-with, Binds, named-by, named-with, Names, frees};
 
 pub const BOUND: u8 = 1;
 
@@ -74,15 +75,12 @@ pub fn bind(b: &[u8], marks: &mut [u8; NUMBERS]) -> Bound
     found
 }
 
-// A number of a clause that is not bound is marked as free.
-fn name_word(t: Token, marks: &mut [u8; NUMBERS])
+// A literal's variable that is not bound is marked as free.
+fn name_literal(literal: i32, marks: &mut [u8; NUMBERS])
     requires { ⌜ length (now marks) ≡ NUMBERS ⌝ }
-    ensures { λ _. ⌜ now (marks .exit) ≡ named-with t (now (marks .entry)) ⌝ }
+    ensures { λ _. ⌜ now (marks .exit) ≡ named-by literal (now (marks .entry)) ⌝ }
 {
-    if t.class < ZERO {
-        return;
-    }
-    let x = number_said(t);
+    let x = variable_of(literal);
     if NUMBERS <= x {
         return;
     }
@@ -90,6 +88,17 @@ fn name_word(t: Token, marks: &mut [u8; NUMBERS])
         return;
     }
     marks[x] = FREE;
+}
+
+// A number of a clause is named.
+fn name_word(t: Token, marks: &mut [u8; NUMBERS])
+    requires { ⌜ length (now marks) ≡ NUMBERS ⌝ }
+    ensures { λ _. ⌜ now (marks .exit) ≡ named-with t (now (marks .entry)) ⌝ }
+{
+    if t.class < ZERO {
+        return;
+    }
+    name_literal(literal_said(t), marks);
 }
 
 // Marks the numbers of the clauses from `from` on.

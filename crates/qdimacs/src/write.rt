@@ -1,4 +1,5 @@
 // The rows that a text says: free variables by number, the quantifier lines' bindings, then AND over the clauses, each an OR.
+use crate::clauses::literal_said;
 use crate::marks::FREE;
 use crate::prefix::BETWEEN;
 use crate::prefix::CLAUSE;
@@ -9,9 +10,7 @@ use rows::NUMBERS;
 use rows::OR;
 use rows::write::set_row;
 use words::literal::kind_of;
-use words::literal::literal_of;
 use words::literal::variable_of;
-use words::token::NEGATIVE;
 use words::token::NONE;
 use words::token::POSITIVE;
 use words::token::Token;
@@ -28,11 +27,12 @@ ghost use Rattle.sheet.specs.Sheet.{binding-row};
 ghost use Rattle.rows.specs.Layouts.{Fits, total, rows-in, Room};
 ghost use Rattle.rows.specs.Tables.{HIGHEST};
 ghost use Rattle.words.specs.Numbers.{largest};
+ghost use Rattle.words.specs.Literals.{variable};
 ghost use Rattle.qdimacs.specs.Inner.Lists.{first-length};
 ghost use Rattle.qdimacs.specs.Inner.Cursor.{tokens-at};
-ghost use Rattle.qdimacs.specs.Inner.Clauses.{number-said};
+ghost use Rattle.qdimacs.specs.Inner.Clauses.{variable-said};
 ghost use Rattle.qdimacs.specs.Inner.Marks.{Listed, bindings-in, frees};
-ghost use Rattle.qdimacs.specs.Inner.Rows.{spliced, clause-rows, Openable, open-place, open-rows, word-place, word-rows, Writable};
+ghost use Rattle.qdimacs.specs.Inner.Rows.{spliced, clause-rows, Openable, open-place, open-rows, literal-row, word-place, word-rows, Writable};
 
 // Where the writing of clauses stands: the next word, the next row, and whether a clause begins there.
 pub struct Place {
@@ -153,9 +153,19 @@ fn open_clause(b: &[u8], p: Place, class: u8, out: &mut [u8], s: Layout) -> Plac
     }
 }
 
-// The row of a literal; 0 has none.
+// The row of a literal: its kind and its variable.
+fn write_literal(literal: i32, out: &mut [u8], s: Layout, r: usize)
+    requires { ⌜ Room s (length (now out)) × (r < total s) × Fits s (variable literal) ⌝ }
+    ensures { λ _. ⌜ rows-in s (now (out .exit)) ≡ set (rows-in s (now (out .entry))) r (literal-row literal) ⌝ }
+{
+    let kind = kind_of(literal);
+    let x = variable_of(literal);
+    set_row(out, s, r, kind, x);
+}
+
+// The row of a word, which has one if it is a number other than 0.
 fn write_word(t: Token, p: Place, out: &mut [u8], s: Layout) -> Place
-    requires { ⌜ Room s (length (now out)) × (7 ≤ t .class → p .row < total s) × (p .row < largest) × (7 ≤ t .class → Fits s (number-said t)) ⌝ }
+    requires { ⌜ Room s (length (now out)) × (7 ≤ t .class → p .row < total s) × (p .row < largest) × (7 ≤ t .class → Fits s (variable-said t)) ⌝ }
     ensures { λ r. ⌜ r ≡ word-place t p ⌝ }
     ensures { λ _. ⌜ rows-in s (now (out .exit)) ≡ word-rows t p (rows-in s (now (out .entry))) ⌝ }
 {
@@ -173,10 +183,7 @@ fn write_word(t: Token, p: Place, out: &mut [u8], s: Layout) -> Place
             fresh: p.fresh,
         };
     }
-    let l = literal_of(t.class == NEGATIVE, t.magnitude);
-    let kind = kind_of(l);
-    let x = variable_of(l);
-    set_row(out, s, p.row, kind, x);
+    write_literal(literal_said(t), out, s, p.row);
     Place {
         at: t.to,
         row: p.row + 1,

@@ -4,6 +4,7 @@ use mathlib.Core.Path.{_≡_}
 use mathlib.Core.Bool.{Bool, true, false, not, _&&_, cond}
 use Prim.Native.Nat.{ℕ, _+_, _≤_}
 use lib.Dec.{eqb, ltb}
+use lib.IntN.{ℤ}
 use lib.ListN.{length}
 use Rattle.sheet.specs.Format.{Bytes}
 use Rattle.words.specs.Literals.{literal, variable}
@@ -26,9 +27,12 @@ pub record Counts (b : Bytes) (from : ℕ) (c : Clauses) : Type 0 where
   pub words-are : c .words ≡ length (tokens-at b from)
   pub few : c .count ≤ length b
 
--- the variable that a number says
-abbrev pub number-said : Token → ℕ
-number-said t = variable (literal (eqb (t .class) 8) (t .magnitude))
+-- the literal that a number is, and its variable
+abbrev pub literal-said : Token → ℤ
+literal-said t = literal (eqb (t .class) 8) (t .magnitude)
 
-abbrev pub is-above : ℕ → Token → Bool
-is-above most t = cond (ltb (t .class) 6) false (ltb most (number-said t))
+abbrev pub variable-said : Token → ℕ
+variable-said t = variable (literal-said t)
+
+abbrev pub says-above : ℕ → Token → Bool
+says-above most t = cond (ltb (t .class) 6) false (ltb most (variable-said t))

@@ -6,15 +6,17 @@ use mathlib.Core.Bool.{Bool, true, false, not, _&&_, _||_, cond}
 use mathlib.Core.List.{List, [], _∷_, _++_}
 use Prim.Native.Nat.{ℕ, zero, suc, _+_, _≤_}
 use lib.Dec.{eqb, ltb, leb}
+use lib.IntN.{ℤ}
 use lib.ListN.{length, getD, set}
 use Rattle.formula.specs.Tree.{exists, Prefix, binds, distinct}
 use Rattle.sheet.specs.Format.{Bytes}
 use Rattle.sheet.specs.Qdimacs.{Token, all, named}
 use Rattle.sheet.specs.Texts.{up-to}
+use Rattle.words.specs.Literals.{variable}
 use Rattle.words.specs.declared.token.Token as code
 use Rattle.qdimacs.specs.Inner.Lists.{between, ordered, clause-tokens, bound-from, whole-lists}
 use Rattle.qdimacs.specs.Inner.Cursor.{tokens-at}
-use Rattle.qdimacs.specs.Inner.Clauses.{number-said}
+use Rattle.qdimacs.specs.Inner.Clauses.{literal-said}
 use Rattle.qdimacs.specs.declared.marks.Bound.{Bound}
 
 -- words that are well listed, with numbers that a table has
@@ -45,10 +47,12 @@ pub record Binds (b : Bytes) (f : Bound) (m : List ℕ) : Type 0 where
   pub count-is : f .count ≡ length (bindings-in b)
   pub marked : Marked (bindings-in b) m
 
--- a word of a clause
+-- a literal of a clause, and a word of one
+abbrev pub named-by : ℤ → List ℕ → List ℕ
+named-by l m = cond (leb 1025 (variable l)) m (cond (eqb (getD m (variable l) 0) 0) (set m (variable l) 2) m)
+
 abbrev pub named-with : code.Token → List ℕ → List ℕ
-named-with t m =
-    cond (ltb (t .class) 6) m (cond (leb 1025 (number-said t)) m (cond (eqb (getD m (number-said t) 0) 0) (set m (number-said t) 2) m))
+named-with t m = cond (ltb (t .class) 6) m (named-by (literal-said t) m)
 
 -- free, once the words left are named
 abbrev pub free-with : List ℕ → List Token → ℕ → Bool

@@ -5,6 +5,7 @@ use mathlib.Core.Bool.{Bool, true, false, not, _&&_, cond}
 use mathlib.Core.List.{List, _++_}
 use Prim.Native.Nat.{ℕ, _+_, _^_, _≤_, _<_}
 use lib.Dec.{eqb, ltb}
+use lib.IntN.{ℤ}
 use lib.ListN.{length, take, drop, set}
 use Rattle.sheet.specs.Format.{Bytes, Row, row}
 use Rattle.sheet.specs.Sheet.{forest-rows}
@@ -13,11 +14,11 @@ use Rattle.sheet.specs.Texts.{up-to, lists}
 use Rattle.rows.specs.Layouts.{Fits, total, Room}
 use Rattle.rows.specs.declared.Layout.{Layout}
 use Rattle.words.specs.Numbers.{largest}
-use Rattle.words.specs.Literals.{literal, kind}
+use Rattle.words.specs.Literals.{variable, kind}
 use Rattle.words.specs.declared.token.Token as code
 use Rattle.qdimacs.specs.Inner.Lists.{first-length, whole-lists}
 use Rattle.qdimacs.specs.Inner.Cursor.{tokens-at}
-use Rattle.qdimacs.specs.Inner.Clauses.{number-said}
+use Rattle.qdimacs.specs.Inner.Clauses.{literal-said}
 use Rattle.qdimacs.specs.declared.write.Place.{Place}
 
 -- rows with others put from row r on
@@ -45,6 +46,10 @@ pub record Openable (b : Bytes) (p : Place) (k : ℕ) (s : Layout) (len : ℕ) :
   pub few : p .row < largest
   pub fits : Fits s (first-length (tokens-at b (p .at)))
 
+-- a literal's row
+abbrev pub literal-row : ℤ → Row
+literal-row l = row (kind l) (variable l)
+
 -- a word's row
 abbrev pub word-place : code.Token → Place → Place
 word-place t p =
@@ -54,7 +59,7 @@ word-place t p =
 abbrev pub word-rows : code.Token → Place → List Row → List Row
 word-rows t p rs =
     cond (eqb (t .class) 6) rs
-    (cond (ltb (t .class) 6) rs (set rs (p .row) (row (kind (literal (eqb (t .class) 8) (t .magnitude))) (number-said t))))
+    (cond (ltb (t .class) 6) rs (set rs (p .row) (literal-row (literal-said t))))
 
 -- whole clauses, each row with its place and each length with its bytes
 pub record Writable (b : Bytes) (from : ℕ) (s : Layout) (len r : ℕ) : Type 0 where

@@ -14,23 +14,36 @@ Inv-loop b most at₀ at = Lower most b at
 abbrev μ-loop : tie.MeasureT-loop
 μ-loop b most at₀ at = length b - at
 
+-- the turn in which a word is asked about, and the call
+abbrev turn : tie.After-says-above Inv-loop μ-loop → tie.At-loop Inv-loop μ-loop
+turn c = c .before .before .before
+
+abbrev start : tie.At-loop Inv-loop μ-loop → tie.Start Inv-loop μ-loop
+start c = c .before .before
+
 loop-holds : tie.Need-loop-holds Inv-loop μ-loop
 loop-holds c = lower-none _ _
 
 next-token-requires : tie.Need-next-token-requires Inv-loop μ-loop
 next-token-requires c κs = c .before .loop .inv .inside
 
-is-above-requires : tie.Need-is-above-requires Inv-loop μ-loop
-is-above-requires c κs = search needs
+says-above-requires : tie.Need-says-above-requires Inv-loop μ-loop
+says-above-requires c κs = search needs
 
 returns : tie.Need-returns Inv-loop μ-loop
-returns c = lower-found (c .before .before .before .before .before .before .pre) (c .before .before .before .before .loop .inv) (c .before .before .next-token .ensures) (c .before .is-above .ensures) (c .if1 .taken)
+returns c =
+    let asked = c .before in
+    let at = turn asked in
+    lower-found (start at .pre) (at .loop .inv) (asked .before .next-token .ensures) (asked .says-above .ensures) (c .if1 .taken)
 
 loop-less : tie.Need-loop-less Inv-loop μ-loop
 loop-less c = omega (arith, c .before .before .next-token .ensures .inside, c .before .before .next-token .ensures .onward (omega arith))
 
 loop-again : tie.Need-loop-again Inv-loop μ-loop
-loop-again c = lower-word (c .before .before .before .before .before .before .pre) (c .before .before .before .before .loop .inv) (c .before .before .next-token .ensures) (c .before .is-above .ensures) (c .if1 .left)
+loop-again c =
+    let asked = c .before in
+    let at = turn asked in
+    lower-word (start at .pre) (at .loop .inv) (asked .before .next-token .ensures) (asked .says-above .ensures) (c .if1 .left)
 
 returns-2 : tie.Need-returns-2 Inv-loop μ-loop
 returns-2 c = lower-all (c .before .loop .inv) (omega arith)
@@ -43,7 +56,7 @@ has-above-spec =
     μ-loop
     loop-holds
     next-token-requires
-    is-above-requires
+    says-above-requires
     returns
     loop-less
     loop-again

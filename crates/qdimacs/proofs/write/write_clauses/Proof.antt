@@ -7,7 +7,7 @@ use Rattle.rows.specs.Layouts.{rows-in}
 use Rattle.rows.specs.Tables.{HIGHEST}
 use Rattle.rows.proofs.Layouts.{length-rows-in}
 use Rattle.qdimacs.specs.Inner.Cursor.{tokens-at}
-use Rattle.qdimacs.specs.Inner.Clauses.{number-said}
+use Rattle.qdimacs.specs.Inner.Clauses.{variable-said}
 use Rattle.qdimacs.proofs.Putting.{number-fits}
 use Rattle.qdimacs.proofs.WritingClauses.{first-length-few, ClausesWritten, clauses-written-none, clause-row-there, literal-row-there}
 use Rattle.qdimacs.proofs.WritingClauses.{row-inside, clauses-written-more, clauses-written-all, word-place-at}
@@ -60,7 +60,7 @@ read c = c .before .before
 
 literal : (c : tie.After-open-clause Inv-loop μ-loop) → 7 ≤ read c .next-token .result .class
     → let a = start (turn (read c)) in
-    (c .open-clause .result .row < length (rows-in (a .args .s) (a .args .out .now))) × (number-said (read c .next-token .result) ≤ HIGHEST)
+    (c .open-clause .result .row < length (rows-in (a .args .s) (a .args .out .now))) × (variable-said (read c .next-token .result) ≤ HIGHEST)
 literal c l =
     let at = turn (read c) in
     let a = start at in
