@@ -2,21 +2,23 @@
 -- Assumes nothing.
 use mathlib.Core.Path.{_≡_, refl, sym, ap, ap₂, _∙_}
 use mathlib.Core.List.{List, [], _∷_, _++_, map}
-use Prim.Native.Nat.{ℕ, zero, suc, _+_, _≤_, _<_}
-use native.Mathlib.Nat.{zero-add}
+use Prim.Native.Nat.{ℕ, zero, suc, _+_, _≤_, _<_, min}
+use native.Mathlib.Nat.{zero-add, add-zero, add-suc}
 use native.Mathlib.Omega.{arith}
-use lib.ListN.{length, getD, take, drop, set, length-set, length-map, take-append-drop, List·getD-map}
-use lib.Seq.{take-all, paste, paste-zero, paste-suc}
-use Rattle.sheet.specs.Format.{Format}
+use lib.ListN.{length, getD, take, drop, set, length-map, take-append-drop, List·getD-map}
+use lib.Seq.{take-all, length-take-le, getD-take, paste, paste-zero, paste-suc, length-paste}
+use Rattle.sheet.specs.Format.{Bytes, Format}
 use Rattle.sheet.specs.Check.{accepted}
-use Rattle.sheet.specs.Steps.{settling, expanding, Step, filled, given}
+use Rattle.sheet.specs.Steps.{settling, expanding, Step, filled, given, reached}
 use Rattle.sheet.proofs.Steps.{length-filled}
 use Rattle.steps.specs.Numbers.{numbered-operation, numbered-answer, answer-number, answer-value, tabulate, record-count, record-at, numbered, step-number, step-value, over}
-use Rattle.steps.specs.Answers.{operation-of, step-of}
+use Rattle.steps.specs.Inner.Records.{step-of}
 use Rattle.steps.specs.declared.Step as struct
-use Rattle.steps.specs.declared.Turn.{Turn}
-use Rattle.steps.specs.Inner.Turns.{room, Took}
-use Rattle.steps.proofs.Turning.{Going, Untouched, going-first, filled-here, going-next}
+use Rattle.steps.specs.declared.numbers.Part.{Part}
+use Rattle.steps.specs.Inner.Turns.{room}
+use Rattle.steps.specs.Inner.Parts.{none, Loaded, Parted, Stored}
+use Rattle.steps.proofs.Turning.{Going, Untouched, going-first}
+use Rattle.steps.proofs.Parts.{reached-on, filled-on}
 
 -- what is read behind the end
 abbrev pub blank : Step
@@ -42,15 +44,25 @@ map-tabulate part (suc n) at [] l e = absurd (omega arith)
 map-tabulate part (suc n) at (x ∷ old) l e =
     ap₂ (λ (y : ℕ) (ys : List ℕ). y ∷ ys) (e 0) (map-tabulate part n (λ (i : ℕ). at (suc i)) old (omega arith) (λ (i : ℕ). e (suc i)))
 
--- an array in which the parts of i records are written
-pub part-next : (part : Step → ℕ) → part blank ≡ 0 → (old : List ℕ) (steps : List Step) {now : List ℕ} {i j : ℕ} {t : Step}
-    → now ≡ paste old 0 (map part steps) i → i < length old → i < length steps → t ≡ getD steps i blank → j ≡ suc i
-    → set now i (part t) ≡ paste old 0 (map part steps) j
-part-next part none old steps {now} {i} {j} {t} e lo ls is next =
-    ap₂ (λ (q : List ℕ) (k : ℕ). set q k (part t)) e (sym (zero-add i)) ∙
-    ap (set (paste old 0 (map part steps) i) (0 + i))
-    (ap part is ∙ sym (List·getD-map part steps i blank) ∙ ap (getD (map part steps) i) none) ∙
-    paste-suc old 0 (map part steps) i 0 (omega arith) (omega (arith, length-map steps part)) ∙ ap (paste old 0 (map part steps)) (sym next)
+-- an array in which the parts of i records are written, and then of n more
+pub part-more : (part : Step → ℕ) → part blank ≡ 0 → (old : List ℕ) (steps more : List Step) (i n : ℕ) {now : List ℕ}
+    → now ≡ paste old 0 (map part steps) i → i + n ≤ length old → i + n ≤ length steps → n ≤ length more
+    → ((j : ℕ) → j < n → getD more j blank ≡ getD steps (i + j) blank)
+    → paste now i (map part more) n ≡ paste old 0 (map part steps) (i + n)
+part-more part zeros old steps more i zero {now} e lo ls lm same =
+    sym (paste-zero now i (map part more)) ∙ e ∙ ap (paste old 0 (map part steps)) (sym (add-zero i))
+part-more part zeros old steps more i (suc n) {now} e lo ls lm same =
+    let long : length now ≡ length old
+    = ap length e ∙ length-paste old 0 (map part steps) i (omega arith) (omega (arith, length-map steps part)) in
+    let value : getD (map part more) n 0 ≡ getD (map part steps) (i + n) 0
+    = ap (getD (map part more) n) (sym zeros) ∙ List·getD-map part more n blank ∙ ap part (same n (omega arith)) ∙
+    sym (List·getD-map part steps (i + n) blank) ∙ ap (getD (map part steps) (i + n)) zeros in
+    sym (paste-suc now i (map part more) n 0 (omega (arith, long)) (omega (arith, length-map more part))) ∙
+    ap₂ (λ (q : List ℕ) (v : ℕ). set q (i + n) v)
+    (part-more part zeros old steps more i n e (omega arith) (omega arith) (omega arith) (λ j l. same j (omega arith))) value ∙
+    ap (λ (k : ℕ). set (paste old 0 (map part steps) (i + n)) k (getD (map part steps) (i + n) 0)) (sym (zero-add (i + n))) ∙
+    paste-suc old 0 (map part steps) (i + n) 0 (omega arith) (omega (arith, length-map steps part)) ∙
+    ap (paste old 0 (map part steps)) (sym (add-suc i n))
 
 pub part-all : (part : Step → ℕ) (old : List ℕ) (steps : List Step) {k : ℕ} → k ≡ length steps → paste old 0 (map part steps) k ≡ over part steps old
 part-all part old steps {k} e =
@@ -130,28 +142,88 @@ module _ (F : Format) (operations variables numbers values first second : List �
         same-second = refl;
       }
 
-  -- the turn of record i by a step s of the same operation and variable
-  pub turned-next : {i h j : ℕ} {numbers₁ values₁ first₁ second₁ : List ℕ} → Turned i numbers₁ values₁ first₁ second₁ h
-      → i < record-count operations variables numbers values → j ≡ suc i
-      → (s : struct.Step) → operation-of (s .operation) ≡ numbered-operation (getD operations i 0) → s .variable ≡ getD variables i 0
-      → {t : Turn} {first₂ second₂ : List ℕ} → Took F s h first₁ second₁ first₂ t → length first₂ ≡ length first₁ → length second₂ ≡ length second₁
-      → {m v : ℕ} → m ≡ step-number (step-of (t .step)) → v ≡ step-value (step-of (t .step))
-      → Turned j (set numbers₁ i m) (set values₁ i v) first₂ second₂ (t .held)
-  turned-next {i} {numbers₁ = numbers₁} {values₁ = values₁} g l next s eo ex turn l₁ l₂ {m} {v} em ev =
-      let here = numbered-at operations variables numbers values i l in
-      let inside : i < length all = omega (arith, length-numbered operations variables numbers values) in
-      let inside-done : i < length done = omega (arith, length-filled F (room first second) all (given (take held first))) in
-      let o = eo ∙ sym (ap (λ (r : Step). r .operation) here) in
-      let x = ex ∙ sym (ap (λ (r : Step). r .variable) here) in
-      let is = filled-here F (room first second) all (take held first) (g .going) inside blank s o x turn in
-      record {
-        going = going-next F (room first second) all (take held first) (g .going) inside blank s o x turn next l₁ l₂;
-        numbers-are =
-            ap (set numbers₁ i) em ∙ part-next step-number refl numbers done (g .numbers-are) (omega (arith, l)) inside-done is next;
-        values-are = ap (set values₁ i) ev ∙ part-next step-value refl values done (g .values-are) (omega (arith, l)) inside-done is next;
-        untouched = λ e. absurd (omega (arith, e, next));
-        same-numbers = length-set numbers₁ i m ∙ g .same-numbers;
-        same-values = length-set values₁ i v ∙ g .same-values;
-        same-first = l₁ ∙ g .same-first;
-        same-second = l₂ ∙ g .same-second;
-      }
+  -- a part of n records from record i on
+  module _ {i h n : ℕ} {numbers₁ values₁ first₁ second₁ : List ℕ} (g : Turned i numbers₁ values₁ first₁ second₁ h) (some : 0 < n) (few : n ≤ 64)
+      (l : i + n ≤ record-count operations variables numbers values) (steps : List struct.Step) (loaded : Loaded operations variables i n steps)
+      {p : Part} {first₂ : List ℕ} (parted : Parted F steps n h first₁ second₁ first₂ p) where
+    abbrev b : Bytes
+    b = take held first
+
+    abbrev records : List Step
+    records = map step-of (take n steps)
+
+    size : length (take n steps) ≡ n
+    size = length-take-le n steps (omega (arith, few, loaded .size))
+
+    length-records : length records ≡ n
+    length-records = length-map (take n steps) step-of ∙ size
+
+    inside : i + n ≤ length all
+    inside = omega (arith, l, length-numbered operations variables numbers values)
+
+    record-is : (j : ℕ) → j < n → getD records j blank ≡ step-of (getD steps j none)
+    record-is j k = List·getD-map step-of (take n steps) j none ∙ ap step-of (getD-take n steps j none k)
+
+    there : (j : ℕ) → j < n → getD all (i + j) blank ≡ record-at operations variables numbers values (i + j)
+    there j k = numbered-at operations variables numbers values (i + j) (omega (arith, l, k))
+
+    same-operation : (j : ℕ) → j < n → (getD records j blank) .operation ≡ (getD all (i + j) blank) .operation
+    same-operation j k =
+        ap (λ (r : Step). r .operation) (record-is j k) ∙ loaded .operations-are j k ∙ sym (ap (λ (r : Step). r .operation) (there j k))
+
+    same-variable : (j : ℕ) → j < n → (getD records j blank) .variable ≡ (getD all (i + j) blank) .variable
+    same-variable j k =
+        ap (λ (r : Step). r .variable) (record-is j k) ∙ loaded .variables-are j k ∙ sym (ap (λ (r : Step). r .variable) (there j k))
+
+    here : take h first₁ ≡ reached F (room first second) all b i
+    here = g .going .sheet-held
+
+    -- what the part's record j says is what the list's record i + j says
+    answers : (j : ℕ) → j < n → getD (map step-of (p .steps)) j blank ≡ getD done (i + j) blank
+    answers j k =
+        List·getD-map step-of (p .steps) j none ∙ ap step-of (sym (getD-take n (p .steps) j none k)) ∙
+        sym (List·getD-map step-of (take n (p .steps)) j none) ∙ ap (λ (r : List Step). getD r j blank) (parted .follows .fills) ∙
+        ap₂ (λ (m : ℕ) (c : Bytes). getD (filled F m records (given c)) j blank) (g .going .same-room) here ∙
+        filled-on F (room first second) all b records i n blank length-records inside same-operation same-variable j k
+
+    sheet-then : take (p .held) first₂ ≡ reached F (room first second) all b (i + n)
+    sheet-then =
+        parted .follows .sheet-held ∙ ap₂ (λ (m : ℕ) (c : Bytes). reached F m records c (length (take n steps))) (g .going .same-room) here ∙
+        ap (reached F (room first second) records (reached F (room first second) all b i)) size ∙
+        reached-on F (room first second) all b records i n blank length-records inside same-operation same-variable n (omega arith)
+
+    done-long : length done ≡ length all
+    done-long = length-filled F (room first second) all (given b)
+
+    answered-long : length (map step-of (p .steps)) ≡ 64
+    answered-long = length-map (p .steps) step-of ∙ parted .size
+
+    stored-all : (part : Step → ℕ) → part blank ≡ 0 → (old : List ℕ) → i + n ≤ length old → {now now₂ : List ℕ} → now ≡ paste old 0 (map part done) i
+        → now₂ ≡ paste now i (map part (map step-of (p .steps))) n → now₂ ≡ paste old 0 (map part done) (i + n)
+    stored-all part zeros old k e e₂ =
+        e₂ ∙ part-more part zeros old done (map step-of (p .steps)) i n e k (omega (arith, inside, done-long)) (omega (arith, few, answered-long)) answers
+
+    stored-long : (part : Step → ℕ) (now : List ℕ) → i + n ≤ length now → {now₂ : List ℕ} → now₂ ≡ paste now i (map part (map step-of (p .steps))) n
+        → length now₂ ≡ length now
+    stored-long part now k e =
+        ap length e ∙
+        length-paste now i (map part (map step-of (p .steps))) n k (omega (arith, few, answered-long, length-map (map step-of (p .steps)) part))
+
+    pub turned-part : {second₂ numbers₂ values₂ : List ℕ} → length first₂ ≡ length first₁ → length second₂ ≡ length second₁
+        → Stored (p .steps) n i numbers₁ values₁ numbers₂ values₂ → Turned (i + n) numbers₂ values₂ first₂ second₂ (p .held)
+    turned-part l₁ l₂ stored =
+        record {
+          going =
+              record {
+                sheet-held = sheet-then;
+                is-short = omega (arith, parted .follows .is-short, g .going .same-room);
+                same-room = ap₂ (λ (k m : ℕ). min k m) l₁ l₂ ∙ g .going .same-room;
+              };
+          numbers-are = stored-all step-number refl numbers (omega (arith, l)) (g .numbers-are) (stored .numbers-are);
+          values-are = stored-all step-value refl values (omega (arith, l)) (g .values-are) (stored .values-are);
+          untouched = λ e. absurd (omega (arith, e, some));
+          same-numbers = stored-long step-number numbers₁ (omega (arith, l, g .same-numbers)) (stored .numbers-are) ∙ g .same-numbers;
+          same-values = stored-long step-value values₁ (omega (arith, l, g .same-values)) (stored .values-are) ∙ g .same-values;
+          same-first = l₁ ∙ g .same-first;
+          same-second = l₂ ∙ g .same-second;
+        }

@@ -1,6 +1,7 @@
 pub mod Turning
+pub mod Walking
+pub mod Parts
 pub mod Arrays
 pub mod Whole
 pub mod Lending
-pub mod Walking
 pub mod Numbering

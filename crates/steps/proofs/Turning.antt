@@ -17,7 +17,7 @@ use Rattle.checking.specs.declared.Written.the-variants.{Accepted, Refused}
 use Rattle.checking.specs.Answers.{written-answer}
 use Rattle.steps.specs.declared.Step.{Step}
 use Rattle.steps.specs.declared.Turn.{Turn}
-use Rattle.steps.specs.Answers.{operation-of, step-of}
+use Rattle.steps.specs.Inner.Records.{operation-of, step-of}
 use Rattle.steps.specs.Inner.Turns.{room, Kept, Keeps, Took}
 
 -- a sheet copied to the front of a buffer

@@ -1,31 +1,25 @@
 -- The records of a slice between two turns, over lists.
 -- Assumes nothing.
-use mathlib.Core.Path.{_≡_, refl, sym, ap, ap₂, _∙_, subst}
-use mathlib.Core.Logic.{_⊎_, inl, inr}
+use mathlib.Core.Path.{_≡_, refl, sym, ap, ap₂, _∙_}
 use mathlib.Core.List.{List, [], _∷_, _++_, map, append-nil}
-use Prim.Native.Nat.{ℕ, zero, suc, _+_, _≤_, _<_, min}
+use Prim.Native.Nat.{ℕ, zero, suc, _+_, _≤_, _<_}
 use native.Mathlib.Nat.{zero-add, add-zero}
 use native.Mathlib.Omega.{arith}
 use lib.ListN.{length, getD, take, drop, set, length-set, length-map, drop-of-length-le, List·getD-map}
 use lib.Seq.{take-all, getD-drop, paste, paste-zero, paste-suc, drop-paste}
 use Rattle.sheet.specs.Format.{Bytes, Format}
-use Rattle.sheet.specs.Steps.{Step as Record, filled, given, Listed, steps-call}
+use Rattle.sheet.specs.Steps.{Step as Record, filled, given, reached}
 use Rattle.sheet.proofs.Steps.{length-filled}
-use Rattle.checking.specs.Answers.{written-answer}
-use Rattle.checking.specs.declared.Written.{Written}
 use Rattle.steps.specs.declared.Step.{Step}
-use Rattle.steps.specs.declared.Begun.{Begun}
 use Rattle.steps.specs.declared.Turn.{Turn}
-use Rattle.steps.specs.Answers.{step-of, left}
-use Rattle.steps.specs.Inner.Turns.{room, Begins, Took, Finishes}
-use Rattle.steps.proofs.Turning.{Going, Untouched, going-first, filled-here, going-next}
-use Rattle.steps.proofs.Whole.{records, held-fits, turns-fit, finished}
+use Rattle.steps.specs.Inner.Records.{step-of}
+use Rattle.steps.specs.Inner.Turns.{room, Took, Follows}
+use Rattle.steps.proofs.Turning.{Going, going-first, filled-here, going-next}
 
 -- i turns are taken: the first i records are filled, and the buffers go with them
 pub record Walked (F : Format) (steps : List Step) (first second : Bytes) (held i : ℕ) (steps′ : List Step) (first′ second′ : Bytes) (held′ : ℕ) : Type 0 where
   pub going : Going F (room first second) (map step-of steps) (take held first) i held′ first′ second′
   pub records-are : map step-of steps′ ≡ paste (map step-of steps) 0 (filled F (room first second) (map step-of steps) (given (take held first))) i
-  pub untouched : Untouched i first second first′ second′
   pub same-steps : length steps′ ≡ length steps
   pub same-first : length first′ ≡ length first
   pub same-second : length second′ ≡ length second
@@ -58,7 +52,6 @@ module _ (F : Format) (steps : List Step) (first second : Bytes) (held : ℕ) wh
       record {
         going = going-first F (room first second) all (take held first) refl l refl;
         records-are = paste-zero all 0 done;
-        untouched = λ e. (refl, refl);
         same-steps = refl;
         same-first = refl;
         same-second = refl;
@@ -85,58 +78,19 @@ module _ (F : Format) (steps : List Step) (first second : Bytes) (held : ℕ) wh
               ap (set (paste all 0 done i) (0 + i)) is ∙
               paste-suc all 0 done i (step-of d) (omega (arith, length-map steps step-of)) (omega (arith, length-done)) ∙
               ap (paste all 0 done) (sym next);
-          untouched = λ e. absurd (omega (arith, e, next));
           same-steps = length-set steps₁ i (t .step) ∙ w .same-steps;
           same-first = l₁ ∙ w .same-first;
           same-second = l₂ ∙ w .same-second;
         }
 
-module _ (F : Format) (b : Bytes) (steps : List Step) (first second first₁ second₁ : Bytes) (l₁ : length first₁ ≡ length first)
-    (l₂ : length second₁ ≡ length second) (g : Begun)
-    (begun : Begins F b (length steps) first second first₁ second₁ (g .turns) (g .held) (g .answer)) where
-  abbrev whole : Listed
-  whole = steps-call F b (map step-of steps) first second
-
-  same : room first₁ second₁ ≡ room first second
-  same = ap₂ (λ (p q : ℕ). min p q) l₁ l₂
-
-  begins : Begins F b (length (map step-of steps)) first second first₁ second₁ (g .turns) (g .held) (g .answer)
-  begins =
-      subst (λ (k : ℕ). Begins F b k first second first₁ second₁ (g .turns) (g .held) (g .answer)) (sym (length-map steps step-of)) begun
-
-  pub turns-few : g .turns ≤ length steps
-  turns-few =
-      omega (
-        arith,
-        turns-fit F b (map step-of steps) first second first₁ second₁ (g .turns) (g .held) same (g .answer) begins,
-        length-map steps step-of,
-      )
-
-  pub held-short : g .held ≤ room first₁ second₁
-  held-short = held-fits F b (map step-of steps) first second first₁ second₁ (g .turns) (g .held) same (g .answer) begins
-
-  module _ {steps₂ : List Step} {first₂ second₂ : Bytes} {held₂ i : ℕ} (taken : Walked F steps first₁ second₁ (g .held) i steps₂ first₂ second₂ held₂)
-      (all : i ≡ g .turns) where
-    w : Walked F steps first₁ second₁ (g .held) (g .turns) steps₂ first₂ second₂ held₂
-    w = rw all at taken
-
-    records-whole : map step-of steps₂ ≡ whole .steps
-    records-whole = w .records-are ∙ by (records F b (map step-of steps) first second first₁ second₁ (g .turns) (g .held) same (g .answer) begins)
-      where
-        full : List Record
-        full = filled F (room first₁ second₁) (map step-of steps) (given (take (g .held) first₁))
-
-        by : ((g .turns ≡ 0) × (whole .steps ≡ map step-of steps)) ⊎ ((g .turns ≡ length (map step-of steps)) × (whole .steps ≡ full))
-            → paste (map step-of steps) 0 full (g .turns) ≡ whole .steps
-        by (inl e) = ap (paste (map step-of steps) 0 full) (e .0) ∙ sym (paste-zero (map step-of steps) 0 full) ∙ sym (e .1)
-        by (inr e) =
-            let size = length-filled F (room first₁ second₁) (map step-of steps) (given (take (g .held) first₁)) in
-            ap₂ (λ (p q : List Record). p ++ q) (take-all (g .turns) full (omega (arith, size, e .0)))
-            (drop-of-length-le (map step-of steps) {i = 0 + g .turns} (omega (arith, e .0))) ∙ append-nil full ∙ sym (e .1)
-
-    pub equals-whole : {first₃ second₃ : Bytes} (r : Written) → Finishes held₂ first₂ second₂ first₃ second₃ (written-answer r) (g .answer)
-        → left r steps₂ first₃ second₃ ≡ whole
-    equals-whole r end =
-        let l = finished F b (map step-of steps) first second first₁ second₁ (g .turns) (g .held) same (w .going) (w .untouched)
-        (w .same-first ∙ l₁) (w .same-second ∙ l₂) (g .answer) begins end in
-        λ i. record { answer = l .answers i; steps = records-whole i; first = l .in-first i; second = l .in-second i }
+  -- with all turns taken, the list is followed
+  pub followed : {i h : ℕ} {steps₁ : List Step} {first₁ second₁ : Bytes} → Walked F steps first second held i steps₁ first₁ second₁ h → i ≡ length steps
+      → Follows F steps held first second steps₁ first₁ h
+  followed {i} w e =
+      record {
+        fills =
+            w .records-are ∙ ap₂ (λ (p q : List Record). p ++ q) (take-all i done (omega (arith, length-done, e)))
+            (drop-of-length-le all {i = 0 + i} (omega (arith, length-map steps step-of, e))) ∙ append-nil done;
+        sheet-held = w .going .sheet-held ∙ ap (reached F (room first second) all (take held first)) e;
+        is-short = w .going .is-short;
+      }

@@ -1,5 +1,4 @@
 -- What a reader of the contracts must believe.
-pub mod Answers
 pub mod Numbers
 -- how the code goes about it
 pub mod Inner

@@ -14,8 +14,8 @@ ghost use Rattle.sheet.specs.Calls.{perform};
 ghost use Rattle.sheet.specs.Steps.{single};
 ghost use Rattle.rows.specs.Formats.{format-of};
 ghost use Rattle.checking.specs.Answers.{written-answer, wrote};
-ghost use Rattle.steps.specs.Answers.{operation-of, left, steps-on};
-ghost use Rattle.steps.specs.Inner.Turns.{room, Begins, Kept, Keeps, Took, Finishes};
+ghost use Rattle.steps.specs.Inner.Records.{operation-of};
+ghost use Rattle.steps.specs.Inner.Turns.{room, Begins, Kept, Keeps, Took, Follows, Finishes};
 
 pub mod numbers;
 
@@ -135,27 +135,21 @@ fn finish(b: Begun, held: usize, first: &mut [u8], second: &mut [u8]) -> Written
     }
 }
 
-// Takes the steps of a list on a sheet: every record is filled with what its single call answers, the first buffer ends with the final
-// sheet and zeros, the second with zeros, and the sheet's length is returned; or the list is refused and nothing changes.
-pub fn follow(
-    sheet: &[u8],
-    f: Format,
-    steps: &mut [Step],
-    first: &mut [u8],
-    second: &mut [u8],
-) -> Written
-    ensures { λ r. ⌜ left r (now (steps .exit)) (now (first .exit)) (now (second .exit)) ≡ steps-on f (now (sheet .entry)) (now (steps .entry)) (now (first .entry)) (now (second .entry)) ⌝ }
+// Takes the steps of a lent list on the sheet held: every record is filled with what its single call answers, and the length of the
+// sheet then held is returned.
+fn follow(steps: &mut [Step], f: Format, held: usize, first: &mut [u8], second: &mut [u8]) -> usize
+    requires { ⌜ held ≤ room (now first) (now second) ⌝ }
+    ensures { λ r. ⌜ Follows (format-of f) (now (steps .entry)) held (now (first .entry)) (now (second .entry)) (now (steps .exit)) (now (first .exit)) r ⌝ }
 {
-    let b = begin(sheet, f, steps.len(), first, second);
-    let turns = b.turns;
-    let mut held = b.held;
+    let count = steps.len();
+    let mut kept = held;
     let mut i: usize = 0;
-    while i < turns {
+    while i < count {
         let s = steps[i];
-        let t = one(s, f, held, first, second);
+        let t = one(s, f, kept, first, second);
         steps[i] = t.step;
-        held = t.held;
+        kept = t.held;
         i += 1;
     }
-    finish(b, held, first, second)
+    kept
 }

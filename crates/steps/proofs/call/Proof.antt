@@ -5,7 +5,7 @@ use Rattle.sheet.specs.Calls.{perform}
 use Rattle.sheet.specs.Steps.{single}
 use Rattle.rows.specs.Formats.{format-of}
 use Rattle.steps.specs.declared.Operation.{Operation}
-use Rattle.steps.specs.Answers.{operation-of}
+use Rattle.steps.specs.Inner.Records.{operation-of}
 use borrow.Author.Needs.{needs}
 use Rattle.steps.proofs.call.Statement.{statement}
 use Rattle.steps.proofs.call.Tie as tie

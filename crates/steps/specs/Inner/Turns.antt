@@ -2,18 +2,18 @@
 -- Assumes nothing.
 use mathlib.Core.Path.{_≡_}
 use mathlib.Core.Bool.{true}
-use mathlib.Core.List.{_++_}
+use mathlib.Core.List.{List, _++_, map}
 use Prim.Native.Nat.{ℕ, _-_, _≤_, min}
 use lib.ListN.{length, take, replicate}
 use Rattle.sheet.specs.Format.{Bytes, Format}
 use Rattle.sheet.specs.Check.{Answer, refused, accepted, answer, passes}
 use Rattle.sheet.specs.Operations.{tidy-tests}
-use Rattle.sheet.specs.Steps.{call-of, after, fill, given}
+use Rattle.sheet.specs.Steps.{call-of, after, fill, filled, given, reached}
 use Rattle.checking.specs.declared.Written.{Written}
 use Rattle.checking.specs.declared.Written.the-variants.{Accepted, Refused}
 use Rattle.steps.specs.declared.Step.{Step}
 use Rattle.steps.specs.declared.Turn.{Turn}
-use Rattle.steps.specs.Answers.{step-of}
+use Rattle.steps.specs.Inner.Records.{step-of}
 
 abbrev pub room : Bytes → Bytes → ℕ
 room first second = min (length first) (length second)
@@ -39,6 +39,12 @@ pub record Took (F : Format) (s : Step) (held : ℕ) (first second first′ : By
   pub fills : step-of (t .step) ≡ fill F (room first second) (step-of s) (take held first)
   pub sheet-held : take (t .held) first′ ≡ (after F (call-of (room first second) (step-of s)) (given (take held first))) .sheet
   pub is-short : t .held ≤ room first second
+
+-- a list of records from the sheet held on: each is filled, and the sheet that they end with stands at the front of the first buffer
+pub record Follows (F : Format) (steps : List Step) (held : ℕ) (first second : Bytes) (steps′ : List Step) (first′ : Bytes) (held′ : ℕ) : Type 0 where
+  pub fills : map step-of steps′ ≡ filled F (room first second) (map step-of steps) (given (take held first))
+  pub sheet-held : take held′ first′ ≡ reached F (room first second) (map step-of steps) (take held first) (length steps)
+  pub is-short : held′ ≤ room first second
 
 -- accepted, only the sheet held is left, with zeros behind it
 abbrev pub Finishes : ℕ → Bytes → Bytes → Bytes → Bytes → Answer ℕ → Written → Type 0

@@ -1,28 +1,25 @@
--- `steps::numbers::follow_numbers` meets its contract: when i turns are taken, i answers are written, and the sheet held before record i
--- stands in the first buffer. Assumes nothing.
-use mathlib.Core.Path.{_≡_, refl, ap₂, _∙_}
-use Prim.Native.Nat.{ℕ, _≤_, _<_, _*_, _-_, min}
-use native.Mathlib.Numerals.{add-one}
+-- `steps::numbers::follow_numbers` meets its contract: before each part, the answers of all records before it are written, and the sheet held
+-- then stands in the first buffer. Assumes nothing.
+use mathlib.Core.Path.{_≡_, ap₂, _∙_}
+use Prim.Native.Nat.{ℕ, _+_, _≤_, _<_, _-_, min}
 use native.Mathlib.Omega.{arith}
 use lib.ListN.{length}
-use mir.Syntax.{w64}
-use mir.Val.{Fits}
 use borrow.Author.Needs.{needs}
 use Rattle.rows.specs.Formats.{format-of}
 use Rattle.checking.specs.Answers.{written-answer}
 use Rattle.steps.specs.Numbers.{record-count}
-use Rattle.steps.proofs.Arrays.{Filled, turned-none, turned-next}
+use Rattle.steps.proofs.Arrays.{Filled, turned-none, turned-part}
 use Rattle.steps.proofs.Numbering.{turns-few, held-short, equals-whole}
 use Rattle.steps.proofs.numbers.follow_numbers.Statement.{statement}
 use Rattle.steps.proofs.numbers.follow_numbers.Tie as tie
 
 abbrev Inv-loop : tie.InvT-loop
-Inv-loop sheet f operations variables numbers₀ values₀ first₀ second₀ count b turns held₀ i₀ numbers values first second held i =
-    (i ≤ turns) × Filled (format-of f) operations variables numbers₀ values₀ first₀ second₀ held₀ i numbers values first second held
+Inv-loop sheet f operations variables numbers₀ values₀ first₀ second₀ count b turns held₀ at₀ numbers values first second held at =
+    (at ≤ turns) × Filled (format-of f) operations variables numbers₀ values₀ first₀ second₀ held₀ at numbers values first second held
 
 abbrev μ-loop : tie.MeasureT-loop
-μ-loop sheet f operations variables numbers₀ values₀ first₀ second₀ count b turns held₀ i₀ numbers values first second held i =
-    turns - i
+μ-loop sheet f operations variables numbers₀ values₀ first₀ second₀ count b turns held₀ at₀ numbers values first second held at =
+    turns - at
 
 abbrev counted-at : tie.After-begin Inv-loop μ-loop → tie.After-shorter3 Inv-loop μ-loop
 counted-at c = c .before .before .before
@@ -40,27 +37,27 @@ counted c =
     let n = counted-at c in
     n .shorter3 .ensures ∙ ap₂ (λ (p q : ℕ). min p q) (n .before .before .shorter .ensures) (n .before .shorter2 .ensures)
 
--- record i is there
-inside : (c : tie.In-loop Inv-loop μ-loop)
-    → let a = start (begun (c .before)) .args in
-    c .before .loop .i < record-count (a .operations .now) (a .variables .now) (a .numbers .now) (a .values .now)
-inside c =
-    let g = begun (c .before) in
+-- all records are there
+few-turns : (c : tie.At-loop Inv-loop μ-loop)
+    → let a = start (begun c) .args in
+    begun c .begin .result .turns ≤ record-count (a .operations .now) (a .variables .now) (a .numbers .now) (a .values .now)
+few-turns c =
+    let g = begun c in
     let a = start g .args in
-    omega (
-      arith,
-      c .loop-test .taken,
-      turns-few (format-of (a .f)) (a .sheet .now) (a .operations .now) (a .variables .now) (a .numbers .now) (a .values .now) (a .first .now) (a .second .now)
-          _ _ (g .begin .kept .1 .1 .1 .0) (g .begin .kept .1 .1 .1 .1 .0) _ (counted g) (g .begin .result) (g .begin .ensures),
-    )
+    turns-few (format-of (a .f)) (a .sheet .now) (a .operations .now) (a .variables .now) (a .numbers .now) (a .values .now) (a .first .now) (a .second .now)
+    _ _ (g .begin .kept .1 .1 .1 .0) (g .begin .kept .1 .1 .1 .1 .0) _ (counted g) (g .begin .result) (g .begin .ensures)
 
--- and lies at a place that a machine word holds
-scaled : (c : tie.In-loop Inv-loop μ-loop) → Fits w64 (c .before .loop .i * 8)
-scaled c =
-    let s = start (begun (c .before)) in
-    let good = s .good in
-    let there : c .before .loop .i < length (s .args .variables .now) = omega (arith, inside c) in
-    search needs
+-- a part: some records, at most 64, none behind the last
+record Some (at turns n : ℕ) : Type 0 where
+  some : 0 < n
+  few : n ≤ 64
+  within : at + n ≤ turns
+
+part : (c : tie.After-shorter4 Inv-loop μ-loop) → Some (c .before .before .loop .at) (begun (c .before .before) .begin .result .turns) (c .shorter4 .result)
+part c =
+    let t = c .before .loop-test .taken in
+    let n = c .shorter4 .ensures in
+    record { some = omega (arith, t, n); few = omega (arith, n); within = omega (arith, t, n) }
 
 shorter-requires : tie.Need-shorter-requires Inv-loop μ-loop
 shorter-requires c κs = search needs
@@ -84,66 +81,67 @@ loop-holds c =
           _ _ (g .begin .kept .1 .1 .1 .0) (g .begin .kept .1 .1 .1 .1 .0) _ (counted g) (g .begin .result) (g .begin .ensures)),
     )
 
-shared-slice-read-operation-for : tie.Need-shared-slice-read-operation-for Inv-loop μ-loop
-shared-slice-read-operation-for c = omega (arith, inside (c .before))
+sub-shorter : tie.Need-sub-shorter Inv-loop μ-loop
+sub-shorter c = omega (arith, c .loop-test .taken)
 
-operation-for-requires : tie.Need-operation-for-requires Inv-loop μ-loop
-operation-for-requires c κs = search needs
+shorter-requires-4 : tie.Need-shorter-requires-4 Inv-loop μ-loop
+shorter-requires-4 c κs = search needs
 
-mul-numbers : tie.Need-mul-numbers Inv-loop μ-loop
-mul-numbers c = scaled (c .before .before)
+load-requires : tie.Need-load-requires Inv-loop μ-loop
+load-requires c κs =
+    let p = part c in
+    let all = few-turns (c .before .before) in
+    record { is-part = p .few; in-one = omega (arith, p .within, all); in-other = omega (arith, p .within, all) }
 
-shared-slice-read-numbers : tie.Need-shared-slice-read-numbers Inv-loop μ-loop
-shared-slice-read-numbers c = omega (arith, inside (c .before .before .before))
+follow-part-requires : tie.Need-follow-part-requires Inv-loop μ-loop
+follow-part-requires c κs =
+    let n = c .before .before .before in
+    let g = n .before .before .loop .inv .1 .going in
+    record { is-part = part n .few; is-short = omega (arith, g .is-short, g .same-room) }
 
-one-requires : tie.Need-one-requires Inv-loop μ-loop
-one-requires c κs =
-    let g = c .before .before .before .before .before .before .loop .inv .1 .going in
-    omega (arith, g .is-short, g .same-room)
+abbrev loaded : tie.After-follow-part Inv-loop μ-loop → tie.After-load Inv-loop μ-loop
+loaded c = c .before .before .before
 
-number-of-requires : tie.Need-number-of-requires Inv-loop μ-loop
-number-of-requires c κs = search needs
+abbrev followed : tie.After-store-arg2 Inv-loop μ-loop → tie.After-follow-part Inv-loop μ-loop
+followed c = c .before .before .before .before .before .before .before
 
-abbrev turn : tie.After-number-of Inv-loop μ-loop → tie.After-one Inv-loop μ-loop
-turn c = c .before .before .before .before .before .before
+abbrev stored : tie.After-slice-known10 Inv-loop μ-loop → tie.After-store Inv-loop μ-loop
+stored c = c .before .before .before .before
 
-abbrev told : tie.After-one Inv-loop μ-loop → tie.After-operation-for Inv-loop μ-loop
-told c = c .before .before .before .before
+store-requires : tie.Need-store-requires Inv-loop μ-loop
+store-requires c κs =
+    let n = loaded (followed c) .before in
+    let p = part n in
+    let l = n .before .before in
+    let all = few-turns l in
+    let f = l .loop .inv .1 in
+    record { is-part = p .few; in-one = omega (arith, p .within, all, f .same-numbers); in-other = omega (arith, p .within, all, f .same-values) }
 
-abbrev test : tie.After-number-of Inv-loop μ-loop → tie.In-loop Inv-loop μ-loop
-test c = told (turn c) .before .before
-
-mul-numbers-2 : tie.Need-mul-numbers-2 Inv-loop μ-loop
-mul-numbers-2 c = scaled (test c)
-
-slice-write-numbers : tie.Need-slice-write-numbers Inv-loop μ-loop
-slice-write-numbers c = omega (arith, inside (test c), test c .before .loop .inv .1 .same-numbers)
-
-value-of-requires : tie.Need-value-of-requires Inv-loop μ-loop
-value-of-requires c κs = search needs
-
-mul-values : tie.Need-mul-values Inv-loop μ-loop
-mul-values c = scaled (test (c .before))
-
-slice-write-values : tie.Need-slice-write-values Inv-loop μ-loop
-slice-write-values c = omega (arith, inside (test (c .before)), test (c .before) .before .loop .inv .1 .same-values)
-
-add-i : tie.Need-add-i Inv-loop μ-loop
-add-i c = search needs
+add-at : tie.Need-add-at Inv-loop μ-loop
+add-at c =
+    let n = loaded (followed (stored c .before)) .before in
+    let l = n .before .before in
+    let s = start (begun l) in
+    let good = s .good in
+    let there : l .loop .at + n .shorter4 .result ≤ length (s .args .variables .now) = omega (arith, part n .within, few-turns l) in
+    search needs
 
 loop-less : tie.Need-loop-less Inv-loop μ-loop
-loop-less c = search needs
+loop-less c =
+    let p = part (loaded (followed (stored c .before)) .before) in
+    omega (arith, p .some, p .within)
 
 loop-again : tie.Need-loop-again Inv-loop μ-loop
 loop-again c =
-    let t = turn (c .before) in
-    let i = test (c .before) in
-    let l = i .before in
+    let f = followed (stored c .before) in
+    let n = loaded f .before in
+    let p = part n in
+    let l = n .before .before in
     let a = start (begun l) .args in (
-      omega (arith, i .loop-test .taken),
-      turned-next (format-of (a .f)) (a .operations .now) (a .variables .now) (a .numbers .now) (a .values .now) _ _ _
-          (l .loop .inv .1) (inside i) (add-one (l .loop .i)) _ (told t .operation-for .ensures) refl (t .one .ensures)
-          (t .one .kept .1 .1 .1 .0) (t .one .kept .1 .1 .1 .1 .0) (c .before .number-of .ensures) (c .value-of .ensures),
+      p .within,
+      turned-part (format-of (a .f)) (a .operations .now) (a .variables .now) (a .numbers .now) (a .values .now) _ _ _
+          (l .loop .inv .1) (p .some) (p .few) (omega (arith, p .within, few-turns l)) _ (loaded f .load .ensures) (f .follow-part .ensures)
+          (f .follow-part .kept .1 .1 .1 .1 .0) (f .follow-part .kept .1 .1 .1 .1 .1 .0) (stored c .store .ensures),
     )
 
 finish-requires : tie.Need-finish-requires Inv-loop μ-loop
@@ -151,7 +149,7 @@ finish-requires c κs =
     let g = c .before .before .before .loop .inv .1 .going in
     omega (arith, g .is-short, g .same-room)
 
-abbrev ended : tie.After-slice-known10 Inv-loop μ-loop → tie.After-finish Inv-loop μ-loop
+abbrev ended : tie.After-slice-known12 Inv-loop μ-loop → tie.After-finish Inv-loop μ-loop
 ended c = c .before .before .before .before
 
 abbrev last : tie.After-finish Inv-loop μ-loop → tie.After-loop Inv-loop μ-loop
@@ -195,18 +193,12 @@ follow-numbers-spec =
     shorter-requires-3
     begin-requires
     loop-holds
-    shared-slice-read-operation-for
-    operation-for-requires
-    mul-numbers
-    shared-slice-read-numbers
-    one-requires
-    number-of-requires
-    mul-numbers-2
-    slice-write-numbers
-    value-of-requires
-    mul-values
-    slice-write-values
-    add-i
+    sub-shorter
+    shorter-requires-4
+    load-requires
+    follow-part-requires
+    store-requires
+    add-at
     loop-less
     loop-again
     finish-requires
