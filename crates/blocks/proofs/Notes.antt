@@ -16,11 +16,11 @@ use Rattle.formula.proofs.Tidy.Same.{same-tree-same}
 use Rattle.formula.proofs.Booleans.{or-none, or-later}
 use Rattle.sheet.specs.Format.{Row, row}
 use Rattle.sheet.specs.Sheet.{literal-kind}
-use Rattle.buckets.specs.Chains.{bucket}
+use Rattle.buckets.specs.Chains.{BUCKETS, bucket}
 use Rattle.buckets.specs.Halves.{member-of, row-of}
 use Rattle.buckets.specs.Prints.{literal-mix, sign, print}
 use Rattle.buckets.proofs.Halves.{row-made, print-made}
-use Rattle.buckets.proofs.Prints.{print-few}
+use Rattle.buckets.proofs.Prints.{print-few, literal-bucket}
 use Rattle.blocks.specs.Blocks.{Block, gone, literal, operator, Blocks, none, _◂_, _⊕_, head, block-rows, size, grown, live, Here, Stands}
 use Rattle.blocks.specs.Walks.{at-row}
 use Rattle.blocks.specs.Rules.{note, notes, Noted, literal-test, Member, Twin}
@@ -55,19 +55,16 @@ note-dead r (literal false v) e = absurd (omega arith)
 note-dead r (operator and ks) e = absurd (omega arith)
 note-dead r (operator or ks) e = absurd (omega arith)
 
--- a member's row and bucket
+-- a member's row and bucket: the row is no part of the bucket, and neither is a literal's sign
 
-halved : (r y g : ℕ) → g < 2 → member-of r (y * 2 + g) / 2 ≡ r * 32768 + y
-halved r y g l = omega arith
-
-low-bits : (r y : ℕ) → (r * 32768 + y) % 1024 ≡ y % 1024
+low-bits : (r y : ℕ) → (r * 4096 + y) % BUCKETS ≡ y % BUCKETS
 low-bits r y = omega arith
 
 pub bucket-made : (r q : ℕ) → bucket (member-of r q) ≡ bucket q
-bucket-made r q = ap (λ z. z % 1024) (halved-all r q) ∙ low-bits r (q / 2)
+bucket-made r q = ap (λ z. z % BUCKETS) (divided r q) ∙ low-bits r (q / 16)
   where
-    halved-all : (r q : ℕ) → member-of r q / 2 ≡ r * 32768 + q / 2
-    halved-all r q = omega arith
+    divided : (r q : ℕ) → member-of r q / 16 ≡ r * 4096 + q / 16
+    divided r q = omega arith
 
 abbrev operator-tree : Op → Blocks → Tree
 operator-tree o ks = node o (live ks)
@@ -79,23 +76,8 @@ row-note : (r : ℕ) (s : Bool) (v : ℕ) → row-of (member-of r (literal-mix (
 row-note r true v = omega arith
 row-note r false v = omega arith
 
-sign-few : (s : Bool) → sign s < 2
-sign-few true = omega arith
-sign-few false = omega arith
-
--- the sign is no part of the bucket
-mix-bucket : (r y g : ℕ) → g < 2 → bucket (member-of r (y * 2 + g)) ≡ y % 1024
-mix-bucket r y g l = ap (λ z. z % 1024) (halved r y g l) ∙ low-bits r y
-
 bucket-note : (r : ℕ) (s s′ : Bool) (v : ℕ) → bucket (member-of r (literal-mix (sign s) v)) ≡ bucket (literal-mix (sign s′) v)
-bucket-note r s s′ v =
-    mix-bucket r (v * 20251 % 32768) (sign s) (sign-few s) ∙ sym (alone (v * 20251 % 32768) (sign s′) (sign-few s′))
-  where
-    alone : (y g : ℕ) → g < 2 → bucket (y * 2 + g) ≡ y % 1024
-    alone y g l = ap (λ z. z % 1024) (half y g l)
-      where
-        half : (y g : ℕ) → g < 2 → (y * 2 + g) / 2 ≡ y
-        half y g l = omega arith
+bucket-note r s s′ v = bucket-made r (literal-mix (sign s) v) ∙ literal-bucket s v ∙ sym (literal-bucket s′ v)
 
 -- members by their numbers
 

@@ -11,7 +11,7 @@ use lib.Dec.{eqb, ltb}
 use lib.ListN.{length, getD, set}
 use lib.Seq.{getD-set-same, getD-set-other}
 use borrow.Author.Tests.{eqb-true, eqb-false, eq-eqb, ne-eqb, ltb-true, ltb-false}
-use Rattle.buckets.specs.Chains.{entry-of, bucket, last, Head, Linked, Passed}
+use Rattle.buckets.specs.Chains.{entry-of, BUCKETS, bucket, last, Head, Linked, Passed}
 use Rattle.buckets.specs.declared.Link.{Link}
 use Rattle.buckets.specs.declared.Link.the-variants.{End, Member}
 
@@ -112,7 +112,7 @@ module _ (m : ℕ) {H L M H′ L′ M′ : List ℕ} {n f : ℕ} (lk : Linked H 
   last-old : (k i : ℕ) → i ≤ n → last M′ k i ≡ last M k i
   last-old k i l = ap (λ (l : List ℕ). last l k i) M-is ∙ last-set M k n m i l
 
-  head-entry : (k : ℕ) → k < 1024 → Head M′ k (n + 1) (getD H′ k 0)
+  head-entry : (k : ℕ) → k < BUCKETS → Head M′ k (n + 1) (getD H′ k 0)
   head-entry k l =
       decide k (bucket m)
       (λ e.

@@ -1,11 +1,12 @@
--- Fingerprints: they have 16 bits, and trees whose prints differ differ.
+-- Fingerprints: they have 16 bits, trees whose prints differ differ, and a bucket is no variable's.
 -- Assumes nothing.
-use mathlib.Core.Path.{_≡_, ap}
-use mathlib.Core.Bool.{true, false}
-use Prim.Native.Nat.{ℕ, _<_}
+use mathlib.Core.Path.{_≡_, sym, ap, _∙_}
+use mathlib.Core.Bool.{Bool, true, false}
+use Prim.Native.Nat.{ℕ, _/_, _%_, _≤_, _<_}
 use native.Mathlib.Omega.{arith}
 use Rattle.formula.specs.Tree.{and, or, Tree, lit, node, Forest, ∅, _▸_}
-use Rattle.buckets.specs.Prints.{mix, print, print-on}
+use Rattle.buckets.specs.Chains.{BUCKETS, bucket}
+use Rattle.buckets.specs.Prints.{literal-mix, sign, mix, print, print-on}
 
 pub mix-few : (h p : ℕ) → mix h p < 65536
 mix-few h p = omega arith
@@ -25,3 +26,18 @@ mutual
 
 pub prints-differ : (t u : Tree) → (print t ≡ print u → ⊥) → t ≡ u → ⊥
 prints-differ t u d e = d (ap print e)
+
+-- the bucket of a literal
+pub literal-bucket : (s : Bool) (v : ℕ) → bucket (literal-mix (sign s) v) ≡ v / 8 % BUCKETS
+literal-bucket true v = omega arith
+literal-bucket false v = omega arith
+
+-- literals of eight variables that follow one another share it, whatever their signs
+pub bucket-shared : (s t : Bool) (v w : ℕ) → v / 8 ≡ w / 8 → bucket (print (lit s v)) ≡ bucket (print (lit t w))
+unfolding print
+bucket-shared s t v w e = literal-bucket s v ∙ ap (λ x. x % BUCKETS) e ∙ sym (literal-bucket t w)
+
+-- and those of n variables have n / 8 + 1 buckets at most, 33 at the narrow format and 129 at the wide one
+pub few-buckets : (s : Bool) (n v : ℕ) → v ≤ n → bucket (print (lit s v)) ≤ n / 8
+unfolding print
+few-buckets s n v l = omega (arith, literal-bucket s v)

@@ -15,9 +15,13 @@ abbrev pub entry-of : Link → ℕ
 entry-of End = 0
 entry-of (Member i) = suc i
 
--- the bucket that a member falls into
+-- how many buckets there are
+abbrev pub BUCKETS : ℕ
+BUCKETS = 1024
+
+-- the bucket that a member falls into: the lowest four bits of its print are no part of it
 abbrev pub bucket : ℕ → ℕ
-bucket m = m / 2 % 1024
+bucket m = m / 16 % BUCKETS
 
 -- the last of the first n members that falls into bucket k, the end if none does
 unfoldable pub last : List ℕ → ℕ → ℕ → Link
@@ -30,7 +34,7 @@ Head M k n h = (last M k n ≡ End) ⊎ (entry-of (last M k n) ≡ h)
 
 -- tables that are long enough for n members
 pub record Room (H L M : List ℕ) (n : ℕ) : Type 0 where
-  pub all-heads : length H ≡ 1024
+  pub all-heads : length H ≡ BUCKETS
   pub links-fit : n ≤ length L
   pub members-fit : n ≤ length M
   pub countable : n < 65536
@@ -38,7 +42,7 @@ pub record Room (H L M : List ℕ) (n : ℕ) : Type 0 where
 -- Tables of heads and links for the first n members: a head is right wherever its bucket has a member, and a link wherever there is
 -- a member. What they hold elsewhere doesn't matter.
 pub record Linked (H L M : List ℕ) (n : ℕ) : Type 0 where
-  pub heads : (k : ℕ) → k < 1024 → Head M k n (getD H k 0)
+  pub heads : (k : ℕ) → k < BUCKETS → Head M k n (getD H k 0)
   pub links : (i : ℕ) → i < n → getD L i 0 ≡ entry-of (last M (bucket (getD M i 0)) i)
 
 -- a walk along a chain has come to a link: no member of the bucket that it has passed, those with higher numbers, passes the test

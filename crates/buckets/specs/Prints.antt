@@ -1,4 +1,5 @@
--- Fingerprints of trees: numbers of 16 bits. Equal trees have equal prints; a literal and its opposite fall into one bucket.
+-- Fingerprints of trees: numbers of 16 bits. Equal trees have equal prints; a literal, its opposite and the literals of the variables next
+-- to it fall into one bucket.
 -- Assumes nothing.
 use mathlib.Core.Bool.{Bool, true, false}
 use Prim.Native.Nat.{ℕ, _+_, _*_, _%_}
@@ -6,7 +7,7 @@ use Rattle.formula.specs.Tree.{Op, and, or, Tree, lit, node, Forest, ∅, _▸_
 
 -- a literal's: the sign in the lowest bit
 abbrev pub literal-mix : ℕ → ℕ → ℕ
-literal-mix sign v = v * 20251 % 32768 * 2 + sign
+literal-mix sign v = v % 32768 * 2 + sign
 
 abbrev pub sign : Bool → ℕ
 sign true = 1
@@ -18,7 +19,7 @@ operator-mix and = 5
 operator-mix or = 6
 
 abbrev pub mix : ℕ → ℕ → ℕ
-mix h p = (h * 25173 + p) % 65536
+mix h p = (h + p) * 25173 % 65536
 
 unfoldable mutual
   pub print : Tree → ℕ

@@ -4,13 +4,13 @@
 ghost use mathlib.Core.Path.{_≡_};
 ghost use Prim.Native.Nat.{_+_, _^_, _≤_, _<_};
 ghost use lib.ListN.{length, getD, set};
-ghost use Rattle.buckets.specs.Chains.{entry-of, bucket, last, Head, Linked, Room};
+ghost use Rattle.buckets.specs.Chains.{entry-of, BUCKETS, bucket, last, Head, Linked, Room};
 
 pub mod half;
 pub mod print;
 
-// Entries of a table of heads.
-pub const HEADS: usize = 1024;
+// How many buckets there are: a table of heads has an entry for each.
+pub const BUCKETS: usize = 1024;
 
 // A link of a chain: to the member of this number, or to none at its end.
 pub enum Link {
@@ -52,11 +52,12 @@ pub fn entry_of(l: Link) -> usize
     }
 }
 
-// The bucket that a member falls into.
+// The bucket that a member falls into, by its print. It is no variable's: literals of eight variables share one, and siblings that meet
+// in a bucket are compared with one another.
 pub fn bucket_of(m: usize) -> usize
-    ensures { λ k. ⌜ (k ≡ bucket m) × (k < 1024) ⌝ }
+    ensures { λ k. ⌜ (k ≡ bucket m) × (k < BUCKETS) ⌝ }
 {
-    m / 2 % 1024
+    m / 16 % BUCKETS
 }
 
 // The last of the first `n` members that falls into bucket `k`.

@@ -8,7 +8,7 @@ pub fn literal_print(sign: usize, x: usize) -> usize
     requires { ⌜ (sign < 2) × (x < 2 ^ 32) ⌝ }
     ensures { λ r. ⌜ (r ≡ literal-mix sign x) × (r < 65536) ⌝ }
 {
-    x * 20251 % 32768 * 2 + sign
+    x % 32768 * 2 + sign
 }
 
 // The print of an operator so far, `h`, with one more child's.
@@ -16,5 +16,5 @@ pub fn mixed(h: usize, p: usize) -> usize
     requires { ⌜ (h < 65536) × (p < 65536) ⌝ }
     ensures { λ r. ⌜ (r ≡ mix h p) × (r < 65536) ⌝ }
 {
-    (h * 25173 + p) % 65536
+    (h + p) * 25173 % 65536
 }

@@ -1,5 +1,5 @@
 // Tidiness: the first operator at fault ("Tidy sheets", refusal 9).
-use buckets::HEADS;
+use buckets::BUCKETS;
 use rows::Layout;
 use rows::ROWS;
 use subtrees::nodes::argument_at;
@@ -75,7 +75,7 @@ pub fn first_fault(b: &[u8], s: Layout, ends: &[u16]) -> usize
 {
     let mut prints = [0u16; ROWS];
     fill_prints(b, s, ends, &mut prints);
-    let mut heads = [0u16; HEADS];
+    let mut heads = [0u16; BUCKETS];
     let mut links = [0u16; ROWS];
     let mut members = [0u32; ROWS];
     let mut i = 0;

@@ -2,7 +2,7 @@
 // sheet pays for. The tables have one of eight lengths; the last two are the rows of the largest narrow sheet and of the largest wide one.
 use crate::operator::tidy_each;
 use crate::pack::pack;
-use buckets::HEADS;
+use buckets::BUCKETS;
 use rows::Layout;
 use rows::write::seal;
 ghost use Prim.Native.Nat.{_≤_};
@@ -15,7 +15,7 @@ ghost use Rattle.tidying.specs.Inner.Tables.{Leaves};
 pub fn tidy_by(
     b: &mut [u8],
     s: Layout,
-    heads: &mut [u16; HEADS],
+    heads: &mut [u16; BUCKETS],
     links: &mut [u16],
     members: &mut [u32],
     known: &mut [u32],
@@ -39,7 +39,7 @@ fn tidy_256(b: &mut [u8], s: Layout) -> Layout
     requires { ⌜ Raw s (now b) × (total s ≤ 256) ⌝ }
     ensures { λ t. ⌜ Leaves s (now (b .entry)) (now (b .exit)) t ⌝ }
 {
-    let mut heads = [0u16; HEADS];
+    let mut heads = [0u16; BUCKETS];
     let mut links = [0u16; 256];
     let mut members = [0u32; 256];
     let mut known = [0u32; 256];
@@ -51,7 +51,7 @@ fn tidy_512(b: &mut [u8], s: Layout) -> Layout
     requires { ⌜ Raw s (now b) × (total s ≤ 512) ⌝ }
     ensures { λ t. ⌜ Leaves s (now (b .entry)) (now (b .exit)) t ⌝ }
 {
-    let mut heads = [0u16; HEADS];
+    let mut heads = [0u16; BUCKETS];
     let mut links = [0u16; 512];
     let mut members = [0u32; 512];
     let mut known = [0u32; 512];
@@ -63,7 +63,7 @@ fn tidy_1024(b: &mut [u8], s: Layout) -> Layout
     requires { ⌜ Raw s (now b) × (total s ≤ 1024) ⌝ }
     ensures { λ t. ⌜ Leaves s (now (b .entry)) (now (b .exit)) t ⌝ }
 {
-    let mut heads = [0u16; HEADS];
+    let mut heads = [0u16; BUCKETS];
     let mut links = [0u16; 1024];
     let mut members = [0u32; 1024];
     let mut known = [0u32; 1024];
@@ -75,7 +75,7 @@ fn tidy_1536(b: &mut [u8], s: Layout) -> Layout
     requires { ⌜ Raw s (now b) × (total s ≤ 1536) ⌝ }
     ensures { λ t. ⌜ Leaves s (now (b .entry)) (now (b .exit)) t ⌝ }
 {
-    let mut heads = [0u16; HEADS];
+    let mut heads = [0u16; BUCKETS];
     let mut links = [0u16; 1536];
     let mut members = [0u32; 1536];
     let mut known = [0u32; 1536];
@@ -87,7 +87,7 @@ fn tidy_2048(b: &mut [u8], s: Layout) -> Layout
     requires { ⌜ Raw s (now b) × (total s ≤ 2048) ⌝ }
     ensures { λ t. ⌜ Leaves s (now (b .entry)) (now (b .exit)) t ⌝ }
 {
-    let mut heads = [0u16; HEADS];
+    let mut heads = [0u16; BUCKETS];
     let mut links = [0u16; 2048];
     let mut members = [0u32; 2048];
     let mut known = [0u32; 2048];
@@ -99,7 +99,7 @@ fn tidy_3072(b: &mut [u8], s: Layout) -> Layout
     requires { ⌜ Raw s (now b) × (total s ≤ 3072) ⌝ }
     ensures { λ t. ⌜ Leaves s (now (b .entry)) (now (b .exit)) t ⌝ }
 {
-    let mut heads = [0u16; HEADS];
+    let mut heads = [0u16; BUCKETS];
     let mut links = [0u16; 3072];
     let mut members = [0u32; 3072];
     let mut known = [0u32; 3072];
@@ -111,7 +111,7 @@ fn tidy_4352(b: &mut [u8], s: Layout) -> Layout
     requires { ⌜ Raw s (now b) × (total s ≤ 4352) ⌝ }
     ensures { λ t. ⌜ Leaves s (now (b .entry)) (now (b .exit)) t ⌝ }
 {
-    let mut heads = [0u16; HEADS];
+    let mut heads = [0u16; BUCKETS];
     let mut links = [0u16; 4352];
     let mut members = [0u32; 4352];
     let mut known = [0u32; 4352];
@@ -123,7 +123,7 @@ fn tidy_9216(b: &mut [u8], s: Layout) -> Layout
     requires { ⌜ Raw s (now b) ⌝ }
     ensures { λ t. ⌜ Leaves s (now (b .entry)) (now (b .exit)) t ⌝ }
 {
-    let mut heads = [0u16; HEADS];
+    let mut heads = [0u16; BUCKETS];
     let mut links = [0u16; 9216];
     let mut members = [0u32; 9216];
     let mut known = [0u32; 9216];

@@ -15,12 +15,13 @@ use Rattle.formula.specs.Tree.{and, or, Tree, lit, node}
 use Rattle.formula.specs.Tidy.{same-variable, same-tree, twin}
 use Rattle.formula.proofs.Booleans.{or-none, or-later, or-cases}
 use Rattle.formula.proofs.Tidy.Same.{same-tree-same, twin-same}
-use Rattle.buckets.specs.Chains.{entry-of, bucket, Room, Linked, Passed}
+use Rattle.buckets.specs.Chains.{entry-of, BUCKETS, bucket, Room, Linked, Passed}
 use Rattle.buckets.specs.Halves.{print-of}
 use Rattle.buckets.specs.declared.Link.{Link}
 use Rattle.buckets.specs.declared.Link.the-variants.{End}
 use Rattle.buckets.proofs.Chains.{linked-none}
-use Rattle.buckets.specs.Prints.{literal-mix, sign, print}
+use Rattle.buckets.specs.Prints.{print}
+use Rattle.buckets.proofs.Prints.{literal-bucket}
 use Rattle.sheet.specs.Format.{Bytes}
 use Rattle.rows.specs.declared.Layout.{Layout}
 use Rattle.subtrees.specs.Subtrees.{top}
@@ -58,31 +59,26 @@ by-variable (lit s v) (node or us) h k e f = absurd (omega arith)
 by-variable (node and ts) u h k e f = absurd (omega arith)
 by-variable (node or ts) u h k e f = absurd (omega arith)
 
--- trees that clash have one print, but for its lowest bit
-print-half : (t u : Tree) → clash t u ≡ true → print t / 2 ≡ print u / 2
+-- trees that clash have prints of one bucket
+print-bucket : (t u : Tree) → clash t u ≡ true → bucket (print t) ≡ bucket (print u)
 unfolding clash same-variable print
-print-half t u e = ⊎-elim (literals t u) (λ q. ap (λ w. print w / 2) (twin-same t u q)) (or-cases (same-variable t u) (twin t u) e)
+print-bucket t u e = ⊎-elim (literals t u) (λ q. ap (λ w. bucket (print w)) (twin-same t u q)) (or-cases (same-variable t u) (twin t u) e)
   where
-    half : (s : Bool) (v : ℕ) → literal-mix (sign s) v / 2 ≡ v * 20251 % 32768
-    half true v = omega arith
-    half false v = omega arith
-
-    literals : (t u : Tree) → same-variable t u ≡ true → print t / 2 ≡ print u / 2
+    literals : (t u : Tree) → same-variable t u ≡ true → bucket (print t) ≡ bucket (print u)
     literals (node o ts) u q = absurd (false≢true q)
     literals (lit s v) (node o us) q = absurd (false≢true q)
     literals (lit s v) (lit s′ v′) q =
-        half s v ∙ ap (λ (x : ℕ). x * 20251 % 32768) (eqb-true v v′ q) ∙ sym (half s′ v′)
+        literal-bucket s v ∙ ap (λ (x : ℕ). x / 8 % BUCKETS) (eqb-true v v′ q) ∙ sym (literal-bucket s′ v′)
 
-bucket-half : (m : ℕ) → bucket m ≡ (print-of m / 2) % 1024
-bucket-half m = omega arith
+-- a member's bucket is its print's
+bucket-print : (m : ℕ) → bucket m ≡ bucket (print-of m)
+bucket-print m = omega arith
 
 module _ {s : Layout} {b : Bytes} {m w : ℕ} (p : Member s b m) (q : Member s b w) where
   pub buckets-same : clash (tree-of s b m) (tree-of s b w) ≡ true → bucket m ≡ bucket w
   buckets-same e =
-      bucket-half m ∙
-      ap (λ (x : ℕ). x % 1024)
-      (ap (λ (x : ℕ). x / 2) (p .printed) ∙ print-half (tree-of s b m) (tree-of s b w) e ∙ sym (ap (λ (x : ℕ). x / 2) (q .printed))) ∙
-      sym (bucket-half w)
+      bucket-print m ∙ ap bucket (p .printed) ∙ print-bucket (tree-of s b m) (tree-of s b w) e ∙ sym (ap bucket (q .printed)) ∙
+      sym (bucket-print w)
 
   -- operators by their prints
   pub prints-other : 4 < (top (tree-of s b m)) .kind → (print-of m ≡ print-of w → ⊥) → clash (tree-of s b m) (tree-of s b w) ≡ false

@@ -3,13 +3,14 @@ use mathlib.Core.Path.{_≡_, refl, sym, _∙_}
 use Prim.Native.Nat.{_-_}
 use native.Mathlib.Omega.{arith}
 use lib.ListN.{length}
+use Rattle.buckets.specs.Chains.{BUCKETS}
 use Rattle.subtrees.specs.Subtrees.{subtree-in}
 use Rattle.tidiness.proofs.Faults.{fault-plain, fault-two, fault-none, Searching, search-start, search-on, search-found, search-all}
 use Rattle.tidiness.proofs.first_fault.Statement.{statement}
 use Rattle.tidiness.proofs.first_fault.Tie as tie
 
 abbrev Inv-loop : tie.InvT-loop
-Inv-loop b s ends prints heads₀ links₀ members₀ i₀ heads links members i = Searching s b i × (length heads ≡ 1024) × (length links ≡ 8192) × (length members ≡ 8192)
+Inv-loop b s ends prints heads₀ links₀ members₀ i₀ heads links members i = Searching s b i × (length heads ≡ BUCKETS) × (length links ≡ 8192) × (length members ≡ 8192)
 
 abbrev μ-loop : tie.MeasureT-loop
 μ-loop b s ends prints heads₀ links₀ members₀ i₀ heads links members i = s .nodes - i
