@@ -8,7 +8,7 @@ use std::path::Path;
 const ROOT: &str = concat!(env!("CARGO_MANIFEST_DIR"), "/..");
 
 /// The public functions whose contracts are read, besides all that C may call.
-const ENTRIES: [&str; 22] = [
+const ENTRIES: [&str; 21] = [
     "checking::check",
     "part::part",
     "trial::trial",
@@ -29,7 +29,6 @@ const ENTRIES: [&str; 22] = [
     "carrying::widen",
     "carrying::bring_back",
     "reader::qdimacs",
-    "steps::follow",
     "steps::numbers::follow_numbers",
 ];
 

@@ -2,11 +2,17 @@
 -- Assumes nothing.
 use mathlib.Core.Path.{_≡_, refl, sym, ap, _∙_, subst}
 use mathlib.Core.Bool.{Bool}
-use Prim.Native.Nat.{ℕ}
+use mathlib.Core.List.{List}
+use Prim.Native.Nat.{ℕ, min}
+use native.Mathlib.Omega.{arith}
+use lib.ListN.{length, take}
 use Rattle.formula.specs.Truth.{truth}
 use Rattle.sheet.specs.Format as sheet
 use Rattle.sheet.specs.Format.{Bytes, narrow, wide}
-use Rattle.sheet.specs.Operations.{Written, Solving, tidy-call, settle-call, expand-call, execute-call, reduce-call, solve-call, trial-call}
+use Rattle.sheet.specs.Check.{Answer, refused, accepted, Test, answer}
+use Rattle.sheet.specs.Calls.{held}
+use Rattle.sheet.specs.Steps.{Step, calls, filled, given, listed, steps-call}
+use Rattle.sheet.specs.Operations.{Written, Solving, tidy-tests, tidy-call, settle-call, expand-call, execute-call, reduce-call, solve-call, trial-call}
 use Rattle.sheet.specs.Qdimacs.{qdimacs, qdimacs-call}
 use Rattle.sheet.specs.Force.{Forcing, force-call}
 use Rattle.sheet.specs.Guards.{Guarding, guards-call}
@@ -14,7 +20,11 @@ use Rattle.sheet.specs.Carrying.{widen-call, bring-back-call}
 use Rattle.sheet.specs.Resume.{named, resume-call}
 use Rattle.sheet.specs.Order.{sort-call}
 use Rattle.sheet.specs.Truthful.{truth-of}
-use Rattle.sheet.proofs.Truthful.{tidy-truthful, settle-truthful, expand-truthful, execute-truthful, outer-truthful, reduce-truthful, sort-truthful, qdimacs-truthful, widen-truthful, bring-back-truthful, trial-truthful, solve-truthful, resume-truthful, guards-truthful, force-truthful}
+use Rattle.sheet.proofs.Tests.{accepted-passes}
+use Rattle.sheet.proofs.Steps.{steps-taken}
+use Rattle.sheet.proofs.Known.{refused-known, tidy-known, tidy-place}
+use Rattle.sheet.proofs.Truthful.{steps-truthful, tidy-truthful, settle-truthful, expand-truthful, execute-truthful, outer-truthful, reduce-truthful, sort-truthful}
+use Rattle.sheet.proofs.Truthful.{qdimacs-truthful, widen-truthful, bring-back-truthful, trial-truthful, solve-truthful, resume-truthful, guards-truthful, force-truthful}
 use Rattle.rows.specs.Formats.{format-of}
 use Rattle.rows.specs.declared.Format.{Format}
 use Rattle.rows.proofs.Limits.{sound}
@@ -24,11 +34,14 @@ use Rattle.packing.specs.Packed.{packed-trial, packed-written, packed-solved, p
 use Rattle.packing.specs.Copies.{packed-copied}
 use Rattle.packing.specs.Panel.{packed-forced}
 use Rattle.packing.specs.Told.{ToldSheet, ToldCopied, ToldTrial, ToldSolve, ToldGuards, ToldForce}
+use Rattle.packing.specs.Unpacked.{FitsWritten}
+use Rattle.packing.proofs.Ranges.{told, short}
 use Rattle.packing.proofs.Ranges.{tidy-fits, settle-fits, expand-fits, execute-fits, reduce-fits, sort-fits, widen-fits, bring-back-fits, qdimacs-fits, trial-fits, guards-fits, force-fits}
 use Rattle.packing.proofs.Copied.{outer-fits}
 use Rattle.packing.proofs.Refused.{solve-numbers, resume-numbers}
 use Rattle.packing.proofs.Telling.{told-sheet, told-copied, told-trial, told-solve, told-guards, told-force}
-use Rattle.capi.specs.Returned.{Output, packed-writing, packed-copying, Buffers, packed-solving, packed-forcing, Guarded, packed-guarding}
+use Rattle.steps.specs.Numbers.{Tabled, tabled}
+use Rattle.capi.specs.Returned.{Listed, packed-listing, Output, packed-writing, packed-copying, Buffers, packed-solving, packed-forcing, Guarded, packed-guarding}
 
 -- what packing returns beside what an operation answers and leaves
 
@@ -52,6 +65,11 @@ pub guarding-joined : {r : ℕ} {w call : Guarding} → r ≡ packed-guards (w .
     → _≡_ {A = Guarded} (record { number = r; output = w .output; first = w .first; second = w .second }) (packed-guarding call)
 guarding-joined {w = w} p e =
     ap (λ (n : ℕ). record { number = n; output = w .output; first = w .first; second = w .second }) p ∙ ap packed-guarding e
+
+pub listing-joined : {r : ℕ} {w call : Tabled} → r ≡ packed-written (w .answer) → w ≡ call
+    → _≡_ {A = Listed} (record { number = r; numbers = w .numbers; values = w .values; first = w .first; second = w .second }) (packed-listing call)
+listing-joined {w = w} p e =
+    ap (λ (n : ℕ). record { number = n; numbers = w .numbers; values = w .values; first = w .first; second = w .second }) p ∙ ap packed-listing e
 
 -- a claim about what a call returns and leaves
 
@@ -89,6 +107,40 @@ module _ (f : Format) (b : Bytes) where
   pub sort-told : (out : Bytes) {o : Output} → o ≡ packed-writing (sort-call F b out)
       → (o ≡ packed-writing (sort-call F b out)) × ToldSheet F t (o .number) (o .output)
   sort-told out e = says-sheet F t e (told-sheet (sort-fits f b out) (sort-truthful F (sound f) b out refl))
+
+  -- the whole list's refusals are those of Tidy, and the sheet that it ends with is short
+  steps-fit : (steps : List Step) (first second : Bytes) → FitsWritten ((steps-call F b steps first second) .answer)
+  unfolding steps-call listed
+  steps-fit steps first second = by (answer tests last) refl
+    where
+      tests : List Test
+      tests = tidy-tests F b (min (length first) (length second))
+
+      last : Bytes
+      last = (held F b (calls (min (length first) (length second)) steps)) .sheet
+
+      done : List Step
+      done = filled F (min (length first) (length second)) steps (given b)
+
+      by : (a : Answer Bytes) → answer tests last ≡ a → FitsWritten ((listed steps done first second a) .answer)
+      by (refused n i) e = told f (refused-known tests last (tidy-known F b (min (length first) (length second))) e) (tidy-place F b last (min (length first) (length second)) e)
+      by (accepted c) e =
+          let is = ap (λ (a : Answer Bytes). (listed steps done first second a) .answer) e in
+          let left = take (length c) ((steps-call F b steps first second) .first) in
+          let size : length left ≡ length c = ap length (steps-taken F b steps first second (length c) is .at-front) ∙ ap length (accepted-passes tests last c e .1) in
+          let ok = steps-truthful F (sound f) b steps first second refl .on-accepted (length c) is .is-accepted in
+          omega (arith, short f left ok, size)
+
+  pub steps-told : (steps : List Step) (first second : Bytes) (numbers values : List ℕ) {o : Listed}
+      → o ≡ packed-listing (tabled numbers values (steps-call F b steps first second))
+      → (o ≡ packed-listing (tabled numbers values (steps-call F b steps first second))) × ToldSheet F t (o .number) (o .first)
+  steps-told steps first second numbers values e =
+      let l = steps-call F b steps first second in
+      let truthful = steps-truthful F (sound f) b steps first second refl in (
+        e,
+        subst (λ (o : Listed). ToldSheet F t (o .number) (o .first)) (sym e)
+            (told-sheet {w = record { answer = l .answer; output = l .first }} (steps-fit steps first second) (record { on-accepted = truthful .on-accepted })),
+      )
 
   pub outer-said : (x : ℕ) (out : Bytes) {o : Output} → o ≡ packed-copying (outer-written F b x out)
       → (o ≡ packed-copying (outer-written F b x out)) × ToldCopied F t (o .number) (o .output)

@@ -4,6 +4,8 @@ use rows::Format;
 use steps::numbers::follow_numbers;
 ghost use mathlib.Core.Path.{_≡_};
 ghost use Rattle.sheet.specs.Format.{narrow, wide};
+ghost use Rattle.sheet.specs.Truthful.{truth-of};
+ghost use Rattle.packing.specs.Told.{ToldSheet};
 ghost use Rattle.steps.specs.Numbers.{numbers-call};
 ghost use Rattle.capi.specs.Returned.{steps-left, packed-listing};
 
@@ -18,6 +20,7 @@ pub extern "C" fn plumanchor_steps(
     second: &mut [u8],
 ) -> u64
     ensures { λ r. ⌜ steps-left r numbers values first second ≡ packed-listing (numbers-call narrow sheet operations variables numbers values first second) ⌝ }
+    ensures { λ r. ⌜ ToldSheet narrow (truth-of narrow (now (sheet .entry))) r (now (first .exit)) ⌝ }
 {
     pack_written(follow_numbers(
         sheet,
@@ -42,6 +45,7 @@ pub extern "C" fn plumanchor_steps_wide(
     second: &mut [u8],
 ) -> u64
     ensures { λ r. ⌜ steps-left r numbers values first second ≡ packed-listing (numbers-call wide sheet operations variables numbers values first second) ⌝ }
+    ensures { λ r. ⌜ ToldSheet wide (truth-of wide (now (sheet .entry))) r (now (first .exit)) ⌝ }
 {
     pack_written(follow_numbers(
         sheet,

@@ -53,29 +53,35 @@ module _ (R : RattleType) (κ : Lft) (q : Share) (γ : GName) (b o : ℕ) where
     lends-own =
         qed W (‵ (MutSlice ℓ κ R .own (named-at γ ys) vals) ∷ ‵ (flft κ q) ∷ []) ∵ updating ! $ fsplit ! $ pureL ! (at-slice R (named-at γ ys) vals) (λ p. fsplit ! $ opens-slice ! tt R ys b o $
         use1 W (‵ (cells (mem R) ys b o)) (whole-in 𝓤 H A W R ys b o) $ lft-new ! tt (λ ν. move ! (1 ∷ []) $
-        use1 W (later (some (λ (δ : GName). ‵ (MutSlice ℓ′ (ν ∷ []) R .own (named-at δ ys) vals) ⊛ ‵ (flent (ν ∷ []) (Held R (length ys) b o δ))))) (lends-slice 𝓤 H A W R ℓ′ (ν ∷ []) ys b o (p .1)) $ await ! tt $ pick ! (λ δ. split ! $
+        use1 W (later (some (λ (δ : GName). ‵ (MutSlice ℓ′ (ν ∷ []) R .own (named-at δ ys) vals) ⊛ ‵ (flent (ν ∷ []) (Held R (length ys) b o δ)))))
+        (lends-slice 𝓤 H A W R ℓ′ (ν ∷ []) ys b o (p .1)) $ await ! tt $ pick ! (λ δ. split ! $
         -- [the new slice; the lender's part; ν's token; the open borrow; obs; auth]
         at-once ! $ show ! (λ (r : ℕ × GName). sep 𝓤 (A .lft (r .0 ∷ []) fullShare) (sep 𝓤 (sem 𝓤 H A (MutSlice ℓ′ (r .0 ∷ []) R .own (named-at (r .1) ys) vals)) (sem 𝓤 H A (Waits r ys)))) (ν, δ) $
         move ! (2 ∷ 0 ∷ []) $ frame ! $ frame ! $ move ! (2 ∷ 3 ∷ []) $ fjoin ! $ move ! (2 ∷ 0 ∷ []) $ fjoin ! $ move ! (1 ∷ 0 ∷ []) $ fjoin ! $ done !)))
 
     regains-own : (p : ℕ × GName) (zs : List (R .Denot)) → Room R (length ys) → length zs ≡ length ys
-        → ent 𝓤 (sep 𝓤 (A .lft (p .0 ∷ []) fullShare) (sep 𝓤 (sem 𝓤 H A (Waits p ys)) (sem 𝓤 H A (finally R (p .1) zs)))) (H .⇛ (sep 𝓤 (sem 𝓤 H A (MutSlice ℓ κ R .own (named-at γ zs) vals)) (A .lft κ q)))
+        → ent 𝓤 (sep 𝓤 (A .lft (p .0 ∷ []) fullShare) (sep 𝓤 (sem 𝓤 H A (Waits p ys)) (sem 𝓤 H A (finally R (p .1) zs))))
+        (H .⇛ (sep 𝓤 (sem 𝓤 H A (MutSlice ℓ κ R .own (named-at γ zs) vals)) (A .lft κ q)))
     regains-own p zs room e =
         qed W (‵ (flft (p .0 ∷ []) fullShare) ∷ ‵ (Waits p ys) ∷ ‵ (finally R (p .1) zs) ∷ []) ∵ updating ! $ lft-end ! tt $ move ! (1 ∷ []) $ fsplit ! $ move ! (2 ∷ 0 ∷ 3 ∷ []) $
-        use3 W (later (‵ (Arr (mem R) (length ys) .lies zs b o))) (slice-back 𝓤 H A W R (p .0 ∷ []) (p .1) zs (length ys) b o) $ await ! tt $ fsplit ! $ drop ! $ use1 W (‵ (row R fullShare zs b o)) (whole-out 𝓤 H A W R zs b o) $
+        use3 W (later (‵ (Arr (mem R) (length ys) .lies zs b o))) (slice-back 𝓤 H A W R (p .0 ∷ []) (p .1) zs (length ys) b o) $
+        await ! tt $ fsplit ! $ drop ! $ use1 W (‵ (row R fullShare zs b o)) (whole-out 𝓤 H A W R zs b o) $
         move ! (1 ∷ []) $ fsplit ! $ move ! (1 ∷ []) $ fsplit ! $ move ! (3 ∷ 2 ∷ 0 ∷ 1 ∷ []) $ closes-slice ! tt R ys zs e b o $ at-once ! $
         fjoin ! $ pureI ! (at-slice R (named-at γ zs) vals) (tt, (tt, tt)) (ap (λ (m : ℕ). sliceVal (b, o) m ∷ []) (sym e), subst (Room R) (sym e) room) $ fjoin ! $ done !
 
     -- the same where the count in the machine value is known by an equation
     pub lends : (n : ℕ) → n ≡ length ys → ent 𝓤 (sep 𝓤 (sem 𝓤 H A (MutSlice ℓ κ R .own (named-at γ ys) (sliceVal (b, o) n ∷ []))) (A .lft κ q))
-        (H .⇛ (ex 𝓤 (λ (p : ℕ × GName). sep 𝓤 (A .lft (p .0 ∷ []) fullShare) (sep 𝓤 (sem 𝓤 H A (MutSlice ℓ′ (p .0 ∷ []) R .own (named-at (p .1) ys) (sliceVal (b, o) n ∷ []))) (sem 𝓤 H A (Waits p ys))))))
+        (H .⇛ (ex 𝓤 (λ (p : ℕ × GName).
+        sep 𝓤 (A .lft (p .0 ∷ []) fullShare) (sep 𝓤 (sem 𝓤 H A (MutSlice ℓ′ (p .0 ∷ []) R .own (named-at (p .1) ys) (sliceVal (b, o) n ∷ []))) (sem 𝓤 H A (Waits p ys))))))
     lends n e =
         subst (λ (m : ℕ). ent 𝓤 (sep 𝓤 (sem 𝓤 H A (MutSlice ℓ κ R .own (named-at γ ys) (sliceVal (b, o) m ∷ []))) (A .lft κ q))
-        (H .⇛ (ex 𝓤 (λ (p : ℕ × GName). sep 𝓤 (A .lft (p .0 ∷ []) fullShare) (sep 𝓤 (sem 𝓤 H A (MutSlice ℓ′ (p .0 ∷ []) R .own (named-at (p .1) ys) (sliceVal (b, o) m ∷ []))) (sem 𝓤 H A (Waits p ys)))))))
+        (H .⇛ (ex 𝓤 (λ (p : ℕ × GName).
+        sep 𝓤 (A .lft (p .0 ∷ []) fullShare) (sep 𝓤 (sem 𝓤 H A (MutSlice ℓ′ (p .0 ∷ []) R .own (named-at (p .1) ys) (sliceVal (b, o) m ∷ []))) (sem 𝓤 H A (Waits p ys)))))))
         (sym e) lends-own
 
     pub regains : (n : ℕ) → n ≡ length ys → (p : ℕ × GName) (zs : List (R .Denot)) → Room R (length ys) → length zs ≡ length ys
-        → ent 𝓤 (sep 𝓤 (A .lft (p .0 ∷ []) fullShare) (sep 𝓤 (sem 𝓤 H A (Waits p ys)) (sem 𝓤 H A (finally R (p .1) zs)))) (H .⇛ (sep 𝓤 (sem 𝓤 H A (MutSlice ℓ κ R .own (named-at γ zs) (sliceVal (b, o) n ∷ []))) (A .lft κ q)))
+        → ent 𝓤 (sep 𝓤 (A .lft (p .0 ∷ []) fullShare) (sep 𝓤 (sem 𝓤 H A (Waits p ys)) (sem 𝓤 H A (finally R (p .1) zs))))
+        (H .⇛ (sep 𝓤 (sem 𝓤 H A (MutSlice ℓ κ R .own (named-at γ zs) (sliceVal (b, o) n ∷ []))) (A .lft κ q)))
     regains n e p zs room l =
         subst (λ (m : ℕ). ent 𝓤 (sep 𝓤 (A .lft (p .0 ∷ []) fullShare) (sep 𝓤 (sem 𝓤 H A (Waits p ys)) (sem 𝓤 H A (finally R (p .1) zs))))
         (H .⇛ (sep 𝓤 (sem 𝓤 H A (MutSlice ℓ κ R .own (named-at γ zs) (sliceVal (b, o) m ∷ []))) (A .lft κ q))))

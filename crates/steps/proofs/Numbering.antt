@@ -1,6 +1,6 @@
 -- The whole list in arrays of numbers, from what its beginning, its turns and its end leave.
 -- Assumes nothing.
-use mathlib.Core.Path.{_≡_, sym, ap, ap₂, _∙_, subst}
+use mathlib.Core.Path.{_≡_, refl, sym, ap, ap₂, _∙_, subst}
 use mathlib.Core.Logic.{_⊎_, inl, inr}
 use mathlib.Core.List.{List, map}
 use Prim.Native.Nat.{ℕ, _≤_, min}
@@ -10,7 +10,10 @@ use lib.Seq.{paste, paste-zero}
 use Rattle.sheet.specs.Format.{Bytes, Format}
 use Rattle.sheet.specs.Check.{Answer}
 use Rattle.sheet.specs.Steps.{Step, filled, given, Listed, steps-call}
+use Rattle.sheet.specs.Limits.{Sound}
+use Rattle.sheet.specs.Truthful.{truth-of, SheetOf, TruthfulSteps}
 use Rattle.sheet.proofs.Steps.{length-filled}
+use Rattle.sheet.proofs.Truthful.{steps-truthful}
 use Rattle.steps.specs.declared.Begun.{Begun}
 use Rattle.steps.specs.Numbers.{record-count, numbered, step-number, step-value, over, Tabled, tabled}
 use Rattle.steps.specs.Inner.Turns.{room, Begins, Finishes}
@@ -76,3 +79,15 @@ module _ (F : Format) (b : Bytes) (operations variables numbers values first sec
         let l = finished F b steps first second first₁ second₁ (g .turns) (g .held) same (f .going) (f .untouched)
         (f .same-first ∙ l₁) (f .same-second ∙ l₂) (g .answer) begins end in
         λ i. record { answer = l .answers i; numbers = numbers-whole i; values = values-whole i; first = l .in-first i; second = l .in-second i }
+
+    -- and its sheet has the truth of the one given
+    pub says-truth : Sound F → (steps₃ : List Step) {first₃ second₃ : Bytes} (r : Answer ℕ) → Finishes held₂ first₂ second₂ first₃ second₃ r (g .answer)
+        → TruthfulSteps F (truth-of F b) (record { answer = r; steps = steps₃; first = first₃; second = second₃ })
+    says-truth sound steps₃ r end =
+        let e = equals-whole r end in
+        let truthful = steps-truthful F sound b steps first second refl in
+        record {
+          on-accepted =
+              λ n is. subst (λ (c : Bytes). SheetOf F (truth-of F b) (take n c)) (sym (ap (λ (t : Tabled). t .first) e))
+              (truthful .on-accepted n (sym (ap (λ (t : Tabled). t .answer) e) ∙ is));
+        }

@@ -99,3 +99,13 @@ numbers-left r numbers values first second =
       first = first .exit .now;
       second = second .exit .now;
     }
+
+-- the list as it is left: with the records that the arrays then say
+abbrev pub listed-left : Written → Lent → Lent → Lent → Lent → Lent → Lent → Listed
+listed-left r operations variables numbers values first second =
+    record {
+      answer = written-answer r;
+      steps = numbered (operations .entry .now) (variables .entry .now) (numbers .exit .now) (values .exit .now);
+      first = first .exit .now;
+      second = second .exit .now;
+    }

@@ -1,4 +1,5 @@
-// The same list for callers in C: operations, variables and answers in arrays of numbers, as many records as the shortest holds.
+// The list for callers in C: operations, variables and answers in arrays of numbers, as many records as the shortest holds. It is taken in
+// parts, each lent to `follow` as a slice of step structs; the sheet held is handed on from part to part.
 use crate::Operation;
 use crate::Step;
 use crate::begin;
@@ -9,11 +10,12 @@ use rows::Format;
 use rows::fit::shorter;
 ghost use mathlib.Core.Path.{_≡_};
 ghost use lib.ListN.{length};
+ghost use Rattle.sheet.specs.Truthful.{truth-of, TruthfulSteps};
 ghost use Rattle.rows.specs.Formats.{format-of};
 ghost use Rattle.checking.specs.Answers.{written-answer};
 ghost use Rattle.steps.specs.Inner.Records.{operation-of};
 ghost use Rattle.steps.specs.Inner.Parts.{Within, Loaded, Lendable, Parted, Stored};
-ghost use Rattle.steps.specs.Numbers.{numbered-operation, answer-number, answer-value, numbers-left, numbers-call};
+ghost use Rattle.steps.specs.Numbers.{numbered-operation, answer-number, answer-value, numbers-left, numbers-call, listed-left};
 
 // So many records are lent to `follow` at once.
 const PART: usize = 64;
@@ -115,7 +117,8 @@ fn store(steps: [Step; PART], n: usize, at: usize, numbers: &mut [usize], values
 }
 
 // Takes the steps of a list on a sheet: record i settles or expands `variables[i]`, as `operations[i]` says, and what its single call
-// answers goes to `numbers[i]` and `values[i]`.
+// answers goes to `numbers[i]` and `values[i]`. The first buffer ends with the final sheet and zeros, the second with zeros, and the sheet's
+// length is returned; or the list is refused and nothing changes.
 pub fn follow_numbers(
     sheet: &[u8],
     f: Format,
@@ -127,6 +130,7 @@ pub fn follow_numbers(
     second: &mut [u8],
 ) -> Written
     ensures { λ r. ⌜ numbers-left r numbers values first second ≡ numbers-call (format-of f) sheet operations variables numbers values first second ⌝ }
+    ensures { λ r. ⌜ TruthfulSteps (format-of f) (truth-of (format-of f) (now (sheet .entry))) (listed-left r operations variables numbers values first second) ⌝ }
 {
     let count = shorter(
         shorter(operations.len(), variables.len()),

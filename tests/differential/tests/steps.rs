@@ -179,6 +179,47 @@ fn lists_of_steps_over_every_length() {
     });
 }
 
+/// Lists around one, two and three times the records that the code lends to its
+/// walk at once.
+#[test]
+fn lists_of_steps_in_parts() {
+    const PART: usize = 64;
+    let mut answers = [[0; 20]; 3];
+    cases(150, |reading, rng| {
+        let formula = generate::tidy_formula(rng, Limits::small(reading.format));
+        let sheet = reading.format.encode(&formula);
+        let wide = sheet.len() * 2 + rng.below(400);
+        let count = rng.between(1, 3) * PART + rng.below(5) - 2;
+        let (_, steps) = agree(rng, reading, &sheet, count, wide);
+        for (i, step) in steps.iter().enumerate() {
+            answers[(i / PART).min(2)][step.answer.number()] += 1;
+        }
+    });
+    for part in answers {
+        assert!(part.iter().sum::<usize>() > 500, "{answers:?}");
+    }
+    // Small sheets soon have no variable left: what is accepted behind the
+    // first part is tested on larger ones.
+    assert!(answers[0][0] > 300, "{answers:?}");
+}
+
+/// Accepted steps on both sides of every part's end: the sheet held is handed on.
+#[test]
+fn steps_on_full_sheets_in_parts() {
+    with_deep_stack(|| {
+        let mut accepted = [0; 3];
+        cases(4, |reading, rng| {
+            let formula = generate::tidy_formula(rng, Limits::full(reading.format));
+            let sheet = reading.format.encode(&formula);
+            let (_, steps) = agree(rng, reading, &sheet, 150, reading.format.longest_sheet());
+            for (i, step) in steps.iter().enumerate() {
+                accepted[i / 64] += usize::from(step.answer.number() == 0);
+            }
+        });
+        assert!(accepted.iter().all(|&count| count > 20), "{accepted:?}");
+    });
+}
+
 #[test]
 fn fifty_steps_on_full_sheets() {
     with_deep_stack(|| {

@@ -1,7 +1,7 @@
 -- `capi::lists::plumanchor_steps` packs what `follow_numbers` answers.
 -- Assumes nothing.
-use mathlib.Core.Path.{ap}
-use Rattle.capi.specs.Returned.{packed-listing}
+use Rattle.rows.specs.declared.Format.the-variants.{Narrow}
+use Rattle.capi.proofs.Telling.{listing-joined, steps-told}
 use borrow.Author.Needs.{needs}
 use Rattle.capi.proofs.lists.plumanchor_steps.Statement.{statement}
 use Rattle.capi.proofs.lists.plumanchor_steps.Tie as tie
@@ -27,8 +27,14 @@ same-length-4 c = search needs
 abbrev called : tie.After-pack-written → tie.After-follow-numbers
 called c = c .before .before .before .before .before .before .before .before .before
 
+abbrev start : tie.After-follow-numbers → tie.Start
+start c = c .before .before .before .before .before .before .before .before .before .before .before .before
+
 returns : tie.Need-returns
-returns c = rw (c .pack-written .ensures) (ap packed-listing (called c .follow-numbers .ensures))
+returns c =
+    let g = called c in
+    let a = start g .args in
+    steps-told Narrow (a .sheet .now) _ (a .first .now) (a .second .now) (a .numbers .now) (a .values .now) (listing-joined (c .pack-written .ensures) (g .follow-numbers .ensures .0))
 
 pub plumanchor-steps-spec : {M : Type 1} → statement M
 plumanchor-steps-spec = tie.close (tie.spec follow-numbers-requires pack-written-requires same-length same-length-2 same-length-3 same-length-4 returns)

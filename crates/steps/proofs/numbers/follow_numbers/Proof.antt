@@ -6,10 +6,11 @@ use native.Mathlib.Omega.{arith}
 use lib.ListN.{length}
 use borrow.Author.Needs.{needs}
 use Rattle.rows.specs.Formats.{format-of}
+use Rattle.rows.proofs.Limits.{sound}
 use Rattle.checking.specs.Answers.{written-answer}
 use Rattle.steps.specs.Numbers.{record-count}
 use Rattle.steps.proofs.Arrays.{Filled, turned-none, turned-part}
-use Rattle.steps.proofs.Numbering.{turns-few, held-short, equals-whole}
+use Rattle.steps.proofs.Numbering.{turns-few, held-short, equals-whole, says-truth}
 use Rattle.steps.proofs.numbers.follow_numbers.Statement.{statement}
 use Rattle.steps.proofs.numbers.follow_numbers.Tie as tie
 
@@ -177,10 +178,15 @@ returns c =
     let l = left .before in
     let g = begun l in
     let a = start g .args in
-    equals-whole (format-of (a .f)) (a .sheet .now) (a .operations .now) (a .variables .now) (a .numbers .now) (a .values .now) (a .first .now) (a .second .now)
-    _ _ (g .begin .kept .1 .1 .1 .0) (g .begin .kept .1 .1 .1 .1 .0) _ (counted g) (g .begin .result) (g .begin .ensures)
-    (l .loop .inv .1) (omega (arith, l .loop .inv .0, left .loop-test .left))
-    (written-answer (ended c .finish .result)) (ended c .finish .ensures)
+    let all : l .loop .at ≡ g .begin .result .turns = omega (arith, l .loop .inv .0, left .loop-test .left) in
+    let end = ended c .finish in (
+      equals-whole (format-of (a .f)) (a .sheet .now) (a .operations .now) (a .variables .now) (a .numbers .now) (a .values .now) (a .first .now) (a .second .now)
+          _ _ (g .begin .kept .1 .1 .1 .0) (g .begin .kept .1 .1 .1 .1 .0) _ (counted g) (g .begin .result) (g .begin .ensures)
+          (l .loop .inv .1) all (written-answer (end .result)) (end .ensures),
+      says-truth (format-of (a .f)) (a .sheet .now) (a .operations .now) (a .variables .now) (a .numbers .now) (a .values .now) (a .first .now) (a .second .now)
+          _ _ (g .begin .kept .1 .1 .1 .0) (g .begin .kept .1 .1 .1 .1 .0) _ (counted g) (g .begin .result) (g .begin .ensures)
+          (l .loop .inv .1) all (sound (a .f)) _ (written-answer (end .result)) (end .ensures),
+    )
 
 pub follow-numbers-spec : {M : Type 1} → statement M
 follow-numbers-spec =
