@@ -57,13 +57,13 @@ note-dead r (operator or ks) e = absurd (omega arith)
 
 -- a member's row and bucket: the row is no part of the bucket, and neither is a literal's sign
 
-low-bits : (r y : ℕ) → (r * 4096 + y) % BUCKETS ≡ y % BUCKETS
+low-bits : (r y : ℕ) → (r * 8192 + y) % BUCKETS ≡ y % BUCKETS
 low-bits r y = omega arith
 
 pub bucket-made : (r q : ℕ) → bucket (member-of r q) ≡ bucket q
-bucket-made r q = ap (λ z. z % BUCKETS) (divided r q) ∙ low-bits r (q / 16)
+bucket-made r q = ap (λ z. z % BUCKETS) (divided r q) ∙ low-bits r (q / 8)
   where
-    divided : (r q : ℕ) → member-of r q / 16 ≡ r * 4096 + q / 16
+    divided : (r q : ℕ) → member-of r q / 8 ≡ r * 8192 + q / 8
     divided r q = omega arith
 
 abbrev operator-tree : Op → Blocks → Tree

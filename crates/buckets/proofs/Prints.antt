@@ -28,16 +28,16 @@ pub prints-differ : (t u : Tree) → (print t ≡ print u → ⊥) → t ≡ u �
 prints-differ t u d e = d (ap print e)
 
 -- the bucket of a literal
-pub literal-bucket : (s : Bool) (v : ℕ) → bucket (literal-mix (sign s) v) ≡ v / 8 % BUCKETS
+pub literal-bucket : (s : Bool) (v : ℕ) → bucket (literal-mix (sign s) v) ≡ v / 4 % BUCKETS
 literal-bucket true v = omega arith
 literal-bucket false v = omega arith
 
--- literals of eight variables that follow one another share it, whatever their signs
-pub bucket-shared : (s t : Bool) (v w : ℕ) → v / 8 ≡ w / 8 → bucket (print (lit s v)) ≡ bucket (print (lit t w))
+-- literals of four variables that follow one another share it, whatever their signs
+pub bucket-shared : (s t : Bool) (v w : ℕ) → v / 4 ≡ w / 4 → bucket (print (lit s v)) ≡ bucket (print (lit t w))
 unfolding print
 bucket-shared s t v w e = literal-bucket s v ∙ ap (λ x. x % BUCKETS) e ∙ sym (literal-bucket t w)
 
--- and those of n variables have n / 8 + 1 buckets at most, 33 at the narrow format and 129 at the wide one
-pub few-buckets : (s : Bool) (n v : ℕ) → v ≤ n → bucket (print (lit s v)) ≤ n / 8
+-- and those of n variables have n / 4 + 1 buckets at most, 65 at the narrow format and 257 at the wide one
+pub few-buckets : (s : Bool) (n v : ℕ) → v ≤ n → bucket (print (lit s v)) ≤ n / 4
 unfolding print
 few-buckets s n v l = omega (arith, literal-bucket s v)

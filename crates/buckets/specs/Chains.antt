@@ -19,9 +19,9 @@ entry-of (Member i) = suc i
 abbrev pub BUCKETS : ℕ
 BUCKETS = 1024
 
--- the bucket that a member falls into: the lowest four bits of its print are no part of it
+-- the bucket that a member falls into: the lowest three bits of its print are no part of it
 abbrev pub bucket : ℕ → ℕ
-bucket m = m / 16 % BUCKETS
+bucket m = m / 8 % BUCKETS
 
 -- the last of the first n members that falls into bucket k, the end if none does
 unfoldable pub last : List ℕ → ℕ → ℕ → Link

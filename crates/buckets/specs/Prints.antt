@@ -19,7 +19,7 @@ operator-mix and = 5
 operator-mix or = 6
 
 abbrev pub mix : ℕ → ℕ → ℕ
-mix h p = (h + p) * 25173 % 65536
+mix h p = (h + p) * 42109 % 65536
 
 unfoldable mutual
   pub print : Tree → ℕ

@@ -52,12 +52,12 @@ pub fn entry_of(l: Link) -> usize
     }
 }
 
-// The bucket that a member falls into, by its print. It is no variable's: literals of eight variables share one, and siblings that meet
+// The bucket that a member falls into, by its print. It is no variable's: literals of four variables share one, and siblings that meet
 // in a bucket are compared with one another.
 pub fn bucket_of(m: usize) -> usize
     ensures { λ k. ⌜ (k ≡ bucket m) × (k < BUCKETS) ⌝ }
 {
-    m / 16 % BUCKETS
+    m / 8 % BUCKETS
 }
 
 // The last of the first `n` members that falls into bucket `k`.

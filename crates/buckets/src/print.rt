@@ -16,5 +16,5 @@ pub fn mixed(h: usize, p: usize) -> usize
     requires { ⌜ (h < 65536) × (p < 65536) ⌝ }
     ensures { λ r. ⌜ (r ≡ mix h p) × (r < 65536) ⌝ }
 {
-    (h + p) * 25173 % 65536
+    (h + p) * 42109 % 65536
 }

@@ -68,7 +68,7 @@ print-bucket t u e = ⊎-elim (literals t u) (λ q. ap (λ w. bucket (print w)) 
     literals (node o ts) u q = absurd (false≢true q)
     literals (lit s v) (node o us) q = absurd (false≢true q)
     literals (lit s v) (lit s′ v′) q =
-        literal-bucket s v ∙ ap (λ (x : ℕ). x / 8 % BUCKETS) (eqb-true v v′ q) ∙ sym (literal-bucket s′ v′)
+        literal-bucket s v ∙ ap (λ (x : ℕ). x / 4 % BUCKETS) (eqb-true v v′ q) ∙ sym (literal-bucket s′ v′)
 
 -- a member's bucket is its print's
 bucket-print : (m : ℕ) → bucket m ≡ bucket (print-of m)
