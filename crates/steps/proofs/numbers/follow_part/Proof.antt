@@ -328,21 +328,9 @@ module _ {M : Type 1} (𝓤 : URA M) (H : Heap 𝓤) (A : Atoms 𝓤) (W : Given
         (PT, l₀) ∷ (AT, l₁) ∷ (word, l₂) ∷ (FT, l₃) ∷ (word, l₄) ∷ (S₂, l₅) ∷ (S₃, l₆) ∷ (AT, l₇) ∷ (word, l₈) ∷ (array-ref, l₉) ∷ (lent, l₁₀) ∷
         (ref, l₁₁) ∷ (slice, l₁₂) ∷ (ref, l₁₃) ∷ (slice, l₁₄) ∷ (AT, l₁₅) ∷ []
 
-    abbrev Entered : List (Item 𝓤)
-    Entered =
-        ‵ (flft κ₂ q₂) ∷
-        ‵ (flft κ₃ q₃) ∷
-        ‵ (Own₂ ys) ∷
-        ‵ (Own₃ zs) ∷
-        ‵ (froom PT l₀ 0) ∷
-        ‵ (fat fullShare AT l₁ 0 (av xs)) ∷
-        ‵ (fat fullShare word l₂ 0 (vint w64 n)) ∷
-        ‵ (fat fullShare FT l₃ 0 fv) ∷
-        ‵ (fat fullShare word l₄ 0 (vint w64 h)) ∷
-        ‵ (fat fullShare S₂ l₅ 0 v₂) ∷
-        ‵ (fat fullShare S₃ l₆ 0 v₃) ∷
-        ‵ (froom AT l₇ 0) ∷
-        ‵ (froom word l₈ 0) ∷
+    -- the locals that only the call needs, none written, and what each local comes to at the end
+    abbrev Behind : List (Item 𝓤)
+    Behind =
         ‵ (froom array-ref l₉ 0) ∷
         ‵ (froom lent l₁₀ 0) ∷
         ‵ (froom ref l₁₁ 0) ∷
@@ -367,6 +355,23 @@ module _ {M : Type 1} (𝓤 : URA M) (H : Heap 𝓤) (A : Atoms 𝓤) (W : Given
         ‵ (fdies slice l₁₄) ∷
         ‵ (fdies AT l₁₅) ∷ []
 
+    abbrev Entered : List (Item 𝓤)
+    Entered =
+        ‵ (flft κ₂ q₂) ∷
+        ‵ (flft κ₃ q₃) ∷
+        ‵ (Own₂ ys) ∷
+        ‵ (Own₃ zs) ∷
+        ‵ (froom PT l₀ 0) ∷
+        ‵ (fat fullShare AT l₁ 0 (av xs)) ∷
+        ‵ (fat fullShare word l₂ 0 (vint w64 n)) ∷
+        ‵ (fat fullShare FT l₃ 0 fv) ∷
+        ‵ (fat fullShare word l₄ 0 (vint w64 h)) ∷
+        ‵ (fat fullShare S₂ l₅ 0 v₂) ∷
+        ‵ (fat fullShare S₃ l₆ 0 v₃) ∷
+        ‵ (froom AT l₇ 0) ∷
+        ‵ (froom word l₈ 0) ∷
+        Behind
+
     -- the array is back, and the part is made
     module _ (o : Followed) where
       abbrev Returned : List (Item 𝓤)
@@ -385,29 +390,7 @@ module _ {M : Type 1} (𝓤 : URA M) (H : Heap 𝓤) (A : Atoms 𝓤) (W : Given
           ‵ (fat fullShare S₂ l₅ 0 v₂) ∷
           ‵ (fat fullShare S₃ l₆ 0 v₃) ∷
           ‵ (fat fullShare word l₈ 0 (vint w64 (o .r))) ∷
-          ‵ (froom array-ref l₉ 0) ∷
-          ‵ (froom lent l₁₀ 0) ∷
-          ‵ (froom ref l₁₁ 0) ∷
-          ‵ (froom slice l₁₂ 0) ∷
-          ‵ (froom ref l₁₃ 0) ∷
-          ‵ (froom slice l₁₄ 0) ∷
-          ‵ (froom AT l₁₅ 0) ∷
-          ‵ (fdies PT l₀) ∷
-          ‵ (fdies AT l₁) ∷
-          ‵ (fdies word l₂) ∷
-          ‵ (fdies FT l₃) ∷
-          ‵ (fdies word l₄) ∷
-          ‵ (fdies S₂ l₅) ∷
-          ‵ (fdies S₃ l₆) ∷
-          ‵ (fdies AT l₇) ∷
-          ‵ (fdies word l₈) ∷
-          ‵ (fdies array-ref l₉) ∷
-          ‵ (fdies lent l₁₀) ∷
-          ‵ (fdies ref l₁₁) ∷
-          ‵ (fdies slice l₁₂) ∷
-          ‵ (fdies ref l₁₃) ∷
-          ‵ (fdies slice l₁₄) ∷
-          ‵ (fdies AT l₁₅) ∷ []
+          Behind
 
       ends : ent 𝓤 (⋆ 𝓤 H A Returned) (Wp 𝓤 H (𝓣 .C) (𝓣 .Λ) En pieces.t-9 (atReturn 𝓤 H En Post))
       ends =
