@@ -3,4 +3,5 @@ pub mod Tables
 mod Fits
 mod Spans
 mod Turn
+mod Lent
 pub mod Splice

@@ -1,13 +1,13 @@
 -- Rows written into the bytes of an output: the kinds spliced in, then the arguments.
 -- Assumes nothing.
 use mathlib.Core.Path.{_≡_, refl, sym, ap, ap₂, _∙_, subst₂}
-use mathlib.Core.List.{List, [], _∷_, _++_, append-assoc, append-nil, map}
+use mathlib.Core.List.{List, [], _∷_, _++_, append-assoc, append-nil}
 use Prim.Native.Nat.{ℕ, _+_, _*_, _-_, _≤_, _<_}
 use native.Mathlib.Nat.{mul-zero, mul-suc, mul-add, add-mul, one-mul, add-zero, add-assoc, mul-le-mul-left}
 use native.Mathlib.Numerals.{add-one}
 use native.Mathlib.Omega.{arith}
 use lib.ListN.{length, take, drop, set, length-append, length-drop, take-append-drop, drop-of-length-le}
-use lib.Seq.{slice, length-take-le, take-take, take-all, take-at, drop-at, drop-drop, take-append-add, drop-append-add, take-append-le, drop-append-le, take-suc-set}
+use lib.Seq.{length-take-le, take-all, take-at, drop-at, drop-drop, take-append-add, drop-append-add, take-append-le, drop-append-le, take-suc-set}
 use Rattle.sheet.specs.Format.{Bytes, Row, zip-rows, Every}
 use Rattle.sheet.specs.Sheet.{row-kinds, row-arguments}
 use Rattle.sheet.proofs.Parts.{ArgumentFits, zip-rows-rows, length-row-kinds, length-row-arguments, length-zip-rows}
@@ -15,7 +15,6 @@ use Rattle.rows.specs.Formats.{format-of}
 use Rattle.rows.specs.Layouts.{width, total, kind-place, argument-place, rows-in, Room, Kept}
 use Rattle.rows.specs.declared.Layout.{Layout}
 use Rattle.rows.proofs.Layouts.{length-rows-in}
-use Rattle.changing.specs.Changes.{changed-row, copied}
 use Rattle.changing.specs.Output.{Ready, spliced, Laid}
 
 -- what a lent part is when it comes back
@@ -33,7 +32,7 @@ lent d p {q} a k e f =
 
 -- spliced
 
-splice-behind : (p q new : Bytes) (n i : ℕ) → length p ≡ n → spliced (n + i) new (p ++ q) ≡ p ++ spliced i new q
+pub splice-behind : (p q new : Bytes) (n i : ℕ) → length p ≡ n → spliced (n + i) new (p ++ q) ≡ p ++ spliced i new q
 unfolding spliced
 splice-behind p q new n i e =
     ap (λ k. take (k + i) (p ++ q) ++ (new ++ drop (k + i + length new) (p ++ q))) (sym e) ∙
@@ -107,7 +106,8 @@ module _ (w : ℕ) (ks ds : Bytes) (enough : w * length ks ≤ length ds) where
       ap (take (at + length new))
       (zip-append w (take at ks) _ (take (w * at) ds) _ (front-rows at (omega arith)) ∙
       ap (λ l. zip-rows w (take at ks) (take (w * at) ds) ++ l)
-      (zip-append w (row-kinds new) _ (row-arguments w new) _ counted ∙ ap (λ l. l ++ zip-rows w (drop (at + length (row-kinds new)) ks) (drop (w * at + length (row-arguments w new)) ds)) (zip-rows-rows w new fits)) ∙
+      (zip-append w (row-kinds new) _ (row-arguments w new) _ counted ∙
+      ap (λ l. l ++ zip-rows w (drop (at + length (row-kinds new)) ks) (drop (w * at + length (row-arguments w new)) ds)) (zip-rows-rows w new fits)) ∙
       sym (append-assoc (zip-rows w (take at ks) (take (w * at) ds)) new _)) ∙
       take-at (zip-rows w (take at ks) (take (w * at) ds) ++ new) _ (at + length new) front-length ∙
       ap (λ l. l ++ new) (sym (take-zip at (omega arith)))
@@ -271,33 +271,6 @@ laid-on {t} {old} {at = at} {rs = rs} {ss = ss} f g =
             behind-kept = g .around .behind-kept ∙ f .around .behind-kept;
           };
     }
-
--- rows written, then changed where they stand
-pub laid-changed : {t : Layout} {old mid new : Bytes} {at next : ℕ} {rs : List Row} (table : List ℕ) → at ≤ length (rows-in t old)
-    → Laid t old mid at next rs → Laid t mid new at next (copied table at next (rows-in t mid))
-    → Laid t old new at next (map (changed-row table) rs)
-unfolding copied
-laid-changed {t} {old} {mid} {at = at} {next} {rs} table h f g =
-    record {
-      next-row = g .next-row ∙ ap (λ l. at + length (map (changed-row table) l)) span;
-      so-far = g .so-far ∙ ap₂ (λ l m. l ++ map (changed-row table) m) front span;
-      around =
-          record {
-            sizes-kept = g .around .sizes-kept ∙ f .around .sizes-kept;
-            behind-kept = g .around .behind-kept ∙ f .around .behind-kept;
-          };
-    }
-  where
-    before : length (take at (rows-in t old)) ≡ at
-    before = length-take-le at (rows-in t old) h
-
-    span : slice at next (rows-in t mid) ≡ rs
-    span = ap (drop at) (f .so-far) ∙ drop-at (take at (rows-in t old)) rs at before
-
-    front : take at (rows-in t mid) ≡ take at (rows-in t old)
-    front =
-        sym (take-take at next (rows-in t mid) (omega (arith, f .next-row))) ∙ ap (take at) (f .so-far) ∙
-        take-at (take at (rows-in t old)) rs at before
 
 -- all rows are written
 pub laid-all : {t : Layout} {old new : Bytes} {last : ℕ} {rs : List Row} → Room t (length new) → last ≡ total t

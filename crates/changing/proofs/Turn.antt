@@ -1,21 +1,17 @@
--- Bytes copied one by one, and rows changed one by one where they stand.
+-- Bytes copied one by one, and rows that stay, one by one.
 -- Assumes nothing.
-use mathlib.Core.Path.{_≡_, refl, sym, ap, ap₂, _∙_, subst}
+use mathlib.Core.Path.{_≡_, refl, sym, ap, ap₂, _∙_}
+use mathlib.Core.Bool.{false}
 use mathlib.Core.List.{List, [], _∷_, _++_, map}
-use Prim.Native.Nat.{ℕ, _+_, _≤_, _<_}
+use Prim.Native.Nat.{ℕ, suc, _+_, _≤_, _<_}
 use native.Mathlib.Nat.{zero-add}
 use native.Mathlib.Numerals.{add-one}
 use native.Mathlib.Omega.{arith}
 use lib.ListN.{length, getD, take, drop, set, length-drop, length-set}
-use lib.Seq.{length-take-le, take-suc, drop-append-le, drop-drop, drop-set-lt, getD-drop, slice-empty, paste, paste-zero, paste-suc}
+use lib.Seq.{slice, length-take-le, take-suc, drop-append-le, getD-drop, slice-empty, slice-cons, paste, paste-zero, paste-suc}
 use Rattle.sheet.specs.Format.{Bytes, Row, row}
-use Rattle.rows.specs.Layouts.{total, rows-in, Room, Kept}
-use Rattle.rows.specs.declared.Layout.{Layout}
-use Rattle.rows.proofs.Layouts.{length-rows-in}
-use Rattle.changing.specs.Changes.{changed-row, copied}
-use Rattle.changing.specs.Output.{Laid}
-use Rattle.changing.proofs.Changed.{map-append}
-use Rattle.changing.proofs.Splice.{none-laid, row-laid, laid-on}
+use Rattle.changing.specs.Changes.{chosen-row, changed-row, copied}
+use Rattle.changing.proofs.Changed.{map-append, row-kept}
 
 -- copy_bytes
 
@@ -46,71 +42,44 @@ module _ (b : Bytes) (from count : ℕ) (d : Bytes) (inside : from + count ≤ l
       let last : i ≡ count = omega (arith, c .within) in
       c .so-far ∙ ap (λ n. take i (drop from b) ++ drop n d) (zero-add i) ∙ ap (λ n. take n (drop from b) ++ drop n d) last
 
--- copied
+-- rows of a span, one more at its end or at its front
 
-copied-next : (t : List ℕ) (from i : ℕ) (R : List Row) → from ≤ i → i < length R
+slice-next : (from i : ℕ) (R : List Row) → from ≤ i → i < length R → slice from (i + 1) R ≡ slice from i R ++ (getD R i (row 0 0) ∷ [])
+slice-next from i R h l =
+    ap (λ n. drop from (take n R)) (add-one i) ∙ ap (drop from) (take-suc R i (row 0 0) l) ∙
+    drop-append-le from (take i R) _ (omega (arith, length-take-le i R (omega arith)))
+
+pub copied-next : (t : List ℕ) (from i : ℕ) (R : List Row) → from ≤ i → i < length R
     → copied t from i R ++ (changed-row t (getD R i (row 0 0)) ∷ []) ≡ copied t from (i + 1) R
 unfolding copied
 copied-next t from i R h l =
-    sym
-    (ap (λ n. map (changed-row t) (drop from (take n R))) (add-one i) ∙
-    ap (λ rs. map (changed-row t) (drop from rs)) (take-suc R i (row 0 0) l) ∙
-    ap (map (changed-row t)) (drop-append-le from (take i R) _ (omega (arith, length-take-le i R (omega arith)))) ∙
-    map-append (changed-row t) (drop from (take i R)) _)
+    sym (ap (map (changed-row t)) (slice-next from i R h l) ∙ map-append (changed-row t) (slice from i R) _)
 
--- change_rows: the rows from row from on are changed, up to row i, from which on they stand as they did
+pub length-copied : (t : List ℕ) (from to : ℕ) (R : List Row) → length (copied t from to R) ≡ length (slice from to R)
+unfolding copied
+length-copied t from to R = length-map (changed-row t) (slice from to R)
+  where
+    length-map : (f : Row → Row) (rs : List Row) → length (map f rs) ≡ length rs
+    length-map f [] = refl
+    length-map f (r ∷ rs) = ap suc (length-map f rs)
 
-pub record Changing (s : Layout) (t : List ℕ) (d : Bytes) (from to : ℕ) (b : Bytes) (i : ℕ) : Type 0 where
-  pub start : from ≤ i
-  pub within : i ≤ to
-  pub so-far : Laid s d b from i (copied t from i (rows-in s d))
-  pub behind : drop i (rows-in s b) ≡ drop i (rows-in s d)
-  pub same-length : length b ≡ length d
+-- rows that stay
 
-module _ (s : Layout) (t : List ℕ) (d : Bytes) (room : Room s (length d)) (from to : ℕ) (inside : to ≤ total s) where
-  pub changed-none : from ≤ to → Changing s t d from to d from
+module _ (t : List ℕ) (R : List Row) where
+  pub stays-none : (i : ℕ) → copied t i i R ≡ slice i i R
   unfolding copied
-  changed-none h =
-      record {
-        start = omega arith;
-        within = h;
-        so-far = subst (Laid s d d from from) (sym (ap (map (changed-row t)) (slice-empty from (rows-in s d)))) (none-laid s d from);
-        behind = refl;
-        same-length = refl;
-      }
+  stays-none i = ap (map (changed-row t)) (slice-empty i R) ∙ sym (slice-empty i R)
 
-  module _ {b : Bytes} {i : ℕ} (h : i < to) (c : Changing s t d from to b i) where
-    -- there is as much room
-    pub room-left : Room s (length b)
-    room-left = record { holds = omega (arith, room .holds, c .same-length) }
+  pub stays-next : (from i : ℕ) → from ≤ i → i < length R → copied t from i R ≡ slice from i R → chosen-row t (getD R i (row 0 0)) ≡ false
+      → copied t from (i + 1) R ≡ slice from (i + 1) R
+  stays-next from i h l e f =
+      sym (copied-next t from i R h l) ∙ ap₂ (λ rs r. rs ++ (r ∷ [])) e (row-kept t (getD R i (row 0 0)) f) ∙ sym (slice-next from i R h l)
 
-    pub changed-next : {new : Bytes} → rows-in s new ≡ set (rows-in s b) i (changed-row t (getD (rows-in s b) i (row 0 0))) → Kept s b new
-        → length new ≡ length b → Changing s t d from to new (i + 1)
-    changed-next {new} rows kept same =
-        record {
-          start = omega (arith, c .start);
-          within = omega arith;
-          so-far =
-              subst (Laid s d new from (i + 1))
-              (ap (λ r. copied t from i (rows-in s d) ++ (changed-row t r ∷ [])) here ∙
-              copied-next t from i (rows-in s d) (c .start) (omega (arith, length-rows-in d room)))
-              (laid-on (c .so-far) (row-laid s b room-left i (changed-row t (getD (rows-in s b) i (row 0 0))) (omega arith) rows kept));
-          behind =
-              ap (drop (i + 1)) rows ∙ drop-set-lt (i + 1) (rows-in s b) i _ (omega arith) ∙ sym (drop-drop 1 i (rows-in s b)) ∙
-              ap (drop 1) (c .behind) ∙ drop-drop 1 i (rows-in s d);
-          same-length = same ∙ c .same-length;
-        }
-      where
-        zero-behind : i + 0 ≡ i
-        zero-behind = omega arith
-
-        here : getD (rows-in s b) i (row 0 0) ≡ getD (rows-in s d) i (row 0 0)
-        here =
-            ap (λ n. getD (rows-in s b) n (row 0 0)) (sym zero-behind) ∙ sym (getD-drop i (rows-in s b) 0 (row 0 0)) ∙
-            ap (λ (l : List Row). getD l 0 (row 0 0)) (c .behind) ∙ getD-drop i (rows-in s d) 0 (row 0 0) ∙
-            ap (λ n. getD (rows-in s d) n (row 0 0)) zero-behind
-
-  pub changed-all : {b : Bytes} {i : ℕ} → to ≤ i → Changing s t d from to b i → Laid s d b from to (copied t from to (rows-in s d))
-  changed-all {b} {i} h c =
-      let last : i ≡ to = omega (arith, c .within) in
-      subst (λ n. Laid s d b from n (copied t from n (rows-in s d))) last (c .so-far)
+  pub stays-before : (i to : ℕ) → i < to → to ≤ length R → copied t (i + 1) to R ≡ slice (i + 1) to R → chosen-row t (getD R i (row 0 0)) ≡ false
+      → copied t i to R ≡ slice i to R
+  unfolding copied
+  stays-before i to h l e f =
+      ap (map (changed-row t)) front ∙ ap₂ _∷_ (row-kept t (getD R i (row 0 0)) f) e ∙ sym front
+    where
+      front : slice i to R ≡ getD R i (row 0 0) ∷ slice (i + 1) to R
+      front = slice-cons i to R (row 0 0) h l ∙ ap (λ n. getD R i (row 0 0) ∷ slice n to R) (sym (add-one i))

@@ -4,6 +4,7 @@ use mathlib.Core.Path.{_≡_}
 use mathlib.Core.List.{List, _++_}
 use Prim.Native.Nat.{ℕ, _+_, _-_, _≤_}
 use lib.ListN.{length, take, drop}
+use lib.Seq.{slice}
 use Rattle.sheet.specs.Format.{Bytes, Row}
 use Rattle.rows.specs.Layouts.{total, rows-in, Room, Kept}
 use Rattle.rows.specs.declared.Layout.{Layout}
@@ -21,6 +22,24 @@ copy-in s b t span = copied t (span .from) (span .to) (rows-in s b)
 pub record Within (span : Span) (s : Layout) : Type 0 where
   pub ordered : span .from ≤ span .to
   pub inside : span .to ≤ total s
+
+-- the rows from to to stay
+abbrev pub Stays : Layout → Bytes → List ℕ → ℕ → ℕ → Type 0
+Stays s b t from to = copied t from to (rows-in s b) ≡ slice from to (rows-in s b)
+
+-- the rows of a span that are changed stand within another
+pub record Between (s : Layout) (b : Bytes) (t : List ℕ) (span changed : Span) : Type 0 where
+  pub start : span .from ≤ changed .from
+  pub ordered : changed .from ≤ changed .to
+  pub end : changed .to ≤ span .to
+  pub before : Stays s b t (span .from) (changed .from)
+  pub behind : Stays s b t (changed .to) (span .to)
+
+-- the rows of a span can be read from b and copied, with these changed
+pub record Copying (s : Layout) (b : Bytes) (t : List ℕ) (span changed : Span) : Type 0 where
+  pub source : Room s (length b)
+  pub within : Within span s
+  pub between : Between s b t span changed
 
 -- the rows of s can be read from b, and those of t, of the same format, have their place in out
 pub record Ready (s : Layout) (b : Bytes) (t : Layout) (out : Bytes) : Type 0 where

@@ -3,6 +3,7 @@
 use rows::Layout;
 
 pub mod change;
+pub mod copy;
 pub mod table;
 pub mod write;
 

@@ -1,14 +1,17 @@
 // Rows written to the output one after the other: each function takes the row to write from and returns the row behind what it wrote.
 use crate::Span;
 use crate::Target;
-use crate::change::change_rows;
+use crate::change::changed_span;
+use crate::copy::copy_arguments;
+use crate::copy::copy_bytes;
+use crate::copy::copy_kinds;
 use rows::Layout;
 use rows::places::argument_place;
 use rows::places::kind_place;
 use rows::width;
 use rows::write::set_row;
 ghost use mathlib.Core.Path.{_≡_};
-ghost use mathlib.Core.List.{[], _∷_, _++_};
+ghost use mathlib.Core.List.{[], _∷_};
 ghost use Prim.Native.Nat.{_+_, _≤_, _<_};
 ghost use lib.ListN.{length, take, drop};
 ghost use lib.Seq.{slice};
@@ -26,20 +29,7 @@ pub fn write_row(out: &mut [u8], to: Target, kind: u8, argument: usize) -> usize
     to.at + 1
 }
 
-// Copies `count` bytes from byte `from` of `b` on to the front of `out`. The loop moves bytes and does no more, so that the compiler can
-// move many at once.
-fn copy_bytes(b: &[u8], from: usize, count: usize, out: &mut [u8])
-    requires { ⌜ (from + count ≤ length (now b)) × (count ≤ length (now out)) ⌝ }
-    ensures { λ _. ⌜ now (out .exit) ≡ take count (drop from (now (b .entry))) ++ drop count (now (out .entry)) ⌝ }
-{
-    let mut i: usize = 0;
-    while i < count {
-        out[i] = b[from + i];
-        i += 1;
-    }
-}
-
-// Writes them from byte `start` of the output on, which is lent to the copying function from there.
+// Writes `count` bytes of `b` from byte `start` of the output on, which is lent to the copying function from there.
 fn write_bytes(b: &[u8], from: usize, count: usize, out: &mut [u8], start: usize)
     requires { ⌜ (from + count ≤ length (now b)) × (start + count ≤ length (now out)) ⌝ }
     ensures { λ _. ⌜ now (out .exit) ≡ spliced start (take count (drop from (now (b .entry)))) (now (out .entry)) ⌝ }
@@ -65,7 +55,8 @@ pub fn write_rows(b: &[u8], s: Layout, span: Span, out: &mut [u8], to: Target) -
     at + count
 }
 
-// Writes the rows `span` of `b`, changed by the table: as they are first, then the literals that don't stay are changed.
+// Writes the rows `span` of `b`, changed by the table: the output's kind bytes from row `at` on are lent to the copying function, and then
+// its argument bytes, since a slice lends one part at a time.
 pub fn write_copy(
     b: &[u8],
     s: Layout,
@@ -79,11 +70,11 @@ pub fn write_copy(
     ensures { λ next. ⌜ next ≡ to .at + extent span ⌝ }
 {
     let t = to.layout;
-    let next = write_rows(b, s, span, out, to);
-    let written = Span {
-        from: to.at,
-        to: next,
-    };
-    change_rows(out, t, table, written);
-    next
+    let at = to.at;
+    let changed = changed_span(b, s, table, span);
+    let kinds = kind_place(t, at);
+    let arguments = argument_place(t, at);
+    copy_kinds(b, s, table, span, changed, &mut out[kinds..]);
+    copy_arguments(b, s, table, span, changed, &mut out[arguments..]);
+    at + (span.to - span.from)
 }

@@ -1,7 +1,6 @@
 -- `qdimacs::clauses::has_above` meets its contract. Assumes nothing.
 use borrow.Author.Needs.{needs}
-use mathlib.Core.Path.{_≡_, refl, sym, ap, _∙_}
-use Prim.Native.Nat.{_+_, _-_, _≤_, _<_}
+use Prim.Native.Nat.{_-_}
 use native.Mathlib.Omega.{arith}
 use lib.ListN.{length}
 use Rattle.qdimacs.proofs.Counting.{Lower, lower-none, lower-found, lower-word, lower-all}

@@ -3,14 +3,12 @@ use mathlib.Core.Path.{_≡_, ap, _∙_}
 use Prim.Native.Nat.{_≤_}
 use native.Mathlib.Omega.{arith}
 use lib.Dec.{eqb}
-use lib.IntN.{ℤ}
 use lib.ListN.{set}
 use borrow.Author.Needs.{needs}
 use borrow.Author.Tests.{eq-eqb, ne-eqb, lt-ltb, le-ltb}
 use mir.Syntax.{w32}
 use mir.Val.{toZ, ofZ}
-use Rattle.rows.specs.Layouts.{rows-in, Fits}
-use Rattle.words.specs.Literals.{variable}
+use Rattle.rows.specs.Layouts.{rows-in}
 use Rattle.words.proofs.Signed.{literal-passed}
 use Rattle.qdimacs.specs.Inner.Clauses.{literal-said}
 use Rattle.qdimacs.specs.Inner.Rows.{literal-row}

@@ -1,9 +1,9 @@
--- `changing::write::copy_bytes` meets its contract: a byte a turn. Assumes nothing.
+-- `changing::copy::copy_bytes` meets its contract: a byte a turn. Assumes nothing.
 use Prim.Native.Nat.{_-_}
 use native.Mathlib.Omega.{arith}
 use Rattle.changing.proofs.Turn.{Copied, copied-none, copied-byte, copied-all}
-use Rattle.changing.proofs.write.copy_bytes.Statement.{statement}
-use Rattle.changing.proofs.write.copy_bytes.Tie as tie
+use Rattle.changing.proofs.copy.copy_bytes.Statement.{statement}
+use Rattle.changing.proofs.copy.copy_bytes.Tie as tie
 
 abbrev Inv-loop : tie.InvT-loop
 Inv-loop b from count out₀ i₀ out i = Copied b from count out₀ out i
