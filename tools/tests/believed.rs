@@ -19,17 +19,17 @@ const ENTRIES: [&str; 21] = [
     "expand::quote::quote",
     "outer::outer",
     "reduce::reduce",
-    "order::sort::sort",
-    "order::compare::compare",
+    "sort_compare::sort::sort",
+    "sort_compare::compare::compare",
     "solve::solve",
     "solve::line::line_for",
     "force::force",
     "guards::guards",
     "resume::resume",
-    "carrying::widen",
-    "carrying::bring_back",
+    "conversion::to_wide",
+    "conversion::to_narrow",
     "reader::qdimacs",
-    "steps::numbers::follow_numbers",
+    "step_list::numbers::follow_numbers",
 ];
 
 const INTRODUCTION: &str = "\

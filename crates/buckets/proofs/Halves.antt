@@ -3,7 +3,7 @@
 use mathlib.Core.Path.{_≡_}
 use Prim.Native.Nat.{ℕ, _<_}
 use native.Mathlib.Omega.{arith}
-use Rattle.buckets.specs.Halves.{member-of, row-of, known-of, children-of, print-of}
+use Rattle.buckets.specs.Halves.{member-of, row-of, known-of, children-of, hash-of}
 
 pub row-made : (r p : ℕ) → p < 65536 → row-of (member-of r p) ≡ r
 row-made r p l = omega arith
@@ -12,8 +12,8 @@ pub children-made : (n p : ℕ) → p < 65536 → children-of (known-of n p) ≡
 children-made n p l = omega arith
 
 -- of a member, and of what is told of an operator
-pub print-made : (r p : ℕ) → p < 65536 → print-of (member-of r p) ≡ p
-print-made r p l = omega arith
+pub hash-made : (r p : ℕ) → p < 65536 → hash-of (member-of r p) ≡ p
+hash-made r p l = omega arith
 
-pub print-small : (x : ℕ) → print-of x < 65536
-print-small x = omega arith
+pub hash-small : (x : ℕ) → hash-of x < 65536
+hash-small x = omega arith

@@ -1,4 +1,4 @@
 -- Each file has the name of the definitions in `specs` that its laws are about.
 pub mod Chains
 pub mod Halves
-pub mod Prints
+pub mod Hashes

@@ -19,7 +19,7 @@ entry-of (Member i) = suc i
 abbrev pub BUCKETS : ℕ
 BUCKETS = 1024
 
--- the bucket that a member falls into: the lowest three bits of its print are no part of it
+-- the bucket that a member falls into: the lowest three bits of its hash are no part of it
 abbrev pub bucket : ℕ → ℕ
 bucket m = m / 8 % BUCKETS
 

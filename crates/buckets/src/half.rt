@@ -1,15 +1,15 @@
-// Two numbers of 16 bits in one of 32: a tree's print in the lower half, and in the upper the row where the tree begins, or how many
+// Two numbers of 16 bits in one of 32: a tree's hash in the lower half, and in the upper the row where the tree begins, or how many
 // children its operator has.
 ghost use mathlib.Core.Path.{_≡_};
 ghost use Prim.Native.Nat.{_^_, _<_};
-ghost use Rattle.buckets.specs.Halves.{member-of, row-of, known-of, children-of, print-of};
+ghost use Rattle.buckets.specs.Halves.{member-of, row-of, known-of, children-of, hash-of};
 
-// A member of the tables: a tree by its row and its print.
-pub fn member_of(row: usize, print: usize) -> usize
-    requires { ⌜ (row < 65536) × (print < 65536) ⌝ }
-    ensures { λ m. ⌜ (m ≡ member-of row print) × (m < 2 ^ 32) ⌝ }
+// A member of the tables: a tree by its row and its hash.
+pub fn member_of(row: usize, hash: usize) -> usize
+    requires { ⌜ (row < 65536) × (hash < 65536) ⌝ }
+    ensures { λ m. ⌜ (m ≡ member-of row hash) × (m < 2 ^ 32) ⌝ }
 {
-    row * 65536 + print
+    row * 65536 + hash
 }
 
 // Its row.
@@ -19,12 +19,12 @@ pub fn row_of(m: usize) -> usize
     m / 65536
 }
 
-// What a table tells of an operator: how many children it has, and its print.
-pub fn known_of(children: usize, print: usize) -> usize
-    requires { ⌜ (children < 65536) × (print < 65536) ⌝ }
-    ensures { λ w. ⌜ (w ≡ known-of children print) × (w < 2 ^ 32) ⌝ }
+// What a table tells of an operator: how many children it has, and its hash.
+pub fn known_of(children: usize, hash: usize) -> usize
+    requires { ⌜ (children < 65536) × (hash < 65536) ⌝ }
+    ensures { λ w. ⌜ (w ≡ known-of children hash) × (w < 2 ^ 32) ⌝ }
 {
-    children * 65536 + print
+    children * 65536 + hash
 }
 
 // How many children it tells of.
@@ -34,9 +34,9 @@ pub fn children_of(w: usize) -> usize
     w / 65536
 }
 
-// The print in a number of either kind.
-pub fn print_of(x: usize) -> usize
-    ensures { λ p. ⌜ (p ≡ print-of x) × (p < 65536) ⌝ }
+// The hash in a number of either kind.
+pub fn hash_of(x: usize) -> usize
+    ensures { λ p. ⌜ (p ≡ hash-of x) × (p < 65536) ⌝ }
 {
     x % 65536
 }

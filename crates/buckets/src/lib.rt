@@ -1,13 +1,13 @@
 // Chains over members that are numbered in the order in which they came, so that those of one bucket are found without a walk over
 // the others. Tables may hold anything at first: an entry is taken only if the member that it names is there and falls into its
-// bucket. A member is a tree by its row and its print, in one number; its bucket is read off the print.
+// bucket. A member is a tree by its row and its hash, in one number; its bucket is read off the hash.
 ghost use mathlib.Core.Path.{_≡_};
 ghost use Prim.Native.Nat.{_+_, _^_, _≤_, _<_};
 ghost use lib.ListN.{length, getD, set};
 ghost use Rattle.buckets.specs.Chains.{entry-of, BUCKETS, bucket, last, Head, Linked, Room};
 
 pub mod half;
-pub mod print;
+pub mod hash;
 
 // How many buckets there are: a table of heads has an entry for each.
 pub const BUCKETS: usize = 1024;
@@ -52,7 +52,7 @@ pub fn entry_of(l: Link) -> usize
     }
 }
 
-// The bucket that a member falls into, by its print. It is no variable's: literals of four variables share one, and siblings that meet
+// The bucket that a member falls into, by its hash. It is no variable's: literals of four variables share one, and siblings that meet
 // in a bucket are compared with one another.
 pub fn bucket_of(m: usize) -> usize
     ensures { λ k. ⌜ (k ≡ bucket m) × (k < BUCKETS) ⌝ }

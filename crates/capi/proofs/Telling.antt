@@ -16,7 +16,7 @@ use Rattle.sheet.specs.Operations.{Written, Solving, tidy-tests, tidy-call, set
 use Rattle.sheet.specs.Qdimacs.{qdimacs, qdimacs-call}
 use Rattle.sheet.specs.Force.{Forcing, force-call}
 use Rattle.sheet.specs.Guards.{Guarding, guards-call}
-use Rattle.sheet.specs.Carrying.{widen-call, bring-back-call}
+use Rattle.sheet.specs.Conversion.{to-wide-call, to-narrow-call}
 use Rattle.sheet.specs.Resume.{named, resume-call}
 use Rattle.sheet.specs.Order.{sort-call}
 use Rattle.sheet.specs.Truthful.{truth-of}
@@ -24,7 +24,7 @@ use Rattle.sheet.proofs.Tests.{accepted-passes}
 use Rattle.sheet.proofs.Steps.{steps-taken}
 use Rattle.sheet.proofs.Known.{refused-known, tidy-known, tidy-place}
 use Rattle.sheet.proofs.Truthful.{steps-truthful, tidy-truthful, settle-truthful, expand-truthful, execute-truthful, outer-truthful, reduce-truthful, sort-truthful}
-use Rattle.sheet.proofs.Truthful.{qdimacs-truthful, widen-truthful, bring-back-truthful, trial-truthful, solve-truthful, resume-truthful, guards-truthful, force-truthful}
+use Rattle.sheet.proofs.Truthful.{qdimacs-truthful, to-wide-truthful, to-narrow-truthful, trial-truthful, solve-truthful, resume-truthful, guards-truthful, force-truthful}
 use Rattle.rows.specs.Formats.{format-of}
 use Rattle.rows.specs.declared.Format.{Format}
 use Rattle.rows.proofs.Limits.{sound}
@@ -36,11 +36,11 @@ use Rattle.packing.specs.Panel.{packed-forced}
 use Rattle.packing.specs.Told.{ToldSheet, ToldCopied, ToldTrial, ToldSolve, ToldGuards, ToldForce}
 use Rattle.packing.specs.Unpacked.{FitsWritten}
 use Rattle.packing.proofs.Ranges.{told, short}
-use Rattle.packing.proofs.Ranges.{tidy-fits, settle-fits, expand-fits, execute-fits, reduce-fits, sort-fits, widen-fits, bring-back-fits, qdimacs-fits, trial-fits, guards-fits, force-fits}
+use Rattle.packing.proofs.Ranges.{tidy-fits, settle-fits, expand-fits, execute-fits, reduce-fits, sort-fits, to-wide-fits, to-narrow-fits, qdimacs-fits, trial-fits, guards-fits, force-fits}
 use Rattle.packing.proofs.Copied.{outer-fits}
 use Rattle.packing.proofs.Refused.{solve-numbers, resume-numbers}
 use Rattle.packing.proofs.Telling.{told-sheet, told-copied, told-trial, told-solve, told-guards, told-force}
-use Rattle.steps.specs.Numbers.{Tabled, tabled}
+use Rattle.step_list.specs.Numbers.{Tabled, tabled}
 use Rattle.capi.specs.Returned.{Listed, packed-listing, Output, packed-writing, packed-copying, Buffers, packed-solving, packed-forcing, Guarded, packed-guarding}
 
 -- what packing returns beside what an operation answers and leaves
@@ -182,13 +182,13 @@ pub qdimacs-told : (f : Format) (s out : Bytes) {o : Output} → o ≡ packed-wr
 qdimacs-told f s out e =
     says-sheet (format-of f) (truth (qdimacs s)) e (told-sheet (qdimacs-fits f s out) (qdimacs-truthful (format-of f) (sound f) s out refl))
 
-pub widen-told : (b out : Bytes) {o : Output} → o ≡ packed-writing (widen-call b out)
-    → (o ≡ packed-writing (widen-call b out)) × ToldSheet wide (truth-of narrow b) (o .number) (o .output)
-widen-told b out e = says-sheet wide (truth-of narrow b) e (told-sheet (widen-fits b out) (widen-truthful b out refl))
+pub to-wide-told : (b out : Bytes) {o : Output} → o ≡ packed-writing (to-wide-call b out)
+    → (o ≡ packed-writing (to-wide-call b out)) × ToldSheet wide (truth-of narrow b) (o .number) (o .output)
+to-wide-told b out e = says-sheet wide (truth-of narrow b) e (told-sheet (to-wide-fits b out) (to-wide-truthful b out refl))
 
-pub bring-back-told : (b out : Bytes) {o : Output} → o ≡ packed-writing (bring-back-call b out)
-    → (o ≡ packed-writing (bring-back-call b out)) × ToldSheet narrow (truth-of wide b) (o .number) (o .output)
-bring-back-told b out e = says-sheet narrow (truth-of wide b) e (told-sheet (bring-back-fits b out) (bring-back-truthful b out refl))
+pub to-narrow-told : (b out : Bytes) {o : Output} → o ≡ packed-writing (to-narrow-call b out)
+    → (o ≡ packed-writing (to-narrow-call b out)) × ToldSheet narrow (truth-of wide b) (o .number) (o .output)
+to-narrow-told b out e = says-sheet narrow (truth-of wide b) e (told-sheet (to-narrow-fits b out) (to-narrow-truthful b out refl))
 
 pub resume-told : (started settled expanded : ℕ) (b : Bytes) (w : Bool) (first second : Bytes) {o : Buffers}
     → o ≡ packed-solving (resume-call started settled expanded b w first second)

@@ -8,7 +8,7 @@ use Rattle.sheet.specs.Order.{Comparing}
 use Rattle.sheet.specs.Force.{Forcing}
 use Rattle.sheet.specs.Guards.{Guarding}
 use Rattle.outer.specs.Answers.{OuterWritten}
-use Rattle.steps.specs.Numbers.{Lent, Tabled}
+use Rattle.step_list.specs.Numbers.{Lent, Tabled}
 use Rattle.packing.specs.Packed.{packed-written, packed-solved, packed-guards}
 use Rattle.packing.specs.Copies.{packed-copied}
 use Rattle.packing.specs.Order.{packed-compared}

@@ -41,7 +41,7 @@ pub extern "C" fn plumanchor_solve_wide(sheet: &[u8], first: &mut [u8], second: 
 fn compare(a: &[u8], b: &[u8], f: Format, first: &mut [u8], second: &mut [u8]) -> u64
     ensures { λ r. ⌜ buffers-left r first second ≡ packed-comparing (compare-call (format-of f) (now (a .entry)) (now (b .entry)) (now (first .entry)) (now (second .entry))) ⌝ }
 {
-    pack_compared(order::compare::compare(a, b, f, first, second))
+    pack_compared(sort_compare::compare::compare(a, b, f, first, second))
 }
 
 #[no_mangle]

@@ -1,13 +1,13 @@
 // A whole list of steps (N2), in arrays of numbers: refusal number and place, or the final sheet's length.
 use packing::pack_written;
 use rows::Format;
-use steps::numbers::follow_numbers;
+use step_list::numbers::follow_numbers;
 ghost use mathlib.Core.Path.{_≡_};
 ghost use Rattle.sheet.specs.Format.{narrow, wide};
 ghost use Rattle.sheet.specs.Truthful.{truth-of};
 ghost use Rattle.rows.specs.Formats.{format-of};
 ghost use Rattle.packing.specs.Told.{ToldSheet};
-ghost use Rattle.steps.specs.Numbers.{numbers-call};
+ghost use Rattle.step_list.specs.Numbers.{numbers-call};
 ghost use Rattle.capi.specs.Returned.{steps-left, packed-listing};
 
 fn steps(

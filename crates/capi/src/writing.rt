@@ -5,7 +5,7 @@ ghost use mathlib.Core.Path.{_≡_};
 ghost use Rattle.sheet.specs.Format.{narrow, wide};
 ghost use Rattle.sheet.specs.Operations.{tidy-call, settle-call, expand-call, execute-call, reduce-call};
 ghost use Rattle.sheet.specs.Order.{sort-call};
-ghost use Rattle.sheet.specs.Carrying.{widen-call, bring-back-call};
+ghost use Rattle.sheet.specs.Conversion.{to-wide-call, to-narrow-call};
 ghost use Rattle.sheet.specs.Truthful.{truth-of};
 ghost use Rattle.rows.specs.Formats.{format-of};
 ghost use Rattle.packing.specs.Told.{ToldSheet};
@@ -135,7 +135,7 @@ fn sort(sheet: &[u8], f: Format, out: &mut [u8]) -> u64
     ensures { λ r. ⌜ output-left r out ≡ packed-writing (sort-call (format-of f) (now (sheet .entry)) (now (out .entry))) ⌝ }
     ensures { λ r. ⌜ ToldSheet (format-of f) (truth-of (format-of f) (now (sheet .entry))) r (now (out .exit)) ⌝ }
 {
-    pack_written(order::sort::sort(sheet, f, out))
+    pack_written(sort_compare::sort::sort(sheet, f, out))
 }
 
 #[no_mangle]
@@ -154,20 +154,20 @@ pub extern "C" fn plumanchor_sort_wide(sheet: &[u8], out: &mut [u8]) -> u64
     sort(sheet, Format::Wide, out)
 }
 
-// Carrying over: the length is the wide sheet's.
+// Conversion over: the length is the wide sheet's.
 #[no_mangle]
 pub extern "C" fn plumanchor_widen(sheet: &[u8], out: &mut [u8]) -> u64
-    ensures { λ r. ⌜ output-left r out ≡ packed-writing (widen-call (now (sheet .entry)) (now (out .entry))) ⌝ }
+    ensures { λ r. ⌜ output-left r out ≡ packed-writing (to-wide-call (now (sheet .entry)) (now (out .entry))) ⌝ }
     ensures { λ r. ⌜ ToldSheet wide (truth-of narrow (now (sheet .entry))) r (now (out .exit)) ⌝ }
 {
-    pack_written(carrying::widen(sheet, out))
+    pack_written(conversion::to_wide(sheet, out))
 }
 
 // Bringing back: the length is the narrow sheet's.
 #[no_mangle]
 pub extern "C" fn plumanchor_narrow(sheet: &[u8], out: &mut [u8]) -> u64
-    ensures { λ r. ⌜ output-left r out ≡ packed-writing (bring-back-call (now (sheet .entry)) (now (out .entry))) ⌝ }
+    ensures { λ r. ⌜ output-left r out ≡ packed-writing (to-narrow-call (now (sheet .entry)) (now (out .entry))) ⌝ }
     ensures { λ r. ⌜ ToldSheet narrow (truth-of wide (now (sheet .entry))) r (now (out .exit)) ⌝ }
 {
-    pack_written(carrying::bring_back(sheet, out))
+    pack_written(conversion::to_narrow(sheet, out))
 }

@@ -9,11 +9,11 @@ use force::Forced;
 use force::Outcome;
 use force::Turn;
 use guards::Guarded;
-use order::compare::Compared;
 use printing::print_count;
 use printing::print_number;
 use rows::Format;
 use solve::Solved;
+use sort_compare::compare::Compared;
 use trial::Tried;
 
 // Longer than any output: no sheet is written.

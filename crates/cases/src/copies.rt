@@ -2,13 +2,13 @@
 use crate::answers::print_refused;
 use crate::outputs::print_short;
 use crate::outputs::print_sum;
-use outer::Outcome;
+use outer::Stepped;
 use printing::print_number;
 use rows::Format;
 
-fn print_copied(answer: Outcome, out: &[u8]) {
+fn print_copied(answer: Stepped, out: &[u8]) {
     match answer {
-        Outcome::Copied(length, copied, lowest) => {
+        Stepped::Copied(length, copied, lowest) => {
             io::write_all(1, b" accepted");
             print_number(length);
             print_number(copied);
@@ -16,7 +16,7 @@ fn print_copied(answer: Outcome, out: &[u8]) {
             print_sum(out);
             print_short(out, length);
         }
-        Outcome::Refused(number, place) => {
+        Stepped::Refused(number, place) => {
             print_refused(number, place);
             print_sum(out);
         }

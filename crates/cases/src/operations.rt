@@ -49,7 +49,7 @@ fn run_reduce(sheet: &[u8], f: Format, out: &mut [u8]) {
 
 fn run_sort(sheet: &[u8], f: Format, out: &mut [u8]) {
     io::write_all(1, b"sort");
-    let answer = order::sort::sort(sheet, f, out);
+    let answer = sort_compare::sort::sort(sheet, f, out);
     print_written(answer, out);
 }
 
@@ -95,7 +95,7 @@ fn run_solve(sheet: &[u8], f: Format, first: &mut [u8], second: &mut [u8]) {
 // Compares the sheet with the one in the list.
 fn run_compare(sheet: &[u8], f: Format, list: &[u8], first: &mut [u8], second: &mut [u8]) {
     io::write_all(1, b"compare");
-    let answer = order::compare::compare(sheet, list, f, first, second);
+    let answer = sort_compare::compare::compare(sheet, list, f, first, second);
     print_compared(answer, first, second);
 }
 
@@ -175,15 +175,15 @@ fn run_on(operation: u8, f: Format, number: usize, sheet: &[u8], list: &[u8], ou
     }
 }
 
-fn run_widen(sheet: &[u8], out: &mut [u8]) {
+fn run_to_wide(sheet: &[u8], out: &mut [u8]) {
     io::write_all(1, b"widen");
-    let answer = carrying::widen(sheet, out);
+    let answer = conversion::to_wide(sheet, out);
     print_written(answer, out);
 }
 
-fn run_bring_back(sheet: &[u8], out: &mut [u8]) {
+fn run_to_narrow(sheet: &[u8], out: &mut [u8]) {
     io::write_all(1, b"bring back");
-    let answer = carrying::bring_back(sheet, out);
+    let answer = conversion::to_narrow(sheet, out);
     print_written(answer, out);
 }
 
@@ -191,8 +191,8 @@ fn run_bring_back(sheet: &[u8], out: &mut [u8]) {
 pub fn run(operation: u8, number: usize, sheet: &[u8], list: &[u8], out: &mut [u8]) {
     fill(out);
     match operation {
-        b'W' => run_widen(sheet, out),
-        b'N' => run_bring_back(sheet, out),
+        b'W' => run_to_wide(sheet, out),
+        b'N' => run_to_narrow(sheet, out),
         b'A'..=b'Z' => {
             io::write_all(1, b"wide ");
             run_on(operation + 32, Format::Wide, number, sheet, list, out);

@@ -3,5 +3,5 @@ pub mod Debt
 pub mod Bound
 mod Sizes
 mod Tests
-mod Turn
+mod RowTests
 mod Whole

@@ -19,7 +19,7 @@ use Rattle.prefixes.proofs.Places.{prefix-row, no-rows}
 use Rattle.relevance.specs.Raw.{presence, grown-by}
 use Rattle.relevance.specs.declared.variable.Presence.{Presence}
 use Rattle.relevance.proofs.Growth.{raw-rows-by}
-use Rattle.signs.specs.Value.{Bound}
+use Rattle.polarity.specs.Value.{Bound}
 use Rattle.choice.specs.Settling.{Unsettled}
 use Rattle.choice.specs.Expanding.{ExpandHere, ToExpand, cheapest-from, priced-in, beats, cheaper-of}
 use Rattle.relevance.specs.declared.variable.Candidate.{Candidate}
@@ -43,7 +43,7 @@ module _ {s : Layout} (b : Bytes) (ok : Readable s b) where
   -- the part and the raw rows of a row's variable
   pub priced-as : (i : ℕ) {x : ℕ} {part : Presence} {raw : ℕ} → x ≡ (binding-in s b i) .variable
       → part ≡ presence (of x) (matrix-in s b) → raw ≡ grown-by (s .nodes) part
-      → _≡_ {A = Candidate} (record { row = i; variable = x; part = part; raw = raw }) (priced-in s b i)
+      → _≡_ {A = Candidate} (record { row = i; variable = x; relevant = part; raw = raw }) (priced-in s b i)
   priced-as i {x} here is e =
       let parted = is ∙ ap (λ v. presence (of v) (matrix-in s b)) here in
       rw (e ∙ raw-rows-by (of ((binding-in s b i) .variable)) b ok parted .0, parted, here)

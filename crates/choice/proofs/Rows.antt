@@ -20,7 +20,7 @@ use Rattle.rows.specs.declared.Layout.{Layout}
 use Rattle.rows.proofs.Formulas.{length-prefix}
 use Rattle.prefixes.specs.Places.{place, binding-at, binding-in, block-start}
 use Rattle.prefixes.proofs.Places.{quantifier-of-place, block-place}
-use Rattle.signs.specs.Value.{settling-in, Bound}
+use Rattle.polarity.specs.Value.{settling-in, Bound}
 use Rattle.choice.specs.Settling.{Unsettled}
 
 -- a row's number is bound

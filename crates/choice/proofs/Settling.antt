@@ -19,9 +19,9 @@ use Rattle.rows.specs.Formulas.{prefix-in, formula-in, Readable}
 use Rattle.rows.specs.declared.Layout.{Layout}
 use Rattle.rows.proofs.Formulas.{length-prefix}
 use Rattle.prefixes.specs.Places.{place, binding-at, binding-in}
-use Rattle.signs.specs.Value.{value-of, settling-in, Bound}
-use Rattle.signs.specs.declared.value.Settling.{Settling}
-use Rattle.signs.specs.declared.value.Settling.the-variants.{Take, Not}
+use Rattle.polarity.specs.Value.{value-of, settling-in, Bound}
+use Rattle.polarity.specs.declared.value.Settling.{Settling}
+use Rattle.polarity.specs.declared.value.Settling.the-variants.{Take, Not}
 use Rattle.choice.specs.Settling.{SettleOf, SettlesBefore, ToSettle, lowest-before, is-lower}
 use Rattle.choice.specs.declared.settle.SettleChoice.{SettleChoice}
 use Rattle.choice.specs.declared.settle.SettleChoice.the-variants.{Settle, Nothing}

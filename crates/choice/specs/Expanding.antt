@@ -16,12 +16,12 @@ use Rattle.prefixes.specs.Places.{place, binding-in}
 use Rattle.relevance.specs.Raw.{presence}
 use Rattle.relevance.specs.declared.variable.Candidate.{Candidate}
 
--- the chosen variable, its row, its relevant part and its raw rows
+-- the chosen variable, its row, its relevant subtree and its raw rows
 pub record ExpandHere (s : Layout) (b : Bytes) (chosen : Option ℕ) (r : Candidate) : Type 0 where
   pub is-cheapest : chosen ≡ some (r .variable)
   pub inside : r .row < s .variables
   pub at-row : r .row ≡ place (r .variable) (prefix-in s b)
-  pub part-is : r .part ≡ presence (of (r .variable)) (matrix-in s b)
+  pub part-is : r .relevant ≡ presence (of (r .variable)) (matrix-in s b)
   pub raw-is : r .raw ≡ raw-rows (of (r .variable)) (matrix-in s b)
 
 abbrev pub ToExpand : Layout → Bytes → Candidate → Type 0
@@ -31,11 +31,11 @@ ToExpand s b r = ExpandHere s b (cheapest (formula-in s b)) r
 unfoldable pub cheapest-from : ℕ → Formula → Option ℕ
 cheapest-from i f = least (cheaper f) (those (λ x. innermost x f) (drop i (f .prefix)))
 
--- the variable of prefix row i with its relevant part and its raw rows
+-- the variable of prefix row i with its relevant subtree and its raw rows
 abbrev pub priced-in : Layout → Bytes → ℕ → Candidate
 priced-in s b i =
     let x = (binding-in s b i) .variable in
-    record { row = i; variable = x; part = presence (of x) (matrix-in s b); raw = raw-rows (of x) (matrix-in s b) }
+    record { row = i; variable = x; relevant = presence (of x) (matrix-in s b); raw = raw-rows (of x) (matrix-in s b) }
 
 -- fewer raw rows, ties to the lower number
 abbrev pub beats : Candidate → Candidate → Bool

@@ -1,7 +1,7 @@
 // The variable that Solve expands next: the innermost-block one with the fewest raw rows, ties to the lower number. The caller has filled
 // the tables of occurrences, from which it also takes the chosen variable's literals.
 use prefixes::block_start;
-use prefixes::variable_at;
+use prefixes::bound_at;
 use relevance::variable::Candidate;
 use relevance::variable::part_of;
 use relevance::variable::raw_rows_of;
@@ -10,11 +10,11 @@ ghost use mathlib.Core.Path.{_≡_};
 ghost use Prim.Native.Nat.{_<_};
 ghost use Rattle.subtrees.specs.Ends.{Indexed};
 ghost use Rattle.occurrences.specs.Occurrences.{Occurrences};
-ghost use Rattle.signs.specs.Value.{Bound};
+ghost use Rattle.polarity.specs.Value.{Bound};
 ghost use Rattle.choice.specs.Settling.{Unsettled};
 ghost use Rattle.choice.specs.Expanding.{ToExpand, beats, cheaper-of, priced-in};
 
-// The variable of prefix row `i` with its relevant part and its raw sheet's node rows.
+// The variable of prefix row `i` with its relevant subtree and its raw sheet's node rows.
 pub fn price_row(
     b: &[u8],
     s: Layout,
@@ -26,13 +26,13 @@ pub fn price_row(
     requires { ⌜ Indexed s (now b) (now ends) × Bound s (now b) × Occurrences s (now b) (now ranges) (now next) × (i < s .variables) ⌝ }
     ensures { λ r. ⌜ r ≡ priced-in s (now (b .entry)) i ⌝ }
 {
-    let x = variable_at(b, s, i);
-    let part = part_of(b, s, ends, ranges, next, x);
-    let raw = raw_rows_of(s.nodes, part);
+    let x = bound_at(b, s, i);
+    let relevant = part_of(b, s, ends, ranges, next, x);
+    let raw = raw_rows_of(s.nodes, relevant);
     Candidate {
         row: i,
         variable: x,
-        part: part,
+        relevant: relevant,
         raw: raw,
     }
 }

@@ -1,17 +1,17 @@
 // The variable that Solve settles next: the lowest-numbered one that may be settled.
-use prefixes::variable_at;
+use polarity::table::FEW_NUMBERS;
+use polarity::table::FEW_SIGNS;
+use polarity::table::SIGNS;
+use polarity::table::fill_signs;
+use polarity::value::Settling;
+use polarity::value::value_at;
+use prefixes::bound_at;
 use rows::Layout;
-use signs::table::FEW_NUMBERS;
-use signs::table::FEW_SIGNS;
-use signs::table::SIGNS;
-use signs::table::fill_signs;
-use signs::value::Settling;
-use signs::value::value_at;
 ghost use mathlib.Core.Path.{_≡_};
 ghost use Prim.Native.Nat.{suc, _<_};
 ghost use Rattle.rows.specs.Formulas.{Readable};
-ghost use Rattle.signs.specs.Table.{Signed};
-ghost use Rattle.signs.specs.Value.{NumberedTo, Bound};
+ghost use Rattle.polarity.specs.Table.{Signed};
+ghost use Rattle.polarity.specs.Value.{NumberedTo, Bound};
 ghost use Rattle.choice.specs.Settling.{ToSettle, SettlesBefore, is-lower};
 
 // The variable to settle: its prefix row, its number and the value that goes in; or none may be settled.
@@ -36,7 +36,7 @@ fn choose_to(b: &[u8], s: Layout, signs: &[bool], i: usize, best: SettleChoice) 
     requires { ⌜ SettlesBefore i s (now b) best ⌝ }
     ensures { λ r. ⌜ SettlesBefore (suc i) s (now (b .entry)) r ⌝ }
 {
-    let x = variable_at(b, s, i);
+    let x = bound_at(b, s, i);
     if is_lower(best, x) {
         return best;
     }

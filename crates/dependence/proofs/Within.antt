@@ -21,7 +21,7 @@ use Rattle.subtrees.proofs.Matrix.{trees-nodes, sound-nodes}
 use Rattle.subtrees.proofs.Siblings.{below-row}
 use Rattle.occurrences.specs.Chains.{Bounds}
 use Rattle.occurrences.proofs.Chains.{first-here, occurs, pending}
-use Rattle.subtrees.specs.Parts.{relevant-part, part-below, operator-part}
+use Rattle.subtrees.specs.Parts.{relevant-subtree, part-below, operator-part}
 use Rattle.relevance.specs.declared.Range.{Range}
 use Rattle.subtrees.specs.declared.relevant.Relevant.{Relevant}
 use Rattle.relevance.proofs.Descent.{found-before}
@@ -60,16 +60,16 @@ module _ (L M : Literals) {s : Layout} (b : Bytes) (ok : Readable s b) where
   found-node o ts i is h below true e = below e
   found-node o ts i is h below false e = record { is = ap (within-top L M) (sym is); holds = ap (has L) is ∙ h }
 
-  found-first : (t : Tree) (ts : Forest) (i : ℕ) (c : Bool) → has L t ≡ c → (has L t ≡ true → Found L M s b (within L M t) (relevant-part L i t))
+  found-first : (t : Tree) (ts : Forest) (i : ℕ) (c : Bool) → has L t ≡ c → (has L t ≡ true → Found L M s b (within L M t) (relevant-subtree L i t))
       → (has L t ≡ false → Found L M s b (within-below L M ts) (part-below L (i + rows t) ts))
-      → Found L M s b (cond c (within L M t) (within-below L M ts)) (cond c (relevant-part L i t) (part-below L (i + rows t) ts))
+      → Found L M s b (cond c (within L M t) (within-below L M ts)) (cond c (relevant-subtree L i t) (part-below L (i + rows t) ts))
   found-first t ts i true e here there = here e
   found-first t ts i false e here there = there e
 
   mutual
-    unfolding within within-below relevant-part part-below has has-any _⧺_
+    unfolding within within-below relevant-subtree part-below has has-any _⧺_
 
-    found : (t : Tree) (us : Forest) (i : ℕ) → forest-in s b i ≡ t ▸ us → has L t ≡ true → Found L M s b (within L M t) (relevant-part L i t)
+    found : (t : Tree) (us : Forest) (i : ℕ) → forest-in s b i ≡ t ▸ us → has L t ≡ true → Found L M s b (within L M t) (relevant-subtree L i t)
     found (lit p v) us i e h =
         let is = at-head b ok (lit p v) us i e .1 in
         record { is = ap (within-top L M) (sym is); holds = ap (has L) is ∙ h }
@@ -84,7 +84,7 @@ module _ (L M : Literals) {s : Layout} (b : Bytes) (ok : Readable s b) where
         found-first t ts i (has L t) refl (λ k. found t (ts ⧺ us) i e k)
         (λ k. found-below ts us (i + rows t) (at-head b ok t (ts ⧺ us) i e .3) (sym (ap (λ (c : Bool). c || has-any L ts) k) ∙ h))
 
-  found-root : has L (matrix-in s b) ≡ true → Found L M s b (within L M (matrix-in s b)) (relevant-part L 0 (matrix-in s b))
+  found-root : has L (matrix-in s b) ≡ true → Found L M s b (within L M (matrix-in s b)) (relevant-subtree L 0 (matrix-in s b))
   unfolding forest-in
   found-root h = found (matrix-in s b) ∅ 0 (trees-nodes b ok) h
 
@@ -100,8 +100,8 @@ top-operator L M (lit s v) e h = absurd (true≢false (sym h ∙ e))
 top-operator L M (node o ts) e h = refl
 
 module _ (L M : Literals) {s : Layout} (b : Bytes) (ok : Readable s b) (c : Range) (k : Bounds L s b (c .first) (c .last))
-    {at : ℕ} (is-at : at ≡ (relevant-part L 0 (matrix-in s b)) .operator) where
-  here : Found L M s b (within L M (matrix-in s b)) (relevant-part L 0 (matrix-in s b))
+    {at : ℕ} (is-at : at ≡ (relevant-subtree L 0 (matrix-in s b)) .operator) where
+  here : Found L M s b (within L M (matrix-in s b)) (relevant-subtree L 0 (matrix-in s b))
   here = found-root L M b ok (sym (occurs L b ok (k .starts)) ∙ lt-ltb _ _ (k .inside))
 
   by-row : within L M (matrix-in s b) ≡ within-top L M (subtree-in s b at)

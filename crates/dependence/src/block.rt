@@ -2,8 +2,8 @@
 // ones as a set. Each is a walk over the prefix, with the table of occurrences for the question which rows have a literal.
 use crate::Target;
 use occurrences::occurs;
+use prefixes::bound_at;
 use prefixes::is_existential;
-use prefixes::variable_at;
 use rows::Layout;
 use sets::add;
 ghost use mathlib.Core.Path.{_≡_};
@@ -23,7 +23,7 @@ fn is_row(b: &[u8], s: Layout, ranges: &[u16], exists: bool, j: usize) -> bool
     if is_existential(b, s, j) != exists {
         return false;
     }
-    occurs(s, ranges, variable_at(b, s, j))
+    occurs(s, ranges, bound_at(b, s, j))
 }
 
 // The first such row from row `from` on, or V.
@@ -66,7 +66,7 @@ fn add_row(b: &[u8], s: Layout, ranges: &[u16], j: usize, set: &mut [u64])
     ensures { λ _. ⌜ WithRow s (now (b .entry)) j (now (set .entry)) (now (set .exit)) ⌝ }
 {
     if is_row(b, s, ranges, true, j) {
-        add(set, variable_at(b, s, j));
+        add(set, bound_at(b, s, j));
     }
 }
 

@@ -1,10 +1,10 @@
 // Marks the variables that have a literal in a relevant subtree: one walk over the rows of the relevant children, for a set of literals
 // that is given by a chain.
-use occurrences::variable_at;
+use occurrences::literal_at;
 use relevance::Range;
 use relevance::Site;
-use relevance::part::first_behind;
-use relevance::part::relevant_part;
+use relevance::subtree::first_behind;
+use relevance::subtree::relevant_subtree;
 use rows::Layout;
 use rows::NUMBERS;
 use sets::add;
@@ -21,7 +21,7 @@ fn mark_row(b: &[u8], s: Layout, i: usize, set: &mut [u64])
     requires { ⌜ Readable s (now b) × (i < s .nodes) × (length (now set) ≡ 17) ⌝ }
     ensures { λ _. ⌜ MarkedRow s (now (b .entry)) i (now (set .entry)) (now (set .exit)) ⌝ }
 {
-    let v = variable_at(b, s, i);
+    let v = literal_at(b, s, i);
     if NUMBERS <= v {
         return;
     }
@@ -72,13 +72,13 @@ pub fn mark_part(b: &[u8], s: Layout, ends: &[u16], next: &[u16], range: Range, 
     requires { ⌜ Chained s (now b) (now ends) (now next) (range .first) (range .last) × (length (now set) ≡ 17) ⌝ }
     ensures { λ _. ⌜ MarkedPart s (now (b .entry)) (now (next .entry)) range (now (set .entry)) (now (set .exit)) ⌝ }
 {
-    let part = relevant_part(b, s, ends, next, range);
-    if part.operator == range.first {
+    let relevant = relevant_subtree(b, s, ends, next, range);
+    if relevant.operator == range.first {
         mark_row(b, s, range.first, set);
         return;
     }
     let site = Site {
-        operator: part.operator,
+        operator: relevant.operator,
         first: range.first,
     };
     mark_children(b, s, ends, next, site, set);

@@ -28,12 +28,12 @@ use Rattle.prefixes.proofs.Places.{variable-place}
 use Rattle.occurrences.specs.Occurrences.{Occurrences}
 use Rattle.choice.specs.Expanding.{priced-in}
 use Rattle.relevance.specs.declared.variable.Candidate.{Candidate}
-use Rattle.stepping.specs.Steps.{Named}
-use Rattle.stepping.specs.Admission.{admission-tests, Admitted}
-use Rattle.stepping.specs.Expanding.{Priced, Prepared, Expands}
-use Rattle.stepping.specs.declared.survey.Survey.{Survey}
-use Rattle.stepping.proofs.Admitting.{sheet-steppable}
-use Rattle.expand.specs.Inner.Plan.{Planned}
+use Rattle.elimination.specs.Steps.{Named}
+use Rattle.elimination.specs.Admission.{admission-tests, Admitted}
+use Rattle.elimination.specs.Expanding.{Priced, Prepared, Expands}
+use Rattle.elimination.specs.declared.survey.Survey.{Survey}
+use Rattle.elimination.proofs.Admitting.{sheet-steppable}
+use Rattle.expand.specs.Inner.ExpandPlan.{ExpandPlanned}
 
 -- the tests
 
@@ -114,7 +114,7 @@ module _ {b : Bytes} {x : ℕ} {s : Layout} {i : ℕ} {ends : List ℕ} (a : Adm
         sym (answer-passes (quote-tests F b x) (raw-count F b x) (quoted e))
 
     pub planned : {table : List ℕ} {w : Survey} → innermost x (formula-in s b) ≡ true
-        → Prepared s b (c .variable) (c .row) table w → Planned b x table s w
+        → Prepared s b (c .variable) (c .row) table w → ExpandPlanned b x table s w
     planned {table} {w} e r =
         let variable : c .variable ≡ x = ap (λ (q : Candidate). q .variable) is ∙ row-variable in
         let row : w .to .row ≡ i = r .row-is ∙ ap (λ (q : Candidate). q .row) is in
@@ -143,7 +143,7 @@ pub refused-call : {n i : ℕ} (F : Format) (b : Bytes) (x : ℕ) (out : Bytes) 
 unfolding expand-call
 refused-call F b x out h = written (write-refused (expand-tests F b x (length out)) x _ out h)
 
-module _ {b : Bytes} {y : ℕ} {table : List ℕ} {s : Layout} {w : Survey} (d : Planned b y table s w) where
+module _ {b : Bytes} {y : ℕ} {table : List ℕ} {s : Layout} {w : Survey} (d : ExpandPlanned b y table s w) where
   abbrev G : Format
   G = format-in s
 

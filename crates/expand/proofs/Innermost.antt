@@ -17,7 +17,7 @@ use Rattle.rows.specs.declared.Layout.{Layout}
 use Rattle.rows.proofs.Formulas.{length-prefix}
 use Rattle.prefixes.specs.Places.{place, binding-at, binding-in}
 use Rattle.prefixes.proofs.Places.{binds-place, quantifier-of-place, prefix-row, no-rows}
-use Rattle.stepping.specs.Steps.{Named}
+use Rattle.elimination.specs.Steps.{Named}
 use Rattle.expand.specs.Inner.Block.{in-the-way}
 
 -- the rows after x are those behind its row

@@ -1,4 +1,4 @@
 -- What the code of Quote and Expand decides: definitions that no entry point cites.
 pub mod Block
 pub mod Price
-pub mod Plan
+pub mod ExpandPlan

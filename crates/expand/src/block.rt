@@ -1,17 +1,17 @@
 // The innermost block: every row after that of x which has a literal is of x's kind. One pass over the prefix, with the table of
 // occurrences for the question which rows have a literal.
+use elimination::admission::Binding;
 use occurrences::occurs;
+use prefixes::bound_at;
 use prefixes::is_existential;
-use prefixes::variable_at;
 use rows::Layout;
-use stepping::admission::Binding;
 ghost use mathlib.Core.Path.{_≡_};
 ghost use Prim.Native.Nat.{_<_};
 ghost use Rattle.formula.specs.Expand.{innermost};
 ghost use Rattle.rows.specs.Formulas.{formula-in, Readable};
-ghost use Rattle.signs.specs.Value.{Numbered};
+ghost use Rattle.polarity.specs.Value.{Numbered};
 ghost use Rattle.occurrences.specs.Occurrences.{Occurring};
-ghost use Rattle.stepping.specs.Steps.{Named};
+ghost use Rattle.elimination.specs.Steps.{Named};
 ghost use Rattle.expand.specs.Inner.Block.{in-the-way};
 
 // Whether prefix row `j` has a literal and is not of the kind of row `i`.
@@ -22,7 +22,7 @@ fn is_in_the_way(b: &[u8], s: Layout, ranges: &[u16], i: usize, j: usize) -> boo
     if is_existential(b, s, i) == is_existential(b, s, j) {
         return false;
     }
-    occurs(s, ranges, variable_at(b, s, j))
+    occurs(s, ranges, bound_at(b, s, j))
 }
 
 // Whether a variable of the prefix is in the innermost block.

@@ -1,8 +1,10 @@
 // Expand: the relevant subtree of an innermost variable gives way to two copies of it, and the tree is tidied ("Expand x"). Execute does
 // the same under a ceiling, which a quote gives.
-use crate::plan::Plan;
+use crate::plan::ExpandPlan;
 use crate::plan::plan_expand;
 use checking::Written;
+use elimination::expanding::expand_into;
+use elimination::survey::Survey;
 use relevance::cuts::CUTS;
 use rows::Format;
 use rows::Layout;
@@ -10,22 +12,20 @@ use rows::fit::fits;
 use rows::fit::sheet_length;
 use rows::refusals::ABOVE_CEILING;
 use rows::refusals::NO_ROOM;
-use stepping::expanding::expand_into;
-use stepping::survey::Survey;
 ghost use mathlib.Core.Path.{_≡_};
 ghost use Rattle.sheet.specs.Operations.{expand-call, execute-call};
 ghost use Rattle.sheet.specs.Truthful.{truth-of, TruthfulSheet};
 ghost use Rattle.rows.specs.Formats.{format-of};
 ghost use Rattle.rows.specs.Layouts.{format-in};
 ghost use Rattle.checking.specs.Answers.{wrote};
-ghost use Rattle.expand.specs.Inner.Plan.{Planned};
+ghost use Rattle.expand.specs.Inner.ExpandPlan.{ExpandPlanned};
 
 pub mod block;
 pub mod plan;
 pub mod price;
 pub mod quote;
 
-// Carries a plan out: 13 the raw sheet doesn't fit; else it is written to `out` and tidied there.
+// Converts a plan out: 13 the raw sheet doesn't fit; else it is written to `out` and tidied there.
 fn expand_planned(
     sheet: &[u8],
     s: Layout,
@@ -34,7 +34,7 @@ fn expand_planned(
     w: Survey,
     out: &mut [u8],
 ) -> Written
-    requires { ⌜ Planned (now sheet) x (now cuts) s w ⌝ }
+    requires { ⌜ ExpandPlanned (now sheet) x (now cuts) s w ⌝ }
     ensures { λ r. ⌜ wrote r (now (out .exit)) ≡ expand-call (format-in s) (now (sheet .entry)) x (now (out .entry)) ⌝ }
 {
     let f = s.format;
@@ -54,12 +54,12 @@ pub fn expand(sheet: &[u8], f: Format, x: usize, out: &mut [u8]) -> Written
     let mut cuts = [0u16; CUTS];
     let p = plan_expand(sheet, f, x, &mut cuts);
     match p {
-        Plan::Refused(number, place) => Written::Refused(number, place),
-        Plan::Expands(s, w) => expand_planned(sheet, s, x, &cuts, w, out),
+        ExpandPlan::Refused(number, place) => Written::Refused(number, place),
+        ExpandPlan::Expands(s, w) => expand_planned(sheet, s, x, &cuts, w, out),
     }
 }
 
-// Carries a quote out: as Expand, but 19 if the raw sheet has more node rows than `ceiling`, before its room is tested.
+// Converts a quote out: as Expand, but 19 if the raw sheet has more node rows than `ceiling`, before its room is tested.
 pub fn execute(sheet: &[u8], f: Format, x: usize, ceiling: usize, out: &mut [u8]) -> Written
     ensures { λ r. ⌜ wrote r (now (out .exit)) ≡ execute-call (format-of f) (now (sheet .entry)) x ceiling (now (out .entry)) ⌝ }
     ensures { λ r. ⌜ TruthfulSheet (format-of f) (truth-of (format-of f) (now (sheet .entry))) (wrote r (now (out .exit))) ⌝ }
@@ -67,8 +67,8 @@ pub fn execute(sheet: &[u8], f: Format, x: usize, ceiling: usize, out: &mut [u8]
     let mut cuts = [0u16; CUTS];
     let p = plan_expand(sheet, f, x, &mut cuts);
     match p {
-        Plan::Refused(number, place) => Written::Refused(number, place),
-        Plan::Expands(s, w) => {
+        ExpandPlan::Refused(number, place) => Written::Refused(number, place),
+        ExpandPlan::Expands(s, w) => {
             if ceiling < w.to.layout.nodes {
                 return Written::Refused(ABOVE_CEILING, 0);
             }

@@ -1,20 +1,20 @@
 // What a quote and an expansion have in common: test 11, and the price of the variable, found with the tables of occurrences.
 use crate::block::is_innermost;
 use choice::expand::price_row;
+use elimination::admission::Binding;
 use occurrences::fill_occurrences;
 use relevance::variable::Candidate;
 use rows::Layout;
-use stepping::admission::Binding;
 ghost use mathlib.Core.Path.{_≡_};
 ghost use Prim.Native.Nat.{_*_, _≤_};
 ghost use lib.ListN.{length};
 ghost use Rattle.rows.specs.Tables.{NUMBERS};
 ghost use Rattle.subtrees.specs.Ends.{Indexed};
-ghost use Rattle.signs.specs.Value.{Bound};
-ghost use Rattle.stepping.specs.Steps.{Named};
+ghost use Rattle.polarity.specs.Value.{Bound};
+ghost use Rattle.elimination.specs.Steps.{Named};
 ghost use Rattle.expand.specs.Inner.Price.{Prices};
 
-// Outside the innermost block; or inside, with the relevant part and the raw sheet's node rows.
+// Outside the innermost block; or inside, with the relevant subtree and the raw sheet's node rows.
 pub enum Price {
     Outside,
     Inside(Candidate),

@@ -1,19 +1,19 @@
 // Quote: what an expansion costs, before anyone allows it ("Quote, then carry out").
 use crate::price::Price;
 use crate::price::find_price;
+use elimination::admission::Admission;
+use elimination::admission::Binding;
+use elimination::admission::admit;
 use rows::Format;
 use rows::Layout;
 use rows::NUMBERS;
 use rows::ROWS;
 use rows::refusals::WRONG_BLOCK;
-use stepping::admission::Admission;
-use stepping::admission::Binding;
-use stepping::admission::admit;
 ghost use mathlib.Core.Path.{_≡_};
 ghost use Rattle.sheet.specs.Operations.{quote-call};
 ghost use Rattle.rows.specs.Formats.{format-of};
 ghost use Rattle.rows.specs.Layouts.{format-in};
-ghost use Rattle.stepping.specs.Admission.{Admitted};
+ghost use Rattle.elimination.specs.Admission.{Admitted};
 ghost use Rattle.expand.specs.Answers.{quoted-answer};
 
 // Refused with number and place; or the node rows of the raw sheet.

@@ -12,7 +12,7 @@ use Rattle.formula.specs.Tree.{Prefix}
 use Rattle.sheet.specs.Format.{Bytes}
 use Rattle.sheet.specs.Force.{value-of, values-of}
 use Rattle.prefixes.specs.Places.{binding-at}
-use Rattle.changing.specs.Changes.{put-entry, numbers}
+use Rattle.substitution.specs.Changes.{put-entry, numbers}
 use Rattle.force.specs.Inner.Moves.{put-all, moves}
 
 -- the first i values are put in: the others and the value tried are left

@@ -13,8 +13,8 @@ use Rattle.rows.specs.Formulas.{prefix-in, formula-in, Readable}
 use Rattle.rows.specs.declared.Layout.{Layout}
 use Rattle.rows.proofs.Layouts.{length-rows-in}
 use Rattle.rows.proofs.Formulas.{length-prefix}
-use Rattle.changing.specs.Changes.{changed-row, copied}
-use Rattle.changing.proofs.Changed.{map-append}
+use Rattle.substitution.specs.Changes.{changed-row, copied}
+use Rattle.substitution.proofs.Changed.{map-append}
 use Rattle.raw.proofs.Source.{copied-prefix, matrix-copied}
 use Rattle.force.specs.Inner.Moves.{behind-raw}
 

@@ -12,8 +12,8 @@ use borrow.Author.Tests.{eqb-true, eqb-false, eq-eqb, ne-eqb, lt-leb, not-true}
 use Rattle.formula.specs.Tree.{Tree, lit, node, Forest, ∅, _▸_, Binding, Prefix, binds, distinct, constant, replace, replace-all, assigned, assign}
 use Rattle.formula.specs.Force.{given-by}
 use Rattle.formula.proofs.Booleans.{and-parts}
-use Rattle.changing.specs.Changes.{entry, put-entry, numbers, chosen, became, changed}
-use Rattle.changing.proofs.Tables.{length-numbers, numbers-at, none-chosen, numbers-change}
+use Rattle.substitution.specs.Changes.{entry, put-entry, numbers, chosen, became, changed}
+use Rattle.substitution.proofs.Tables.{length-numbers, numbers-at, none-chosen, numbers-change}
 use Rattle.force.specs.Inner.Moves.{put-all, moves}
 
 -- replace

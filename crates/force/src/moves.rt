@@ -1,11 +1,11 @@
 // The sheet under the values given and tried: their rows go, and constants stand for their literals.
-use changing::Span;
-use changing::Target;
-use changing::table::keep_all;
-use changing::table::put;
-use changing::write::write_copy;
-use prefixes::variable_at;
+use prefixes::bound_at;
 use rows::Layout;
+use substitution::Span;
+use substitution::Target;
+use substitution::table::keep_all;
+use substitution::table::put;
+use substitution::write::write_copy;
 ghost use mathlib.Core.Path.{_≡_};
 ghost use mathlib.Core.List.{[], _∷_, _++_};
 ghost use Prim.Native.Nat.{_≤_, _<_};
@@ -25,10 +25,10 @@ pub fn fill_moves(b: &[u8], s: Layout, values: &[u8], tried: bool, table: &mut [
     keep_all(table);
     let mut i: usize = 0;
     while i < values.len() {
-        put(table, variable_at(b, s, i), values[i] == 1);
+        put(table, bound_at(b, s, i), values[i] == 1);
         i += 1;
     }
-    put(table, variable_at(b, s, i), tried);
+    put(table, bound_at(b, s, i), tried);
 }
 
 // Writes the rows from row `k` on, a row of the prefix or the first node row, in one pass, and returns their layout; no table changes a

@@ -12,7 +12,7 @@ use lib.Dec.{eqb}
 use borrow.Author.Tests.{eqb-true, eq-eqb, not-true, not-false}
 use Rattle.formula.specs.Tree.{and, or, Quantifier, same-op, exists, for-all, Tree, lit, node, Forest, ∅, _▸_, Binding, Prefix, Formula, Literals, binds, quantifier-of, distinct, closed, of, of-sign, rows, rows-all, has, has-any, some-child, some-two, keep, _⧺_}
 use Rattle.formula.specs.Truth.{Assignment, put, join, eval, eval-all, bind, truth, Leads, Ignores}
-use Rattle.formula.specs.Tidy.{is-op, equal, twin, same-variable, spliced, splice, decides, firsts, unwrap, combine, alone, tidy, tidy-all, is-tidy, breaks, childless, faults, faults-all, root-faults, any}
+use Rattle.formula.specs.Tidy.{is-op, equal, duplicate, same-variable, spliced, splice, decides, firsts, unwrap, combine, alone, tidy, tidy-all, is-tidy, breaks, childless, faults, faults-all, root-faults, any}
 use Rattle.formula.specs.Expand.{after, occurs}
 use Rattle.formula.specs.Reduce.{is-literal, is-clause, in-profile, has-existential, goes, stays, reduce-clause, reduce-all, reduce-tree, reduced}
 use Rattle.formula.proofs.Booleans.{share-join, and-parts, or-parts, or-none, or-cases}
@@ -567,7 +567,7 @@ splice-blank p c (t ▸ ts) = by (stays p c t) (splice-blank p c ts)
 pub tidy-blank : (p : Prefix) (c : Tree) (ts : Forest) → tidy (node or (blank-forest p c ts)) ≡ tidy (node or (keep (stays p c) ts))
 unfolding tidy combine
 tidy-blank p c ts =
-    ap (λ us. cond (decides or us) (node and ∅) (unwrap or (firsts twin (firsts equal us)))) (splice-blank p c ts)
+    ap (λ us. cond (decides or us) (node and ∅) (unwrap or (firsts duplicate (firsts equal us)))) (splice-blank p c ts)
 
 tidy-blank-clause : (p : Prefix) (c : Tree) → is-clause c ≡ true → tidy (blank-clause p c) ≡ tidy (reduce-clause p c)
 unfolding blank blank-clause reduce-clause stays is-clause

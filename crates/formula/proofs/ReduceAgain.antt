@@ -8,7 +8,7 @@ use Prim.Native.Nat.{ℕ}
 use lib.Dec.{eqb}
 use borrow.Author.Tests.{eqb-true, eq-eqb, not-true}
 use Rattle.formula.specs.Tree.{and, or, Quantifier, same-op, exists, for-all, Tree, lit, node, Forest, ∅, _▸_, Binding, Prefix, Formula, binds, quantifier-of, distinct, of, has, has-any, some-child, some-two, keep}
-use Rattle.formula.specs.Tidy.{is-op, is-empty, equal, twin, same-variable, spliced, splice, decides, firsts, unwrap, combine, alone, tidy, tidy-all, is-tidy, breaks, faults, faults-all, root-faults, any}
+use Rattle.formula.specs.Tidy.{is-op, is-empty, equal, duplicate, same-variable, spliced, splice, decides, firsts, unwrap, combine, alone, tidy, tidy-all, is-tidy, breaks, faults, faults-all, root-faults, any}
 use Rattle.formula.specs.Expand.{after, occurs}
 use Rattle.formula.specs.Reduce.{is-literal, is-clause, in-profile, has-existential, goes, stays, reduce-clause, reduce-all, reduce-tree, reduced}
 use Rattle.formula.proofs.Booleans.{and-parts, or-parts, or-none}
@@ -100,21 +100,21 @@ record Again (p : Prefix) (w : Tree) : Type 0 where
 
 -- literals break no limit on operators
 literals-sound : (ts : Forest) → some-child (λ t. not (is-literal t)) ts ≡ false
-    → (some-child (is-op or) ts ≡ false) × (any (faults-all ts) ≡ false) × (some-two twin ts ≡ false)
-unfolding some-child some-two is-literal is-op twin faults any
+    → (some-child (is-op or) ts ≡ false) × (any (faults-all ts) ≡ false) × (some-two duplicate ts ≡ false)
+unfolding some-child some-two is-literal is-op duplicate faults any
 literals-sound ∅ l = (refl, refl, refl)
 literals-sound (node o us ▸ ts) l = absurd (true≢false l)
 literals-sound (lit s v ▸ ts) l =
-    let (kinds, below, twins) = literals-sound ts l in
-    (kinds, below, or-none (some-child-never (twin (lit s v)) (λ u. refl) ts) twins)
+    let (kinds, below, duplicates) = literals-sound ts l in
+    (kinds, below, or-none (some-child-never (duplicate (lit s v)) (λ u. refl) ts) duplicates)
 
 -- more literals than one, of different variables, are tidy under OR
 many-tidy : (ts : Forest) → some-child (λ t. not (is-literal t)) ts ≡ false → some-two same-variable ts ≡ false → alone ts ≡ false
     → tidy (node or ts) ≡ node or ts
 unfolding is-tidy root-faults any breaks
 many-tidy ts l d a =
-    let (kinds, below, twins) = literals-sound ts l in
-    tidy-id (node or ts) (ap not (or-none (or-none (or-none (or-none a kinds) d) twins) below))
+    let (kinds, below, duplicates) = literals-sound ts l in
+    tidy-id (node or ts) (ap not (or-none (or-none (or-none (or-none a kinds) d) duplicates) below))
 
 empty-again : (p : Prefix) → Again p (node or ∅)
 unfolding is-clause reduce-clause keep tidy combine splice decides firsts unwrap some-child some-two
@@ -275,11 +275,11 @@ module _ (p : Prefix) (d : distinct p ≡ true) where
       let same = splice-none and us (agains-kinds us ks) in
       by (decides and (splice and us)) (splice and us) same n
     where
-      by : (m : Bool) (vs : Forest) → vs ≡ us → is-tidy (cond m (node or ∅) (unwrap and (firsts twin (firsts equal vs)))) ≡ true
-          → Stays (cond m (node or ∅) (unwrap and (firsts twin (firsts equal vs))))
+      by : (m : Bool) (vs : Forest) → vs ≡ us → is-tidy (cond m (node or ∅) (unwrap and (firsts duplicate (firsts equal vs)))) ≡ true
+          → Stays (cond m (node or ∅) (unwrap and (firsts duplicate (firsts equal vs))))
       by true vs e n = clause-stays (node or ∅) (empty-again p)
       by false vs e n =
-          unwrapped (firsts twin (firsts equal vs)) (agains-firsts twin (firsts equal vs) (agains-firsts equal vs (subst Agains (sym e) ks))) n
+          unwrapped (firsts duplicate (firsts equal vs)) (agains-firsts duplicate (firsts equal vs) (agains-firsts equal vs (subst Agains (sym e) ks))) n
 
   tree-stays : (t : Tree) → in-profile t ≡ true → is-tidy t ≡ true → Stays (tidy (reduce-tree p t))
   unfolding in-profile reduce-tree tidy is-tidy root-faults any

@@ -4,11 +4,11 @@ use mathlib.Core.Path.{_≡_, refl, sym, _∙_, ap, ap₂, subst}
 use mathlib.Core.Bool.{Bool, true, false, not, _&&_, _||_, cond, false≢true}
 use borrow.Author.Tests.{not-true}
 use Rattle.formula.specs.Tree.{Op, or, Tree, lit, node, Forest, ∅, _▸_, some-child, some-two}
-use Rattle.formula.specs.Tidy.{is-op, twin, same-variable, alone, childless, breaks, faults, faults-all, root-faults, any, is-tidy}
+use Rattle.formula.specs.Tidy.{is-op, duplicate, same-variable, alone, childless, breaks, faults, faults-all, root-faults, any, is-tidy}
 use Rattle.formula.specs.Order.{leads, insert, sort, sort-all, Rearranged, literal, operator, Reordered, nothing, inside, exchanged, again}
 use Rattle.formula.proofs.Booleans.{join-swap, eqb-comm, and-parts, or-parts, or-none}
 use Rattle.formula.proofs.Tidy.Children.{some-child-same, some-two-less}
-use Rattle.formula.proofs.Tidy.Same.{twin-same, twin-sym, twin-refl}
+use Rattle.formula.proofs.Tidy.Same.{duplicate-same, duplicate-sym, duplicate-refl}
 use Rattle.formula.proofs.Tidy.Limits.{faulty, any-++}
 use Rattle.formula.proofs.Sorting.{sort-rearranged, rearranged-sort, sort-idempotent, sort-exactly}
 use Rattle.formula.specs.Order.{strays, astray, astray-all, nearly-tidy, siblings, siblings-all, alike}
@@ -117,11 +117,11 @@ nearly-tidy-sort t = sym (nearly-tidy-rearranged (rearranged-sort t))
 mutual
   unfolding faults any astray siblings breaks strays
 
-  faulty-parts : (t : Tree) → faulty t ≡ (astray t || siblings twin t)
+  faulty-parts : (t : Tree) → faulty t ≡ (astray t || siblings duplicate t)
   faulty-parts (lit s v) = refl
   faulty-parts (node o ts) =
       ap (λ b. (childless ts || breaks o ts) || b) (faulty-parts-all ts) ∙
-      mixed (childless ts) (strays o ts) (some-two twin ts) (astray-all ts) (siblings-all twin ts)
+      mixed (childless ts) (strays o ts) (some-two duplicate ts) (astray-all ts) (siblings-all duplicate ts)
     where
       mixed : (a b c d e : Bool) → ((a || (b || c)) || (d || e)) ≡ (((a || b) || d) || (c || e))
       mixed true b c d e = refl
@@ -130,21 +130,21 @@ mutual
       mixed false false true false e = refl
       mixed false false false d e = refl
 
-  faulty-parts-all : (ts : Forest) → any (faults-all ts) ≡ (astray-all ts || siblings-all twin ts)
+  faulty-parts-all : (ts : Forest) → any (faults-all ts) ≡ (astray-all ts || siblings-all duplicate ts)
   faulty-parts-all ∅ = refl
   faulty-parts-all (t ▸ ts) =
       any-++ (faults t) (faults-all ts) ∙ ap₂ _||_ (faulty-parts t) (faulty-parts-all ts) ∙
-      mixed (astray t) (siblings twin t) (astray-all ts) (siblings-all twin ts)
+      mixed (astray t) (siblings duplicate t) (astray-all ts) (siblings-all duplicate ts)
     where
       mixed : (a b c d : Bool) → ((a || b) || (c || d)) ≡ ((a || c) || (b || d))
       mixed true b c d = refl
       mixed false b c d = join-swap or b c d
 
-pub is-tidy-parts : (t : Tree) → is-tidy t ≡ (nearly-tidy t && not (siblings twin t))
+pub is-tidy-parts : (t : Tree) → is-tidy t ≡ (nearly-tidy t && not (siblings duplicate t))
 unfolding is-tidy root-faults any nearly-tidy siblings breaks strays
 is-tidy-parts (lit s v) = refl
 is-tidy-parts (node o ts) =
-    ap (λ b. not (breaks o ts || b)) (faulty-parts-all ts) ∙ mixed (strays o ts) (some-two twin ts) (astray-all ts) (siblings-all twin ts)
+    ap (λ b. not (breaks o ts || b)) (faulty-parts-all ts) ∙ mixed (strays o ts) (some-two duplicate ts) (astray-all ts) (siblings-all duplicate ts)
   where
     mixed : (a b c d : Bool) → not ((a || b) || (c || d)) ≡ (not (a || c) && not (b || d))
     mixed true b c d = refl
@@ -157,14 +157,14 @@ is-tidy-parts (node o ts) =
 
 pub alike-rearranged : (t u : Tree) → alike t u ≡ true → Rearranged t u
 unfolding alike
-alike-rearranged t u e = sort-exactly t u .0 (twin-same (sort t) (sort u) e)
+alike-rearranged t u e = sort-exactly t u .0 (duplicate-same (sort t) (sort u) e)
 
 alike-blind : Blind alike
 unfolding alike
 alike-blind =
     record {
-      turns = λ t u. twin-sym (sort t) (sort u);
-      blind = λ w t u r. ap (λ x. twin x (sort w)) (sort-rearranged r);
+      turns = λ t u. duplicate-sym (sort t) (sort u);
+      blind = λ w t u r. ap (λ x. duplicate x (sort w)) (sort-rearranged r);
     }
 
 mutual
@@ -210,12 +210,12 @@ settled-below o ts e = subst Settled (ap kids e) (settled-sort ts)
 
 -- where they are, alike is equal
 
-child-settled : (t : Tree) → sort t ≡ t → (ts : Forest) → Settled ts → some-child (alike t) ts ≡ some-child (twin t) ts
+child-settled : (t : Tree) → sort t ≡ t → (ts : Forest) → Settled ts → some-child (alike t) ts ≡ some-child (duplicate t) ts
 unfolding some-child alike
 child-settled t e ∅ none-there = refl
-child-settled t e (u ▸ us) (one-there h hs) = ap₂ _||_ (ap₂ twin e h) (child-settled t e us hs)
+child-settled t e (u ▸ us) (one-there h hs) = ap₂ _||_ (ap₂ duplicate e h) (child-settled t e us hs)
 
-two-settled : (ts : Forest) → Settled ts → some-two alike ts ≡ some-two twin ts
+two-settled : (ts : Forest) → Settled ts → some-two alike ts ≡ some-two duplicate ts
 unfolding some-two
 two-settled ∅ none-there = refl
 two-settled (t ▸ ts) (one-there e es) = ap₂ _||_ (child-settled t e ts es) (two-settled ts es)
@@ -223,15 +223,15 @@ two-settled (t ▸ ts) (one-there e es) = ap₂ _||_ (child-settled t e ts es) (
 mutual
   unfolding siblings
 
-  siblings-settled : (t : Tree) → sort t ≡ t → siblings alike t ≡ siblings twin t
+  siblings-settled : (t : Tree) → sort t ≡ t → siblings alike t ≡ siblings duplicate t
   siblings-settled (lit s v) e = refl
   siblings-settled (node o ts) e = let h = settled-below o ts e in ap₂ _||_ (two-settled ts h) (siblings-settled-all ts h)
 
-  siblings-settled-all : (ts : Forest) → Settled ts → siblings-all alike ts ≡ siblings-all twin ts
+  siblings-settled-all : (ts : Forest) → Settled ts → siblings-all alike ts ≡ siblings-all duplicate ts
   siblings-settled-all ∅ none-there = refl
   siblings-settled-all (t ▸ ts) (one-there e es) = ap₂ _||_ (siblings-settled t e) (siblings-settled-all ts es)
 
-pub siblings-sort : (t : Tree) → siblings twin (sort t) ≡ siblings alike t
+pub siblings-sort : (t : Tree) → siblings duplicate (sort t) ≡ siblings alike t
 siblings-sort t = sym (siblings-settled (sort t) (sort-idempotent t)) ∙ sym (siblings-rearranged alike-blind (rearranged-sort t))
 
 -- A sorted tree is tidy exactly if the tree keeps the other limits and no two of its operators that are siblings differ only in the order of children.
@@ -240,28 +240,28 @@ is-tidy-sort t = is-tidy-parts (sort t) ∙ ap₂ (λ a b. a && not b) (nearly-t
 
 -- equal operators are alike, so a tree is tidy if its sorted tree is
 
-twin-alike : (t u : Tree) → twin t u ≡ true → alike t u ≡ true
-unfolding alike twin sort
-twin-alike (lit s v) u e = absurd (false≢true e)
-twin-alike (node o ts) u e = ap (λ x. twin (sort (node o ts)) (sort x)) (sym (twin-same (node o ts) u e)) ∙ twin-refl o (sort-all ts)
+duplicate-alike : (t u : Tree) → duplicate t u ≡ true → alike t u ≡ true
+unfolding alike duplicate sort
+duplicate-alike (lit s v) u e = absurd (false≢true e)
+duplicate-alike (node o ts) u e = ap (λ x. duplicate (sort (node o ts)) (sort x)) (sym (duplicate-same (node o ts) u e)) ∙ duplicate-refl o (sort-all ts)
 
-unlike : (t u : Tree) → alike t u ≡ false → twin t u ≡ false
-unlike t u e = by (twin t u) refl
+unlike : (t u : Tree) → alike t u ≡ false → duplicate t u ≡ false
+unlike t u e = by (duplicate t u) refl
   where
-    by : (b : Bool) → twin t u ≡ b → b ≡ false
-    by true q = sym (twin-alike t u q) ∙ e
+    by : (b : Bool) → duplicate t u ≡ b → b ≡ false
+    by true q = sym (duplicate-alike t u q) ∙ e
     by false q = refl
 
 mutual
   unfolding siblings
 
-  alike-less : (t : Tree) → siblings alike t ≡ false → siblings twin t ≡ false
+  alike-less : (t : Tree) → siblings alike t ≡ false → siblings duplicate t ≡ false
   alike-less (lit s v) e = refl
   alike-less (node o ts) e =
       let (here, below) = or-parts (some-two alike ts) _ e in
-      or-none (some-two-less alike twin unlike ts here) (alike-less-all ts below)
+      or-none (some-two-less alike duplicate unlike ts here) (alike-less-all ts below)
 
-  alike-less-all : (ts : Forest) → siblings-all alike ts ≡ false → siblings-all twin ts ≡ false
+  alike-less-all : (ts : Forest) → siblings-all alike ts ≡ false → siblings-all duplicate ts ≡ false
   alike-less-all ∅ e = refl
   alike-less-all (t ▸ ts) e =
       let (at-t, at-ts) = or-parts (siblings alike t) _ e in

@@ -6,7 +6,7 @@ use Prim.Native.Nat.{ℕ}
 use lib.Dec.{ltb}
 use lib.ListN.{length}
 use Rattle.formula.specs.Tree.{Op, and, or, Quantifier, Tree, lit, node, Forest, ∅, _▸_, Binding, Prefix, Formula, count, some-child, some-two}
-use Rattle.formula.specs.Tidy.{is-op, twin, same-variable, alone, childless}
+use Rattle.formula.specs.Tidy.{is-op, duplicate, same-variable, alone, childless}
 use mathlib.Core.Path.{_≡_}
 
 infixr 40 _then_
@@ -143,7 +143,7 @@ unfoldable mutual
 
 -- equal operators once both are sorted
 unfoldable pub alike : Tree → Tree → Bool
-alike t u = twin (sort t) (sort u)
+alike t u = duplicate (sort t) (sort u)
 
 -- the comparison of the same two things the other way round
 abbrev pub turned : Ordering → Ordering

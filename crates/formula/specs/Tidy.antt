@@ -48,9 +48,9 @@ unfoldable mutual
   same-trees (t ▸ ts) (u ▸ us) = same-tree t u && same-trees ts us
 
 -- two operators with the same rows (N4)
-unfoldable pub twin : Tree → Tree → Bool
-twin (lit s v) u = false
-twin (node o ts) u = same-tree (node o ts) u
+unfoldable pub duplicate : Tree → Tree → Bool
+duplicate (lit s v) u = false
+duplicate (node o ts) u = same-tree (node o ts) u
 
 -- rule 1: children of the parent's own kind are replaced by their children, at the same spot
 unfoldable pub spliced : Op → Tree → Forest → Forest
@@ -78,7 +78,7 @@ unwrap o (t ▸ u ▸ ts) = node o (t ▸ u ▸ ts)
 
 -- the six rules at an operator, once its children are tidied
 unfoldable pub combine : Op → Forest → Tree
-combine o ts = cond (decides o (splice o ts)) (node (dual o) ∅) (unwrap o (firsts twin (firsts equal (splice o ts))))
+combine o ts = cond (decides o (splice o ts)) (node (dual o) ∅) (unwrap o (firsts duplicate (firsts equal (splice o ts))))
 
 -- children before their parent
 unfoldable mutual
@@ -105,7 +105,7 @@ childless ∅ = true
 childless (t ▸ ts) = false
 
 unfoldable pub breaks : Op → Forest → Bool
-breaks o ts = alone ts || some-child (is-op o) ts || some-two same-variable ts || some-two twin ts
+breaks o ts = alone ts || some-child (is-op o) ts || some-two same-variable ts || some-two duplicate ts
 
 -- row by row in preorder: is the row an operator at fault, childless (below the root only) or with children that break a limit?
 unfoldable mutual

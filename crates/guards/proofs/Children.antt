@@ -13,7 +13,7 @@ use Rattle.rows.specs.Layouts.{Fits}
 use Rattle.rows.specs.Formulas.{Readable}
 use Rattle.rows.specs.declared.Layout.{Layout}
 use Rattle.subtrees.proofs.Forest.{trees-rows}
-use Rattle.guards.specs.Inner.Parts.{children-of, Placed, part-rows, guards-in, Chosen}
+use Rattle.guards.specs.Inner.Selections.{children-of, Placed, part-rows, guards-in, Chosen}
 
 -- one child more
 pub child-more : (N : List Row) (ends ks : List ℕ) (k : ℕ) → children-of ends (ks ++ (k ∷ [])) N ≡ children-of ends ks N ++ slice k (getD ends k 0) N

@@ -12,11 +12,11 @@ use Rattle.rows.specs.Layouts.{total, rows-in}
 use Rattle.rows.specs.Formulas.{node-rows-in, Readable}
 use Rattle.rows.specs.declared.Layout.{Layout}
 use Rattle.rows.proofs.Formulas.{length-nodes}
-use Rattle.changing.specs.Output.{Within, Laid}
-use Rattle.changing.specs.declared.Span.{Span}
-use Rattle.changing.proofs.Splice.{none-laid, laid-on}
+use Rattle.substitution.specs.Output.{Within, Laid}
+use Rattle.substitution.specs.declared.Span.{Span}
+use Rattle.substitution.proofs.Splice.{none-laid, laid-on}
 use Rattle.raw.proofs.Source.{nodes-part}
-use Rattle.guards.specs.Inner.Parts.{children-of, children-rows, Placed}
+use Rattle.guards.specs.Inner.Selections.{children-of, children-rows, Placed}
 use Rattle.guards.proofs.Children.{placed-most}
 
 -- the first i children are written

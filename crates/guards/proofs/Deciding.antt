@@ -31,7 +31,7 @@ use Rattle.solve.specs.Answers.{solved-answer}
 use Rattle.solve.specs.Inner.Running.{answered, solution, raw-call}
 use Rattle.solve.specs.declared.Solved.{Solved}
 use Rattle.guards.specs.declared.sift.Sieve.{Sieve}
-use Rattle.guards.specs.Inner.Parts.{guards-in, part-layout}
+use Rattle.guards.specs.Inner.Selections.{guards-in, selection-layout}
 use Rattle.guards.specs.Inner.Sieves.{clashing-in, clashed, starts, kept-part, Sifted, initial, Said, found, Telling, telling, kept-call, found-call}
 use Rattle.guards.proofs.Writing.{part-room, sealed-length, sealed-sheet}
 
@@ -57,7 +57,7 @@ sheet-size h = sheet-right h .right-length
 -- the sheet of the children kept
 
 module _ {s : Layout} {b : Bytes} {most : ℕ} {ends table : List ℕ} {g : Sieve} (z : Sifted s b most ends table g) (t : Layout)
-    (at : t ≡ part-layout s (kept-part s g)) (new out : Bytes) (same : length new ≡ length out) (place : size s ≤ length out) where
+    (at : t ≡ selection-layout s (kept-part s g)) (new out : Bytes) (same : length new ≡ length out) (place : size s ≤ length out) where
   abbrev G : Formula
   G = conjoined (prefix-in s b) ((clashing-in s b most) .those)
 

@@ -2,6 +2,6 @@ mod Children
 mod Copying
 mod Writing
 mod Trying
-mod Turn
+mod SiftTurn
 mod Deciding
 pub mod Reliance

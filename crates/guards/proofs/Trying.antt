@@ -25,9 +25,9 @@ use Rattle.solve.specs.Inner.Running.{RawReady, answered, solution, raw-call}
 use Rattle.solve.specs.declared.Verdict as verdict
 use Rattle.solve.specs.declared.Solved.{Solved}
 use Rattle.solve.specs.declared.Solved as answers
-use Rattle.guards.specs.declared.part.Part.{Part}
+use Rattle.guards.specs.declared.selection.Selection.{Selection}
 use Rattle.guards.specs.declared.sift.Word.{Word}
-use Rattle.guards.specs.Inner.Parts.{guards-in, part-layout, Tried}
+use Rattle.guards.specs.Inner.Selections.{guards-in, selection-layout, Tried}
 use Rattle.guards.specs.Inner.Sieves.{word-for, Says}
 use Rattle.guards.proofs.Writing.{part-size}
 
@@ -43,8 +43,8 @@ word-says (answers.the-variants.Ended verdict.the-variants.True n m) (stopped x)
 word-says (answers.the-variants.Ended verdict.the-variants.False n m) (ended v) s h = let e : v ≡ false = cc in ap ended e
 word-says (answers.the-variants.Ended verdict.the-variants.False n m) (stopped x) s h = let z : _≡_ {A = ℕ} 0 1 = cc in absurd (omega arith)
 
-module _ {s : Layout} {b : Bytes} {ends ks : List ℕ} {p : Part} {most : ℕ} (h : Tried s b ends ks p most) (t : Layout) (new second : Bytes)
-    (at : t ≡ part-layout s p) (is : rows-in t new ≡ formula-rows (conjoined (prefix-in s b) (guards-in s b ends ks (p .rest))))
+module _ {s : Layout} {b : Bytes} {ends ks : List ℕ} {p : Selection} {most : ℕ} (h : Tried s b ends ks p most) (t : Layout) (new second : Bytes)
+    (at : t ≡ selection-layout s p) (is : rows-in t new ≡ formula-rows (conjoined (prefix-in s b) (guards-in s b ends ks (p .rest))))
     (same : room new second ≡ most) where
   abbrev F : Format
   F = format-in s

@@ -20,16 +20,16 @@ use Rattle.rows.specs.Formulas.{prefix-in, node-rows-in}
 use Rattle.rows.specs.declared.Layout.{Layout}
 use Rattle.rows.proofs.Layouts.{length-rows-in}
 use Rattle.rows.proofs.Formulas.{quantifiers, length-nodes}
-use Rattle.changing.specs.Output.{Ready, Laid}
-use Rattle.changing.proofs.Splice.{laid-on, laid-all}
+use Rattle.substitution.specs.Output.{CopyReady, Laid}
+use Rattle.substitution.proofs.Splice.{laid-on, laid-all}
 use Rattle.raw.proofs.Source.{nodes-part}
-use Rattle.guards.specs.declared.part.Part.{Part}
-use Rattle.guards.specs.Inner.Parts.{children-rows, Placed, part-rows, guards-in, part-layout, Chosen}
+use Rattle.guards.specs.declared.selection.Selection.{Selection}
+use Rattle.guards.specs.Inner.Selections.{children-rows, Placed, part-rows, guards-in, selection-layout, Chosen}
 use Rattle.guards.proofs.Children.{placed-to}
 
-module _ {s : Layout} {b : Bytes} {ends ks : List ℕ} {p : Part} (h : Chosen s b ends ks p) where
+module _ {s : Layout} {b : Bytes} {ends ks : List ℕ} {p : Selection} (h : Chosen s b ends ks p) where
   abbrev t : Layout
-  t = part-layout s p
+  t = selection-layout s p
 
   -- as many rows as are counted
   pub part-long : length (part-rows s b ends ks (p .rest)) ≡ p .rows
@@ -49,7 +49,7 @@ module _ {s : Layout} {b : Bytes} {ends ks : List ℕ} {p : Part} (h : Chosen s 
   pub part-room : {n : ℕ} → Room s n → Room t n
   part-room r = record { holds = omega (arith, part-size, r .holds) }
 
-  pub part-ready : (out : Bytes) → Room s (length out) → Ready s b t out
+  pub part-ready : (out : Bytes) → Room s (length out) → CopyReady s b t out
   part-ready out r =
       record { source = h .readable .room; room = part-room r; same-format = refl }
 

@@ -1,7 +1,7 @@
 // Guards: the children of a root AND that are to blame for its falsity (N10). Each in turn is left out, for good if Solve still says
 // false of the others. A try's rows are written from the sheet into the first work buffer, where the run is entered.
-use crate::part::Part;
-use crate::part::write_part;
+use crate::selection::Selection;
+use crate::selection::write_selection;
 use crate::sift::sift;
 use checking::Checked;
 use rows::AND;
@@ -31,7 +31,7 @@ ghost use Rattle.checking.specs.Sheets.{Sheet};
 ghost use Rattle.guards.specs.Answers.{guarded-answer, leaves};
 ghost use Rattle.guards.specs.Inner.Sieves.{Siftable, Said, kept-call, found-call};
 
-pub mod part;
+pub mod selection;
 pub mod sift;
 
 // Refused with number and place; the initial run's own answer, stopped at a variable or true, with the number settled and the number
@@ -53,12 +53,12 @@ fn keep(sheet: &[u8], s: Layout, out: &mut [u8], first: &mut [u8], second: &mut 
     fill_ends(sheet, s, &mut ends);
     let g = sift(sheet, s, &ends, &mut kept, first, second);
     let count = g.guards;
-    let those = Part {
+    let those = Selection {
         guards: count,
         rows: g.rows,
         rest: s.nodes,
     };
-    let t = write_part(sheet, s, &ends, &kept[..count], those, out);
+    let t = write_selection(sheet, s, &ends, &kept[..count], those, out);
     let length = seal(out, t, t.variables + t.nodes);
     Guarded::Kept(length, g.stops)
 }

@@ -1,7 +1,7 @@
 // The children tried from first to last. A table has one entry for each child that is kept, the row at which it begins; a try is of
 // these and of all children behind the one tried.
-use crate::part::Part;
-use crate::part::write_part;
+use crate::selection::Selection;
+use crate::selection::write_selection;
 use rows::Layout;
 use solve::Solved;
 use solve::Verdict;
@@ -99,12 +99,12 @@ pub fn sift(
         let at = g.at;
         let count = g.guards;
         let end = ends[at] as usize;
-        let others = Part {
+        let others = Selection {
             guards: count + (g.left - 1),
             rows: g.rows + (s.nodes - end),
             rest: end,
         };
-        let t = write_part(b, s, ends, &kept[..count], others, first);
+        let t = write_selection(b, s, ends, &kept[..count], others, first);
         let answer = run_raw(first, second, t);
         let said = heard(answer);
         kept[count] = at as u16;

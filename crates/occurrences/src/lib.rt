@@ -15,7 +15,7 @@ ghost use Rattle.subtrees.specs.Subtrees.{subtree-in};
 ghost use Rattle.occurrences.specs.Occurrences.{Occurrences, variable-of, Firsts, Nexts, Lasts, FirstsKept};
 
 // The variable of the literal at node row `i`; a number that no table has if an operator stands there.
-pub fn variable_at(b: &[u8], s: Layout, i: usize) -> usize
+pub fn literal_at(b: &[u8], s: Layout, i: usize) -> usize
     requires { ⌜ Readable s (now b) × (i < s .nodes) ⌝ }
     ensures { λ r. ⌜ (r ≡ variable-of (subtree-in s (now (b .entry)) i)) × (r < 2 ^ 32) ⌝ }
 {
@@ -65,7 +65,7 @@ fn link(b: &[u8], s: Layout, ranges: &mut [u16], next: &mut [u16])
     let mut i = s.nodes;
     while 0 < i {
         i -= 1;
-        let x = variable_at(b, s, i);
+        let x = literal_at(b, s, i);
         next[i] = look(ranges, 2 * x);
         store(ranges, 2 * x, i as u16);
     }
@@ -78,7 +78,7 @@ fn mark(b: &[u8], s: Layout, ranges: &mut [u16])
 {
     let mut i: usize = 0;
     while i < s.nodes {
-        let x = variable_at(b, s, i);
+        let x = literal_at(b, s, i);
         store(ranges, 2 * x + 1, i as u16);
         i += 1;
     }

@@ -26,20 +26,20 @@ use Rattle.sets.specs.Sets.{holds}
 use Rattle.dependence.specs.Blocks.{Located}
 use Rattle.dependence.specs.Dependents.{Dependents}
 use Rattle.dependence.specs.declared.Target.{Target}
-use Rattle.changing.specs.Changes.{putting, chosen}
-use Rattle.changing.proofs.Tables.{length-putting}
+use Rattle.substitution.specs.Changes.{putting, chosen}
+use Rattle.substitution.proofs.Tables.{length-putting}
 use Rattle.raw.specs.Formulas.{second-table}
-use Rattle.stepping.specs.Steps.{Named}
-use Rattle.stepping.specs.Admission.{admission-tests, Admitted}
-use Rattle.stepping.specs.Survey.{Surveyed, Surveys}
-use Rattle.stepping.specs.declared.survey.Draft.{Draft}
-use Rattle.stepping.specs.declared.survey.Survey.{Survey}
-use Rattle.stepping.proofs.Admitting.{sheet-numbered, sheet-steppable}
+use Rattle.elimination.specs.Steps.{Named}
+use Rattle.elimination.specs.Admission.{admission-tests, Admitted}
+use Rattle.elimination.specs.Survey.{Surveyed, Surveys}
+use Rattle.elimination.specs.declared.survey.Draft.{Draft}
+use Rattle.elimination.specs.declared.survey.Survey.{Survey}
+use Rattle.elimination.proofs.Admitting.{sheet-numbered, sheet-steppable}
 use Rattle.renaming.specs.Numbers.{renumbered, copy-tables}
 use Rattle.renaming.proofs.Renumbering.{second-lent}
 use Rattle.renaming.proofs.Depending.{numbers-left, those-same, dependents-whole, renumbered-take, length-renumbered}
 use Rattle.outer.specs.Inner.Draft.{DraftsChosen}
-use Rattle.outer.specs.Inner.Plan.{block-test, plan-tests, Planned}
+use Rattle.outer.specs.Inner.OuterPlan.{block-test, plan-tests, OuterPlanned}
 
 abbrev last-tests : Format → Bytes → ℕ → List Test
 last-tests F b x = block-test F b x ∷ numbers-test F b x ∷ []
@@ -163,7 +163,7 @@ module _ {b : Bytes} (t : Target) {ends : List ℕ} (a : Admitted b (t .variable
           → tables ≡ copy-tables x (those (holds set) (prefix-in s b)) (unused (prefix-in s b) highest 1)
           → {second : List ℕ} → second ≡ second-table tables → {next : List ℕ} {d : Draft}
           → DraftsChosen second b t (s .variables - 1 + n) ends next d → {table : List ℕ} {w : Survey} → Surveys s b ends next d table w
-          → Planned b tables table (record { variable = x; from = s; copied = n; lowest = m; survey = w })
+          → OuterPlanned b tables table (record { variable = x; from = s; copied = n; lowest = m; survey = w })
       unfolding formula-in copies-of copies
       planned low filled {second} lent {d = d} dr {table} {w} surveys =
           let sv = surveys (chosen second) (dr .drafts) in

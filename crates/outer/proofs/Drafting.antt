@@ -13,14 +13,14 @@ use Rattle.rows.specs.declared.Layout.{Layout}
 use Rattle.subtrees.specs.Ends.{Indexed}
 use Rattle.occurrences.specs.Chains.{Chain}
 use Rattle.occurrences.proofs.Chains.{occurs}
-use Rattle.subtrees.specs.Parts.{relevant-part}
+use Rattle.subtrees.specs.Parts.{relevant-subtree}
 use Rattle.relevance.specs.Raw.{presence, grown-by}
 use Rattle.subtrees.specs.declared.relevant.Relevant.{Relevant}
 use Rattle.relevance.specs.declared.Range.{Range}
 use Rattle.relevance.specs.declared.variable.Presence.{Presence}
 use Rattle.relevance.specs.declared.variable.Presence.the-variants.{Absent, Present}
 use Rattle.relevance.proofs.Growth.{absent, present, raw-rows-by}
-use Rattle.stepping.specs.Survey.{Drafts}
+use Rattle.elimination.specs.Survey.{Drafts}
 use Rattle.outer.specs.Inner.Chain.{Linked}
 
 module _ (L : Literals) {s : Layout} (b : Bytes) {next : List ℕ} (ok : Readable s b) {r : Range} (l : Linked L s b next r) where
@@ -40,11 +40,11 @@ module _ (L : Literals) {s : Layout} (b : Bytes) {next : List ℕ} (ok : Readabl
     pub chain-here : Chain L s b next (r .first) (r .last)
     chain-here = l .chain present-here
 
-    pub part-present : {p : Relevant} → p ≡ relevant-part L 0 t → Present p ≡ presence L t
+    pub part-present : {p : Relevant} → p ≡ relevant-subtree L 0 t → Present p ≡ presence L t
     part-present e = present L t present-here e
 
   pub drafted : {ends : List ℕ} → Indexed s b ends → {p : Presence} → p ≡ presence L t → {n : ℕ} → n ≡ grown-by (s .nodes) p
-      → (i v k : ℕ) → Drafts L s b ends next (record { part = p; first = r .first; raw = n; row = i; variables = v; joint = k })
+      → (i v k : ℕ) → Drafts L s b ends next (record { relevant = p; first = r .first; raw = n; row = i; variables = v; joint = k })
   drafted indexed e rows i v k =
       record {
         indexed = indexed;

@@ -20,7 +20,7 @@ use Rattle.occurrences.specs.Occurrences.{variable-of}
 use Rattle.occurrences.proofs.Hits.{has-root, has-row, no-rows}
 use Rattle.occurrences.proofs.Chains.{first-here, first-later, first-none, occurs}
 use Rattle.relevance.specs.declared.Range.{Range}
-use Rattle.changing.specs.Changes.{entry, chosen}
+use Rattle.substitution.specs.Changes.{entry, chosen}
 use Rattle.outer.specs.Inner.Chain.{with-row, Linking, Linked}
 
 -- the number of an operator is past the table, so it is its own entry

@@ -32,23 +32,23 @@ use Rattle.rows.proofs.Formulas.{length-prefix}
 use Rattle.rows.proofs.Limits.{limits}
 use Rattle.prefixes.specs.Places.{place}
 use Rattle.prefixes.proofs.Places.{binds-place}
-use Rattle.changing.specs.Output.{Laid}
-use Rattle.changing.proofs.Changed.{map-append}
+use Rattle.substitution.specs.Output.{Laid}
+use Rattle.substitution.proofs.Changed.{map-append}
 use Rattle.raw.specs.Formulas.{copying-by, chosen-by, Raw}
 use Rattle.raw.specs.Expansions.{raw-matrix}
 use Rattle.raw.specs.declared.expand.Expansion.{Expansion}
 use Rattle.raw.proofs.Raws.{raw-laid, room-on}
 use Rattle.tidying.specs.Limits as tidying
 use Rattle.tidying.proofs.Raw as tidied-raw
-use Rattle.stepping.specs.Admission.{admission-tests}
-use Rattle.stepping.proofs.RawSheets.{prefix-without}
-use Rattle.stepping.proofs.Surveying as surveying
+use Rattle.elimination.specs.Admission.{admission-tests}
+use Rattle.elimination.proofs.RawSheets.{prefix-without}
+use Rattle.elimination.proofs.Surveying as surveying
 use Rattle.renaming.specs.Prefixes.{rows-from}
 use Rattle.renaming.proofs.Depending.{numbers-left}
 use Rattle.renaming.proofs.Tables.{Numbers, rows-copied, second-is, two-tables, chosen-is, copying-is}
 use Rattle.outer.specs.Answers.{OuterWritten, outer-written}
 use Rattle.outer.specs.Inner.Writing.{copied-rows, Writes, written-rows}
-use Rattle.outer.specs.Inner.Plan.{plan-tests, copied-formula, Planned, Fitting}
+use Rattle.outer.specs.Inner.OuterPlan.{plan-tests, copied-formula, OuterPlanned, Fitting}
 use Rattle.outer.specs.declared.plan.Copying.{Copying}
 
 -- the tests of the call are those of the plan, and 13
@@ -73,7 +73,7 @@ refused-plan F b x out h =
     refused-call F b x out
     (refused-first (plan-tests F b x) room x x h ∙ ap (λ (ts : List Test). answer ts x) (sym (tests-parts F b x (length out))))
 
-module _ {b : Bytes} {tables table : List ℕ} {w : Copying} (d : Planned b tables table w) where
+module _ {b : Bytes} {tables table : List ℕ} {w : Copying} (d : OuterPlanned b tables table w) where
   abbrev x : ℕ
   x = w .variable
 
@@ -262,7 +262,7 @@ module _ {b : Bytes} {tables table : List ℕ} {w : Copying} (d : Planned b tabl
 -- the raw sheet, if it fits
 
 module _ {b : Bytes} {tables table : List ℕ} {w : Copying} {len : ℕ} (q : Fitting b tables table w len) where
-  abbrev d : Planned b tables table w
+  abbrev d : OuterPlanned b tables table w
   d = q .planned
 
   abbrev t : Layout

@@ -6,11 +6,11 @@ use Rattle.sheet.specs.Format.{Bytes, Format}
 use Rattle.sheet.specs.Check.{Answer, refused, accepted}
 use Rattle.sheet.specs.Operations.{Written}
 use Rattle.sheet.specs.Outer.{Copied as Copies, outer-call, outer-answer}
-use Rattle.outer.specs.declared.Outcome.{Outcome}
-use Rattle.outer.specs.declared.Outcome.the-variants.{Refused, Copied}
+use Rattle.outer.specs.declared.Stepped.{Stepped}
+use Rattle.outer.specs.declared.Stepped.the-variants.{Refused, Copied}
 
 -- refused with number and place; or the new length, how many variables are copied, and the lowest (old) number among them, 0 if none
-abbrev pub outcome-answer : Outcome → Answer Copies
+abbrev pub outcome-answer : Stepped → Answer Copies
 outcome-answer (Refused number place) = refused number place
 outcome-answer (Copied end count lowest) = accepted (record { new-length = end; copied = count; lowest = lowest })
 

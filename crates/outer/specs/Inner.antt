@@ -2,4 +2,4 @@
 pub mod Chain
 pub mod Draft
 pub mod Writing
-pub mod Plan
+pub mod OuterPlan

@@ -1,8 +1,8 @@
 // The literals that a table of changes changes, linked in one pass from the last row to the first.
-use changing::table::entry;
-use occurrences::variable_at;
+use occurrences::literal_at;
 use relevance::Range;
 use rows::Layout;
+use substitution::table::entry;
 ghost use mathlib.Core.Path.{_≡_};
 ghost use Prim.Native.Nat.{_≤_, _<_};
 ghost use lib.ListN.{length};
@@ -10,7 +10,7 @@ ghost use Rattle.formula.specs.Settle.{is-lit};
 ghost use Rattle.rows.specs.Formulas.{Readable};
 ghost use Rattle.rows.specs.Tables.{NUMBERS};
 ghost use Rattle.subtrees.specs.Subtrees.{subtree-in};
-ghost use Rattle.changing.specs.Changes.{chosen};
+ghost use Rattle.substitution.specs.Changes.{chosen};
 ghost use Rattle.outer.specs.Inner.Chain.{with-row, Linked};
 
 // Whether node row `i` is a literal that the table changes.
@@ -18,7 +18,7 @@ fn is_chosen(b: &[u8], s: Layout, table: &[u16], i: usize) -> bool
     requires { ⌜ Readable s (now b) × (i < s .nodes) × (length (now table) ≡ NUMBERS) ⌝ }
     ensures { λ r. ⌜ r ≡ is-lit (chosen (now (table .entry))) (subtree-in s (now (b .entry)) i) ⌝ }
 {
-    let v = variable_at(b, s, i);
+    let v = literal_at(b, s, i);
     entry(table, v) != v
 }
 

@@ -1,11 +1,11 @@
 // What is expanded: the literals that the second copy's table changes, with the part of the matrix that they choose.
 use crate::chain::link_chosen;
 use dependence::Target;
-use relevance::part::relevant_part;
+use elimination::survey::Draft;
+use relevance::subtree::relevant_subtree;
 use relevance::variable::Presence;
 use relevance::variable::raw_rows_of;
 use rows::AND;
-use stepping::survey::Draft;
 ghost use mathlib.Core.Path.{_≡_};
 ghost use Prim.Native.Nat.{_≤_};
 ghost use lib.ListN.{length};
@@ -28,15 +28,15 @@ pub fn draft_chosen(
 {
     let s = t.layout;
     let r = link_chosen(b, s, table, next);
-    let part = if r.first < s.nodes {
-        Presence::Present(relevant_part(b, s, ends, next, r))
+    let relevant = if r.first < s.nodes {
+        Presence::Present(relevant_subtree(b, s, ends, next, r))
     } else {
         Presence::Absent
     };
     Draft {
-        part: part,
+        relevant: relevant,
         first: r.first,
-        raw: raw_rows_of(s.nodes, part),
+        raw: raw_rows_of(s.nodes, relevant),
         row: t.row,
         variables: variables,
         joint: AND,

@@ -1,7 +1,7 @@
 // Expansion of a universal variable one block out (N6): the subtree that its literals and those of all depending variables choose gives
 // way to two copies of it, of which the second has new variables, and the tree is tidied.
 use crate::plan::Copying;
-use crate::plan::Plan;
+use crate::plan::OuterPlan;
 use crate::plan::plan_outer;
 use crate::writing::write_outer;
 use relevance::cuts::CUTS;
@@ -19,7 +19,7 @@ ghost use Rattle.sheet.specs.Truthful.{truth-of, TruthfulSheet};
 ghost use Rattle.rows.specs.Formats.{format-of};
 ghost use Rattle.rows.specs.Layouts.{format-in};
 ghost use Rattle.outer.specs.Answers.{outcome-answer, length-alone, outer-written};
-ghost use Rattle.outer.specs.Inner.Plan.{Planned, Fitting, copied-formula};
+ghost use Rattle.outer.specs.Inner.OuterPlan.{OuterPlanned, Fitting, copied-formula};
 
 pub mod chain;
 pub mod draft;
@@ -28,7 +28,7 @@ pub mod writing;
 
 // Refused with number and place; or the new sheet's length, how many variables are copied, and the lowest (old) number among them, 0 if
 // there is none.
-pub enum Outcome {
+pub enum Stepped {
     Refused(usize, usize),
     Copied(usize, usize, usize),
 }
@@ -47,25 +47,25 @@ fn outer_into(b: &[u8], tables: &[u16], cuts: &[u16], w: Copying, out: &mut [u8]
     sheet_length(f, t.variables, t.nodes)
 }
 
-// Carries a plan out: 13 the raw sheet doesn't fit; else it is written to `out` and tidied there.
-fn outer_planned(sheet: &[u8], tables: &[u16], cuts: &[u16], w: Copying, out: &mut [u8]) -> Outcome
-    requires { ⌜ Planned (now sheet) (now tables) (now cuts) w ⌝ }
+// Converts a plan out: 13 the raw sheet doesn't fit; else it is written to `out` and tidied there.
+fn outer_planned(sheet: &[u8], tables: &[u16], cuts: &[u16], w: Copying, out: &mut [u8]) -> Stepped
+    requires { ⌜ OuterPlanned (now sheet) (now tables) (now cuts) w ⌝ }
     ensures { λ r. ⌜ record { answer = outcome-answer r; output = now (out .exit) } ≡ outer-written (format-in (w .from)) (now (sheet .entry)) (w .variable) (now (out .entry)) ⌝ }
 {
     let s = w.from;
     let f = s.format;
     let raw = w.survey.to.layout;
     if !fits(f, raw.variables, raw.nodes, out.len()) {
-        return Outcome::Refused(NO_ROOM, 0);
+        return Stepped::Refused(NO_ROOM, 0);
     }
     let end = outer_into(sheet, tables, cuts, w, out);
-    Outcome::Copied(end, w.copied, w.lowest)
+    Stepped::Copied(end, w.copied, w.lowest)
 }
 
 // Expands the universal variable `x` one block out in a sheet: the new sheet stands at the front of `out` with zeros behind it, and its
 // length, the number of variables copied and the lowest of them are returned; or the call is refused with number and place, and `out`
 // is left as it was. The raw sheet is written to `out` and tidied there.
-pub fn outer(sheet: &[u8], f: Format, x: usize, out: &mut [u8]) -> Outcome
+pub fn outer(sheet: &[u8], f: Format, x: usize, out: &mut [u8]) -> Stepped
     ensures { λ r. ⌜ record { answer = outcome-answer r; output = now (out .exit) } ≡ outer-written (format-of f) (now (sheet .entry)) x (now (out .entry)) ⌝ }
     ensures { λ r. ⌜ TruthfulSheet (format-of f) (truth-of (format-of f) (now (sheet .entry))) (length-alone (record { answer = outcome-answer r; output = now (out .exit) })) ⌝ }
 {
@@ -73,7 +73,7 @@ pub fn outer(sheet: &[u8], f: Format, x: usize, out: &mut [u8]) -> Outcome
     let mut cuts = [0u16; CUTS];
     let p = plan_outer(sheet, f, x, &mut tables, &mut cuts);
     match p {
-        Plan::Refused(number, place) => Outcome::Refused(number, place),
-        Plan::Copies(w) => outer_planned(sheet, &tables, &cuts, w, out),
+        OuterPlan::Refused(number, place) => Stepped::Refused(number, place),
+        OuterPlan::Copies(w) => outer_planned(sheet, &tables, &cuts, w, out),
     }
 }

@@ -5,6 +5,10 @@ use dependence::answer::count_dependents;
 use dependence::answer::lowest_dependent;
 use dependence::block::one_block_out;
 use dependence::closure::fill_dependents;
+use elimination::admission::Admission;
+use elimination::admission::admit;
+use elimination::survey::Survey;
+use elimination::survey::survey_draft;
 use occurrences::fill_occurrences;
 use renaming::numbers::fill_tables;
 use rows::Format;
@@ -15,10 +19,6 @@ use rows::most_variables;
 use rows::refusals::NO_NUMBERS_LEFT;
 use rows::refusals::WRONG_BLOCK;
 use sets::WORDS;
-use stepping::admission::Admission;
-use stepping::admission::admit;
-use stepping::survey::Survey;
-use stepping::survey::survey_draft;
 ghost use mathlib.Core.Path.{_≡_};
 ghost use Prim.Native.Nat.{_*_, _<_};
 ghost use lib.ListN.{length, replicate};
@@ -26,8 +26,8 @@ ghost use Rattle.rows.specs.Formulas.{formula-in};
 ghost use Rattle.rows.specs.Tables.{ROWS, NUMBERS};
 ghost use Rattle.subtrees.specs.Ends.{Indexed};
 ghost use Rattle.dependence.specs.Blocks.{Located};
-ghost use Rattle.stepping.specs.Admission.{Admitted};
-ghost use Rattle.outer.specs.Inner.Plan.{Finds, Plans};
+ghost use Rattle.elimination.specs.Admission.{Admitted};
+ghost use Rattle.outer.specs.Inner.OuterPlan.{Finds, OuterPlans};
 
 // The variable and the sheet's layout; how many variables are copied, and the lowest of them; what is written.
 pub struct Copying {
@@ -39,7 +39,7 @@ pub struct Copying {
 }
 
 // A refusal's number and place; or what is written.
-pub enum Plan {
+pub enum OuterPlan {
     Refused(usize, usize),
     Copies(Copying),
 }
@@ -68,20 +68,20 @@ fn plan_admitted(
     ends: &[u16],
     tables: &mut [u16],
     cuts: &mut [u16],
-) -> Plan
+) -> OuterPlan
     requires { ⌜ Admitted (now sheet) (t .variable) (t .layout) (t .row) (now ends) × (length (now tables) ≡ 2 * NUMBERS) × (ROWS < length (now cuts)) ⌝ }
-    ensures { λ r. ⌜ Plans (t .layout .format) (now (sheet .entry)) (t .variable) (now (tables .exit)) (now (cuts .exit)) r ⌝ }
+    ensures { λ r. ⌜ OuterPlans (t .layout .format) (now (sheet .entry)) (t .variable) (now (tables .exit)) (now (cuts .exit)) r ⌝ }
 {
     let s = t.layout;
     let mut set = [0u64; WORDS];
     if !find_dependents(sheet, t, ends, &mut set) {
-        return Plan::Refused(WRONG_BLOCK, 0);
+        return OuterPlan::Refused(WRONG_BLOCK, 0);
     }
     let copied = count_dependents(&set);
     let f = s.format;
     let highest = most_variables(f);
     if highest - s.variables < copied {
-        return Plan::Refused(NO_NUMBERS_LEFT, 0);
+        return OuterPlan::Refused(NO_NUMBERS_LEFT, 0);
     }
     let lowest = lowest_dependent(&set);
     fill_tables(sheet, s, &set, highest, t.variable, tables);
@@ -96,18 +96,24 @@ fn plan_admitted(
         lowest: lowest,
         survey: w,
     };
-    Plan::Copies(c)
+    OuterPlan::Copies(c)
 }
 
 // Decides what the step does with `x` in a sheet, whatever the output.
-pub fn plan_outer(sheet: &[u8], f: Format, x: usize, tables: &mut [u16], cuts: &mut [u16]) -> Plan
+pub fn plan_outer(
+    sheet: &[u8],
+    f: Format,
+    x: usize,
+    tables: &mut [u16],
+    cuts: &mut [u16],
+) -> OuterPlan
     requires { ⌜ (length (now tables) ≡ 2 * NUMBERS) × (ROWS < length (now cuts)) ⌝ }
-    ensures { λ r. ⌜ Plans f (now (sheet .entry)) x (now (tables .exit)) (now (cuts .exit)) r ⌝ }
+    ensures { λ r. ⌜ OuterPlans f (now (sheet .entry)) x (now (tables .exit)) (now (cuts .exit)) r ⌝ }
 {
     let mut ends = [0u16; ROWS];
     let a = admit(sheet, f, x, &mut ends);
     match a {
-        Admission::Refused(number, place) => Plan::Refused(number, place),
+        Admission::Refused(number, place) => OuterPlan::Refused(number, place),
         Admission::Admitted(s, z) => {
             let t = Target {
                 layout: s,

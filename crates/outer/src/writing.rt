@@ -1,12 +1,12 @@
 // The raw sheet written: the prefix without the row of x, the rows of the copies, and the matrix with the copied subtree.
-use changing::Target;
 use raw::expand::Expansion;
 use raw::expand::write_matrix;
 use raw::settle::write_prefix;
 use renaming::prefix::write_all_copied;
 use rows::Layout;
 use rows::NUMBERS;
-ghost use Rattle.changing.specs.Output.{Laid};
+use substitution::Target;
+ghost use Rattle.substitution.specs.Output.{Laid};
 ghost use Rattle.outer.specs.Inner.Writing.{Writes, written-rows};
 
 // Writes all rows of the raw sheet.

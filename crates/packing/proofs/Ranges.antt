@@ -29,7 +29,7 @@ use Rattle.sheet.specs.Check.{Answer, refused, accepted, IsKnown, known, Known,
 use Rattle.sheet.specs.Operations.{padded, write, tidy-tests, tidy-call, settle-tests, settle-call, expand-tests, expand-call, execute-tests, execute-call, reduce-tests, reduce-call, solved, solving, solve-call, trial-call, tidy-and-bound-tests, quote-tests, quote-call}
 use Rattle.sheet.specs.Refusals.{too-many-to-try}
 use Rattle.sheet.specs.Qdimacs.{qdimacs, said-tests, qdimacs-tests, qdimacs-call}
-use Rattle.sheet.specs.Carrying.{carried, widen-tests, widen-call, bring-back-tests, bring-back-call}
+use Rattle.sheet.specs.Conversion.{carried, to-wide-tests, to-wide-call, to-narrow-tests, to-narrow-call}
 use Rattle.sheet.specs.Force.{values-of, Panel, force-tests, panel, force-call}
 use Rattle.sheet.specs.Guards.{Guarding, guards-tests, guards-answer, guards-output, guarding, least-room, guards-call, Starts}
 use Rattle.sheet.specs.Trace.{room}
@@ -48,8 +48,8 @@ use Rattle.sheet.proofs.Verdicts.{trial-right}
 use Rattle.sheet.proofs.Calls.{front-written}
 use Rattle.sheet.proofs.Known.{refused-known, check-known, check-alone, tidy-known, tidy-place, settle-known, settle-place, expand-known, expand-place, execute-known, execute-place, reduce-known, reduce-place, sort-known, sort-place}
 use Rattle.sheet.specs.Check.{last-place}
-use Rattle.sheet.proofs.Known.{places-to, PlacesTo, trial-known, quote-known, quote-place, force-known, force-place, guards-known, guards-place, refused-place, check-place, widen-known, bring-back-known, qdimacs-known}
-use Rattle.sheet.proofs.Truthful.{tidy-truthful, settle-truthful, expand-truthful, execute-truthful, reduce-truthful, sort-truthful, qdimacs-truthful, widen-truthful, bring-back-truthful}
+use Rattle.sheet.proofs.Known.{places-to, PlacesTo, trial-known, quote-known, quote-place, force-known, force-place, guards-known, guards-place, refused-place, check-place, to-wide-known, to-narrow-known, qdimacs-known}
+use Rattle.sheet.proofs.Truthful.{tidy-truthful, settle-truthful, expand-truthful, execute-truthful, reduce-truthful, sort-truthful, qdimacs-truthful, to-wide-truthful, to-narrow-truthful}
 use Rattle.rows.specs.Formats.{format-of}
 use Rattle.rows.specs.declared.Format.{Format}
 use Rattle.rows.specs.declared.Format.the-variants.{Narrow, Wide}
@@ -140,17 +140,17 @@ module _ (f : Format) (b : Bytes) where
 
 -- carried over and brought back
 
-pub widen-fits : (b out : Bytes) → FitsWritten ((widen-call b out) .answer)
-unfolding widen-call widen-tests places-to
-widen-fits b out =
-    written-fits Narrow Wide (widen-tests b (length out)) (carried narrow wide b) out (widen-known b (length out)) (λ n i e. check-place narrow b _ _ (λ p. refl) e)
-    (widen-truthful b out refl)
+pub to-wide-fits : (b out : Bytes) → FitsWritten ((to-wide-call b out) .answer)
+unfolding to-wide-call to-wide-tests places-to
+to-wide-fits b out =
+    written-fits Narrow Wide (to-wide-tests b (length out)) (carried narrow wide b) out (to-wide-known b (length out)) (λ n i e. check-place narrow b _ _ (λ p. refl) e)
+    (to-wide-truthful b out refl)
 
-pub bring-back-fits : (b out : Bytes) → FitsWritten ((bring-back-call b out) .answer)
-unfolding bring-back-call bring-back-tests places-to
-bring-back-fits b out =
-    written-fits Wide Narrow (bring-back-tests b (length out)) (carried wide narrow b) out (bring-back-known b (length out))
-    (λ n i e. check-place wide b _ _ (λ p. refl) e) (bring-back-truthful b out refl)
+pub to-narrow-fits : (b out : Bytes) → FitsWritten ((to-narrow-call b out) .answer)
+unfolding to-narrow-call to-narrow-tests places-to
+to-narrow-fits b out =
+    written-fits Wide Narrow (to-narrow-tests b (length out)) (carried wide narrow b) out (to-narrow-known b (length out))
+    (λ n i e. check-place wide b _ _ (λ p. refl) e) (to-narrow-truthful b out refl)
 
 -- a text's refusals have no place
 pub qdimacs-fits : (f : Format) (t out : Bytes) → FitsWritten ((qdimacs-call (format-of f) t out) .answer)

@@ -5,7 +5,7 @@ ghost use Rattle.trial.specs.Answers.{tried-answer};
 ghost use Rattle.expand.specs.Answers.{quoted-answer};
 ghost use Rattle.solve.specs.Answers.{verdict-of, solved-answer};
 ghost use Rattle.guards.specs.Answers.{guarded-answer};
-ghost use Rattle.order.specs.Answers.{compared-answer};
+ghost use Rattle.sort_compare.specs.Answers.{compared-answer};
 ghost use Rattle.packing.specs.Order.{packed-compared};
 ghost use Rattle.packing.specs.Packed.{packed, packed-check, packed-trial, verdict-word, packed-written, packed-quote, packed-solved, packed-guards};
 
@@ -111,13 +111,18 @@ pub fn pack_guarded(answer: guards::Guarded) -> u64
 }
 
 // What Compare answers: refusal number, the sheet refused as the word, and place; or the word of the order.
-pub fn pack_compared(answer: order::compare::Compared) -> u64
+pub fn pack_compared(answer: sort_compare::compare::Compared) -> u64
     ensures { λ r. ⌜ r ≡ packed-compared (compared-answer answer) ⌝ }
 {
     match answer {
-        order::compare::Compared::Refused(which, number, place) => pack(number, which, place, 0),
-        order::compare::Compared::Before => pack(0, 0, 0, 0),
-        order::compare::Compared::Equal => pack(0, 1, 0, 0),
-        order::compare::Compared::After => pack(0, 2, 0, 0),
+        sort_compare::compare::Compared::Refused(which, number, place) => pack(
+            number,
+            which,
+            place,
+            0,
+        ),
+        sort_compare::compare::Compared::Before => pack(0, 0, 0, 0),
+        sort_compare::compare::Compared::Equal => pack(0, 1, 0, 0),
+        sort_compare::compare::Compared::After => pack(0, 2, 0, 0),
     }
 }

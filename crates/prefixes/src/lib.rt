@@ -10,7 +10,7 @@ ghost use Rattle.rows.specs.Formulas.{prefix-in, Readable};
 ghost use Rattle.prefixes.specs.Places.{place, binding-in, block-start};
 
 // The variable of prefix row `i`.
-pub fn variable_at(b: &[u8], s: Layout, i: usize) -> usize
+pub fn bound_at(b: &[u8], s: Layout, i: usize) -> usize
     requires { ⌜ Readable s (now b) × (i < s .variables) ⌝ }
     ensures { λ x. ⌜ (x ≡ (binding-in s (now (b .entry)) i) .variable) × (x < 2 ^ 32) ⌝ }
 {
@@ -33,7 +33,7 @@ pub fn find_variable(b: &[u8], s: Layout, x: usize) -> usize
     let v = s.variables;
     let mut i = 0;
     while i < v {
-        if variable_at(b, s, i) == x {
+        if bound_at(b, s, i) == x {
             return i;
         }
         i += 1;

@@ -27,7 +27,7 @@ use Rattle.qdimacs.specs.Inner.Lists.{whole-lists, first-length}
 use Rattle.qdimacs.specs.Inner.Cursor.{tokens-at}
 use Rattle.qdimacs.specs.Inner.Clauses.{literal-said, variable-said}
 use Rattle.qdimacs.specs.Inner.Rows.{spliced, clause-rows, begins, open-place, open-rows, literal-row, word-place, word-rows, Writable}
-use Rattle.qdimacs.specs.declared.write.Place.{Place}
+use Rattle.qdimacs.specs.declared.write.ListPlace.{ListPlace}
 use Rattle.qdimacs.proofs.Pieces.{and-false, lists-end, lists-more, onto}
 use Rattle.qdimacs.proofs.Reading.{first, Cons, some-list, rows-lists}
 use Rattle.qdimacs.proofs.Next.{Next, none, word, next}
@@ -213,7 +213,7 @@ sort {b} {at} {t} o (word {w = w} v c p) h u =
 
 -- write_clauses: the rows written and those of the words left make up all
 
-pub record ClausesWritten (b : Bytes) (from r₀ : ℕ) (rs₀ rs : List Row) (p : Place) : Type 0 where
+pub record ClausesWritten (b : Bytes) (from r₀ : ℕ) (rs₀ rs : List Row) (p : ListPlace) : Type 0 where
   pub inside : p .at ≤ length b
   pub whole-so : whole-lists (not (p .fresh)) (tokens-at b (p .at)) ≡ true
   pub below-so : all (up-to 1024) (tokens-at b (p .at)) ≡ true
@@ -236,7 +236,7 @@ clauses-written-none {b} {from} {s} {len} {r} rs₀ w l =
       put = put-none rs₀ r l;
     }
 
-module _ {b : Bytes} {from r₀ : ℕ} {rs₀ rs : List Row} {p : Place} (whole : whole-lists false (tokens-at b from) ≡ true)
+module _ {b : Bytes} {from r₀ : ℕ} {rs₀ rs : List Row} {p : ListPlace} (whole : whole-lists false (tokens-at b from) ≡ true)
     (room : r₀ + length (tokens-at b from) ≤ length rs₀) (h : ClausesWritten b from r₀ rs₀ rs p) {t : code.Token} (reads : Reads b (p .at) t) where
   abbrev us : List Token
   us = tokens-at b (t .to)
@@ -292,7 +292,7 @@ module _ {b : Bytes} {from r₀ : ℕ} {rs₀ rs : List Row} {p : Place} (whole 
         → rows-all-are (done ++ (said-row w ∷ rest-rows false (lists us))) → kind (literal-said t) ≡ literal-kind (is-plain w)
         → variable-said t ≡ absolute w → absolute w ≤ 1024 → Opened rs₁ r₁
 
-  module _ {rs₁ : List Row} {p₁ : Place} (opens : p₁ ≡ open-place p (t .class)) (writes : rs₁ ≡ open-rows b p (t .class) rs) where
+  module _ {rs₁ : List Row} {p₁ : ListPlace} (opens : p₁ ≡ open-place p (t .class)) (writes : rs₁ ≡ open-rows b p (t .class) rs) where
     rows-open : (f : Bool) → begins p (t .class) ≡ f → rs₁ ≡ cond f (set rs (p .row) or-row) rs
     rows-open f e = writes ∙ ap (λ c. cond c (set rs (p .row) or-row) rs) e
 
@@ -312,14 +312,14 @@ module _ {b : Bytes} {from r₀ : ℕ} {rs₀ rs : List Row} {p : Place} (whole 
     with-or : begins p (t .class) ≡ true → (rest : List Row) → rows-all-are (h .done ++ (or-row ∷ rest))
         → Put rs₀ r₀ (h .done ++ (or-row ∷ [])) rs₁ (p₁ .row) × rows-all-are ((h .done ++ (or-row ∷ [])) ++ rest)
     with-or e rest q = (
-      subst (Put rs₀ r₀ (h .done ++ (or-row ∷ [])) rs₁) (sym (ap (λ (z : Place). z .row) (place-open true e)))
+      subst (Put rs₀ r₀ (h .done ++ (or-row ∷ [])) rs₁) (sym (ap (λ (z : ListPlace). z .row) (place-open true e)))
           (put-row or-row (h .put) (row-left or-row rest (h .put) q) (rows-open true e)),
       q ∙ sym (append-assoc (h .done) (or-row ∷ []) rest),
     )
 
     without-or : begins p (t .class) ≡ false → Put rs₀ r₀ (h .done) rs₁ (p₁ .row)
     without-or e =
-        subst (Put rs₀ r₀ (h .done) rs₁) (sym (ap (λ (z : Place). z .row) (place-open false e)))
+        subst (Put rs₀ r₀ (h .done) rs₁) (sym (ap (λ (z : ListPlace). z .row) (place-open false e)))
         (subst (λ l. Put rs₀ r₀ (h .done) l (p .row)) (sym (rows-open false e)) (h .put))
 
     ended : (f : Bool) → p .fresh ≡ f → t .class ≡ 6 → tokens-at b (p .at) ≡ plain 0 ∷ us → Opened rs₁ (p₁ .row)
@@ -336,7 +336,7 @@ module _ {b : Bytes} {from r₀ : ℕ} {rs₀ rs : List Row} {p : Place} (whole 
       where
         lit : (f : Bool) → p .fresh ≡ f → Sort (tokens-at b (p .at)) us t → Opened rs₁ (p₁ .row)
         lit f e (nothing k q r) =
-            no-word k (q ∙ sym r) (rows-open false (begins-none k)) (ap (λ (z : Place). z .row) (place-open false (begins-none k)))
+            no-word k (q ∙ sym r) (rows-open false (begins-none k)) (ap (λ (z : ListPlace). z .row) (place-open false (begins-none k)))
         lit f e (ends k q) = ended f e k q
         lit true e (literal-word w l q i v g k n a) =
             let o = with-or (begins-word true e (ne-eqb (t .class) 0 (λ z. absurd (omega (arith, l, z))))) (said-row w ∷ rest-rows false (lists us)) (or-literal w q i v g e) in
@@ -349,7 +349,7 @@ module _ {b : Bytes} {from r₀ : ℕ} {rs₀ rs : List Row} {p : Place} (whole 
         go s = lit (p .fresh) refl s
 
     same-fresh : p₁ .fresh ≡ p .fresh
-    same-fresh = ap (λ (z : Place). z .fresh) opens ∙ by (begins p (t .class))
+    same-fresh = ap (λ (z : ListPlace). z .fresh) opens ∙ by (begins p (t .class))
       where
         by : (c : Bool) → (cond c (record { at = p .at; row = p .row + 1; fresh = p .fresh }) p) .fresh ≡ p .fresh
         by true = refl
@@ -386,7 +386,7 @@ module _ {b : Bytes} {from r₀ : ℕ} {rs₀ rs : List Row} {p : Place} (whole 
         go (none k q r) = omega (arith, ap length r)
         go (word v c q) = omega (arith, ap length q, h .fewer)
 
-    pub clauses-written-more : {rs₂ : List Row} {p₂ : Place} → p₂ ≡ word-place t p₁ → rs₂ ≡ word-rows t p₁ rs₁ → ClausesWritten b from r₀ rs₀ rs₂ p₂
+    pub clauses-written-more : {rs₂ : List Row} {p₂ : ListPlace} → p₂ ≡ word-place t p₁ → rs₂ ≡ word-rows t p₁ rs₁ → ClausesWritten b from r₀ rs₀ rs₂ p₂
     clauses-written-more {rs₂} {p₂} e f = go opened
       where
         made : (fresh : Bool) (r : ℕ) → p₂ ≡ record { at = t .to; row = r; fresh = fresh } → whole-lists (not fresh) us ≡ true → (done : List Row)
@@ -426,7 +426,7 @@ module _ {b : Bytes} {from r₀ : ℕ} {rs₀ rs : List Row} {p : Place} (whole 
             written : word-rows t p₁ rs₁ ≡ set rs₁ (p₁ .row) (literal-row (literal-said t))
             written = rw (not-zero, not-less)
 
-pub clauses-written-all : {b : Bytes} {from r₀ : ℕ} {rs₀ rs : List Row} {p : Place} → ClausesWritten b from r₀ rs₀ rs p → length b ≤ p .at
+pub clauses-written-all : {b : Bytes} {from r₀ : ℕ} {rs₀ rs : List Row} {p : ListPlace} → ClausesWritten b from r₀ rs₀ rs p → length b ≤ p .at
     → rs ≡ spliced rs₀ r₀ (clause-rows (tokens-at b from))
 unfolding pieces ended-lists split rest-rows clause-trees forest-rows
 clauses-written-all {b} {from} {r₀} {rs₀} {rs} {p} h l =
@@ -438,11 +438,11 @@ clauses-written-all {b} {from} {r₀} {rs₀} {rs} {p} h l =
     nothing-left true = refl
     nothing-left false = refl
 
-pub word-place-at : {p : Place} (t : code.Token) (p₁ : Place) → p ≡ word-place t p₁ → p .at ≡ t .to
-word-place-at t p₁ e = ap (λ (q : Place). q .at) e ∙ by (eqb (t .class) 6) (ltb (t .class) 6)
+pub word-place-at : {p : ListPlace} (t : code.Token) (p₁ : ListPlace) → p ≡ word-place t p₁ → p .at ≡ t .to
+word-place-at t p₁ e = ap (λ (q : ListPlace). q .at) e ∙ by (eqb (t .class) 6) (ltb (t .class) 6)
   where
     by : (c d : Bool)
-        → (cond {A = Place} c (record { at = t .to; row = p₁ .row; fresh = true })
+        → (cond {A = ListPlace} c (record { at = t .to; row = p₁ .row; fresh = true })
         (cond d (record { at = t .to; row = p₁ .row; fresh = p₁ .fresh }) (record { at = t .to; row = p₁ .row + 1; fresh = false }))) .at ≡ t .to
     by true d = refl
     by false true = refl

@@ -35,7 +35,7 @@ ghost use Rattle.qdimacs.specs.Inner.Marks.{Listed, bindings-in, frees};
 ghost use Rattle.qdimacs.specs.Inner.Rows.{spliced, clause-rows, Openable, open-place, open-rows, literal-row, word-place, word-rows, Writable};
 
 // Where the writing of clauses stands: the next word, the next row, and whether a clause begins there.
-pub struct Place {
+pub struct ListPlace {
     pub at: usize,
     pub row: usize,
     pub fresh: bool,
@@ -133,7 +133,7 @@ fn one_if_some(class: u8) -> usize
 }
 
 // The OR row of a clause that begins with a word of this class.
-fn open_clause(b: &[u8], p: Place, class: u8, out: &mut [u8], s: Layout) -> Place
+fn open_clause(b: &[u8], p: ListPlace, class: u8, out: &mut [u8], s: Layout) -> ListPlace
     requires { ⌜ Openable (now b) p class s (length (now out)) ⌝ }
     ensures { λ r. ⌜ r ≡ open-place p class ⌝ }
     ensures { λ _. ⌜ rows-in s (now (out .exit)) ≡ open-rows (now (b .entry)) p class (rows-in s (now (out .entry))) ⌝ }
@@ -146,7 +146,7 @@ fn open_clause(b: &[u8], p: Place, class: u8, out: &mut [u8], s: Layout) -> Plac
     }
     let n = clause_length(b, p.at);
     set_row(out, s, p.row, OR, n);
-    Place {
+    ListPlace {
         at: p.at,
         row: p.row + 1,
         fresh: p.fresh,
@@ -164,27 +164,27 @@ fn write_literal(literal: i32, out: &mut [u8], s: Layout, r: usize)
 }
 
 // The row of a word, which has one if it is a number other than 0.
-fn write_word(t: Token, p: Place, out: &mut [u8], s: Layout) -> Place
+fn write_word(t: Token, p: ListPlace, out: &mut [u8], s: Layout) -> ListPlace
     requires { ⌜ Room s (length (now out)) × (7 ≤ t .class → p .row < total s) × (p .row < largest) × (7 ≤ t .class → Fits s (variable-said t)) ⌝ }
     ensures { λ r. ⌜ r ≡ word-place t p ⌝ }
     ensures { λ _. ⌜ rows-in s (now (out .exit)) ≡ word-rows t p (rows-in s (now (out .entry))) ⌝ }
 {
     if t.class == ZERO {
-        return Place {
+        return ListPlace {
             at: t.to,
             row: p.row,
             fresh: true,
         };
     }
     if t.class < ZERO {
-        return Place {
+        return ListPlace {
             at: t.to,
             row: p.row,
             fresh: p.fresh,
         };
     }
     write_literal(literal_said(t), out, s, p.row);
-    Place {
+    ListPlace {
         at: t.to,
         row: p.row + 1,
         fresh: false,
@@ -196,7 +196,7 @@ pub fn write_clauses(b: &[u8], from: usize, out: &mut [u8], s: Layout, r: usize)
     requires { ⌜ Writable (now b) from s (length (now out)) r ⌝ }
     ensures { λ _. ⌜ rows-in s (now (out .exit)) ≡ spliced (rows-in s (now (out .entry))) r (clause-rows (tokens-at (now (b .entry)) from)) ⌝ }
 {
-    let mut p = Place {
+    let mut p = ListPlace {
         at: from,
         row: r,
         fresh: true,

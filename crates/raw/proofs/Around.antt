@@ -12,7 +12,7 @@ use Rattle.formula.proofs.Expand.{one-later, one-counts, no-child}
 use Rattle.sheet.specs.Format.{Row, row}
 use Rattle.sheet.specs.Sheet.{operator-kind, tree-rows, forest-rows}
 use Rattle.sheet.proofs.Preorder.{length-tree-rows}
-use Rattle.subtrees.specs.Parts.{literal-part, operator-part, relevant-part, part-below}
+use Rattle.subtrees.specs.Parts.{literal-part, operator-part, relevant-subtree, part-below}
 use Rattle.subtrees.specs.declared.relevant.Relevant.{Relevant}
 
 -- some literal is chosen, and no single child has them all
@@ -20,7 +20,7 @@ abbrev pub Deepest : Literals → Tree → Type 0
 Deepest L (lit s v) = L s v ≡ true
 Deepest L (node o ts) = (has-any L ts ≡ true) × (one-relevant L ts ≡ false)
 
--- the relevant part is such a tree's own
+-- the relevant subtree is such a tree's own
 abbrev pub own-part : Literals → ℕ → Tree → Relevant
 own-part L i (lit s v) = literal-part i
 own-part L i (node o ts) = operator-part L i ts
@@ -108,10 +108,10 @@ module _ (c : Copying) where
       counted = sym (length-append (tree-rows u) (a .front) ∙ ap (λ n. n + length (a .front)) (length-tree-rows u))
 
   mutual
-    unfolding has expand-tree relevant-part part-below
+    unfolding has expand-tree relevant-subtree part-below
 
     pub around : (u : Tree) (i : ℕ) → has L u ≡ true
-        → Around c i (relevant-part L i u) (tree-rows u) (tree-rows (expand-tree c u))
+        → Around c i (relevant-subtree L i u) (tree-rows u) (tree-rows (expand-tree c u))
     around (lit s v) i h = here i (lit s v) h
     around (node o ts) i h = by (one-relevant L ts) refl (λ k. around-below ts (suc i) k)
       where
@@ -136,10 +136,10 @@ module _ (c : Copying) where
     around-below (u ▸ ts) i h = by (has L u) refl (λ k. around u i k) (λ k. around-below ts (i + rows u) k)
       where
         by : (m : Bool) → has L u ≡ m
-            → (has L u ≡ true → Around c i (relevant-part L i u) (tree-rows u) (tree-rows (expand-tree c u)))
+            → (has L u ≡ true → Around c i (relevant-subtree L i u) (tree-rows u) (tree-rows (expand-tree c u)))
             → (count (keep (has L) ts) ≡ 1
             → Around c (i + rows u) (part-below L (i + rows u) ts) (forest-rows ts) (forest-rows (expand-below c ts)))
-            → Around c i (cond m (relevant-part L i u) (part-below L (i + rows u) ts)) (forest-rows (u ▸ ts))
+            → Around c i (cond m (relevant-subtree L i u) (part-below L (i + rows u) ts)) (forest-rows (u ▸ ts))
             (forest-rows (cond m (expand-tree c u ▸ ts) (u ▸ expand-below c ts)))
         by true e in-u in-ts = leading i u ts (in-u e)
         by false e in-u in-ts = later i u ts (in-ts (one-later L u ts h e))

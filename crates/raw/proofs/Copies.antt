@@ -14,8 +14,8 @@ use Rattle.sheet.specs.Sheet.{operator-kind, tree-rows, forest-rows}
 use Rattle.subtrees.specs.Subtrees.{top, kids}
 use Rattle.subtrees.specs.Cuts.{every-other}
 use Rattle.subtrees.specs.Parts.{operator-part}
-use Rattle.changing.specs.Changes.{chosen, changed, changed-row}
-use Rattle.changing.proofs.Changed.{count-replace-all, rows-changed, rows-changed-all}
+use Rattle.substitution.specs.Changes.{chosen, changed, changed-row}
+use Rattle.substitution.proofs.Changed.{count-replace-all, rows-changed, rows-changed-all}
 use Rattle.raw.specs.Expansions.{joined}
 use Rattle.raw.proofs.Around.{Deepest, own-part}
 use Rattle.raw.proofs.Cuts.{Parted}

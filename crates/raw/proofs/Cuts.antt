@@ -14,8 +14,8 @@ use Rattle.sheet.specs.Format.{Row}
 use Rattle.sheet.specs.Sheet.{tree-rows, forest-rows}
 use Rattle.sheet.proofs.Preorder.{length-tree-rows, length-forest-rows}
 use Rattle.subtrees.specs.Cuts.{turns, cuts, every-other}
-use Rattle.changing.specs.Changes.{chosen, changed-row}
-use Rattle.changing.proofs.Changed.{rows-kept-all}
+use Rattle.substitution.specs.Changes.{chosen, changed-row}
+use Rattle.substitution.proofs.Changed.{rows-kept-all}
 use Rattle.raw.specs.Expansions.{Climbs}
 
 -- slice

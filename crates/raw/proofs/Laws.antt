@@ -14,8 +14,8 @@ use Rattle.sheet.specs.Sheet.{operator-kind}
 use Rattle.rows.specs.Formulas.{prefix-in, matrix-in, formula-in, Readable}
 use Rattle.rows.specs.declared.Layout.{Layout}
 use Rattle.rows.proofs.Formulas.{length-prefix, formula-written}
-use Rattle.changing.specs.Changes.{putting, chosen, changed}
-use Rattle.changing.proofs.Tables.{length-putting, chosen-putting, changed-putting}
+use Rattle.substitution.specs.Changes.{putting, chosen, changed}
+use Rattle.substitution.proofs.Tables.{length-putting, chosen-putting, changed-putting}
 use Rattle.raw.specs.Formulas.{without-row, settled-raw, first-table, second-table, chosen-by, operator-of, copying-by, expanded-raw, Raw}
 use Rattle.raw.specs.Expansions.{Expandable}
 use Rattle.raw.specs.declared.expand.Expansion.{Expansion}

@@ -4,7 +4,7 @@ pub mod Cuts
 mod Around
 pub mod Source
 mod Copies
-mod Turn
+mod RunTurns
 pub mod Raws
 pub mod Sited
 pub mod Plans

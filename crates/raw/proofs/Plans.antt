@@ -19,8 +19,8 @@ use Rattle.rows.proofs.Formulas.{length-nodes}
 use Rattle.subtrees.specs.Subtrees.{top, kids}
 use Rattle.subtrees.proofs.Forest.{rows-kids}
 use Rattle.subtrees.specs.declared.relevant.Relevant.{Relevant}
-use Rattle.changing.specs.Changes.{changed-row, copied}
-use Rattle.changing.specs.Output.{Ready}
+use Rattle.substitution.specs.Changes.{changed-row, copied}
+use Rattle.substitution.specs.Output.{CopyReady}
 use Rattle.rows.proofs.Limits.{number-fits}
 use Rattle.raw.specs.Formulas.{without-row, first-table, second-table, chosen-by, operator-of, copying-by, expanded-raw}
 use Rattle.raw.specs.Expansions.{Climbs, runs-in, joined, Copyable, Expandable, Located, part-in, cuts-in, new-rows, new-at, joined-in, raw-matrix}
@@ -29,12 +29,12 @@ use Rattle.raw.proofs.Around.{own-part}
 use Rattle.raw.proofs.Cuts.{climbs-from, Parted, parted}
 use Rattle.raw.proofs.Source.{nodes-part, matrix-part}
 use Rattle.raw.proofs.Copies.{relevant-few, whole-rows, some-rows}
-use Rattle.raw.proofs.Turn.{climbs-most}
+use Rattle.raw.proofs.RunTurns.{climbs-most}
 use Rattle.raw.proofs.Raws.{room-on, rows-raw, rows-absent}
 use Rattle.raw.proofs.Sited.{Sited, sited}
 
 pub ready-raw : {s : Layout} {b : Bytes} {tables : List ℕ} {e : Expansion} {out : Bytes} → Copyable s b tables e out
-    → Ready s b (e .layout) out
+    → CopyReady s b (e .layout) out
 ready-raw x = record { source = x .readable .room; room = x .room; same-format = x .same-format }
 
 module _ {s : Layout} {b : Bytes} {tables : List ℕ} {e : Expansion} {out : Bytes} (x : Copyable s b tables e out)
@@ -79,17 +79,17 @@ rest-of a l = take-all (length l - a) (drop a l) (omega (arith, length-drop a l)
 
 -- Every child is relevant.
 pub record Whole (s : Layout) (b : Bytes) (tables : List ℕ) (e : Expansion) : Type 0 where
-  pub inside : e .part .operator < e .end
+  pub inside : e .relevant .operator < e .end
   pub end-in : e .end ≤ s .nodes
   pub fits-two : Fits (e .layout) 2
-  pub room : new-at e + (1 + ((e .end - e .part .operator) + (e .end - e .part .operator))) ≤ total (e .layout)
+  pub room : new-at e + (1 + ((e .end - e .relevant .operator) + (e .end - e .relevant .operator))) ≤ total (e .layout)
   pub written : row (e .joint) 2 ∷
-      (copied (first-table tables) (s .variables + e .part .operator) (s .variables + e .end) (rows-in s b) ++
-      copied (second-table tables) (s .variables + e .part .operator) (s .variables + e .end) (rows-in s b)) ≡
+      (copied (first-table tables) (s .variables + e .relevant .operator) (s .variables + e .end) (rows-in s b) ++
+      copied (second-table tables) (s .variables + e .relevant .operator) (s .variables + e .end) (rows-in s b)) ≡
       new-rows s b tables e
 
 pub whole : {s : Layout} {b : Bytes} {tables : List ℕ} {e : Expansion} {out : Bytes} → Copyable s b tables e out
-    → Located s b tables e → e .part .all ≡ true → Whole s b tables e
+    → Located s b tables e → e .relevant .all ≡ true → Whole s b tables e
 whole {s} {b} {tables} {e} x l h =
     record {
       inside = site .inside;
@@ -123,35 +123,35 @@ whole {s} {b} {tables} {e} x l h =
 
     copies : new-rows s b tables e ≡ row (e .joint) 2 ∷ (map (changed-row first) (tree-rows u) ++ map (changed-row second) (tree-rows u))
     copies =
-        whole-rows (operator-of (e .joint)) first second u (e .part .operator) (site .deep)
+        whole-rows (operator-of (e .joint)) first second u (e .relevant .operator) (site .deep)
         (sym (ap (λ (p : Relevant). p .all) (site .found)) ∙ h) ∙
         ap (λ k. row k 2 ∷ (map (changed-row first) (tree-rows u) ++ map (changed-row second) (tree-rows u))) (sym (x .joins))
 
 -- Not every child is relevant.
 pub record Some (s : Layout) (b : Bytes) (tables cs : List ℕ) (e : Expansion) : Type 0 where
-  pub operator-in : e .part .operator < s .nodes
+  pub operator-in : e .relevant .operator < s .nodes
   pub two : 2 ≤ length cs
-  pub begins : getD cs 0 0 ≡ suc (e .part .operator)
+  pub begins : getD cs 0 0 ≡ suc (e .relevant .operator)
   pub ordered : getD cs 0 0 ≤ getD cs 1 0
   pub within : getD cs 1 0 ≤ s .nodes
   pub climbs-relevant : Climbs 0 (drop 1 cs) (s .nodes)
   pub climbs-others : Climbs 0 (drop 2 cs) (s .nodes)
-  pub few : e .part .children ≤ count (kids (part-in s b e))
+  pub few : e .relevant .children ≤ count (kids (part-in s b e))
   pub fits-two : Fits (e .layout) 2
-  pub fits-relevant : Fits s (e .part .children)
-  pub fits-children : Fits (e .layout) (count (kids (part-in s b e)) - e .part .children + 1)
+  pub fits-relevant : Fits s (e .relevant .children)
+  pub fits-children : Fits (e .layout) (count (kids (part-in s b e)) - e .relevant .children + 1)
   pub joined-length : length (joined-in s b tables cs e) ≡
       1 + ((1 + length (runs-in s b (drop 1 cs))) + (1 + length (runs-in s b (drop 1 cs))))
   pub room : new-at e +
       (1 + ((getD cs 1 0 - getD cs 0 0) + (length (joined-in s b tables cs e) + length (runs-in s b (drop 2 cs))))) ≤
       total (e .layout)
-  pub written : row ((top (part-in s b e)) .kind) (count (kids (part-in s b e)) - e .part .children + 1) ∷
+  pub written : row ((top (part-in s b e)) .kind) (count (kids (part-in s b e)) - e .relevant .children + 1) ∷
       (slice (s .variables + getD cs 0 0) (s .variables + getD cs 1 0) (rows-in s b) ++
       (joined-in s b tables cs e ++ map (changed-row (second-table tables)) (runs-in s b (drop 2 cs)))) ≡
       new-rows s b tables e
 
 pub some : {s : Layout} {b : Bytes} {tables cs : List ℕ} {e : Expansion} {out : Bytes} → Copyable s b tables e out
-    → Located s b tables e → e .part .all ≡ false → cs ≡ cuts-in s b tables e → Some s b tables cs e
+    → Located s b tables e → e .relevant .all ≡ false → cs ≡ cuts-in s b tables e → Some s b tables cs e
 unfolding joined
 some {s} {b} {tables} {cs} {e} x l h c =
     record {
@@ -193,11 +193,11 @@ some {s} {b} {tables} {cs} {e} x l h c =
     u : Tree
     u = part-in s b e
 
-    p : Parted second N (suc (e .part .operator)) (kids u) cs
-    p = parted second N (suc (e .part .operator)) (kids u) (site .stands) c
+    p : Parted second N (suc (e .relevant .operator)) (kids u) cs
+    p = parted second N (suc (e .relevant .operator)) (kids u) (site .stands) c
 
     head : Row
-    head = row ((top u) .kind) (count (kids u) - e .part .children + 1)
+    head = row ((top u) .kind) (count (kids u) - e .relevant .children + 1)
 
     one-cut : drop 1 cs ≡ getD cs 1 0 ∷ drop 2 cs
     one-cut = drop-cons cs 1 0 (omega (arith, p .two))
@@ -211,14 +211,14 @@ some {s} {b} {tables} {cs} {e} x l h c =
     c1-within : getD cs 1 0 ≤ s .nodes
     c1-within = climbs-most (s .nodes) (drop 2 cs) (climbing .1 .1)
 
-    all-is : (own-part (chosen-by tables) (e .part .operator) u) .all ≡ false
+    all-is : (own-part (chosen-by tables) (e .relevant .operator) u) .all ≡ false
     all-is = sym (ap (λ (q : Relevant). q .all) (site .found)) ∙ h
 
-    children-are : e .part .children ≡ (own-part (chosen-by tables) (e .part .operator) u) .children
+    children-are : e .relevant .children ≡ (own-part (chosen-by tables) (e .relevant .operator) u) .children
     children-are = ap (λ (q : Relevant). q .children) (site .found)
 
-    bounds : (1 ≤ (own-part (chosen-by tables) (e .part .operator) u) .children) × ((own-part (chosen-by tables) (e .part .operator) u) .children ≤ count (kids u))
-    bounds = relevant-few (chosen-by tables) u (e .part .operator) (site .deep) all-is
+    bounds : (1 ≤ (own-part (chosen-by tables) (e .relevant .operator) u) .children) × ((own-part (chosen-by tables) (e .relevant .operator) u) .children ≤ count (kids u))
+    bounds = relevant-few (chosen-by tables) u (e .relevant .operator) (site .deep) all-is
 
     kids-few : count (kids u) ≤ 8191
     kids-few = omega (arith, count-rows (kids u), rows-kids u, l .end-is, site .end-in, x .readable .few-nodes)
@@ -235,22 +235,22 @@ some {s} {b} {tables} {cs} {e} x l h c =
         )
       where
         below : Row
-        below = row ((top u) .kind) (e .part .children)
+        below = row ((top u) .kind) (e .relevant .children)
 
     parts : new-rows s b tables e ≡
         head ∷ (slice (getD cs 0 0) (getD cs 1 0) N ++ (joined-in s b tables cs e ++ runs-in s b (drop 2 cs)))
     parts =
-        some-rows (operator-of (e .joint)) (first-table tables) second u (e .part .operator) (site .deep) all-is p (e .part .children) children-are ∙
+        some-rows (operator-of (e .joint)) (first-table tables) second u (e .relevant .operator) (site .deep) all-is p (e .relevant .children) children-are ∙
         ap
         (λ k. head ∷
         (slice (getD cs 0 0) (getD cs 1 0) N ++
-        (joined k (row ((top u) .kind) (e .part .children)) (first-table tables) second (runs-in s b (drop 1 cs)) ++ runs-in s b (drop 2 cs))))
+        (joined k (row ((top u) .kind) (e .relevant .children)) (first-table tables) second (runs-in s b (drop 1 cs)) ++ runs-in s b (drop 2 cs))))
         (sym (x .joins))
 
 -- the copies as they are written, by parts that are lent
 pub joined-parts : (s : Layout) (b : Bytes) (tables cs : List ℕ) (e : Expansion) {k : ℕ} → k ≡ (top (part-in s b e)) .kind
     → let relevant = runs-in s b (take (length cs - 1) (drop 1 cs)) in
-    let head = row k (e .part .children) in
+    let head = row k (e .relevant .children) in
     row (e .joint) 2 ∷
     ((head ∷ map (changed-row (first-table tables)) relevant) ++
     (head ∷ map (changed-row (take (length tables - 1025) (drop 1025 tables))) relevant)) ≡
@@ -259,27 +259,27 @@ unfolding joined
 joined-parts s b tables cs e {k} h =
     ap₂
     (λ ts l. row (e .joint) 2 ∷
-    ((row k (e .part .children) ∷ map (changed-row (first-table tables)) (runs-in s b l)) ++
-    (row k (e .part .children) ∷ map (changed-row ts) (runs-in s b l))))
+    ((row k (e .relevant .children) ∷ map (changed-row (first-table tables)) (runs-in s b l)) ++
+    (row k (e .relevant .children) ∷ map (changed-row ts) (runs-in s b l))))
     (rest-of 1025 tables) (rest-of 1 cs) ∙
-    ap (λ n. joined (e .joint) (row n (e .part .children)) (first-table tables) (second-table tables) (runs-in s b (drop 1 cs))) h
+    ap (λ n. joined (e .joint) (row n (e .relevant .children)) (first-table tables) (second-table tables) (runs-in s b (drop 1 cs))) h
 
 -- the operator, its first run, the copies and the other runs, in the same way
 pub some-parts : (s : Layout) (b : Bytes) (tables cs : List ℕ) (e : Expansion) → Some s b tables cs e → {k n : ℕ}
     → k ≡ (top (part-in s b e)) .kind → n ≡ count (kids (part-in s b e))
     → let t = take (length tables - 1025) (drop 1025 tables) in
-    row k (n - e .part .children + 1) ∷
+    row k (n - e .relevant .children + 1) ∷
     (slice (s .variables + getD cs 0 0) (s .variables + getD cs 1 0) (rows-in s b) ++
     (joined-in s b tables cs e ++ map (changed-row t) (runs-in s b (take (length cs - 2) (drop 2 cs))))) ≡
     new-rows s b tables e
 some-parts s b tables cs e p {k} {n} is-kind is-count =
     ap₂
-    (λ t l. row k (n - e .part .children + 1) ∷
+    (λ t l. row k (n - e .relevant .children + 1) ∷
     (slice (s .variables + getD cs 0 0) (s .variables + getD cs 1 0) (rows-in s b) ++
     (joined-in s b tables cs e ++ map (changed-row t) (runs-in s b l))))
     (rest-of 1025 tables) (rest-of 2 cs) ∙
     ap₂
-    (λ k n. row k (n - e .part .children + 1) ∷
+    (λ k n. row k (n - e .relevant .children + 1) ∷
     (slice (s .variables + getD cs 0 0) (s .variables + getD cs 1 0) (rows-in s b) ++
     (joined-in s b tables cs e ++ map (changed-row (second-table tables)) (runs-in s b (drop 2 cs)))))
     is-kind is-count ∙

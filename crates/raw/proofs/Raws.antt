@@ -15,10 +15,10 @@ use Rattle.rows.specs.Layouts.{total, rows-in, Room}
 use Rattle.rows.specs.Formulas.{prefix-in, matrix-in, formula-in, Readable}
 use Rattle.rows.specs.declared.Layout.{Layout}
 use Rattle.rows.proofs.Formulas.{rows-nodes}
-use Rattle.changing.specs.Changes.{copied}
-use Rattle.changing.specs.Output.{Laid}
-use Rattle.changing.proofs.Changed.{one-row}
-use Rattle.changing.proofs.Splice.{laid-all}
+use Rattle.substitution.specs.Changes.{copied}
+use Rattle.substitution.specs.Output.{Laid}
+use Rattle.substitution.proofs.Changed.{one-row}
+use Rattle.substitution.proofs.Splice.{laid-all}
 use Rattle.raw.specs.Formulas.{without-row, settled-raw, first-table, second-table, chosen-by, copying-by, Raw}
 use Rattle.raw.proofs.Source.{matrix-copied}
 

@@ -18,9 +18,9 @@ use Rattle.rows.specs.declared.Layout.{Layout}
 use Rattle.rows.proofs.Formulas.{length-nodes, one-tree}
 use Rattle.subtrees.specs.Subtrees.{kids, forest-in, subtree-in}
 use Rattle.subtrees.proofs.Forest.{tree-rows-top}
-use Rattle.subtrees.specs.Parts.{operator-part, relevant-part}
+use Rattle.subtrees.specs.Parts.{operator-part, relevant-subtree}
 use Rattle.subtrees.specs.declared.relevant.Relevant.{Relevant}
-use Rattle.changing.specs.Changes.{changed-row, copied}
+use Rattle.substitution.specs.Changes.{changed-row, copied}
 use Rattle.raw.specs.Formulas.{second-table, chosen-by, copying-by}
 use Rattle.raw.specs.Expansions.{Copyable, Located, part-in, new-rows}
 use Rattle.raw.specs.declared.expand.Expansion.{Expansion}
@@ -54,17 +54,17 @@ module _ {A : Type 0} (l p q r : List A) (e : l ≡ p ++ (q ++ r)) {i k : ℕ} (
 
 -- What the writing functions need to know of the subtree.
 pub record Sited (s : Layout) (b : Bytes) (tables : List ℕ) (e : Expansion) : Type 0 where
-  pub inside : e .part .operator < e .end
+  pub inside : e .relevant .operator < e .end
   pub end-in : e .end ≤ s .nodes
   pub deep : Deepest (chosen-by tables) (part-in s b e)
-  pub found : e .part ≡ own-part (chosen-by tables) (e .part .operator) (part-in s b e)
-  pub stands : Stands (node-rows-in s b) (suc (e .part .operator)) (kids (part-in s b e))
+  pub found : e .relevant ≡ own-part (chosen-by tables) (e .relevant .operator) (part-in s b e)
+  pub stands : Stands (node-rows-in s b) (suc (e .relevant .operator)) (kids (part-in s b e))
   pub here : (t : List ℕ)
-      → copied t (s .variables + e .part .operator) (s .variables + e .end) (rows-in s b) ≡ map (changed-row t) (tree-rows (part-in s b e))
+      → copied t (s .variables + e .relevant .operator) (s .variables + e .end) (rows-in s b) ≡ map (changed-row t) (tree-rows (part-in s b e))
   pub raw : tree-rows (raw-tree (copying-by tables (e .joint)) (matrix-in s b)) ≡
-      slice (s .variables) (s .variables + e .part .operator) (rows-in s b) ++
+      slice (s .variables) (s .variables + e .relevant .operator) (rows-in s b) ++
       (new-rows s b tables e ++ slice (s .variables + e .end) (total s) (rows-in s b))
-  pub measured : e .part .operator + (length (new-rows s b tables e) + (s .nodes - e .end)) ≡ e .layout .nodes
+  pub measured : e .relevant .operator + (length (new-rows s b tables e) + (s .nodes - e .end)) ≡ e .layout .nodes
 
 module _ (s : Layout) (b : Bytes) (tables : List ℕ) (e : Expansion) {out : Bytes} (x : Copyable s b tables e out)
     (l : Located s b tables e) where
@@ -78,12 +78,12 @@ module _ (s : Layout) (b : Bytes) (tables : List ℕ) (e : Expansion) {out : Byt
   N = node-rows-in s b
 
   abbrev op : ℕ
-  op = e .part .operator
+  op = e .relevant .operator
 
   abbrev second : List ℕ
   second = second-table tables
 
-  A : Around c 0 (relevant-part L 0 (matrix-in s b)) (tree-rows (matrix-in s b)) (tree-rows (expand-tree c (matrix-in s b)))
+  A : Around c 0 (relevant-subtree L 0 (matrix-in s b)) (tree-rows (matrix-in s b)) (tree-rows (expand-tree c (matrix-in s b)))
   A = around c (matrix-in s b) 0 (l .present)
 
   in-N : N ≡ A .front ++ (tree-rows (A .tree) ++ A .back)

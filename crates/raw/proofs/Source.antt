@@ -17,8 +17,8 @@ use Rattle.rows.specs.Formulas.{prefix-in, node-rows-in, matrix-in, Readable}
 use Rattle.rows.specs.declared.Layout.{Layout}
 use Rattle.rows.proofs.Layouts.{length-rows-in}
 use Rattle.rows.proofs.Formulas.{length-nodes, length-prefix, quantifiers, one-tree}
-use Rattle.changing.specs.Changes.{changed, chosen-row, changed-row, copied}
-use Rattle.changing.proofs.Changed.{map-append, row-kept, rows-changed}
+use Rattle.substitution.specs.Changes.{changed, chosen-row, changed-row, copied}
+use Rattle.substitution.proofs.Changed.{map-append, row-kept, rows-changed}
 use Rattle.raw.specs.Formulas.{without-row}
 
 -- lists

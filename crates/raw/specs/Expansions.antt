@@ -13,10 +13,10 @@ use Rattle.rows.specs.Layouts.{total, Room}
 use Rattle.rows.specs.Formulas.{node-rows-in, matrix-in, Readable}
 use Rattle.rows.specs.declared.Layout.{Layout}
 use Rattle.subtrees.specs.Subtrees.{top, kids, subtree-in}
-use Rattle.changing.specs.Changes.{changed-row}
-use Rattle.changing.specs.Output.{Ready}
+use Rattle.substitution.specs.Changes.{changed-row}
+use Rattle.substitution.specs.Output.{CopyReady}
 use Rattle.subtrees.specs.Cuts.{cuts, every-other}
-use Rattle.subtrees.specs.Parts.{relevant-part}
+use Rattle.subtrees.specs.Parts.{relevant-subtree}
 use Rattle.raw.specs.Formulas.{first-table, second-table, chosen-by, operator-of, copying-by, raw-layout}
 use Rattle.raw.specs.declared.expand.Expansion.{Expansion}
 use Rattle.raw.specs.declared.runs.Head.{Head}
@@ -33,7 +33,7 @@ runs-in s b cs = every-other cs (node-rows-in s b)
 -- a sheet, cuts in its rows, and an output with room for every other run from row at on
 pub record Runnable (s : Layout) (b : Bytes) (cs : List ℕ) (t : Layout) (out : Bytes) (at : ℕ) : Type 0 where
   pub readable : Readable s b
-  pub ready : Ready s b t out
+  pub ready : CopyReady s b t out
   pub climbs : Climbs 0 cs (s .nodes)
   pub room : at + length (runs-in s b cs) ≤ total t
 
@@ -69,20 +69,20 @@ pub record Expandable (s : Layout) (b : Bytes) (tables : List ℕ) (e : Expansio
 
 -- the subtree that an expansion replaces, whole or in part, and its children's cuts
 abbrev pub part-in : Layout → Bytes → Expansion → Tree
-part-in s b e = subtree-in s b (e .part .operator)
+part-in s b e = subtree-in s b (e .relevant .operator)
 
 abbrev pub cuts-in : Layout → Bytes → List ℕ → Expansion → List ℕ
-cuts-in s b tables e = cuts (chosen-by tables) (suc (e .part .operator)) (kids (part-in s b e))
+cuts-in s b tables e = cuts (chosen-by tables) (suc (e .relevant .operator)) (kids (part-in s b e))
 
--- a chosen literal occurs: the relevant part, and where its subtree ends
+-- a chosen literal occurs: the relevant subtree, and where its subtree ends
 pub record Located (s : Layout) (b : Bytes) (tables : List ℕ) (e : Expansion) : Type 0 where
   pub present : has (chosen-by tables) (matrix-in s b) ≡ true
-  pub part-is : e .part ≡ relevant-part (chosen-by tables) 0 (matrix-in s b)
-  pub end-is : e .end ≡ e .part .operator + rows (part-in s b e)
+  pub part-is : e .relevant ≡ relevant-subtree (chosen-by tables) 0 (matrix-in s b)
+  pub end-is : e .end ≡ e .relevant .operator + rows (part-in s b e)
 
 -- and where not every child is relevant, the cuts of its children
 abbrev pub Found : Layout → Bytes → List ℕ → List ℕ → Expansion → Type 0
-Found s b tables cs e = Located s b tables e × (e .part .all ≡ false → cs ≡ cuts-in s b tables e)
+Found s b tables cs e = Located s b tables e × (e .relevant .all ≡ false → cs ≡ cuts-in s b tables e)
 
 -- whether a chosen literal occurs, and if so the part
 abbrev pub Told : Layout → Bytes → List ℕ → List ℕ → Expansion → Type 0
@@ -97,12 +97,12 @@ abbrev pub new-rows : Layout → Bytes → List ℕ → Expansion → List Row
 new-rows s b tables e = tree-rows (expand-tree (copying-by tables (e .joint)) (part-in s b e))
 
 abbrev pub new-at : Expansion → ℕ
-new-at e = e .layout .variables + e .part .operator
+new-at e = e .layout .variables + e .relevant .operator
 
 -- where not every child is relevant: the joint over the copies, and the row from which they are written
 abbrev pub joined-in : Layout → Bytes → List ℕ → List ℕ → Expansion → List Row
 joined-in s b tables cs e =
-    joined (e .joint) (row ((top (part-in s b e)) .kind) (e .part .children)) (first-table tables) (second-table tables)
+    joined (e .joint) (row ((top (part-in s b e)) .kind) (e .relevant .children)) (first-table tables) (second-table tables)
     (runs-in s b (drop 1 cs))
 
 abbrev pub joined-at : Expansion → List ℕ → ℕ

@@ -12,7 +12,7 @@ use Rattle.sheet.specs.Format.{Bytes}
 use Rattle.sheet.specs.Sheet.{formula-rows}
 use Rattle.rows.specs.Layouts.{rows-in, Kept}
 use Rattle.rows.specs.declared.Layout.{Layout}
-use Rattle.changing.specs.Changes.{chosen, changed}
+use Rattle.substitution.specs.Changes.{chosen, changed}
 
 -- the prefix without row i
 unfoldable pub without-row : ℕ → Prefix → Prefix

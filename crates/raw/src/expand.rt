@@ -4,13 +4,13 @@ use crate::runs::Head;
 use crate::runs::write_below;
 use crate::runs::write_runs;
 use crate::settle::write_prefix;
-use changing::Span;
-use changing::Target;
-use changing::write::write_copy;
-use changing::write::write_row;
-use changing::write::write_rows;
 use rows::Layout;
 use rows::NUMBERS;
+use substitution::Span;
+use substitution::Target;
+use substitution::write::write_copy;
+use substitution::write::write_row;
+use substitution::write::write_rows;
 use subtrees::nodes::children_at;
 use subtrees::nodes::kind_at;
 use subtrees::relevant::Relevant;
@@ -18,15 +18,15 @@ ghost use mathlib.Core.Path.{_≡_};
 ghost use mathlib.Core.Bool.{true, false};
 ghost use Rattle.formula.specs.Tree.{has};
 ghost use Rattle.rows.specs.Formulas.{matrix-in, formula-in};
-ghost use Rattle.changing.specs.Output.{Laid};
+ghost use Rattle.substitution.specs.Output.{Laid};
 ghost use Rattle.raw.specs.Formulas.{chosen-by, copying-by, expanded-raw, Raw};
 ghost use Rattle.raw.specs.Expansions.{Copyable, Expandable, Located, Found, Told, cuts-in, new-rows, new-at, joined-in, joined-at, raw-matrix};
 
-// An expansion: whether a chosen literal occurs, the relevant part, the node row at which its subtree ends, the prefix row that goes,
+// An expansion: whether a chosen literal occurs, the relevant subtree, the node row at which its subtree ends, the prefix row that goes,
 // the kind of the operator that joins the copies, and the raw sheet's layout.
 pub struct Expansion {
     pub occurs: bool,
-    pub part: Relevant,
+    pub relevant: Relevant,
     pub end: usize,
     pub row: usize,
     pub joint: u8,
@@ -35,12 +35,12 @@ pub struct Expansion {
 
 // Every child is relevant, or a literal is alone: writes the joint and below it the subtree twice, by the first table and by the second.
 fn write_whole(b: &[u8], s: Layout, tables: &[u16], e: Expansion, out: &mut [u8]) -> usize
-    requires { ⌜ Copyable s (now b) (now tables) e (now out) × Located s (now b) (now tables) e × (e .part .all ≡ true) ⌝ }
+    requires { ⌜ Copyable s (now b) (now tables) e (now out) × Located s (now b) (now tables) e × (e .relevant .all ≡ true) ⌝ }
     ensures { λ next. ⌜ Laid (e .layout) (now (out .entry)) (now (out .exit)) (new-at e) next (new-rows s (now (b .entry)) (now (tables .entry)) e) ⌝ }
 {
     let t = e.layout;
     let v = s.variables;
-    let operator = e.part.operator;
+    let operator = e.relevant.operator;
     let subtree = Span {
         from: v + operator,
         to: v + e.end,
@@ -66,12 +66,12 @@ fn write_copies(
     e: Expansion,
     out: &mut [u8],
 ) -> usize
-    requires { ⌜ Copyable s (now b) (now tables) e (now out) × Located s (now b) (now tables) e × (e .part .all ≡ false) × (now cuts ≡ cuts-in s (now b) (now tables) e) ⌝ }
+    requires { ⌜ Copyable s (now b) (now tables) e (now out) × Located s (now b) (now tables) e × (e .relevant .all ≡ false) × (now cuts ≡ cuts-in s (now b) (now tables) e) ⌝ }
     ensures { λ next. ⌜ Laid (e .layout) (now (out .entry)) (now (out .exit)) (joined-at e (now (cuts .entry))) next (joined-in s (now (b .entry)) (now (tables .entry)) (now (cuts .entry)) e) ⌝ }
 {
     let t = e.layout;
-    let children = e.part.children;
-    let kind = kind_at(b, s, e.part.operator);
+    let children = e.relevant.children;
+    let kind = kind_at(b, s, e.relevant.operator);
     let start = Target {
         layout: t,
         at: t.variables + cuts[1] as usize,
@@ -103,11 +103,11 @@ fn write_some(
     e: Expansion,
     out: &mut [u8],
 ) -> usize
-    requires { ⌜ Copyable s (now b) (now tables) e (now out) × Located s (now b) (now tables) e × (e .part .all ≡ false) × (now cuts ≡ cuts-in s (now b) (now tables) e) ⌝ }
+    requires { ⌜ Copyable s (now b) (now tables) e (now out) × Located s (now b) (now tables) e × (e .relevant .all ≡ false) × (now cuts ≡ cuts-in s (now b) (now tables) e) ⌝ }
     ensures { λ next. ⌜ Laid (e .layout) (now (out .entry)) (now (out .exit)) (new-at e) next (new-rows s (now (b .entry)) (now (tables .entry)) e) ⌝ }
 {
     let t = e.layout;
-    let operator = e.part.operator;
+    let operator = e.relevant.operator;
     let kind = kind_at(b, s, operator);
     let children = children_at(b, s, operator);
     let before = Span {
@@ -118,7 +118,7 @@ fn write_some(
         layout: t,
         at: t.variables + operator,
     };
-    let at = write_row(out, start, kind, children - e.part.children + 1);
+    let at = write_row(out, start, kind, children - e.relevant.children + 1);
     let below = Target { layout: t, at: at };
     write_rows(b, s, before, out, below);
     let end = write_copies(b, s, tables, cuts, e, out);
@@ -138,7 +138,7 @@ fn write_subtree(
     requires { ⌜ Copyable s (now b) (now tables) e (now out) × Found s (now b) (now tables) (now cuts) e ⌝ }
     ensures { λ next. ⌜ Laid (e .layout) (now (out .entry)) (now (out .exit)) (new-at e) next (new-rows s (now (b .entry)) (now (tables .entry)) e) ⌝ }
 {
-    if e.part.all {
+    if e.relevant.all {
         return write_whole(b, s, tables, e, out);
     }
     write_some(b, s, tables, cuts, e, out)
@@ -159,7 +159,7 @@ fn write_expanded(
     let t = e.layout;
     let above = Span {
         from: s.variables,
-        to: s.variables + e.part.operator,
+        to: s.variables + e.relevant.operator,
     };
     let behind = Span {
         from: s.variables + e.end,

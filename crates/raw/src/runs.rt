@@ -1,14 +1,14 @@
 // The children of an operator by runs: those that hold a chosen literal and the others.
-use changing::Span;
-use changing::Target;
-use changing::write::write_copy;
-use changing::write::write_row;
 use rows::Layout;
+use substitution::Span;
+use substitution::Target;
+use substitution::write::write_copy;
+use substitution::write::write_row;
 ghost use mathlib.Core.List.{map};
 ghost use Prim.Native.Nat.{_+_};
 ghost use Rattle.rows.specs.Layouts.{Fits};
-ghost use Rattle.changing.specs.Changes.{changed-row};
-ghost use Rattle.changing.specs.Output.{Laid};
+ghost use Rattle.substitution.specs.Changes.{changed-row};
+ghost use Rattle.substitution.specs.Output.{Laid};
 ghost use Rattle.raw.specs.Expansions.{runs-in, head-row, below, Runnable};
 
 // The operator's row above a copy: its kind and how many children it has, and the row of the output that it is written to.

@@ -1,9 +1,9 @@
 // The raw sheet of Settle: "each literal becomes a constant row, the row of x goes".
-use changing::Span;
-use changing::Target;
-use changing::write::write_copy;
-use changing::write::write_rows;
 use rows::Layout;
+use substitution::Span;
+use substitution::Target;
+use substitution::write::write_copy;
+use substitution::write::write_rows;
 ghost use mathlib.Core.Path.{_≡_};
 ghost use mathlib.Core.List.{map};
 ghost use Prim.Native.Nat.{_+_, _-_, _≤_, _<_};
@@ -11,12 +11,12 @@ ghost use lib.ListN.{length};
 ghost use Rattle.sheet.specs.Sheet.{binding-row};
 ghost use Rattle.rows.specs.Layouts.{total, Room};
 ghost use Rattle.rows.specs.Formulas.{Readable, prefix-in, formula-in};
-ghost use Rattle.changing.specs.Output.{Ready, Laid};
+ghost use Rattle.substitution.specs.Output.{CopyReady, Laid};
 ghost use Rattle.raw.specs.Formulas.{without-row, settled-raw, raw-layout, Raw};
 
 // Writes the prefix without row `i` as the first rows of the layout `t`.
 pub fn write_prefix(b: &[u8], s: Layout, i: usize, out: &mut [u8], t: Layout) -> usize
-    requires { ⌜ Readable s (now b) × Ready s (now b) t (now out) × (i < s .variables) × (s .variables ≤ total t + 1) ⌝ }
+    requires { ⌜ Readable s (now b) × CopyReady s (now b) t (now out) × (i < s .variables) × (s .variables ≤ total t + 1) ⌝ }
     ensures { λ next. ⌜ Laid t (now (out .entry)) (now (out .exit)) 0 next (map binding-row (without-row i (prefix-in s (now (b .entry))))) ⌝ }
     ensures { λ next. ⌜ next ≡ s .variables - 1 ⌝ }
 {

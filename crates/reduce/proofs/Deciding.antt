@@ -42,8 +42,8 @@ use Rattle.tidying.specs.Limits.{Raw}
 use Rattle.tidying.proofs.Raw.{few-rows, layout-length, raw-rows, raw-output, raw-sizes}
 use Rattle.reduce.specs.Inner.Places.{Numbered, Placed}
 use Rattle.reduce.specs.Inner.Clauses.{Clausal, blanked}
-use Rattle.reduce.specs.Inner.Plan.{Planned}
-use Rattle.reduce.proofs.Turn.{Reducing, first-clauses}
+use Rattle.reduce.specs.Inner.ReducePlan.{ReducePlanned}
+use Rattle.reduce.proofs.ClauseTurns.{Reducing, first-clauses}
 
 module _ {f : Format} {b : Bytes} {s : Layout} (h : Sheet f b s) (room : ℕ) where
   abbrev t : Tree
@@ -109,7 +109,7 @@ module _ {f : Format} {b : Bytes} {s : Layout} (h : Sheet f b s) (room : ℕ) wh
     unfolding answer read-tests
     no-room e l = rw (answered, tidy-here, profile-here e, lt-ltb room (length b) l)
 
-    pub planned : inner ≡ false → length b ≤ room → Planned f b room s
+    pub planned : inner ≡ false → length b ≤ room → ReducePlanned f b room s
     unfolding passes read-tests formula-in
     planned e l =
         record {
@@ -121,7 +121,7 @@ module _ {f : Format} {b : Bytes} {s : Layout} (h : Sheet f b s) (room : ℕ) wh
 
 -- the sheet as it is read
 
-module _ {f : Format} {b : Bytes} {s : Layout} {room : ℕ} (d : Planned f b room s) where
+module _ {f : Format} {b : Bytes} {s : Layout} {room : ℕ} (d : ReducePlanned f b room s) where
   same : formula-in s b ≡ formula (format-of f) b
   same = sheet-formula-in (d .sheet)
 
@@ -184,7 +184,7 @@ module _ {s : Layout} {b : Bytes} {places : List ℕ} (c : Clausal s b places) w
 
 -- the copy tidied
 
-module _ {b : Bytes} {s : Layout} (out : Bytes) (d : Planned (s .format) b (length out) s) where
+module _ {b : Bytes} {s : Layout} (out : Bytes) (d : ReducePlanned (s .format) b (length out) s) where
   source : Room s (length b)
   source = sheet-readable (d .sheet) .room
 
@@ -234,7 +234,7 @@ unfolding reduce-call
 refused-call F b out h =
     written (write-refused (reduce-tests F b (length out)) (length out) _ out h)
 
-pub reduced-call : {f : Format} {b : Bytes} {s : Layout} (out : Bytes) → Planned f b (length out) s → {len : ℕ} {new : Bytes}
+pub reduced-call : {f : Format} {b : Bytes} {s : Layout} (out : Bytes) → ReducePlanned f b (length out) s → {len : ℕ} {new : Bytes}
     → len ≡ length (sheet (format-of f) (reduced (formula (format-of f) b)))
     → new ≡ padded (length out) (sheet (format-of f) (reduced (formula (format-of f) b)))
     → record { answer = accepted len; output = new } ≡ reduce-call (format-of f) b out

@@ -2,6 +2,6 @@ mod Goes
 mod Table
 mod Standing
 mod Blanked
-mod Turn
+mod ClauseTurns
 mod InnerAnd
 mod Deciding

@@ -2,7 +2,7 @@
 // tree is tidied (N8). A literal that goes becomes OR of nothing in its row, which tidying takes away, so no row moves before that.
 use crate::clauses::blank_clauses;
 use crate::places::fill_places;
-use crate::plan::Plan;
+use crate::plan::ReducePlan;
 use crate::plan::plan_reduce;
 use checking::Written;
 use rows::Format;
@@ -20,7 +20,7 @@ ghost use Rattle.sheet.specs.Truthful.{truth-of, TruthfulSheet};
 ghost use Rattle.rows.specs.Formats.{format-of};
 ghost use Rattle.rows.specs.Layouts.{format-in};
 ghost use Rattle.checking.specs.Answers.{wrote};
-ghost use Rattle.reduce.specs.Inner.Plan.{Planned};
+ghost use Rattle.reduce.specs.Inner.ReducePlan.{ReducePlanned};
 
 pub mod clauses;
 pub mod places;
@@ -29,7 +29,7 @@ pub mod profile;
 
 // Writes the reduced sheet to the front of `out`, with zeros behind it, and returns its length.
 fn reduce_into(source: &[u8], s: Layout, out: &mut [u8]) -> usize
-    requires { ⌜ Planned (s .format) (now source) (length (now out)) s ⌝ }
+    requires { ⌜ ReducePlanned (s .format) (now source) (length (now out)) s ⌝ }
     ensures { λ _. ⌜ now (out .exit) ≡ padded (length (now (out .entry))) (sheet (format-in s) (reduced (formula (format-in s) (now (source .entry))))) ⌝ }
     ensures { λ r. ⌜ r ≡ length (sheet (format-in s) (reduced (formula (format-in s) (now (source .entry))))) ⌝ }
 {
@@ -50,7 +50,7 @@ pub fn reduce(sheet: &[u8], f: Format, out: &mut [u8]) -> Written
 {
     let p = plan_reduce(sheet, f, out.len());
     match p {
-        Plan::Refused(number, place) => Written::Refused(number, place),
-        Plan::Reduces(s) => Written::Accepted(reduce_into(sheet, s, out)),
+        ReducePlan::Refused(number, place) => Written::Refused(number, place),
+        ReducePlan::Reduces(s) => Written::Accepted(reduce_into(sheet, s, out)),
     }
 }

@@ -1,6 +1,6 @@
 // The places of variables in the prefix, looked up by variable number.
+use prefixes::bound_at;
 use prefixes::is_existential;
-use prefixes::variable_at;
 use rows::Layout;
 use rows::read::argument_at;
 ghost use mathlib.Core.Path.{_≡_};
@@ -19,7 +19,7 @@ pub fn fill_places(b: &[u8], s: Layout, places: &mut [u16])
     let mut i = s.variables;
     while 0 < i {
         i -= 1;
-        places[variable_at(b, s, i)] = i as u16;
+        places[bound_at(b, s, i)] = i as u16;
     }
 }
 

@@ -21,11 +21,11 @@ use Rattle.subtrees.proofs.Forest.{rest, some-row, siblings, has-⧺}
 use Rattle.subtrees.proofs.Matrix.{sound-nodes}
 use Rattle.subtrees.proofs.Siblings.{below-row, subtree-root, root-end, subtree-within}
 use Rattle.occurrences.specs.Chains.{first-from, Last, Bounds}
-use Rattle.subtrees.specs.Parts.{literal-part, relevant-part, part-below, operator-part}
+use Rattle.subtrees.specs.Parts.{literal-part, relevant-subtree, part-below, operator-part}
 use Rattle.relevance.specs.Walks.{child-span, narrower}
 use Rattle.relevance.specs.declared.Range.{Range}
 use Rattle.subtrees.specs.declared.relevant.Relevant.{Relevant}
-use Rattle.relevance.specs.declared.part.Span.{Span}
+use Rattle.relevance.specs.declared.subtree.Span.{Span}
 use Rattle.occurrences.proofs.Hits.{has-root, has-row, no-rows}
 use Rattle.occurrences.proofs.Chains.{first-after, first-here, first-later, pending, held}
 
@@ -49,7 +49,7 @@ record Holding (L : Literals) (s : Layout) (b : Bytes) (row from : ℕ) (ts : Fo
   end-is : e ≡ c + rows (subtree-in s b c)
   holds : has L (subtree-in s b c) ≡ true
   first-is : row ≡ first-from L s b c
-  below : part-below L from ts ≡ relevant-part L c (subtree-in s b c)
+  below : part-below L from ts ≡ relevant-subtree L c (subtree-in s b c)
   one : one-relevant L ts ≡ not (has-any L (forest-in s b e))
 
 module _ (L : Literals) {s : Layout} (b : Bytes) (ok : Readable s b) (row : ℕ) where
@@ -163,7 +163,7 @@ pub record Narrowing (L : Literals) (s : Layout) (b : Bytes) (first at : ℕ) : 
   pub inside : at < s .nodes
   pub holds : has L (subtree-in s b at) ≡ true
   pub first-is : first ≡ first-from L s b at
-  pub same : relevant-part L 0 (matrix-in s b) ≡ relevant-part L at (subtree-in s b at)
+  pub same : relevant-subtree L 0 (matrix-in s b) ≡ relevant-subtree L at (subtree-in s b at)
   pub none-behind : has-any L (forest-in s b (at + rows (subtree-in s b at))) ≡ false
 
 no-literal : (L : Literals) (t : Tree) → is-lit L t ≡ false → has L t ≡ true → (4 < (top t) .kind) × (has-any L (kids t) ≡ true)
@@ -172,22 +172,22 @@ no-literal L (lit s v) e h = absurd (true≢false (sym h ∙ e))
 no-literal L (node and ts) e h = (omega arith, h)
 no-literal L (node or ts) e h = (omega arith, h)
 
-a-literal : (L : Literals) (i : ℕ) (t : Tree) → is-lit L t ≡ true → relevant-part L i t ≡ literal-part i
-unfolding is-lit relevant-part
+a-literal : (L : Literals) (i : ℕ) (t : Tree) → is-lit L t ≡ true → relevant-subtree L i t ≡ literal-part i
+unfolding is-lit relevant-subtree
 a-literal L i (lit s v) e = refl
 a-literal L i (node o ts) e = absurd (false≢true e)
 
 -- of an operator, by whether one child alone is relevant
 part-one : (L : Literals) (i : ℕ) (t : Tree) → 4 < (top t) .kind → one-relevant L (kids t) ≡ true
-    → relevant-part L i t ≡ part-below L (suc i) (kids t)
-unfolding relevant-part
+    → relevant-subtree L i t ≡ part-below L (suc i) (kids t)
+unfolding relevant-subtree
 part-one L i (lit true v) h e = absurd (omega arith)
 part-one L i (lit false v) h e = absurd (omega arith)
 part-one L i (node o ts) h e = rw e
 
 part-more : (L : Literals) (i : ℕ) (t : Tree) → 4 < (top t) .kind → one-relevant L (kids t) ≡ false
-    → relevant-part L i t ≡ operator-part L i (kids t)
-unfolding relevant-part operator-part
+    → relevant-subtree L i t ≡ operator-part L i (kids t)
+unfolding relevant-subtree operator-part
 part-more L i (lit true v) h e = absurd (omega arith)
 part-more L i (lit false v) h e = absurd (omega arith)
 part-more L i (node o ts) h e = rw e
@@ -200,7 +200,7 @@ module _ (L : Literals) {s : Layout} (b : Bytes) (ok : Readable s b) where
         inside = ok .some-nodes;
         holds = ap (has L) (subtree-root b ok) ∙ last-holds L b ok last (c .ends);
         first-is = c .starts;
-        same = ap (relevant-part L 0) (sym (subtree-root b ok));
+        same = ap (relevant-subtree L 0) (sym (subtree-root b ok));
         none-behind = ap (has-any L) (no-rows b ok _ (sym (root-end b ok)));
       }
 
@@ -209,10 +209,10 @@ module _ (L : Literals) {s : Layout} (b : Bytes) (ok : Readable s b) where
     at-first = omega (arith, n .first-is, first-after L b ok at)
 
     -- at the first literal's own row it is the one literal
-    at-literal : at ≡ first → relevant-part L 0 (matrix-in s b) ≡ literal-part at
+    at-literal : at ≡ first → relevant-subtree L 0 (matrix-in s b) ≡ literal-part at
     at-literal e = go (is-lit L (subtree-in s b at)) refl
       where
-        go : (c : Bool) → is-lit L (subtree-in s b at) ≡ c → relevant-part L 0 (matrix-in s b) ≡ literal-part at
+        go : (c : Bool) → is-lit L (subtree-in s b at) ≡ c → relevant-subtree L 0 (matrix-in s b) ≡ literal-part at
         go true h = n .same ∙ a-literal L at (subtree-in s b at) h
         go false h =
             absurd (omega (arith, n .first-is, first-later L b ok at (n .inside) h, first-after L b ok (suc at)))
@@ -263,7 +263,7 @@ module _ (L : Literals) {s : Layout} (b : Bytes) (ok : Readable s b) where
             none-behind = ap (λ j. has-any L (forest-in s b j)) (sym (k .end-is)) ∙ none;
           }
 
-      narrow-stop : span .to ≤ last → relevant-part L 0 (matrix-in s b) ≡ operator-part L at (kids (subtree-in s b at))
+      narrow-stop : span .to ≤ last → relevant-subtree L 0 (matrix-in s b) ≡ operator-part L at (kids (subtree-in s b at))
       narrow-stop h =
           n .same ∙ part-more L at (subtree-in s b at) is-operator (k .one ∙ ap not (behind-child ∙ ap not (le-ltb last _ h)))
 
@@ -306,7 +306,7 @@ module _ (c : Range) (at : ℕ) (t : Tree) {next : ℕ} (is : next ≡ narrower 
       go true ey e = absurd (omega (arith, e ∙ ap (λ y. cond y (child .from) at) ey))
       go false ey e = ltb-false (c .last) _ ey
 
--- The relevant part has its place: it is the one literal, which is the first, or an operator before the first literal.
+-- The relevant subtree has its place: it is the one literal, which is the first, or an operator before the first literal.
 pub record Placed (L : Literals) (s : Layout) (b : Bytes) (first : ℕ) (p : Relevant) : Type 0 where
   pub inside : p .operator < s .nodes
   pub within : p .operator ≤ first
@@ -321,20 +321,20 @@ module _ (L : Literals) {s : Layout} (b : Bytes) (ok : Readable s b) (c : Range)
         let down = stepped-down c at (subtree-in s b at) is h in
         rw (down .2) (narrow-on L b ok n (k .ends) (down .0) (down .1))
 
-    narrow-end : next ≤ at → (at ≡ c .first → ⊥) → relevant-part L 0 (matrix-in s b) ≡ operator-part L at (kids (subtree-in s b at))
+    narrow-end : next ≤ at → (at ≡ c .first → ⊥) → relevant-subtree L 0 (matrix-in s b) ≡ operator-part L at (kids (subtree-in s b at))
     narrow-end h other =
         narrow-stop L b ok n (k .ends) other (stayed c at (subtree-in s b at) is h other (child-holds L b ok n other .after))
 
     -- where no step is left the operator is found
-    pub narrow-done : next ≤ at → at ≡ (relevant-part L 0 (matrix-in s b)) .operator
+    pub narrow-done : next ≤ at → at ≡ (relevant-subtree L 0 (matrix-in s b)) .operator
     unfolding operator-part
     narrow-done h = go (eqb at (c .first)) refl
       where
-        go : (x : Bool) → eqb at (c .first) ≡ x → at ≡ (relevant-part L 0 (matrix-in s b)) .operator
+        go : (x : Bool) → eqb at (c .first) ≡ x → at ≡ (relevant-subtree L 0 (matrix-in s b)) .operator
         go true e = sym (ap (λ (p : Relevant). p .operator) (at-literal L b ok n (eqb-true at (c .first) e)))
         go false e = sym (ap (λ (p : Relevant). p .operator) (narrow-end h (eqb-false at (c .first) e)))
 
-    placed-at : next ≤ at → Placed L s b (c .first) (relevant-part L 0 (matrix-in s b))
+    placed-at : next ≤ at → Placed L s b (c .first) (relevant-subtree L 0 (matrix-in s b))
     placed-at h =
         let here = narrow-done h in
         record {
@@ -344,36 +344,36 @@ module _ (L : Literals) {s : Layout} (b : Bytes) (ok : Readable s b) (c : Range)
           more = λ e. narrow-end h (λ f. e (sym here ∙ f)) ∙ ap (λ i. operator-part L i (kids (subtree-in s b i))) here;
         }
 
-  placed-by : (d at : ℕ) → s .nodes ≤ at + d → Narrowing L s b (c .first) at → Placed L s b (c .first) (relevant-part L 0 (matrix-in s b))
+  placed-by : (d at : ℕ) → s .nodes ≤ at + d → Narrowing L s b (c .first) at → Placed L s b (c .first) (relevant-subtree L 0 (matrix-in s b))
   placed-by zero at h n = absurd (omega (arith, n .inside))
   placed-by (suc d) at h n =
       go (ltb at (narrower c at (subtree-in s b at))) refl (λ next down on. placed-by d next (omega arith) on)
     where
       go : (x : Bool) → ltb at (narrower c at (subtree-in s b at)) ≡ x
-          → ((next : ℕ) → at < next → Narrowing L s b (c .first) next → Placed L s b (c .first) (relevant-part L 0 (matrix-in s b)))
-          → Placed L s b (c .first) (relevant-part L 0 (matrix-in s b))
+          → ((next : ℕ) → at < next → Narrowing L s b (c .first) next → Placed L s b (c .first) (relevant-subtree L 0 (matrix-in s b)))
+          → Placed L s b (c .first) (relevant-subtree L 0 (matrix-in s b))
       go true e on = let down = ltb-true at _ e in on _ down (narrow-next n refl down)
       go false e on = placed-at n refl (ltb-false at _ e)
 
-  pub placed : Placed L s b (c .first) (relevant-part L 0 (matrix-in s b))
+  pub placed : Placed L s b (c .first) (relevant-subtree L 0 (matrix-in s b))
   placed = placed-by (s .nodes) 0 (omega arith) (narrow-start L b ok k)
 
-  module _ {at : ℕ} (found : at ≡ (relevant-part L 0 (matrix-in s b)) .operator) where
-    pub found-literal : at ≡ c .first → literal-part at ≡ relevant-part L 0 (matrix-in s b)
+  module _ {at : ℕ} (found : at ≡ (relevant-subtree L 0 (matrix-in s b)) .operator) where
+    pub found-literal : at ≡ c .first → literal-part at ≡ relevant-subtree L 0 (matrix-in s b)
     found-literal e = ap literal-part e ∙ sym (placed .one (sym found ∙ e))
 
     pub found-before : (at ≡ c .first → ⊥) → at < c .first
     found-before other = omega (arith, placed .within)
 
-    pub found-operator : (at ≡ c .first → ⊥) → operator-part L at (kids (subtree-in s b at)) ≡ relevant-part L 0 (matrix-in s b)
+    pub found-operator : (at ≡ c .first → ⊥) → operator-part L at (kids (subtree-in s b at)) ≡ relevant-subtree L 0 (matrix-in s b)
     found-operator other =
         ap (λ i. operator-part L i (kids (subtree-in s b i))) found ∙ sym (placed .more (λ e. other (found ∙ e)))
 
   -- where some child is not relevant the part is an operator's, which stands before the first literal
-  pub operator-before : {p : Relevant} → p ≡ relevant-part L 0 (matrix-in s b) → p .all ≡ false
+  pub operator-before : {p : Relevant} → p ≡ relevant-subtree L 0 (matrix-in s b) → p .all ≡ false
       → (p .operator < c .first) × (p ≡ operator-part L (p .operator) (kids (subtree-in s b (p .operator))))
   operator-before {p} is some =
-      let at : p .operator ≡ (relevant-part L 0 (matrix-in s b)) .operator = ap (λ (q : Relevant). q .operator) is in
+      let at : p .operator ≡ (relevant-subtree L 0 (matrix-in s b)) .operator = ap (λ (q : Relevant). q .operator) is in
       let other : p .operator ≡ c .first → ⊥ =
       λ e. true≢false (ap (λ (q : Relevant). q .all) (found-literal at e ∙ sym is) ∙ some) in
       (found-before at other, is ∙ sym (found-operator at other))

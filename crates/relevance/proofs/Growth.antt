@@ -1,4 +1,4 @@
--- The relevant part as numbers: E, whether every child is relevant, and the rows that an expansion adds.
+-- The relevant subtree as numbers: E, whether every child is relevant, and the rows that an expansion adds.
 -- Assumes nothing.
 use mathlib.Core.Path.{_≡_, refl, sym, ap, ap₂, _∙_}
 use mathlib.Core.Bool.{Bool, true, false, not, _||_, cond, false≢true}
@@ -15,7 +15,7 @@ use Rattle.rows.specs.declared.Layout.{Layout}
 use Rattle.rows.proofs.Formulas.{rows-nodes}
 use Rattle.subtrees.specs.Subtrees.{kids}
 use Rattle.subtrees.proofs.Forest.{rows-kids}
-use Rattle.subtrees.specs.Parts.{relevant-part, part-below, operator-part}
+use Rattle.subtrees.specs.Parts.{relevant-subtree, part-below, operator-part}
 use Rattle.relevance.specs.Raw.{added, grown, presence, grown-by, copied}
 use Rattle.subtrees.specs.declared.relevant.Relevant.{Relevant}
 use Rattle.relevance.specs.declared.variable.Presence.{Presence}
@@ -74,10 +74,10 @@ operator-part-read L at t {kept} {ones} {end} k o e =
 -- growth
 
 mutual
-  unfolding growth relevant-part part-below has has-any operator-part
+  unfolding growth relevant-subtree part-below has has-any operator-part
 
   -- E + 1 or E + 2
-  growth-part : (t : Tree) (L : Literals) (i : ℕ) → has L t ≡ true → growth L t ≡ added (relevant-part L i t)
+  growth-part : (t : Tree) (L : Literals) (i : ℕ) → has L t ≡ true → growth L t ≡ added (relevant-subtree L i t)
   growth-part (lit s v) L i h = refl
   growth-part (node o ts) L i h = go (one-relevant L ts) (all-relevant L ts) (growth-part-below ts L (suc i) h)
     where
@@ -99,17 +99,17 @@ mutual
   growth-part-below ∅ L i h = absurd (false≢true h)
   growth-part-below (t ▸ ts) L i h = go (has L t) h (λ e. growth-part t L i e) (λ e. growth-part-below ts L (i + rows t) e)
     where
-      go : (c : Bool) → (c || has-any L ts) ≡ true → (c ≡ true → growth L t ≡ added (relevant-part L i t))
+      go : (c : Bool) → (c || has-any L ts) ≡ true → (c ≡ true → growth L t ≡ added (relevant-subtree L i t))
           → (has-any L ts ≡ true → growth-below L ts ≡ added (part-below L (i + rows t) ts))
-          → cond c (growth L t) (growth-below L ts) ≡ added (cond c (relevant-part L i t) (part-below L (i + rows t) ts))
+          → cond c (growth L t) (growth-below L ts) ≡ added (cond c (relevant-subtree L i t) (part-below L (i + rows t) ts))
       go true h here there = here refl
       go false h here there = there h
 
 mutual
-  unfolding rows relevant-part part-below operator-part
+  unfolding rows relevant-subtree part-below operator-part
 
   -- E is within the rows
-  part-most : (t : Tree) (L : Literals) (i : ℕ) → (relevant-part L i t) .rows ≤ rows t
+  part-most : (t : Tree) (L : Literals) (i : ℕ) → (relevant-subtree L i t) .rows ≤ rows t
   part-most (lit s v) L i = omega arith
   part-most (node o ts) L i = go (one-relevant L ts) (part-below-most ts L (suc i))
     where
@@ -124,14 +124,14 @@ mutual
   part-below-most ∅ L i = omega arith
   part-below-most (t ▸ ts) L i = go (has L t) (part-most t L i) (part-below-most ts L (i + rows t))
     where
-      go : (c : Bool) → (relevant-part L i t) .rows ≤ rows t → (part-below L (i + rows t) ts) .rows ≤ rows-all ts
-          → (cond c (relevant-part L i t) (part-below L (i + rows t) ts)) .rows ≤ rows t + rows-all ts
+      go : (c : Bool) → (relevant-subtree L i t) .rows ≤ rows t → (part-below L (i + rows t) ts) .rows ≤ rows-all ts
+          → (cond c (relevant-subtree L i t) (part-below L (i + rows t) ts)) .rows ≤ rows t + rows-all ts
       go true h k = omega arith
       go false h k = omega arith
 
 -- raw-rows
 
-raw-present : (L : Literals) (t : Tree) → has L t ≡ true → raw-rows L t ≡ grown (rows t) (relevant-part L 0 t)
+raw-present : (L : Literals) (t : Tree) → has L t ≡ true → raw-rows L t ≡ grown (rows t) (relevant-subtree L 0 t)
 unfolding raw-rows
 raw-present L t h = rw h (ap (λ m. rows t + m) (growth-part t L 0 h))
 
@@ -145,7 +145,7 @@ pub absent : (L : Literals) (t : Tree) → has L t ≡ false → Absent ≡ pres
 unfolding presence
 absent L t h = rw h
 
-pub present : (L : Literals) (t : Tree) {p : Relevant} → has L t ≡ true → p ≡ relevant-part L 0 t → Present p ≡ presence L t
+pub present : (L : Literals) (t : Tree) {p : Relevant} → has L t ≡ true → p ≡ relevant-subtree L 0 t → Present p ≡ presence L t
 unfolding presence
 present L t {p} h e = ap Present e ∙ rw h
 
@@ -160,13 +160,13 @@ copied-most : (L : Literals) (t : Tree) → copied (presence L t) ≤ rows t
 unfolding presence
 copied-most L t = go (has L t)
   where
-    go : (c : Bool) → copied (cond c (Present (relevant-part L 0 t)) Absent) ≤ rows t
+    go : (c : Bool) → copied (cond c (Present (relevant-subtree L 0 t)) Absent) ≤ rows t
     go true = part-most t L 0
     go false = omega arith
 
 -- in a sheet: the raw rows are those that the part tells, and E is within the rows
 module _ (L : Literals) {s : Layout} (b : Bytes) (ok : Readable s b) where
-  pub raw-rows-in : {p : Relevant} → has L (matrix-in s b) ≡ true → p ≡ relevant-part L 0 (matrix-in s b)
+  pub raw-rows-in : {p : Relevant} → has L (matrix-in s b) ≡ true → p ≡ relevant-subtree L 0 (matrix-in s b)
       → (grown (s .nodes) p ≡ raw-rows L (matrix-in s b)) × (p .rows ≤ s .nodes)
   raw-rows-in {p} h e = (
     ap₂ grown (sym (rows-nodes b ok)) e ∙ sym (raw-present L (matrix-in s b) h),

@@ -1,4 +1,4 @@
--- Laws of the relevant part, and the turns of this crate's loops.
+-- Laws of the relevant subtree, and the turns of this crate's loops.
 pub mod Growth
 pub mod Descent
 pub mod TurnPart

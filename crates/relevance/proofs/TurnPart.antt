@@ -1,4 +1,4 @@
--- The turns of the walks that find the relevant part.
+-- The turns of the walks that find the relevant subtree.
 -- Assumes nothing.
 use mathlib.Core.Path.{_≡_, refl, sym, ap, ap₂, _∙_}
 use mathlib.Core.Bool.{Bool, true, false, cond}
@@ -21,8 +21,8 @@ use Rattle.subtrees.proofs.Table.{hop-on}
 use Rattle.subtrees.proofs.Siblings.{Walked, Children, siblings-none, subtree-within, walk-on}
 use Rattle.occurrences.specs.Chains.{first-from, Links, Chain}
 use Rattle.relevance.specs.Walks.{span-by, child-span, Way, there, on, Leads, with-child}
-use Rattle.relevance.specs.declared.part.Span.{Span}
-use Rattle.relevance.specs.declared.part.Share.{Share}
+use Rattle.relevance.specs.declared.subtree.Span.{Span}
+use Rattle.relevance.specs.declared.subtree.Share.{Share}
 use Rattle.relevance.proofs.Growth.{relevant-most}
 use Rattle.occurrences.proofs.Chains.{Pending, pending, held, first-below, pass-on, pass-less}
 

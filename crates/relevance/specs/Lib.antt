@@ -1,3 +1,3 @@
--- The relevant part of a matrix for a set of literals: how it is found, and what its expansion costs.
+-- The relevant subtree of a matrix for a set of literals: how it is found, and what its expansion costs.
 pub mod Raw
 pub mod Walks

@@ -3,7 +3,7 @@
 use mathlib.Core.Bool.{cond}
 use Prim.Native.Nat.{ℕ, _+_}
 use Rattle.formula.specs.Tree.{Tree, Literals, has}
-use Rattle.subtrees.specs.Parts.{relevant-part}
+use Rattle.subtrees.specs.Parts.{relevant-subtree}
 use Rattle.subtrees.specs.declared.relevant.Relevant.{Relevant}
 use Rattle.relevance.specs.declared.variable.Presence.{Presence}
 use Rattle.relevance.specs.declared.variable.Presence.the-variants.{Absent, Present}
@@ -16,9 +16,9 @@ added p = p .rows + cond (p .all) 1 2
 abbrev pub grown : ℕ → Relevant → ℕ
 grown n p = n + added p
 
--- the relevant part of a set of which a literal stands in the tree
+-- the relevant subtree of a set of which a literal stands in the tree
 unfoldable pub presence : Literals → Tree → Presence
-presence L t = cond (has L t) (Present (relevant-part L 0 t)) Absent
+presence L t = cond (has L t) (Present (relevant-subtree L 0 t)) Absent
 
 -- with no literal, the matrix stays
 abbrev pub grown-by : ℕ → Presence → ℕ

@@ -15,13 +15,13 @@ use Rattle.subtrees.specs.Subtrees.{kids, subtree-in}
 use Rattle.subtrees.specs.Ends.{Indexed}
 use Rattle.occurrences.specs.Chains.{Bounds, Chain}
 use Rattle.subtrees.specs.Cuts.{cuts}
-use Rattle.subtrees.specs.Parts.{relevant-part, operator-part}
+use Rattle.subtrees.specs.Parts.{relevant-subtree, operator-part}
 use Rattle.subtrees.specs.declared.relevant.Relevant.{Relevant}
 use Rattle.relevance.specs.declared.Range.{Range}
 use Rattle.relevance.specs.declared.Site.{Site}
 use Rattle.relevance.specs.declared.cuts.Runs.{Runs}
-use Rattle.relevance.specs.declared.part.Span.{Span}
-use Rattle.relevance.specs.declared.part.Share.{Share}
+use Rattle.relevance.specs.declared.subtree.Span.{Span}
+use Rattle.relevance.specs.declared.subtree.Share.{Share}
 
 -- of k subtrees side by side from row `at` on, by the table of their ends: the rows of the one that row r lies in
 unfoldable pub span-by : List ℕ → ℕ → ℕ → ℕ → Span
@@ -52,9 +52,9 @@ pub record Chained (s : Layout) (b : Bytes) (ends next : List ℕ) (first last :
   pub chosen : Literals
   pub chain : Chain chosen s b next first last
 
--- the row of the relevant part's operator, or of the one literal
+-- the row of the relevant subtree's operator, or of the one literal
 abbrev pub IsAncestor : Layout → Bytes → Range → ℕ → Type 0
-IsAncestor s b c r = (L : Literals) → Bounds L s b (c .first) (c .last) → r ≡ (relevant-part L 0 (matrix-in s b)) .operator
+IsAncestor s b c r = (L : Literals) → Bounds L s b (c .first) (c .last) → r ≡ (relevant-subtree L 0 (matrix-in s b)) .operator
 
 -- along a table from row to row, ever later ones, to the first that is not before row `end`
 pub data Way : List ℕ → ℕ → ℕ → ℕ → Type 0 where
@@ -88,10 +88,10 @@ IsOperatorPart s b next o r =
     (L : Literals) (last : ℕ) → Chain L s b next (o .first) last
     → r ≡ operator-part L (o .operator) (kids (subtree-in s b (o .operator)))
 
--- the relevant part
+-- the relevant subtree
 abbrev pub IsPart : Layout → Bytes → List ℕ → Range → Relevant → Type 0
 IsPart s b next c r =
-    (L : Literals) → Chain L s b next (c .first) (c .last) → r ≡ relevant-part L 0 (matrix-in s b)
+    (L : Literals) → Chain L s b next (c .first) (c .last) → r ≡ relevant-subtree L 0 (matrix-in s b)
 
 -- a cut at row `at`, unless the run goes on
 unfoldable pub run-cut : Bool → Runs → Runs

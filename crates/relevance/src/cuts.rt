@@ -1,6 +1,6 @@
-// The children of the relevant part's operator cut into runs without and with chosen literals, by turns, from one walk along the chain.
+// The children of the relevant subtree's operator cut into runs without and with chosen literals, by turns, from one walk along the chain.
 use crate::Site;
-use crate::part::first_behind;
+use crate::subtree::first_behind;
 use rows::Layout;
 use rows::ROWS;
 use subtrees::nodes::children_at;

@@ -1,8 +1,8 @@
-// Where an expansion takes place: the relevant part of a matrix for a set of literals, and the rows that the expansion adds ("Expand x").
+// Where an expansion takes place: the relevant subtree of a matrix for a set of literals, and the rows that the expansion adds ("Expand x").
 // The set is given by a chain: the rows of its first and its last literal, and a table that leads from each literal to the next, as
 // crate `occurrences` fills it for all variables. A part costs its literals, the path to them and the children hopped over, not a pass.
 pub mod cuts;
-pub mod part;
+pub mod subtree;
 pub mod variable;
 
 // The rows of the first and the last literal of a chain.

@@ -1,6 +1,6 @@
-// The relevant part of one variable and the rows of its expansion's raw sheet, by the tables of occurrences.
+// The relevant subtree of one variable and the rows of its expansion's raw sheet, by the tables of occurrences.
 use crate::Range;
-use crate::part::relevant_part;
+use crate::subtree::relevant_subtree;
 use rows::Layout;
 use subtrees::relevant::Relevant;
 ghost use mathlib.Core.Path.{_≡_};
@@ -12,21 +12,21 @@ ghost use Rattle.subtrees.specs.Ends.{Indexed};
 ghost use Rattle.occurrences.specs.Occurrences.{Occurrences};
 ghost use Rattle.relevance.specs.Raw.{grown, presence, grown-by, copied};
 
-// Whether a literal stands in the matrix, and if so the relevant part.
+// Whether a literal stands in the matrix, and if so the relevant subtree.
 pub enum Presence {
     Absent,
     Present(Relevant),
 }
 
-// A variable that may be expanded: its prefix row, its number, its relevant part if it has a literal, and the raw sheet's node rows.
+// A variable that may be expanded: its prefix row, its number, its relevant subtree if it has a literal, and the raw sheet's node rows.
 pub struct Candidate {
     pub row: usize,
     pub variable: usize,
-    pub part: Presence,
+    pub relevant: Presence,
     pub raw: usize,
 }
 
-// The relevant part of the variable `x`, if it has a literal.
+// The relevant subtree of the variable `x`, if it has a literal.
 pub fn part_of(
     b: &[u8],
     s: Layout,
@@ -47,19 +47,19 @@ pub fn part_of(
         first: first,
         last: last,
     };
-    Presence::Present(relevant_part(b, s, ends, next, range))
+    Presence::Present(relevant_subtree(b, s, ends, next, range))
 }
 
 // How many node rows the raw sheet of an expansion has: N + E + 1 for a single literal and where every child is relevant, N + E + 2
 // otherwise.
-pub fn raw_rows(nodes: usize, part: Relevant) -> usize
-    requires { ⌜ (nodes ≤ ROWS) × (part .rows ≤ nodes) ⌝ }
-    ensures { λ r. ⌜ r ≡ grown nodes part ⌝ }
+pub fn raw_rows(nodes: usize, relevant: Relevant) -> usize
+    requires { ⌜ (nodes ≤ ROWS) × (relevant .rows ≤ nodes) ⌝ }
+    ensures { λ r. ⌜ r ≡ grown nodes relevant ⌝ }
 {
-    if part.all {
-        return nodes + part.rows + 1;
+    if relevant.all {
+        return nodes + relevant.rows + 1;
     }
-    nodes + part.rows + 2
+    nodes + relevant.rows + 2
 }
 
 // The same for a variable: N if it has no literal.
@@ -69,6 +69,6 @@ pub fn raw_rows_of(nodes: usize, presence: Presence) -> usize
 {
     match presence {
         Presence::Absent => nodes,
-        Presence::Present(part) => raw_rows(nodes, part),
+        Presence::Present(relevant) => raw_rows(nodes, relevant),
     }
 }

@@ -17,9 +17,9 @@ use Rattle.rows.specs.Formulas.{prefix-in, Readable}
 use Rattle.rows.specs.declared.Layout.{Layout}
 use Rattle.prefixes.specs.Places.{binding-in}
 use Rattle.prefixes.proofs.Places.{prefix-row, no-rows}
-use Rattle.changing.specs.Changes.{entry}
-use Rattle.changing.specs.Output.{Laid}
-use Rattle.changing.proofs.Splice.{none-laid, laid-on}
+use Rattle.substitution.specs.Changes.{entry}
+use Rattle.substitution.specs.Output.{Laid}
+use Rattle.substitution.proofs.Splice.{none-laid, laid-on}
 use Rattle.renaming.specs.Prefixes.{row-of, rows-from}
 
 module _ (t : List ℕ) (v : ℕ) {n : ℕ} (is : n ≡ entry t v) where

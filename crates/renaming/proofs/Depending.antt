@@ -20,7 +20,7 @@ use Rattle.formula.proofs.Outer.Fresh.{rows-of, unused-many, those-binds}
 use Rattle.sheet.specs.Format.{Format}
 use Rattle.sheet.specs.Limits.{numbered}
 use Rattle.sheet.proofs.Limits.{binds-numbered}
-use Rattle.changing.specs.Changes.{entry}
+use Rattle.substitution.specs.Changes.{entry}
 use Rattle.renaming.specs.Numbers.{renumbered}
 
 -- some rows of a prefix, in its order

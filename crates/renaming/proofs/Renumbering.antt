@@ -20,7 +20,7 @@ use Rattle.prefixes.specs.Places.{binding-in}
 use Rattle.prefixes.proofs.Places.{prefix-row, no-rows}
 use Rattle.sets.specs.Sets.{digit, holds}
 use Rattle.sets.proofs.Digits.{digit-none}
-use Rattle.changing.proofs.Tables.{both-parts}
+use Rattle.substitution.proofs.Tables.{both-parts}
 use Rattle.renaming.specs.Numbers.{Uses, free, NextFree, renumbered, Renamed}
 
 -- numbers in use

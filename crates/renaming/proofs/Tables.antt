@@ -15,8 +15,8 @@ use Rattle.formula.specs.Outer.{depends, dependents, copies-of, too-few, rename
 use Rattle.formula.proofs.Outer.Fresh.{renamed-other, renamed-new}
 use Rattle.formula.proofs.Outer.Step.{copies-new, copies-numbered, copies-many}
 use Rattle.sheet.specs.Sheet.{binding-row}
-use Rattle.changing.specs.Changes.{entry, numbers, putting, chosen, became, changed}
-use Rattle.changing.proofs.Tables.{length-numbers, length-putting, chosen-putting, changed-putting}
+use Rattle.substitution.specs.Changes.{entry, numbers, putting, chosen, became, changed}
+use Rattle.substitution.proofs.Tables.{length-numbers, length-putting, chosen-putting, changed-putting}
 use Rattle.raw.specs.Formulas.{first-table, second-table, copying-by}
 use Rattle.renaming.specs.Numbers.{renumbered}
 use Rattle.renaming.specs.Prefixes.{is-renamed, row-of, rows-from}

@@ -7,7 +7,7 @@ use Prim.Native.Nat.{ℕ, zero, suc, _+_, _-_, _≤_}
 use lib.ListN.{length, set}
 use Rattle.formula.specs.Tree.{Prefix, binds}
 use Rattle.sets.specs.Sets.{holds}
-use Rattle.changing.specs.Changes.{putting}
+use Rattle.substitution.specs.Changes.{putting}
 
 -- a set of the numbers of a prefix
 pub record Uses (p : Prefix) (ws : List ℕ) : Type 0 where

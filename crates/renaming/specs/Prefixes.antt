@@ -8,7 +8,7 @@ use Rattle.formula.specs.Tree.{Prefix}
 use Rattle.formula.specs.Outer.{existential}
 use Rattle.sheet.specs.Format.{Row}
 use Rattle.sheet.specs.Sheet.{binding-row}
-use Rattle.changing.specs.Changes.{entry}
+use Rattle.substitution.specs.Changes.{entry}
 
 -- does the table give v a new number?
 abbrev pub is-renamed : List ℕ → ℕ → Bool

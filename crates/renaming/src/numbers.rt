@@ -1,11 +1,11 @@
 // The new numbers of the copies: the smallest ones that the prefix doesn't have, in the order of its rows.
-use changing::table::fill_both;
-use prefixes::variable_at;
+use prefixes::bound_at;
 use rows::Layout;
 use rows::NUMBERS;
 use sets::WORDS;
 use sets::add;
 use sets::holds;
+use substitution::table::fill_both;
 ghost use mathlib.Core.Path.{_≡_};
 ghost use mathlib.Core.Bool.{true};
 ghost use Prim.Native.Nat.{suc, _-_, _*_, _≤_, _<_};
@@ -15,7 +15,7 @@ ghost use Rattle.formula.specs.Outer.{unused};
 ghost use Rattle.rows.specs.Formulas.{prefix-in, Readable};
 ghost use Rattle.rows.specs.Tables.{HIGHEST, NUMBERS};
 ghost use Rattle.sets.specs.Sets.{holds};
-ghost use Rattle.signs.specs.Value.{Numbered};
+ghost use Rattle.polarity.specs.Value.{Numbered};
 ghost use Rattle.renaming.specs.Numbers.{free, Uses, NextFree, renumbered, Renamed, copy-tables};
 
 // Puts every number of the prefix into an empty set.
@@ -26,7 +26,7 @@ fn fill_used(b: &[u8], s: Layout, used: &mut [u64])
     let v = s.variables;
     let mut j: usize = 0;
     while j < v {
-        add(used, variable_at(b, s, j));
+        add(used, bound_at(b, s, j));
         j += 1;
     }
 }
@@ -78,7 +78,7 @@ fn rename_all(b: &[u8], s: Layout, set: &[u64], used: &[u64], highest: usize, ta
     let mut from: usize = 1;
     let mut j: usize = 0;
     while j < count {
-        let v = variable_at(b, s, j);
+        let v = bound_at(b, s, j);
         from = rename(set, used, highest, from, v, table);
         j += 1;
     }

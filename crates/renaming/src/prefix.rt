@@ -1,16 +1,16 @@
 // The prefix of the raw sheet: the row of x goes, and an exists row for each copy closes it, in the order of the variables copied.
-use changing::Target;
-use changing::table::entry;
-use changing::write::write_row;
-use prefixes::variable_at;
+use prefixes::bound_at;
 use rows::EXISTS;
 use rows::Layout;
 use rows::NUMBERS;
+use substitution::Target;
+use substitution::table::entry;
+use substitution::write::write_row;
 ghost use Prim.Native.Nat.{_+_, _≤_};
 ghost use lib.ListN.{length};
 ghost use Rattle.rows.specs.Layouts.{total, Room};
 ghost use Rattle.rows.specs.Formulas.{prefix-in, Readable};
-ghost use Rattle.changing.specs.Output.{Laid};
+ghost use Rattle.substitution.specs.Output.{Laid};
 ghost use Rattle.renaming.specs.Prefixes.{row-of, rows-from};
 
 // Writes the row of the copy of `v`, if the table gives `v` a new number.
@@ -38,7 +38,7 @@ pub fn write_all_copied(b: &[u8], s: Layout, table: &[u16], out: &mut [u8], to: 
     let mut at = to.at;
     let mut j: usize = 0;
     while j < v {
-        let x = variable_at(b, s, j);
+        let x = bound_at(b, s, j);
         let here = Target { layout: t, at: at };
         at = write_copied(out, table, x, here);
         j += 1;

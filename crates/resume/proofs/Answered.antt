@@ -19,7 +19,7 @@ use Rattle.sheet.specs.Limits.{Within}
 use Rattle.sheet.specs.Resume.{named, add-to-answer, with-counts, resuming}
 use Rattle.sheet.specs.Truthful.{truth-of, TruthfulSolve}
 use Rattle.sheet.proofs.Accepted.{accepted-within}
-use Rattle.sheet.proofs.Carrying.{widen-within}
+use Rattle.sheet.proofs.Conversion.{to-wide-within}
 use Rattle.sheet.proofs.Truthful.{resume-truthful}
 use Rattle.sheet.proofs.Resume.{resume-unchecked, resume-uncounted, resume-short, resume-runs}
 use Rattle.rows.specs.Formats.{format-of}
@@ -49,7 +49,7 @@ resume-told c b f first second {s} e = (
 
 -- a sheet of either format is within the wide limits
 within-wide : (f : Format) (b : Bytes) → passes (check-tests (format-of f) b) ≡ true → Within wide (formula (format-of f) b)
-within-wide Narrow b h = widen-within b h
+within-wide Narrow b h = to-wide-within b h
 within-wide Wide b h = accepted-within wide b h
 
 pub sheet-placed : {f : Format} {b : Bytes} {s : Layout} → Sheet f b s → Placed s b

@@ -14,7 +14,7 @@ use Rattle.rows.specs.Formulas.{formula-in, Readable, layout-for}
 use Rattle.rows.specs.declared.Format.the-variants.{Wide}
 use Rattle.rows.specs.declared.Layout.{Layout}
 use Rattle.rows.proofs.Formulas.{length-prefix, rows-nodes}
-use Rattle.carrying.specs.Inner.Rows.{Carriable}
+use Rattle.conversion.specs.Inner.Rows.{Convertible}
 use Rattle.tidying.proofs.Raw.{few-rows}
 use Rattle.solve.specs.Inner.Running.{RawReady, answered, shown, solution, raw-call}
 use Rattle.solve.proofs.Holding.{padded-readable, padded-formula}
@@ -24,8 +24,8 @@ module _ {s : Layout} {b first second : Bytes} (ok : Widenable s b first second)
   abbrev f : Formula
   f = formula-in s b
 
-  pub carriable : Carriable s b Wide (length first)
-  carriable =
+  pub convertible : Convertible s b Wide (length first)
+  convertible =
       record {
         readable = ok .placed .readable;
         within = ok .placed .within;

@@ -1,7 +1,7 @@
 // Resume: a stopped run goes on under the wide limits. The sheet reached is widened into the first work buffer, Solve runs there, and the
 // counts given are added to its own.
-use carrying::carry;
 use checking::Checked;
+use conversion::convert;
 use rows::Format;
 use rows::Layout;
 use rows::fit::sheet_length;
@@ -47,7 +47,7 @@ fn run_wide(sheet: &[u8], s: Layout, first: &mut [u8], second: &mut [u8]) -> Sol
     requires { ⌜ Widenable s (now sheet) (now first) (now second) ⌝ }
     ensures { λ r. ⌜ record { answer = solved-answer r; first = now (first .exit); second = now (second .exit) } ≡ wide-call s (now (sheet .entry)) (now (first .entry)) (now (second .entry)) ⌝ }
 {
-    let t = carry(sheet, s, Format::Wide, first);
+    let t = convert(sheet, s, Format::Wide, first);
     run_raw(first, second, t)
 }
 
@@ -83,7 +83,7 @@ fn resume_checked(sheet: &[u8], s: Layout, c: Counts, first: &mut [u8], second: 
     add_counts(answer, c)
 }
 
-// Carries a stopped run over: goes on from the sheet reached, of the format `f`, with the counts of the run so far. The first work buffer
+// Converts a stopped run over: goes on from the sheet reached, of the format `f`, with the counts of the run so far. The first work buffer
 // then holds the sheet reached, a wide one, and zeros, the second only zeros; refused, both are left as they were.
 pub fn resume(sheet: &[u8], f: Format, c: Counts, first: &mut [u8], second: &mut [u8]) -> Solved
     ensures { λ r. ⌜ record { answer = solved-answer r; first = now (first .exit); second = now (second .exit) } ≡ resume-with c (now (sheet .entry)) f (now (first .entry)) (now (second .entry)) ⌝ }

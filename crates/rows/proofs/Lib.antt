@@ -1,7 +1,7 @@
 pub mod Limits
 pub mod Flat
 pub mod Rows
-mod Turn
+mod Digits
 mod Stores
 mod CopyFront
 pub mod Sealing

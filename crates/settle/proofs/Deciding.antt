@@ -26,14 +26,14 @@ use Rattle.rows.proofs.Formulas.{length-prefix}
 use Rattle.checking.proofs.CheckedSheets.{sheet-readable, sheet-formula-in}
 use Rattle.prefixes.specs.Places.{place, binding-at}
 use Rattle.prefixes.proofs.Places.{quantifier-of-place, variable-place}
-use Rattle.signs.specs.Value.{value-of, settling-in}
-use Rattle.signs.specs.declared.value.Settling.{Settling}
-use Rattle.signs.specs.declared.value.Settling.the-variants.{Take, Not}
-use Rattle.stepping.specs.Steps.{settled-by}
-use Rattle.stepping.specs.Admission.{admission-tests, Admitted}
-use Rattle.stepping.specs.declared.settling.Put.{Put}
-use Rattle.stepping.proofs.Admitting.{sheet-steppable}
-use Rattle.settle.specs.Inner.Plan.{Planned}
+use Rattle.polarity.specs.Value.{value-of, settling-in}
+use Rattle.polarity.specs.declared.value.Settling.{Settling}
+use Rattle.polarity.specs.declared.value.Settling.the-variants.{Take, Not}
+use Rattle.elimination.specs.Steps.{settled-by}
+use Rattle.elimination.specs.Admission.{admission-tests, Admitted}
+use Rattle.elimination.specs.declared.settling.Put.{Put}
+use Rattle.elimination.proofs.Admitting.{sheet-steppable}
+use Rattle.settle.specs.Inner.SettlePlan.{SettlePlanned}
 
 -- Settle's own tests
 abbrev own-tests : Format → Bytes → ℕ → ℕ → List Test
@@ -91,7 +91,7 @@ module _ {b : Bytes} {x : ℕ} {s : Layout} {i : ℕ} {ends : List ℕ} (a : Adm
     no-room e l = rw (answered, value-here v h, e, raw-length, lt-ltb room (sheet-length F (s .variables - 1) (s .nodes)) l)
 
     pub planned : (c : Bool) → v ≡ Take c → sheet-length F (s .variables - 1) (s .nodes) ≤ room
-        → Planned b x room s (record { row = i; variable = x; value = c })
+        → SettlePlanned b x room s (record { row = i; variable = x; value = c })
     unfolding passes is-some
     planned c e l =
         record {
@@ -109,7 +109,7 @@ pub refused-call : {n i : ℕ} (F : Format) (b : Bytes) (x : ℕ) (out : Bytes) 
 unfolding settle-call
 refused-call F b x out h = written (write-refused (settle-tests F b x (length out)) x _ out h)
 
-module _ {b : Bytes} {x : ℕ} {s : Layout} {p : Put} (out : Bytes) (d : Planned b x (length out) s p) where
+module _ {b : Bytes} {x : ℕ} {s : Layout} {p : Put} (out : Bytes) (d : SettlePlanned b x (length out) s p) where
   abbrev G : Format
   G = format-in s
 

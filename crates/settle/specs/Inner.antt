@@ -1,2 +1,2 @@
 -- What Settle's code decides: definitions that no entry point cites.
-pub mod Plan
+pub mod SettlePlan

@@ -1,10 +1,10 @@
 // Settle: a variable is put in by a pure or a unit literal, its row goes, and the tree is tidied ("Settle x").
-use crate::plan::Plan;
+use crate::plan::SettlePlan;
 use crate::plan::plan_settle;
 use checking::Written;
+use elimination::settling::settle_into;
 use rows::Format;
 use rows::fit::sheet_length;
-use stepping::settling::settle_into;
 ghost use mathlib.Core.Path.{_≡_};
 ghost use Rattle.sheet.specs.Operations.{settle-call};
 ghost use Rattle.sheet.specs.Truthful.{truth-of, TruthfulSheet};
@@ -21,8 +21,8 @@ pub fn settle(sheet: &[u8], f: Format, x: usize, out: &mut [u8]) -> Written
 {
     let p = plan_settle(sheet, f, x, out.len());
     match p {
-        Plan::Refused(number, place) => Written::Refused(number, place),
-        Plan::Settles(s, put) => {
+        SettlePlan::Refused(number, place) => Written::Refused(number, place),
+        SettlePlan::Settles(s, put) => {
             let t = settle_into(sheet, s, put, out);
             Written::Accepted(sheet_length(f, t.variables, t.nodes))
         }

@@ -25,7 +25,7 @@ use Rattle.sheet.specs.Qdimacs.{said-tests, qdimacs-tests}
 use Rattle.sheet.specs.Outer.{outer-tests}
 use Rattle.sheet.specs.Force.{force-tests}
 use Rattle.sheet.specs.Guards.{guards-tests}
-use Rattle.sheet.specs.Carrying.{widen-tests, bring-back-tests}
+use Rattle.sheet.specs.Conversion.{to-wide-tests, to-narrow-tests}
 use Rattle.sheet.specs.Resume.{named, resume-tests}
 use Rattle.sheet.specs.Order.{sort-tests}
 use Rattle.sheet.specs.Check.{IsKnown, is-known, known, Known}
@@ -141,13 +141,13 @@ pub resume-known : (started settled expanded : ℕ) (b : Bytes) (w : Bool) (len 
 unfolding resume-tests known
 resume-known started settled expanded b w len = behind-check (named w) b _ refl
 
-pub widen-known : (b : Bytes) (len : ℕ) → Known (widen-tests b len)
-unfolding widen-tests known
-widen-known b len = behind-check narrow b _ refl
+pub to-wide-known : (b : Bytes) (len : ℕ) → Known (to-wide-tests b len)
+unfolding to-wide-tests known
+to-wide-known b len = behind-check narrow b _ refl
 
-pub bring-back-known : (b : Bytes) (len : ℕ) → Known (bring-back-tests b len)
-unfolding bring-back-tests known
-bring-back-known b len = behind-check wide b _ refl
+pub to-narrow-known : (b : Bytes) (len : ℕ) → Known (to-narrow-tests b len)
+unfolding to-narrow-tests known
+to-narrow-known b len = behind-check wide b _ refl
 
 pub qdimacs-known : (F : Format) (t : Bytes) (len : ℕ) → Known (qdimacs-tests F t len)
 unfolding qdimacs-tests said-tests known

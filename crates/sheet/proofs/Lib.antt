@@ -23,7 +23,7 @@ pub mod Refusals
 pub mod Outer
 pub mod OuterExamples
 pub mod Longer
-pub mod Carrying
+pub mod Conversion
 pub mod Formats
 pub mod Guards
 pub mod Resume

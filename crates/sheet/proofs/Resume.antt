@@ -41,7 +41,7 @@ use Rattle.sheet.proofs.Placed.{Placed, solve-placed}
 use Rattle.sheet.proofs.Verdicts.{solve-ended}
 use Rattle.sheet.proofs.Refusals.{solve-refused}
 use Rattle.sheet.proofs.Longer.{fits-looser}
-use Rattle.sheet.proofs.Carrying.{widen-within, sheet-carried, length-carried}
+use Rattle.sheet.proofs.Conversion.{to-wide-within, sheet-converted, length-converted}
 
 -- the sheet widened
 
@@ -57,11 +57,11 @@ pub record Widened (w : Bool) (b : Bytes) : Type 0 where
 pub widened-sheet : (w : Bool) (b : Bytes) → passes (check-tests (named w) b) ≡ true → Widened w b
 unfolding widened
 widened-sheet true b h =
-    let c = sheet-carried narrow wide wide-sound b h (widen-within b h) in
+    let c = sheet-converted narrow wide wide-sound b h (to-wide-within b h) in
     record {
       is-accepted = c .is-accepted;
       same-formula = c .same-formula;
-      its-length = length-carried narrow wide wide-sound b h (widen-within b h);
+      its-length = length-converted narrow wide wide-sound b h (to-wide-within b h);
     }
 widened-sheet false b h = record { is-accepted = h; same-formula = refl; its-length = accepted-length wide b h }
 

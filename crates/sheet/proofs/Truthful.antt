@@ -21,7 +21,7 @@ use Rattle.sheet.specs.Outer.{outer-tests, outer-call}
 use Rattle.sheet.specs.Order.{sort-call}
 use Rattle.sheet.specs.Guards.{Guards, Guarding, guards-call, Starts}
 use Rattle.sheet.specs.Force.{Forcing, force-call}
-use Rattle.sheet.specs.Carrying.{widen-call, bring-back-call}
+use Rattle.sheet.specs.Conversion.{to-wide-call, to-narrow-call}
 use Rattle.sheet.specs.Resume.{named, widened, with-counts, resume-call}
 use Rattle.sheet.specs.Calls.{Call, settle, expand, execute, outer, perform, held}
 use Rattle.sheet.specs.Steps.{Step, calls, Listed, steps-call}
@@ -38,7 +38,7 @@ use Rattle.sheet.proofs.Reduction.{reduce-right}
 use Rattle.sheet.proofs.Order.{sort-right}
 use Rattle.sheet.proofs.Qdimacs.Answers.{qdimacs-right}
 use Rattle.sheet.proofs.Verdicts.{solve-ended, solve-stopped, trial-right}
-use Rattle.sheet.proofs.Carrying.{widen-carried, bring-back-carried}
+use Rattle.sheet.proofs.Conversion.{to-wide-converted, to-narrow-converted}
 use Rattle.sheet.proofs.Guards.{guards-right, guards-initial}
 use Rattle.sheet.proofs.Force.{force-right}
 use Rattle.sheet.proofs.Resume.{widened-sheet, answer-stopped, resume-taken, resume-ended}
@@ -180,16 +180,16 @@ module _ (F : Format) (sound : Sound F) where
       starts : {a : Guards} → (guards-call F b out first second) .answer ≡ a → Starts a ((solve-call F b first second) .answer)
       starts h = subst (λ (a : Guards). Starts a ((solve-call F b first second) .answer)) h (guards-initial F b out first second)
 
-pub widen-truthful : (b out : Bytes) {w : Written} → w ≡ widen-call b out → TruthfulSheet wide (truth-of narrow b) w
-widen-truthful b out =
+pub to-wide-truthful : (b out : Bytes) {w : Written} → w ≡ to-wide-call b out → TruthfulSheet wide (truth-of narrow b) w
+to-wide-truthful b out =
     of-call wide wide-sound (λ n h.
-    let r = widen-carried b out n h in
+    let r = to-wide-converted b out n h in
     record { is-accepted = r .is-accepted; is-truth = r .same-truth })
 
-pub bring-back-truthful : (b out : Bytes) {w : Written} → w ≡ bring-back-call b out → TruthfulSheet narrow (truth-of wide b) w
-bring-back-truthful b out =
+pub to-narrow-truthful : (b out : Bytes) {w : Written} → w ≡ to-narrow-call b out → TruthfulSheet narrow (truth-of wide b) w
+to-narrow-truthful b out =
     of-call narrow narrow-sound (λ n h.
-    let r = bring-back-carried b out n h in
+    let r = to-narrow-converted b out n h in
     record { is-accepted = r .is-accepted; is-truth = r .same-truth })
 
 pub trial-truthful : (F : Format) (b : Bytes) {a : Answer Tried} → a ≡ trial-call F b → TruthfulTrial (truth-of F b) a

@@ -13,7 +13,7 @@ pub mod Steps
 pub mod Outer
 pub mod Force
 pub mod Guards
-pub mod Carrying
+pub mod Conversion
 pub mod Trace
 pub mod Resume
 pub mod Order

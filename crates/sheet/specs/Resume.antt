@@ -1,4 +1,4 @@
--- Carrying a stopped run over (N13).
+-- Conversion a stopped run over (N13).
 -- Assumes nothing.
 use mathlib.Core.Bool.{Bool, true, false, not}
 use mathlib.Core.List.{List, [], _∷_, _++_}
@@ -9,7 +9,7 @@ use Rattle.sheet.specs.Refusals.{wrong-counts}
 use Rattle.sheet.specs.Check.{Answer, refused, accepted, Test, test, answer, check-tests}
 use Rattle.sheet.specs.Operations.{Solved, is-refused, is-stopped, is-ended, Solving, solve-call}
 use Rattle.sheet.specs.Trace.{room}
-use Rattle.sheet.specs.Carrying.{carried, carried-room-test}
+use Rattle.sheet.specs.Conversion.{carried, converted-room-test}
 
 -- the format of the sheet reached, by a word whether it is narrow; and that sheet, "widened if the caller calls it narrow"
 abbrev pub named : Bool → Format
@@ -25,7 +25,7 @@ widened false b = b
 unfoldable pub resume-tests : ℕ → ℕ → ℕ → Bytes → Bool → ℕ → List Test
 resume-tests started settled expanded b is-narrow len =
     let F = named is-narrow in
-    check-tests F b ++ (test (not (eqb (settled + expanded + variables F b) started)) wrong-counts 0 ∷ carried-room-test F wide b len ∷ [])
+    check-tests F b ++ (test (not (eqb (settled + expanded + variables F b) started)) wrong-counts 0 ∷ converted-room-test F wide b len ∷ [])
 
 -- "the counts given added to its own", for a verdict and for a stop alike
 unfoldable pub add-to-answer : ℕ → ℕ → Solved → Solved

@@ -7,7 +7,7 @@ use lib.ListN.{replicate}
 use Rattle.formula.specs.Trial.{Tried}
 use Rattle.sheet.specs.Format.{Bytes, Format, narrow, wide}
 use Rattle.sheet.specs.Check.{Answer, accepted}
-use Rattle.sheet.specs.Carrying.{carried}
+use Rattle.sheet.specs.Conversion.{carried}
 use Rattle.sheet.specs.Operations.{Line, line, says-true, says-false, says-stopped, solve-call, trial-call, line-of}
 
 -- a sheet of a format with what is asked of it and what is to come: the program's line with two buffers of a length, or Trial's verdict and leaves

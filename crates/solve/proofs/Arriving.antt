@@ -41,15 +41,15 @@ use Rattle.relevance.proofs.Growth.{raw-rows-by}
 use Rattle.choice.specs.Settling.{Unsettled}
 use Rattle.choice.specs.Expanding.{ToExpand}
 use Rattle.relevance.specs.declared.variable.Candidate.{Candidate}
-use Rattle.stepping.specs.Steps.{Named, Puts}
-use Rattle.stepping.specs.Expanding.{Prepared, Expands}
-use Rattle.stepping.specs.declared.settling.Put.{Put}
-use Rattle.stepping.specs.declared.survey.Survey.{Survey}
+use Rattle.elimination.specs.Steps.{Named, Puts}
+use Rattle.elimination.specs.Expanding.{Prepared, Expands}
+use Rattle.elimination.specs.declared.settling.Put.{Put}
+use Rattle.elimination.specs.declared.survey.Survey.{Survey}
 use Rattle.solve.specs.declared.State.{State}
 use Rattle.solve.specs.declared.step.Step.the-variants as taking
-use Rattle.solve.specs.Inner.Running.{Held, Ready, begun, Open, Settles, Fetchable, ZerosBehind, long-in, Stepped, reached}
+use Rattle.solve.specs.Inner.Running.{Held, RunReady, begun, Open, Settles, Fetchable, ZerosBehind, long-in, Stepped, reached}
 use Rattle.solve.proofs.Holding.{hold, readable, proper, steppable, variables-are, nodes-are}
-use Rattle.solve.proofs.Carrying.{front-part}
+use Rattle.solve.proofs.Fetching.{front-part}
 use Rattle.solve.proofs.Stepping.{step-ends, step-settles, step-expands, step-stops, variables-left, within-settled, within-expanded, fits-tested}
 
 -- fewer variables and nodes make a shorter sheet
@@ -105,7 +105,7 @@ grown-small n (Present p) h = by (p .all)
     by true = omega arith
     by false = omega arith
 
-module _ {most : ℕ} {s : State} {first second : Bytes} (r : Ready most s first second) where
+module _ {most : ℕ} {s : State} {first second : Bytes} (r : RunReady most s first second) where
   abbrev t : Layout
   t = s .sheet
 
@@ -217,8 +217,8 @@ module _ {most : ℕ} {s : State} {first second : Bytes} (r : Ready most s first
       pub raw-small : c .raw ≤ 16386
       raw-small =
           let ok = readable (r .held) in
-          let raw = raw-rows-by (of y) first ok {p = c .part} (here .part-is) in
-          omega (arith, grown-small (t .nodes) (c .part) (raw .1), raw .0, here .raw-is, ok .few-nodes)
+          let raw = raw-rows-by (of y) first ok {p = c .relevant} (here .part-is) in
+          omega (arith, grown-small (t .nodes) (c .relevant) (raw .1), raw .0, here .raw-is, ok .few-nodes)
 
       tested : fits-raw (fits F most) y f ≡ fits F most (t .variables - 1) (c .raw)
       tested = fits-tested F most f y (variables-are (r .held)) raw-is

@@ -25,8 +25,8 @@ use Rattle.rows.proofs.Layouts.{rows-in-++}
 use Rattle.rows.proofs.Formulas.{formula-read, accepted-readable}
 use Rattle.rows.proofs.Limits.{limits, sound}
 use Rattle.prefixes.specs.Places.{binding-at}
-use Rattle.signs.specs.Value.{NumberedTo, Bound}
-use Rattle.stepping.specs.Steps.{Steppable}
+use Rattle.polarity.specs.Value.{NumberedTo, Bound}
+use Rattle.elimination.specs.Steps.{Steppable}
 use Rattle.solve.specs.Inner.Running.{Held}
 
 -- the formula of rows

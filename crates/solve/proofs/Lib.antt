@@ -1,6 +1,6 @@
 pub mod Deciding
 pub mod Holding
-pub mod Carrying
+pub mod Fetching
 pub mod Stepping
 pub mod Arriving
 pub mod Turning

@@ -18,7 +18,7 @@ ghost use Rattle.rows.specs.Formats.{format-of};
 ghost use Rattle.rows.specs.Layouts.{format-in};
 ghost use Rattle.checking.specs.Sheets.{Sheet};
 ghost use Rattle.solve.specs.Answers.{solved-answer, leaves};
-ghost use Rattle.solve.specs.Inner.Running.{Ready, RawReady, Goes, run-call, raw-call};
+ghost use Rattle.solve.specs.Inner.Running.{RunReady, RawReady, Goes, run-call, raw-call};
 
 pub mod line;
 mod step;
@@ -45,7 +45,7 @@ pub struct State {
 
 // Takes steps from a state whose tidy sheet stands in the first buffer, for as long as raw sheets fit `room` bytes.
 fn go(first: &mut [u8], second: &mut [u8], room: usize, start: State) -> Solved
-    requires { ⌜ Ready room start (now first) (now second) ⌝ }
+    requires { ⌜ RunReady room start (now first) (now second) ⌝ }
     ensures { λ r. ⌜ Goes room start (now (first .entry)) (now (first .exit)) (solved-answer r) ⌝ }
 {
     let mut s = start;
@@ -63,7 +63,7 @@ fn go(first: &mut [u8], second: &mut [u8], room: usize, start: State) -> Solved
 // Goes on from a state whose tidy sheet stands in the first buffer, for as long as raw sheets fit `room` bytes, which both buffers have.
 // The first then holds the sheet reached and zeros, the second only zeros.
 pub fn run(first: &mut [u8], second: &mut [u8], room: usize, start: State) -> Solved
-    requires { ⌜ Ready room start (now first) (now second) ⌝ }
+    requires { ⌜ RunReady room start (now first) (now second) ⌝ }
     ensures { λ r. ⌜ leaves r (now (first .exit)) (now (second .exit)) ≡ run-call room start (now (first .entry)) (now (second .entry)) ⌝ }
 {
     let answer = go(first, second, room, start);

@@ -6,6 +6,11 @@ use crate::verdicts::decide;
 use choice::expand::choose_expand;
 use choice::settle::SettleChoice;
 use choice::settle::choose_settle;
+use elimination::expanding::draft;
+use elimination::expanding::expand_into;
+use elimination::settling::Put;
+use elimination::settling::settle_into;
+use elimination::survey::survey_draft;
 use occurrences::fill_occurrences;
 use relevance::cuts::CUTS;
 use rows::Layout;
@@ -16,11 +21,6 @@ use rows::bytes::copy_front;
 use rows::fit::fits;
 use rows::fit::sheet_length;
 use rows::most_variables;
-use stepping::expanding::draft;
-use stepping::expanding::expand_into;
-use stepping::settling::Put;
-use stepping::settling::settle_into;
-use stepping::survey::survey_draft;
 use subtrees::ends::fill_ends;
 ghost use mathlib.Core.Path.{_≡_};
 ghost use Prim.Native.Nat.{max, _≤_};
@@ -29,7 +29,7 @@ ghost use Rattle.sheet.specs.Operations.{padded};
 ghost use Rattle.rows.specs.Tables.{ROWS};
 ghost use Rattle.subtrees.specs.Ends.{Indexed};
 ghost use Rattle.choice.specs.Settling.{Unsettled};
-ghost use Rattle.solve.specs.Inner.Running.{Ready, Open, Settles, Fetchable, long-in, Brings, Stepped};
+ghost use Rattle.solve.specs.Inner.Running.{RunReady, Open, Settles, Fetchable, long-in, Brings, Stepped};
 
 // Decided, stopped at a variable, or on to the next state.
 pub enum Step {
@@ -71,7 +71,7 @@ fn bring(first: &mut [u8], second: &[u8], from: Layout, to: Layout)
 
 // Settles a variable with its value. The raw sheet gets the part of the second buffer that it needs, so that no more is cleared.
 fn settle_step(first: &mut [u8], second: &mut [u8], room: usize, s: State, p: Put) -> Step
-    requires { ⌜ Ready room s (now first) (now second) × Open s (now first) × Settles s (now first) p ⌝ }
+    requires { ⌜ RunReady room s (now first) (now second) × Open s (now first) × Settles s (now first) p ⌝ }
     ensures { λ r. ⌜ Stepped room s (now (first .entry)) (now (second .entry)) (now (first .exit)) (now (second .exit)) r ⌝ }
 {
     let t = s.sheet;
@@ -88,7 +88,7 @@ fn settle_step(first: &mut [u8], second: &mut [u8], room: usize, s: State, p: Pu
 
 // Expands the cheapest variable of the innermost block, if its raw sheet fits.
 fn expand_step(first: &mut [u8], second: &mut [u8], room: usize, s: State, ends: &[u16]) -> Step
-    requires { ⌜ Ready room s (now first) (now second) × Open s (now first) × Unsettled (s .sheet) (now first) × Indexed (s .sheet) (now first) (now ends) ⌝ }
+    requires { ⌜ RunReady room s (now first) (now second) × Open s (now first) × Unsettled (s .sheet) (now first) × Indexed (s .sheet) (now first) (now ends) ⌝ }
     ensures { λ r. ⌜ Stepped room s (now (first .entry)) (now (second .entry)) (now (first .exit)) (now (second .exit)) r ⌝ }
 {
     let t = s.sheet;
@@ -115,7 +115,7 @@ fn expand_step(first: &mut [u8], second: &mut [u8], room: usize, s: State, ends:
 
 // Decides what a sheet that isn't decided takes next. The table of ends is lent: it is filled anew for each sheet that is expanded.
 fn open_step(first: &mut [u8], second: &mut [u8], room: usize, s: State, ends: &mut [u16]) -> Step
-    requires { ⌜ Ready room s (now first) (now second) × Open s (now first) × (ROWS ≤ length (now ends)) ⌝ }
+    requires { ⌜ RunReady room s (now first) (now second) × Open s (now first) × (ROWS ≤ length (now ends)) ⌝ }
     ensures { λ r. ⌜ Stepped room s (now (first .entry)) (now (second .entry)) (now (first .exit)) (now (second .exit)) r ⌝ }
 {
     let t = s.sheet;
@@ -145,7 +145,7 @@ pub fn take_step(
     s: State,
     ends: &mut [u16],
 ) -> Step
-    requires { ⌜ Ready room s (now first) (now second) × (ROWS ≤ length (now ends)) ⌝ }
+    requires { ⌜ RunReady room s (now first) (now second) × (ROWS ≤ length (now ends)) ⌝ }
     ensures { λ r. ⌜ Stepped room s (now (first .entry)) (now (second .entry)) (now (first .exit)) (now (second .exit)) r ⌝ }
 {
     let d = decide(first, s.sheet);

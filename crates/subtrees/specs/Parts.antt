@@ -1,4 +1,4 @@
--- The relevant part of a tree for a set of literals, by node rows ("Expand x").
+-- The relevant subtree of a tree for a set of literals, by node rows ("Expand x").
 -- Assumes nothing.
 use mathlib.Core.Bool.{true, cond}
 use Prim.Native.Nat.{ℕ, suc, _+_}
@@ -20,14 +20,14 @@ operator-part L i ts =
       children = count (relevant L ts);
     }
 
--- The relevant part of the tree at row i: the deepest operator above all literals, whether every child is relevant, E, and
+-- The relevant subtree of the tree at row i: the deepest operator above all literals, whether every child is relevant, E, and
 -- how many children are relevant. A literal that is alone is itself the part.
 unfoldable mutual
-  pub relevant-part : Literals → ℕ → Tree → Relevant
-  relevant-part L i (lit s v) = literal-part i
-  relevant-part L i (node o ts) =
+  pub relevant-subtree : Literals → ℕ → Tree → Relevant
+  relevant-subtree L i (lit s v) = literal-part i
+  relevant-subtree L i (node o ts) =
       cond (one-relevant L ts) (part-below L (suc i) ts) (operator-part L i ts)
 
   pub part-below : Literals → ℕ → Forest → Relevant
   part-below L i ∅ = record { operator = i; all = true; rows = 0; children = 0 }
-  part-below L i (t ▸ ts) = cond (has L t) (relevant-part L i t) (part-below L (i + rows t) ts)
+  part-below L i (t ▸ ts) = cond (has L t) (relevant-subtree L i t) (part-below L (i + rows t) ts)

@@ -12,7 +12,7 @@ use borrow.Author.Tests.{ne-eqb}
 use Rattle.formula.proofs.Booleans.{or-none, or-later}
 use Rattle.formula.proofs.Tidy.Children.{some-child-same, some-two-or}
 use Rattle.formula.specs.Tree.{Op, and, or, Tree, lit, node, Forest, ∅, _▸_, count, some-child, some-two, _⧺_}
-use Rattle.formula.specs.Tidy.{is-op, twin, same-variable, alone, childless, breaks, faults, faults-all, root-faults, any, first-true, is-tidy, first-fault}
+use Rattle.formula.specs.Tidy.{is-op, duplicate, same-variable, alone, childless, breaks, faults, faults-all, root-faults, any, first-true, is-tidy, first-fault}
 use Rattle.sheet.specs.Format.{Bytes}
 use Rattle.sheet.specs.Sheet.{operator-kind, trees}
 use Rattle.rows.specs.Formulas.{node-rows-in, matrix-in, Readable}
@@ -22,7 +22,7 @@ use Rattle.subtrees.specs.Subtrees.{top, kids, forest-in, subtree-in}
 use Rattle.subtrees.proofs.Forest.{rest, stepped-at, faults-⧺}
 use Rattle.subtrees.proofs.Matrix.{sound-nodes, trees-nodes}
 use Rattle.subtrees.proofs.Siblings.{below-row}
-use Rattle.twins.specs.Members.{clash}
+use Rattle.duplicates.specs.Members.{clash}
 use Rattle.tidiness.specs.Faults.{some-kind, at-fault, plain-fault}
 
 -- some-kind
@@ -81,15 +81,15 @@ fault-more i (node o (t ▸ u ▸ ts)) h e =
 
 -- at-fault
 
-some-two-clash : (ts : Forest) → some-two clash ts ≡ (some-two same-variable ts || some-two twin ts)
+some-two-clash : (ts : Forest) → some-two clash ts ≡ (some-two same-variable ts || some-two duplicate ts)
 unfolding clash
-some-two-clash ts = some-two-or same-variable twin ts
+some-two-clash ts = some-two-or same-variable duplicate ts
 
 fault-parts : (i : ℕ) (t : Tree) → at-fault i t ≡ (plain-fault i t || some-two clash (kids t))
 unfolding at-fault plain-fault breaks some-two
 fault-parts i (lit s v) = refl
 fault-parts i (node o ts) =
-    parts (not (eqb i 0) && childless ts) (alone ts || some-child (is-op o) ts) (some-two same-variable ts) (some-two twin ts) ∙
+    parts (not (eqb i 0) && childless ts) (alone ts || some-child (is-op o) ts) (some-two same-variable ts) (some-two duplicate ts) ∙
     ap (λ (c : Bool). ((not (eqb i 0) && childless ts) || (alone ts || some-child (is-op o) ts)) || c) (sym (some-two-clash ts))
   where
     parts : (a b c d : Bool) → (a || ((b || c) || d)) ≡ ((a || b) || (c || d))

@@ -1,12 +1,12 @@
 // Tidiness: the first operator at fault ("Tidy sheets", refusal 9).
 use buckets::BUCKETS;
+use duplicates::gather;
+use duplicates::hashes::fill_hashes;
+use duplicates::some_clash;
 use rows::Layout;
 use rows::ROWS;
 use subtrees::nodes::argument_at;
 use subtrees::nodes::kind_at;
-use twins::gather;
-use twins::prints::fill_prints;
-use twins::some_clash;
 ghost use mathlib.Core.Path.{_≡_};
 ghost use mathlib.Core.Bool.{cond};
 ghost use Prim.Native.Nat.{_<_};
@@ -73,8 +73,8 @@ pub fn first_fault(b: &[u8], s: Layout, ends: &[u16]) -> usize
     requires { ⌜ Indexed s (now b) (now ends) ⌝ }
     ensures { λ r. ⌜ r ≡ cond (is-tidy (matrix-in s (now (b .entry)))) (s .nodes) (first-fault (matrix-in s (now (b .entry)))) ⌝ }
 {
-    let mut prints = [0u16; ROWS];
-    fill_prints(b, s, ends, &mut prints);
+    let mut hashes = [0u16; ROWS];
+    fill_hashes(b, s, ends, &mut hashes);
     let mut heads = [0u16; BUCKETS];
     let mut links = [0u16; ROWS];
     let mut members = [0u32; ROWS];
@@ -83,7 +83,7 @@ pub fn first_fault(b: &[u8], s: Layout, ends: &[u16]) -> usize
         if at_fault(b, s, ends, i) {
             return i;
         }
-        let n = gather(b, s, ends, &prints, &mut members, i);
+        let n = gather(b, s, ends, &hashes, &mut members, i);
         if some_clash(b, s, &mut heads, &mut links, &mut members, n) {
             return i;
         }

@@ -1,4 +1,4 @@
--- All six rules at a row: what the steps at an operator make of its row and its children's blocks.
+-- All six rules at a row: what the steps at an operator make of its row and its children's segments.
 -- Assumes nothing.
 use mathlib.Core.Path.{_≡_, refl, sym, ap, ap₂, _∙_, subst}
 use mathlib.Core.Bool.{Bool, true, false}
@@ -13,19 +13,19 @@ use Rattle.formula.proofs.Tidy.Same.{firsts-once}
 use Rattle.sheet.specs.Format.{Row, row, children}
 use Rattle.sheet.specs.Sheet.{literal-kind, operator-kind, front, behind, grow}
 use Rattle.sheet.proofs.Preorder.{NodeKind, literal, operator, node-kind}
-use Rattle.blocks.specs.Blocks.{Blocks, _◂_, _⊕_, head, inner, block-rows, grown, live, OperatorKind}
-use Rattle.blocks.specs.Blocks as blocks
-use Rattle.blocks.specs.Gather.{end-of, judgement-of, Flat, ChildrenAt, Gathered, Gathers}
-use Rattle.blocks.specs.Rules.{is-decided}
-use Rattle.blocks.specs.declared.rules.Judgement.{Judgement}
-use Rattle.blocks.specs.declared.rules.Judgement.the-variants.{Decides, Members}
-use Rattle.blocks.specs.declared.rules.Outcome.{Outcome}
-use Rattle.blocks.specs.declared.rules.Outcome.the-variants as outcome
-use Rattle.blocks.specs.Known.{Told, AllTold}
-use Rattle.blocks.specs.Walks.{at-row}
-use Rattle.blocks.proofs.Blocks.{live-⊕, rows-⊕, length-⊕}
-use Rattle.blocks.proofs.Told.{told-at, told-join, told-first, told-last, told-keeps}
-use Rattle.tidying.specs.Inner.Operators.{Headed, Replaced, KeptBehind, Left, LeftAt, Ready, Combines, Hollows, Concludes}
+use Rattle.tidy_rules.specs.Segments.{Segments, _◂_, _⊕_, head, inner, segment-rows, grown, live, OperatorKind}
+use Rattle.tidy_rules.specs.Segments as segments
+use Rattle.tidy_rules.specs.Gather.{end-of, judgement-of, Flat, ChildrenAt, Gathered, Gathers}
+use Rattle.tidy_rules.specs.Rules.{is-decided}
+use Rattle.tidy_rules.specs.declared.rules.Judgement.{Judgement}
+use Rattle.tidy_rules.specs.declared.rules.Judgement.the-variants.{Decides, Members}
+use Rattle.tidy_rules.specs.declared.rules.RulesOutcome.{RulesOutcome}
+use Rattle.tidy_rules.specs.declared.rules.RulesOutcome.the-variants as outcome
+use Rattle.tidy_rules.specs.Known.{Told, AllTold}
+use Rattle.tidy_rules.specs.Walks.{at-row}
+use Rattle.tidy_rules.proofs.Segments.{live-⊕, rows-⊕, length-⊕}
+use Rattle.tidy_rules.proofs.Told.{told-at, told-join, told-first, told-last, told-keeps}
+use Rattle.tidying.specs.Inner.Operators.{Headed, Replaced, KeptBehind, Left, LeftAt, OperatorReady, Combines, Hollows, Concludes}
 use Rattle.tidying.proofs.Conclude.{behind-row}
 use Rattle.tidying.proofs.Flat.{flat-tidied}
 
@@ -61,13 +61,13 @@ unfolding tidy-all grow
 tidy-grow-operator and a ts = ap₂ (λ us ws. combine and us ▸ ws) (tidy-front a ts) (tidy-behind a ts)
 tidy-grow-operator or a ts = ap₂ (λ us ws. combine or us ▸ ws) (tidy-front a ts) (tidy-behind a ts)
 
--- a literal's row is its block already
-literal-kept : {R : List Row} {r n : ℕ} {before : List Row} {bs : Blocks} (K : List ℕ) (ts : Forest) (k a : ℕ) → NodeKind k → k ≤ 4
+-- a literal's row is its segment already
+literal-kept : {R : List Row} {r n : ℕ} {before : List Row} {bs : Segments} (K : List ℕ) (ts : Forest) (k a : ℕ) → NodeKind k → k ≤ 4
     → live bs ≡ tidy-all ts → AllTold K (r + 1) bs → Headed R r n before (row k a) bs [] → Replaced R K r n before [] (tidy-all (grow (row k a) ts))
-unfolding block-rows head inner live grown Told AllTold
+unfolding segment-rows head inner live grown Told AllTold
 literal-kept {bs = bs} K ts k a (literal s) l e told h =
     record {
-      blocks = blocks.literal s a ◂ bs;
+      segments = segments.literal s a ◂ bs;
       laid = record { whole = h .whole; starts = h .starts; ends = omega (arith, h .ends) };
       told = (tt, told-at K bs (omega arith) told);
       reads = ap (λ us. lit s a ▸ us) e ∙ sym (tidy-grow-literal s a ts);
@@ -75,8 +75,8 @@ literal-kept {bs = bs} K ts k a (literal s) l e told h =
 literal-kept K ts k a (operator and) l e told h = absurd (omega arith)
 literal-kept K ts k a (operator or) l e told h = absurd (omega arith)
 
-ready-literal : {R : List Row} {K : List ℕ} {r n : ℕ} {before : List Row} {x : Row} {bs : Blocks} {ts : Forest} → x .kind ≤ 4
-    → Ready R K r n before x bs ts → Replaced R K r n before [] (tidy-all (grow x ts))
+ready-literal : {R : List Row} {K : List ℕ} {r n : ℕ} {before : List Row} {x : Row} {bs : Segments} {ts : Forest} → x .kind ≤ 4
+    → OperatorReady R K r n before x bs ts → Replaced R K r n before [] (tidy-all (grow x ts))
 ready-literal {K = K} {x = x} {ts = ts} l h =
     literal-kept K ts (x .kind) (x .argument) (node-kind (x .kind) (h .node .0) (h .node .1)) l (h .reads) (h .told) (h .headed)
 
@@ -111,26 +111,26 @@ dual-kind : (k : ℕ) (o : Op) → k ≡ operator-kind o → 11 - k ≡ operator
 dual-kind k and e = omega (arith, e)
 dual-kind k or e = omega (arith, e)
 
-headed-row : {R : List Row} {r to : ℕ} {before after : List Row} {x : Row} {bs : Blocks} → Headed R r to before x bs after
+headed-row : {R : List Row} {r to : ℕ} {before after : List Row} {x : Row} {bs : Segments} → Headed R r to before x bs after
     → at-row R r ≡ x
 headed-row {r = r} {before = before} {after = after} {x = x} {bs = bs} h =
-    ap (λ (l : List Row). at-row l r) (h .whole) ∙ getD-at before x (block-rows bs ++ after) (row 0 0) r (h .starts)
+    ap (λ (l : List Row). at-row l r) (h .whole) ∙ getD-at before x (segment-rows bs ++ after) (row 0 0) r (h .starts)
 
 pub ready-literal-at : {R : List Row} {K : List ℕ} {r n k : ℕ} → k ≡ (at-row R r) .kind → k ≤ 4 → Combines R R K K r n
 ready-literal-at e l before x bs ts h = ready-literal (omega (arith, e, ap (λ (q : Row). q .kind) (headed-row (h .headed)))) h
 
 -- what is told of the outcome
-module _ {R R′ : List Row} {K M : List ℕ} {from to owed kind : ℕ} {g : Outcome}
+module _ {R R′ : List Row} {K M : List ℕ} {from to owed kind : ℕ} {g : RulesOutcome}
     (gathers : Gathers R R′ K M from (end-of g) to owed kind (judgement-of g)) where
   pub gathers-decided : {end : ℕ} → g ≡ outcome.Decided end → Gathers R R′ K M from end to owed kind Decides
   gathers-decided e = subst (λ q. Gathers R R′ K M from (end-of q) to owed kind (judgement-of q)) e gathers
 
-  pub gathers-left : {end left print : ℕ} → g ≡ outcome.Left end left print → Gathers R R′ K M from end to owed kind (Members left)
+  pub gathers-left : {end left hash : ℕ} → g ≡ outcome.Left end left hash → Gathers R R′ K M from end to owed kind (Members left)
   gathers-left e = subst (λ q. Gathers R R′ K M from (end-of q) to owed kind (judgement-of q)) e gathers
 
 -- An operator's row: its kind and its number of children as they were read.
 module _ {R : List Row} {K : List ℕ} {r n k a : ℕ} (k-is : k ≡ (at-row R r) .kind) (a-is : a ≡ (at-row R r) .argument) (l : 4 < k)
-    {before : List Row} {x : Row} {bs : Blocks} {ts : Forest} (h : Ready R K r n before x bs ts) where
+    {before : List Row} {x : Row} {bs : Segments} {ts : Forest} (h : OperatorReady R K r n before x bs ts) where
   kind-is : k ≡ x .kind
   kind-is = k-is ∙ ap (λ (q : Row). q .kind) (headed-row (h .headed))
 
@@ -164,7 +164,7 @@ module _ {R : List Row} {K : List ℕ} {r n k a : ℕ} (k-is : k ≡ (at-row R r
   ready-children =
       record {
         before = _;
-        blocks = bs;
+        segments = bs;
         after = _;
         laid = behind-row (h .headed);
         told = h .told;
@@ -183,14 +183,14 @@ module _ {R : List Row} {K : List ℕ} {r n k a : ℕ} (k-is : k ≡ (at-row R r
     ready-within = (omega (arith, gathered .here .place), omega (arith, gathered .here .ends))
 
     behind-them : List Row
-    behind-them = block-rows (gathered .others) ++ []
+    behind-them = segment-rows (gathered .others) ++ []
 
     -- its row is still before what is left of them
     headed : Headed R₁ r end before x (gathered .first) behind-them
     unfolding behind-them
     headed =
         record {
-          whole = gathered .here .whole ∙ append-snoc before x (block-rows (gathered .first) ++ behind-them);
+          whole = gathered .here .whole ∙ append-snoc before x (segment-rows (gathered .first) ++ behind-them);
           starts = h .headed .starts;
           ends = gathered .here .place;
         }
@@ -201,25 +201,25 @@ module _ {R : List Row} {K : List ℕ} {r n k a : ℕ} (k-is : k ≡ (at-row R r
     unfolding behind-them kids _⧺_
     combined {R′} {K′} {t} q later e =
         let others = gathered .others in
-        let ends : r + length (block-rows (q .blocks)) ≡ end = q .laid .ends in
+        let ends : r + length (segment-rows (q .segments)) ≡ end = q .laid .ends in
         record {
-          blocks = q .blocks ⊕ others;
+          segments = q .segments ⊕ others;
           laid =
               record {
                 whole =
                     q .laid .whole ∙
                     ap (λ rs. before ++ rs)
-                    (sym (append-assoc (block-rows (q .blocks)) (block-rows others) []) ∙ ap (λ rs. rs ++ []) (sym (rows-⊕ (q .blocks) others)));
+                    (sym (append-assoc (segment-rows (q .segments)) (segment-rows others) []) ∙ ap (λ rs. rs ++ []) (sym (rows-⊕ (q .segments) others)));
                 starts = q .laid .starts;
-                ends = omega (arith, length-⊕ (q .blocks) others, ends, gathered .here .ends);
+                ends = omega (arith, length-⊕ (q .segments) others, ends, gathered .here .ends);
               };
           told =
-              told-join K′ r (q .blocks) others (q .told)
+              told-join K′ r (q .segments) others (q .told)
               (told-at K′ others (sym ends)
               (told-keeps K K′ end others (λ j u. later j (omega (arith, u, ready-within .0)))
               (told-at K others (gathered .here .place) (told-last K (r + 1) (gathered .first) others (gathered .told)))));
           reads =
-              live-⊕ (q .blocks) others ∙ ap (λ us. us ⧺ live others) (q .reads) ∙
+              live-⊕ (q .segments) others ∙ ap (λ us. us ⧺ live others) (q .reads) ∙
               ap₂ _▸_ (e ∙ ap (λ us. combine (ready-kind .op) (front a us)) (h .reads)) (gathered .others-are ∙ ap (behind a) (h .reads)) ∙
               sym (ap (λ y. tidy-all (grow y ts)) row-is ∙ tidy-grow-operator (ready-kind .op) a ts);
         }
@@ -240,7 +240,7 @@ module _ {R : List Row} {K : List ℕ} {r n k a : ℕ} (k-is : k ≡ (at-row R r
           record {
             before = _;
             first = _;
-            blocks = _;
+            segments = _;
             after = _;
             is-left = is-left;
             op = ready-kind .op;

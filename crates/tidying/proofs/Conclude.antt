@@ -11,59 +11,59 @@ use Rattle.formula.specs.Tidy.{unwrap}
 use Rattle.sheet.specs.Format.{Row, row}
 use Rattle.sheet.specs.Sheet.{operator-kind}
 use Rattle.buckets.specs.Halves.{row-of, known-of}
-use Rattle.buckets.specs.Prints.{print}
-use Rattle.blocks.specs.Blocks.{gone, operator, Blocks, none, _◂_, head, inner, block-rows, grown, live, Laid}
-use Rattle.blocks.specs.Rules.{mixes}
-use Rattle.blocks.specs.Known.{Says, Told, AllTold}
-use Rattle.blocks.proofs.Blocks.{rows-⊕, length-⊕, no-rows}
-use Rattle.blocks.proofs.Told.{told-at, told-last, told-keeps}
+use Rattle.buckets.specs.Hashes.{hash}
+use Rattle.tidy_rules.specs.Segments.{gone, operator, Segments, none, _◂_, head, inner, segment-rows, grown, live, Laid}
+use Rattle.tidy_rules.specs.Rules.{mixes}
+use Rattle.tidy_rules.specs.Known.{Says, Told, AllTold}
+use Rattle.tidy_rules.proofs.Segments.{rows-⊕, length-⊕, no-rows}
+use Rattle.tidy_rules.proofs.Told.{told-at, told-last, told-keeps}
 use Rattle.tidying.specs.Inner.Operators.{Headed, Replaced, KeptBehind, Hollows, Left, Concludes}
-use Rattle.tidying.proofs.Members.{count-none, notes-count, mixes-print, Lone, lone}
+use Rattle.tidying.proofs.Members.{count-none, notes-count, mixes-hash, Lone, lone}
 
-module _ {R : List Row} {r end : ℕ} {before after : List Row} {x : Row} {bs : Blocks} (l : Headed R r end before x bs after) where
-  -- the blocks behind the row
+module _ {R : List Row} {r end : ℕ} {before after : List Row} {x : Row} {bs : Segments} (l : Headed R r end before x bs after) where
+  -- the segments behind the row
   pub behind-row : Laid R (r + 1) end (before ++ (x ∷ [])) bs after
   behind-row =
       record {
-        whole = l .whole ∙ sym (append-snoc before x (block-rows bs ++ after));
+        whole = l .whole ∙ sym (append-snoc before x (segment-rows bs ++ after));
         starts = length-append before (x ∷ []) ∙ omega (arith, l .starts);
         ends = l .ends;
       }
 
-  overwritten : (y : Row) → set R r y ≡ before ++ (y ∷ (block-rows bs ++ after))
-  overwritten y = ap (λ (rs : List Row). set rs r y) (l .whole) ∙ set-at before x (block-rows bs ++ after) y r (l .starts)
+  overwritten : (y : Row) → set R r y ≡ before ++ (y ∷ (segment-rows bs ++ after))
+  overwritten y = ap (λ (rs : List Row). set rs r y) (l .whole) ∙ set-at before x (segment-rows bs ++ after) y r (l .starts)
 
-  -- blocks in place of the row and those behind it
-  replaced : {R′ : List Row} {ts : Forest} (K : List ℕ) (cs : Blocks) → R′ ≡ before ++ (block-rows cs ++ after)
-      → length (block-rows cs) ≡ suc (length (block-rows bs)) → AllTold K r cs → live cs ≡ ts → Replaced R′ K r end before after ts
+  -- segments in place of the row and those behind it
+  replaced : {R′ : List Row} {ts : Forest} (K : List ℕ) (cs : Segments) → R′ ≡ before ++ (segment-rows cs ++ after)
+      → length (segment-rows cs) ≡ suc (length (segment-rows bs)) → AllTold K r cs → live cs ≡ ts → Replaced R′ K r end before after ts
   replaced K cs e n t h =
       record {
-        blocks = cs;
+        segments = cs;
         laid = record { whole = e; starts = l .starts; ends = omega (arith, l .ends, n) };
         told = t;
         reads = h;
       }
 
-  size-is : end - r ≡ suc (length (block-rows bs))
+  size-is : end - r ≡ suc (length (segment-rows bs))
   size-is = omega (arith, l .ends)
 
   -- the operator stays
-  operator-put : (K : List ℕ) (kind : ℕ) (o : Op) → kind ≡ operator-kind o → getD K r 0 ≡ known-of (count (live bs)) (print (node o (live bs)))
+  operator-put : (K : List ℕ) (kind : ℕ) (o : Op) → kind ≡ operator-kind o → getD K r 0 ≡ known-of (count (live bs)) (hash (node o (live bs)))
       → AllTold K (r + 1) bs → Replaced (set R r (row kind (end - r))) K r end before after (node o (live bs) ▸ ∅)
-  unfolding block-rows head inner live grown Says Told AllTold
+  unfolding segment-rows head inner live grown Says Told AllTold
   operator-put K kind o k says told =
       replaced K (operator o bs ◂ none)
-      (overwritten (row kind (end - r)) ∙ ap₂ (λ k′ s. before ++ (row k′ s ∷ (block-rows bs ++ after))) k size-is ∙
-      ap (λ rs. before ++ (row (operator-kind o) (suc (length (block-rows bs))) ∷ (rs ++ after))) (sym (append-nil (block-rows bs))))
-      (ap (λ rs. suc (length rs)) (append-nil (block-rows bs)))
+      (overwritten (row kind (end - r)) ∙ ap₂ (λ k′ s. before ++ (row k′ s ∷ (segment-rows bs ++ after))) k size-is ∙
+      ap (λ rs. before ++ (row (operator-kind o) (suc (length (segment-rows bs))) ∷ (rs ++ after))) (sym (append-nil (segment-rows bs))))
+      (ap (λ rs. suc (length rs)) (append-nil (segment-rows bs)))
       ((says, told-at K bs (omega arith) told), tt) refl
 
   -- a lone child replaces it
   lone-put : {p : ℕ} (K : List ℕ) → AllTold K (r + 1) bs → Lone (r + 1) p bs → Replaced (set R r (row 0 (p - r))) K r end before after (live bs)
-  unfolding block-rows head inner live grown Told AllTold
+  unfolding segment-rows head inner live grown Told AllTold
   lone-put {p} K told f =
-      let rows-are : block-rows bs ≡ block-rows (f .done) ++ block-rows (f .rest) = ap block-rows (f .is) ∙ rows-⊕ (f .done) (f .rest) in
-      replaced K (gone (block-rows (f .done)) ◂ f .rest)
+      let rows-are : segment-rows bs ≡ segment-rows (f .done) ++ segment-rows (f .rest) = ap segment-rows (f .is) ∙ rows-⊕ (f .done) (f .rest) in
+      replaced K (gone (segment-rows (f .done)) ◂ f .rest)
       (overwritten (row 0 (p - r)) ∙ ap₂ (λ a rs. before ++ (row 0 a ∷ (rs ++ after))) (reach (f .place)) rows-are)
       (ap suc (ap length (sym rows-are)))
       (tt, told-at K (f .rest) (omega arith) (told-last K (r + 1) (f .done) (f .rest) (subst (AllTold K (r + 1)) (f .is) told)))
@@ -76,8 +76,8 @@ pub replaced-as : {R R′ : List Row} {K : List ℕ} {r to : ℕ} {before after 
     → Replaced R K r to before after ts → Replaced R′ K r to before after us
 replaced-as {R} {R′} {K} {r} {to} {before} {after} {ts} {us} e f h =
     record {
-      blocks = h .blocks;
-      laid = subst (λ rs. Laid rs r to before (h .blocks) after) (sym e) (h .laid);
+      segments = h .segments;
+      laid = subst (λ rs. Laid rs r to before (h .segments) after) (sym e) (h .laid);
       told = h .told;
       reads = h .reads ∙ f;
     }
@@ -90,20 +90,20 @@ behind-set K {K′} {r} w e j l = ap (λ (k : List ℕ). getD k j 0) e ∙ getD-
 entry-set : (K : List ℕ) {K′ : List ℕ} {r w : ℕ} → K′ ≡ set K r w → r < length K → getD K′ r 0 ≡ w
 entry-set K {K′} {r} {w} e l = ap (λ (k : List ℕ). getD k r 0) e ∙ getD-set-same K r w 0 l
 
--- the operator is empty: no row behind it, or a dead block
+-- the operator is empty: no row behind it, or a dead segment
 
-says-empty : (w kind : ℕ) (o : Op) → kind ≡ operator-kind o → w ≡ known-of 0 kind → w ≡ known-of (count ∅) (print (node o ∅))
-unfolding count print
+says-empty : (w kind : ℕ) (o : Op) → kind ≡ operator-kind o → w ≡ known-of 0 kind → w ≡ known-of (count ∅) (hash (node o ∅))
+unfolding count hash
 says-empty w kind and k e = e ∙ ap (known-of 0) k
 says-empty w kind or k e = e ∙ ap (known-of 0) k
 
 dead-rows : (o : Op) (ys : List Row)
-    → block-rows (operator o (gone ys ◂ none) ◂ none) ≡ row (operator-kind o) (suc (suc (length ys))) ∷ (row 0 (suc (length ys)) ∷ ys)
-unfolding block-rows head inner
+    → segment-rows (operator o (gone ys ◂ none) ◂ none) ≡ row (operator-kind o) (suc (suc (length ys))) ∷ (row 0 (suc (length ys)) ∷ ys)
+unfolding segment-rows head inner
 dead-rows o ys =
     simp append-nil (ap (λ rs. row (operator-kind o) (suc (suc (length rs))) ∷ (row 0 (suc (length ys)) ∷ ys)) (append-nil ys))
 
-module _ {R : List Row} {r end : ℕ} {before after : List Row} {x : Row} {bs : Blocks} (K : List ℕ) (kind : ℕ) (o : Op) (k : kind ≡ operator-kind o)
+module _ {R : List Row} {r end : ℕ} {before after : List Row} {x : Row} {bs : Segments} (K : List ℕ) (kind : ℕ) (o : Op) (k : kind ≡ operator-kind o)
     (entry : getD K r 0 ≡ known-of 0 kind) (l : Headed R r end before x bs after) where
   hollow-short : end ≤ r + 1 → Replaced (set R r (row kind (end - r))) K r end before after (node o ∅ ▸ ∅)
   unfolding live AllTold
@@ -111,18 +111,18 @@ module _ {R : List Row} {r end : ℕ} {before after : List Row} {x : Row} {bs : 
       let no : bs ≡ none = no-rows bs (omega (arith, l .ends)) in
       subst (λ cs. Replaced (set R r (row kind (end - r))) K r end before after (node o (live cs) ▸ ∅)) no
       (operator-put l K kind o k
-      (subst (λ cs. getD K r 0 ≡ known-of (count (live cs)) (print (node o (live cs)))) (sym no) (says-empty (getD K r 0) kind o k entry))
+      (subst (λ cs. getD K r 0 ≡ known-of (count (live cs)) (hash (node o (live cs)))) (sym no) (says-empty (getD K r 0) kind o k entry))
       (subst (AllTold K (r + 1)) (sym no) tt))
 
   hollow-long : r + 1 < end → Replaced (set (set R r (row kind (end - r))) (r + 1) (row 0 (end - r - 1))) K r end before after (node o ∅ ▸ ∅)
   unfolding live grown Says Told AllTold
-  hollow-long s = go (block-rows bs) refl
+  hollow-long s = go (segment-rows bs) refl
     where
-      go : (rs : List Row) → block-rows bs ≡ rs
+      go : (rs : List Row) → segment-rows bs ≡ rs
           → Replaced (set (set R r (row kind (end - r))) (r + 1) (row 0 (end - r - 1))) K r end before after (node o ∅ ▸ ∅)
       go [] e = absurd (omega (arith, l .ends, ap length e))
       go (y ∷ ys) e =
-          let counted : length (block-rows bs) ≡ suc (length ys) = ap length e in
+          let counted : length (segment-rows bs) ≡ suc (length ys) = ap length e in
           let outer : end - r ≡ suc (suc (length ys)) = omega (arith, l .ends) in
           let within : end - r - 1 ≡ suc (length ys) = omega (arith, l .ends) in
           let h = row kind (end - r) in
@@ -155,7 +155,7 @@ unwrap-many o ∅ l = absurd (omega arith)
 unwrap-many o (t ▸ ∅) l = absurd (omega arith)
 unwrap-many o (t ▸ u ▸ ts) l = refl
 
-module _ {R : List Row} {K M : List ℕ} {r end left : ℕ} {before : List Row} {x : Row} {bs : Blocks} {after : List Row}
+module _ {R : List Row} {K M : List ℕ} {r end left : ℕ} {before : List Row} {x : Row} {bs : Segments} {after : List Row}
     (h : Left R K M r end left before x bs after) (fit : left ≤ length M) where
   left-count : count (live bs) ≡ left
   left-count = sym (notes-count (r + 1) bs) ∙ ap length (sym (h .noted)) ∙ length-take-le left M fit
@@ -168,7 +168,7 @@ module _ {R : List Row} {K M : List ℕ} {r end left : ℕ} {before : List Row} 
   lone-within e f =
       let l = left-lone e f in (
         omega (arith, l .place),
-        omega (arith, l .place, h .headed .ends, ap (λ cs. length (block-rows cs)) (l .is), length-⊕ (l .done) (l .rest)),
+        omega (arith, l .place, h .headed .ends, ap (λ cs. length (segment-rows cs)) (l .is), length-⊕ (l .done) (l .rest)),
       )
 
 module _ {R R₁ : List Row} {K M : List ℕ} {r end kind left : ℕ} (fit : left ≤ length M) where
@@ -190,5 +190,5 @@ module _ {R R₁ : List Row} {K M : List ℕ} {r end kind left : ℕ} (fit : lef
       let c = left-count l fit in
       replaced-as stored (unwrap-many o (live bs) (omega (arith, c, m)))
       (operator-put (l .headed) K₁ kind o k
-      (entry-set K entry u ∙ ap₂ known-of (sym c) (p-is ∙ ap₂ mixes k (l .noted) ∙ mixes-print o (r + 1) bs))
+      (entry-set K entry u ∙ ap₂ known-of (sym c) (p-is ∙ ap₂ mixes k (l .noted) ∙ mixes-hash o (r + 1) bs))
       (told-keeps K K₁ (r + 1) bs (λ j q. behind-set K _ entry j (omega (arith, q))) (l .told)))

@@ -8,7 +8,7 @@ use Rattle.formula.specs.Tree.{Op, and, or, same-op, Tree, lit, node, Forest, �
 use Rattle.formula.specs.Tidy.{is-op, tidy, tidy-all, is-tidy}
 use Rattle.formula.proofs.Tidy.Limits.{root-faulty, limits, tidy-is-tidy}
 use Rattle.sheet.specs.Sheet.{front}
-use Rattle.blocks.specs.Gather.{Flat}
+use Rattle.tidy_rules.specs.Gather.{Flat}
 
 own-kind : (o k : Op) (us : Forest) → some-child (is-op k) us ≡ false → same-op o k ≡ true → some-child (is-op o) us ≡ false
 own-kind and and us p e = p

@@ -11,7 +11,7 @@ use Rattle.rows.specs.declared.Format.{Format}
 use Rattle.rows.specs.declared.Format.the-variants.{Narrow, Wide}
 use Rattle.rows.specs.declared.Layout.{Layout}
 use Rattle.buckets.specs.Chains.{Room}
-use Rattle.blocks.proofs.Blocks.{room-as}
+use Rattle.tidy_rules.proofs.Segments.{room-as}
 use Rattle.tidying.specs.Inner.Tables.{InPlace}
 
 pub rows-fit : (f : Format) {n : ℕ} → n ≤ 9216 → n < 256 ^ (format-of f) .width

@@ -1,4 +1,4 @@
--- Packing: the rows of the trees that blocks hold, one behind the other.
+-- Packing: the rows of the trees that segments hold, one behind the other.
 -- Assumes nothing.
 use mathlib.Core.Path.{_≡_, refl, sym, ap, ap₂, _∙_, subst}
 use mathlib.Core.Bool.{true, false}
@@ -18,31 +18,31 @@ use Rattle.rows.specs.Layouts.{width, rows-in, Room, total}
 use Rattle.rows.specs.declared.Layout.{Layout}
 use Rattle.rows.proofs.Layouts.{row-in, argument-within}
 use Rattle.buckets.specs.Halves.{children-of}
-use Rattle.buckets.proofs.Prints.{print-few}
-use Rattle.blocks.specs.Blocks.{Block, gone, literal, operator, Blocks, none, _◂_, _⊕_, head, inner, block-rows, size, live, Laid, Stands}
-use Rattle.blocks.specs.Known.{Says, Told, AllTold}
-use Rattle.blocks.specs.Walks.{at-row}
-use Rattle.blocks.proofs.Blocks.{rows-⊕, length-◂, stands-row, stands-within, laid-within, no-rows}
-use Rattle.blocks.proofs.Walks.{count-rows}
-use Rattle.blocks.proofs.Told.{told-at, told-join, told-says}
-use Rattle.blocks.specs.Entered.{packed, entered, ArgumentOf}
-use Rattle.blocks.proofs.Entered.{entered-forest, packed-row, argument-literal}
+use Rattle.buckets.proofs.Hashes.{hash-few}
+use Rattle.tidy_rules.specs.Segments.{Segment, gone, literal, operator, Segments, none, _◂_, _⊕_, head, inner, segment-rows, size, live, Laid, Stands}
+use Rattle.tidy_rules.specs.Known.{Says, Told, AllTold}
+use Rattle.tidy_rules.specs.Walks.{at-row}
+use Rattle.tidy_rules.proofs.Segments.{rows-⊕, length-◂, stands-row, stands-within, laid-within, no-rows}
+use Rattle.tidy_rules.proofs.Walks.{count-rows}
+use Rattle.tidy_rules.proofs.Told.{told-at, told-join, told-says}
+use Rattle.tidy_rules.specs.Entered.{packed, entered, ArgumentOf}
+use Rattle.tidy_rules.proofs.Entered.{entered-forest, packed-row, argument-literal}
 use Rattle.tidying.specs.Inner.Packed.{stride, ToldRegion, ToldAt, ArgumentTold, Put, Puts, Packs}
 
-entered-rows : (x : Block) (bs : Blocks) → drop (stride (head x)) (block-rows (x ◂ bs)) ≡ block-rows (entered x bs)
-unfolding stride head inner block-rows entered
-entered-rows (gone rs) bs = drop-at rs (block-rows bs) (length rs) refl
+entered-rows : (x : Segment) (bs : Segments) → drop (stride (head x)) (segment-rows (x ◂ bs)) ≡ segment-rows (entered x bs)
+unfolding stride head inner segment-rows entered
+entered-rows (gone rs) bs = drop-at rs (segment-rows bs) (length rs) refl
 entered-rows (literal true v) bs = refl
 entered-rows (literal false v) bs = refl
 entered-rows (operator and ks) bs = sym (rows-⊕ ks bs)
 entered-rows (operator or ks) bs = sym (rows-⊕ ks bs)
 
--- the table tells of the blocks that come next
-entered-operator : (K : List ℕ) (at : ℕ) (ks bs : Blocks) → AllTold K (suc at) ks → AllTold K (at + suc (length (block-rows ks))) bs
+-- the table tells of the segments that come next
+entered-operator : (K : List ℕ) (at : ℕ) (ks bs : Segments) → AllTold K (suc at) ks → AllTold K (at + suc (length (segment-rows ks))) bs
     → AllTold K (at + 1) (ks ⊕ bs)
 entered-operator K at ks bs t u = told-at K (ks ⊕ bs) (omega arith) (told-join K (suc at) ks bs t (told-at K bs (omega arith) u))
 
-entered-told : (K : List ℕ) (at : ℕ) (x : Block) (bs : Blocks) → AllTold K at (x ◂ bs) → AllTold K (at + stride (head x)) (entered x bs)
+entered-told : (K : List ℕ) (at : ℕ) (x : Segment) (bs : Segments) → AllTold K at (x ◂ bs) → AllTold K (at + stride (head x)) (entered x bs)
 unfolding AllTold Told stride head inner entered
 entered-told K at (gone rs) bs t = t .1
 entered-told K at (literal true v) bs t = told-at K bs (omega arith) (t .1)
@@ -50,8 +50,8 @@ entered-told K at (literal false v) bs t = told-at K bs (omega arith) (t .1)
 entered-told K at (operator and ks) bs t = entered-operator K at ks bs (t .0 .1) (t .1)
 entered-told K at (operator or ks) bs t = entered-operator K at ks bs (t .0 .1) (t .1)
 
--- the stride is within the block, and a row is put for no fewer
-stride-within : (x : Block) → (length (packed x) ≤ stride (head x)) × (0 < stride (head x)) × (stride (head x) ≤ size x)
+-- the stride is within the segment, and a row is put for no fewer
+stride-within : (x : Segment) → (length (packed x) ≤ stride (head x)) × (0 < stride (head x)) × (stride (head x) ≤ size x)
 unfolding stride head inner packed
 stride-within (gone rs) = (omega arith, omega arith, omega arith)
 stride-within (literal true v) = (omega arith, omega arith, omega arith)
@@ -82,7 +82,7 @@ argument-fits {s} b room h r l =
     at : ℕ
     at = 2 * w + total s + w * r
 
-pub put-fits : {R : List Row} {at m : ℕ} {before after : List Row} (x : Block) (a : ℕ) → ((head x) .kind ≡ 0 → ⊥) → Stands R at before x after
+pub put-fits : {R : List Row} {at m : ℕ} {before after : List Row} (x : Segment) (a : ℕ) → ((head x) .kind ≡ 0 → ⊥) → Stands R at before x after
     → (head x) .argument < m → length R < m → ArgumentOf x a → a < m
 unfolding head inner ArgumentOf
 put-fits (gone rs) a e h l u f = absurd (e refl)
@@ -91,28 +91,28 @@ put-fits (operator o ks) a e h l u f = omega (arith, f, count-rows ks, stands-wi
 
 -- argument_told
 
-says-count : (x : Block) (w : ℕ) → 4 < (head x) .kind → Says w x → ArgumentOf x (children-of w)
+says-count : (x : Segment) (w : ℕ) → 4 < (head x) .kind → Says w x → ArgumentOf x (children-of w)
 unfolding head Says ArgumentOf
 says-count (gone rs) w l e = tt
 says-count (literal true v) w l e = absurd (omega arith)
 says-count (literal false v) w l e = absurd (omega arith)
-says-count (operator o ks) w l e = omega (arith, e, print-few (node o (live ks)))
+says-count (operator o ks) w l e = omega (arith, e, hash-few (node o (live ks)))
 
 module _ (R : List Row) {at k : ℕ} (k-is : k ≡ (at-row R at) .kind) (K : List ℕ) where
-  block-kind : {before after : List Row} {x : Block} → Stands R at before x after → k ≡ (head x) .kind
-  block-kind h = k-is ∙ ap (λ (r : Row). r .kind) (stands-row h)
+  segment-kind : {before after : List Row} {x : Segment} → Stands R at before x after → k ≡ (head x) .kind
+  segment-kind h = k-is ∙ ap (λ (r : Row). r .kind) (stands-row h)
 
   pub told-literal : {a : ℕ} → k ≤ 4 → a ≡ (at-row R at) .argument → ArgumentTold R K at a
   told-literal {a} l e before x after h t =
-      argument-literal x a (omega (arith, block-kind h)) (e ∙ ap (λ (r : Row). r .argument) (stands-row h))
+      argument-literal x a (omega (arith, segment-kind h)) (e ∙ ap (λ (r : Row). r .argument) (stands-row h))
 
   pub told-operator : {a : ℕ} → 4 < k → a ≡ children-of (getD K at 0) → ArgumentTold R K at a
   told-operator l e before x after h t =
-      subst (ArgumentOf x) (sym e) (says-count x (getD K at 0) (omega (arith, block-kind h)) (told-says K at x t))
+      subst (ArgumentOf x) (sym e) (says-count x (getD K at 0) (omega (arith, segment-kind h)) (told-says K at x t))
 
 -- put_live
 
-pub put-dead : {R : List Row} {at to : ℕ} (x : Block) → (head x) .kind ≡ 0 → Put R R at to x to
+pub put-dead : {R : List Row} {at to : ℕ} (x : Segment) → (head x) .kind ≡ 0 → Put R R at to x to
 unfolding head packed
 put-dead {R} {at} {to} (gone rs) e = record { added = sym (append-nil (take to R)); ahead = refl; moved = omega arith }
 put-dead (literal true v) e = absurd (omega arith)
@@ -120,7 +120,7 @@ put-dead (literal false v) e = absurd (omega arith)
 put-dead (operator and ks) e = absurd (omega arith)
 put-dead (operator or ks) e = absurd (omega arith)
 
-pub put-row : {R R′ : List Row} {at to : ℕ} (x : Block) (k a : ℕ) → R′ ≡ set R to (row k a) → to ≤ at → at < length R → (k ≡ 0 → ⊥) → k ≡ (head x) .kind
+pub put-row : {R R′ : List Row} {at to : ℕ} (x : Segment) (k a : ℕ) → R′ ≡ set R to (row k a) → to ≤ at → at < length R → (k ≡ 0 → ⊥) → k ≡ (head x) .kind
     → ArgumentOf x a → Put R R′ at to x (to + 1)
 put-row {R} {R′} {at} {to} x k a e l u nz k-is a-is =
     let p = packed-row x k a nz k-is a-is in
@@ -133,17 +133,17 @@ put-row {R} {R′} {at} {to} x k a e l u nz k-is a-is =
 
 -- pack
 
-pub record Packing (R : List Row) (K : List ℕ) (at to n : ℕ) (before : List Row) (bs : Blocks) (after : List Row) : Type 0 where
-  pub rest : Blocks
-  pub ahead : drop at R ≡ block-rows rest ++ after
-  pub ends : at + length (block-rows rest) ≡ n
+pub record Packing (R : List Row) (K : List ℕ) (at to n : ℕ) (before : List Row) (bs : Segments) (after : List Row) : Type 0 where
+  pub rest : Segments
+  pub ahead : drop at R ≡ segment-rows rest ++ after
+  pub ends : at + length (segment-rows rest) ≡ n
   pub told : AllTold K at rest
   pub so-far : take to R ++ forest-rows (live rest) ≡ before ++ forest-rows (live bs)
 
 pub record Pack (R₀ R : List Row) (K : List ℕ) (v n at to : ℕ) : Type 0 where
   pub behind : to ≤ at
   pub within : at ≤ n
-  pub packing : (before : List Row) (bs : Blocks) (after : List Row) → Laid R₀ v n before bs after → AllTold K v bs
+  pub packing : (before : List Row) (bs : Segments) (after : List Row) → Laid R₀ v n before bs after → AllTold K v bs
       → Packing R K at to n before bs after
 
 pub pack-none : {R : List Row} {K : List ℕ} {v n : ℕ} → ToldRegion R K v n → Pack R R K v n v v
@@ -155,33 +155,33 @@ pack-none {R} {K} {v} {n} g =
           λ before bs after l told.
           record {
             rest = bs;
-            ahead = ap (drop v) (l .whole) ∙ drop-at before (block-rows bs ++ after) v (l .starts);
+            ahead = ap (drop v) (l .whole) ∙ drop-at before (segment-rows bs ++ after) v (l .starts);
             ends = l .ends;
             told = told;
-            so-far = ap (λ rs. rs ++ forest-rows (live bs)) (ap (take v) (l .whole) ∙ take-at before (block-rows bs ++ after) v (l .starts));
+            so-far = ap (λ rs. rs ++ forest-rows (live bs)) (ap (take v) (l .whole) ∙ take-at before (segment-rows bs ++ after) v (l .starts));
           };
     }
 
-record Block-there (R : List Row) (K : List ℕ) (at n : ℕ) (rest : Blocks) (after : List Row) : Type 0 where
-  pub block : Block
-  pub others : Blocks
-  pub is : rest ≡ block ◂ others
-  pub stands : Stands R at (take at R) block (block-rows others ++ after)
-  pub told : Told K at block
-  pub onward : AllTold K (at + stride (head block)) (entered block others)
+record Segment-there (R : List Row) (K : List ℕ) (at n : ℕ) (rest : Segments) (after : List Row) : Type 0 where
+  pub segment : Segment
+  pub others : Segments
+  pub is : rest ≡ segment ◂ others
+  pub stands : Stands R at (take at R) segment (segment-rows others ++ after)
+  pub told : Told K at segment
+  pub onward : AllTold K (at + stride (head segment)) (entered segment others)
 
-there : {R : List Row} {K : List ℕ} {at n : ℕ} {after : List Row} (rest : Blocks) → at < n → n ≤ length R → drop at R ≡ block-rows rest ++ after
-    → at + length (block-rows rest) ≡ n → AllTold K at rest → Block-there R K at n rest after
-unfolding block-rows AllTold
+there : {R : List Row} {K : List ℕ} {at n : ℕ} {after : List Row} (rest : Segments) → at < n → n ≤ length R → drop at R ≡ segment-rows rest ++ after
+    → at + length (segment-rows rest) ≡ n → AllTold K at rest → Segment-there R K at n rest after
+unfolding segment-rows AllTold
 there none l u d e t = absurd (omega arith)
 there {R} {K} {at} {n} {after} (x ◂ others) l u d e t =
     record {
-      block = x;
+      segment = x;
       others = others;
       is = refl;
       stands =
           record {
-            whole = sym (take-append-drop at R) ∙ ap (λ rs. take at R ++ rs) (d ∙ ap (λ rs. head x ∷ rs) (append-assoc (inner x) (block-rows others) after));
+            whole = sym (take-append-drop at R) ∙ ap (λ rs. take at R ++ rs) (d ∙ ap (λ rs. head x ∷ rs) (append-assoc (inner x) (segment-rows others) after));
             starts = length-take-le at R (omega arith);
           };
       told = t .0;
@@ -189,56 +189,56 @@ there {R} {K} {at} {n} {after} (x ◂ others) l u d e t =
     }
 
 module _ {R₀ R : List Row} {K : List ℕ} {v n at to : ℕ} (p : Pack R₀ R K v n at to) (l : at < n) (u : n ≤ length R) where
-  block-there : {before : List Row} {bs : Blocks} {after : List Row} (laid : Laid R₀ v n before bs after) (told : AllTold K v bs)
-      → Block-there R K at n (p .packing before bs after laid told .rest) after
-  block-there laid told =
+  segment-there : {before : List Row} {bs : Segments} {after : List Row} (laid : Laid R₀ v n before bs after) (told : AllTold K v bs)
+      → Segment-there R K at n (p .packing before bs after laid told .rest) after
+  segment-there laid told =
       let q = p .packing _ _ _ laid told in
       there (q .rest) l u (q .ahead) (q .ends) (q .told)
 
   module _ (g : ToldRegion R₀ K v n) where
     pub pack-told : ToldAt R K at
     pack-told =
-        let t = block-there (g .laid) (g .told) in
-        record { before = _; block = t .block; after = _; stands = t .stands; told = t .told }
+        let t = segment-there (g .laid) (g .told) in
+        record { before = _; segment = t .segment; after = _; stands = t .stands; told = t .told }
 
     pub pack-safe : (0 < stride (at-row R at)) × (at + stride (at-row R at) ≤ n)
     pack-safe =
         let q = p .packing _ _ _ (g .laid) (g .told) in
-        let t = block-there (g .laid) (g .told) in
-        let w = stride-within (t .block) in
+        let t = segment-there (g .laid) (g .told) in
+        let w = stride-within (t .segment) in
         let e = ap stride (stands-row (t .stands)) in (
           omega (arith, e, w .1),
-          omega (arith, e, w .2, q .ends, ap (λ cs. length (block-rows cs)) (t .is), length-◂ (t .block) (t .others)),
+          omega (arith, e, w .2, q .ends, ap (λ cs. length (segment-rows cs)) (t .is), length-◂ (t .segment) (t .others)),
         )
 
     pub pack-more : {R′ : List Row} {s next : ℕ} → s ≡ stride (at-row R at) → Puts R R′ K at to next → Pack R₀ R′ K v n (at + s) next
     pack-more {R′} {s} {next} e f =
-        let t₀ = block-there (g .laid) (g .told) in
+        let t₀ = segment-there (g .laid) (g .told) in
         record {
           behind =
               omega
-              (arith, p .behind, f _ _ _ (t₀ .stands) (t₀ .told) .moved, stride-within (t₀ .block) .0, e, ap stride (stands-row (t₀ .stands)));
+              (arith, p .behind, f _ _ _ (t₀ .stands) (t₀ .told) .moved, stride-within (t₀ .segment) .0, e, ap stride (stands-row (t₀ .stands)));
           within = omega (arith, e, pack-safe .1);
           packing =
               λ before bs after laid told.
               let q = p .packing before bs after laid told in
-              let t = block-there laid told in
-              let x = t .block in
+              let t = segment-there laid told in
+              let x = t .segment in
               let put = f _ x _ (t .stands) (t .told) in
               let is : s ≡ stride (head x) = e ∙ ap stride (stands-row (t .stands)) in
               let w = stride-within x in
-              let counted : length (block-rows (q .rest)) ≡ size x + length (block-rows (t .others)) = ap (λ cs. length (block-rows cs)) (t .is) ∙ length-◂ x (t .others) in
-              let few : s ≤ length (block-rows (x ◂ t .others)) = omega (arith, is, w .2, length-◂ x (t .others)) in
+              let counted : length (segment-rows (q .rest)) ≡ size x + length (segment-rows (t .others)) = ap (λ cs. length (segment-rows cs)) (t .is) ∙ length-◂ x (t .others) in
+              let few : s ≤ length (segment-rows (x ◂ t .others)) = omega (arith, is, w .2, length-◂ x (t .others)) in
               let left = entered-after x (t .others) is in
               record {
                 rest = entered x (t .others);
                 ahead =
                     later s (omega (arith, is, w .1)) (put .ahead) ∙
-                    ap (drop s) (q .ahead ∙ ap (λ cs. block-rows cs ++ after) (t .is)) ∙
-                    drop-append-le s (block-rows (x ◂ t .others)) after few ∙ ap (λ rs. rs ++ after) left;
+                    ap (drop s) (q .ahead ∙ ap (λ cs. segment-rows cs ++ after) (t .is)) ∙
+                    drop-append-le s (segment-rows (x ◂ t .others)) after few ∙ ap (λ rs. rs ++ after) left;
                 ends =
                     omega
-                    (arith, q .ends, counted, ap length left, length-drop s (block-rows (x ◂ t .others)), length-◂ x (t .others), few);
+                    (arith, q .ends, counted, ap length left, length-drop s (segment-rows (x ◂ t .others)), length-◂ x (t .others), few);
                 told = subst (λ m. AllTold K (at + m) (entered x (t .others))) (sym is) (t .onward);
                 so-far =
                     ap (λ rs. rs ++ forest-rows (live (entered x (t .others)))) (put .added) ∙
@@ -256,8 +256,8 @@ module _ {R₀ R : List Row} {K : List ℕ} {v n at to : ℕ} (p : Pack R₀ R K
             far : at + s ≡ at + 1 + (s - 1)
             far = omega arith
 
-        entered-after : {s : ℕ} (x : Block) (others : Blocks) → s ≡ stride (head x) → drop s (block-rows (x ◂ others)) ≡ block-rows (entered x others)
-        entered-after x others e = ap (λ m. drop m (block-rows (x ◂ others))) e ∙ entered-rows x others
+        entered-after : {s : ℕ} (x : Segment) (others : Segments) → s ≡ stride (head x) → drop s (segment-rows (x ◂ others)) ≡ segment-rows (entered x others)
+        entered-after x others e = ap (λ m. drop m (segment-rows (x ◂ others))) e ∙ entered-rows x others
 
 pub pack-end : {R₀ R : List Row} {K : List ℕ} {v n at to : ℕ} → Pack R₀ R K v n at to → n ≤ at → Packs R₀ R K v n to
 unfolding forest-rows live

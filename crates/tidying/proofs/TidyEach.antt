@@ -1,4 +1,4 @@
--- From the last row to the first: the rows before are as they were, and the others are blocks that hold the tidied trees.
+-- From the last row to the first: the rows before are as they were, and the others are segments that hold the tidied trees.
 -- Assumes nothing.
 use mathlib.Core.Path.{_≡_, refl, sym, ap, _∙_, subst}
 use mathlib.Core.List.{List, [], _∷_, _++_, append-nil}
@@ -9,18 +9,18 @@ use lib.Seq.{take-all, take-suc, drop-cons, drop-drop, append-snoc, length-take-
 use Rattle.formula.specs.Tidy.{tidy-all}
 use Rattle.sheet.specs.Format.{Row, row}
 use Rattle.sheet.specs.Sheet.{trees}
-use Rattle.blocks.specs.Blocks.{none, block-rows, live}
-use Rattle.blocks.specs.Known.{AllTold}
-use Rattle.blocks.specs.Walks.{at-row}
-use Rattle.blocks.proofs.Told.{told-at}
-use Rattle.tidying.specs.Inner.Operators.{Ready, Preorder, Combines, Tidies}
+use Rattle.tidy_rules.specs.Segments.{none, segment-rows, live}
+use Rattle.tidy_rules.specs.Known.{AllTold}
+use Rattle.tidy_rules.specs.Walks.{at-row}
+use Rattle.tidy_rules.proofs.Told.{told-at}
+use Rattle.tidying.specs.Inner.Operators.{OperatorReady, Preorder, Combines, Tidies}
 use Rattle.tidying.proofs.Conclude.{replaced-as}
 
 pub back-none : (R₀ : List Row) (K : List ℕ) (n : ℕ) → length R₀ ≡ n → Tidies R₀ R₀ K n n
-unfolding block-rows live trees tidy-all AllTold
+unfolding segment-rows live trees tidy-all AllTold
 back-none R₀ K n e =
     record {
-      blocks = none;
+      segments = none;
       laid =
           record {
             whole = sym (append-nil (take n R₀) ∙ take-all n R₀ (omega (arith, e)));
@@ -57,17 +57,17 @@ module _ (R₀ : List Row) {v r n : ℕ} (counted : length R₀ ≡ n) (p : Preo
       down : v + (r - 1 - v) ≡ r - 1
       down = omega arith
 
-  pub back-ready : {R : List Row} {K : List ℕ} (b : Tidies R₀ R K r n) → Ready R K (r - 1) n (take (r - 1) R₀) there (b .blocks) (trees (drop r R₀))
+  pub back-ready : {R : List Row} {K : List ℕ} (b : Tidies R₀ R K r n) → OperatorReady R K (r - 1) n (take (r - 1) R₀) there (b .segments) (trees (drop r R₀))
   unfolding Preorder
   back-ready {K = K} b =
       record {
         headed =
             record {
-              whole = b .laid .whole ∙ ap (λ rs. rs ++ (block-rows (b .blocks) ++ [])) rows-to ∙ append-snoc (take (r - 1) R₀) there _;
+              whole = b .laid .whole ∙ ap (λ rs. rs ++ (segment-rows (b .segments) ++ [])) rows-to ∙ append-snoc (take (r - 1) R₀) there _;
               starts = length-take-le (r - 1) R₀ (omega (arith, counted));
               ends = omega (arith, b .laid .ends);
             };
-        told = told-at K (b .blocks) (omega arith) (b .told);
+        told = told-at K (b .segments) (omega arith) (b .told);
         reads = b .reads;
         node = nodes .0;
         enough = nodes .1;

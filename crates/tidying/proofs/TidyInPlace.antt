@@ -90,7 +90,7 @@ module _ {s : Layout} (b : Bytes) (raw : Raw s b) where
     left : take m (rows-in s b′) ≡ formula-rows (tidied g)
     unfolding formula-rows tidied forest-rows bound
     left =
-        packs (take (s .variables) (rows-in s b)) (tidies .blocks) [] (tidies .laid) (tidies .told) ∙
+        packs (take (s .variables) (rows-in s b)) (tidies .segments) [] (tidies .laid) (tidies .told) ∙
         ap₂ (λ p ts. p ++ forest-rows ts) bound-is (tidies .reads ∙ one-tree) ∙
         ap (λ rs. bound ++ rs) (append-nil (tree-rows (tidy (g .matrix))))
 

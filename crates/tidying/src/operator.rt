@@ -1,9 +1,5 @@
 // Tidying at an operator's row, and at all rows from the last to the first ("Tidy sheets"). A table tells of every live operator how many
-// children it has and its print, in one number.
-use blocks::GONE;
-use blocks::rules::Children;
-use blocks::rules::Outcome;
-use blocks::rules::gather;
+// children it has and its hash, in one number.
 use buckets::half::known_of;
 use buckets::half::row_of;
 use buckets::member;
@@ -15,20 +11,24 @@ use rows::from_byte;
 use rows::read::argument_at;
 use rows::read::kind_at;
 use rows::write::set_row;
+use tidy_rules::GONE;
+use tidy_rules::rules::Children;
+use tidy_rules::rules::RulesOutcome;
+use tidy_rules::rules::gather;
 ghost use Prim.Native.Nat.{_≤_, _<_};
 ghost use lib.ListN.{drop};
 ghost use Rattle.rows.specs.Layouts.{total, rows-in};
-ghost use Rattle.blocks.specs.Rules.{Tables};
+ghost use Rattle.tidy_rules.specs.Rules.{Tables};
 ghost use Rattle.tidying.specs.Inner.Operators.{KeptBehind, Hollows, ToConclude, ConcludesIn, ReadyAt, Combines, Preorder, Tidies};
 ghost use Rattle.tidying.specs.Inner.Tables.{InPlace};
 
 // A row of a sheet.
-pub struct Place {
+pub struct OperatorPlace {
     pub sheet: Layout,
     pub row: usize,
 }
 
-// The operator of this kind at a row. Its children end before row `end`, `left` members are left of them, and `print` is the operator's
+// The operator of this kind at a row. Its children end before row `end`, `left` members are left of them, and `hash` is the operator's
 // over these.
 pub struct Node {
     pub sheet: Layout,
@@ -36,7 +36,7 @@ pub struct Node {
     pub kind: u8,
     pub end: usize,
     pub left: usize,
-    pub print: usize,
+    pub hash: usize,
 }
 
 // Makes the rows from `r` to `end` an empty operator of this kind.
@@ -73,13 +73,13 @@ pub fn conclude(b: &mut [u8], n: Node, members: &[u32], known: &mut [u32])
         return;
     }
     set_row(b, s, r, kind, end - r);
-    known[r] = known_of(left, n.print) as u32;
+    known[r] = known_of(left, n.hash) as u32;
 }
 
 // All six rules at a row, the trees behind it being tidied.
 pub fn combine(
     b: &mut [u8],
-    p: Place,
+    p: OperatorPlace,
     heads: &mut [u16],
     links: &mut [u16],
     members: &mut [u32],
@@ -101,15 +101,15 @@ pub fn combine(
         kind: kind,
     };
     match gather(b, w, heads, links, members, known) {
-        Outcome::Decided { end } => hollow(b, s, r, AND + OR - kind, end, known),
-        Outcome::Left { end, count, print } => {
+        RulesOutcome::Decided { end } => hollow(b, s, r, AND + OR - kind, end, known),
+        RulesOutcome::Left { end, count, hash } => {
             let n = Node {
                 sheet: s,
                 row: r,
                 kind: kind,
                 end: end,
                 left: count,
-                print: print,
+                hash: hash,
             };
             conclude(b, n, members, known);
         }
@@ -131,7 +131,7 @@ pub fn tidy_each(
     let mut r = s.variables + s.nodes;
     while s.variables < r {
         r -= 1;
-        let p = Place { sheet: s, row: r };
+        let p = OperatorPlace { sheet: s, row: r };
         combine(b, p, heads, links, members, known);
     }
 }

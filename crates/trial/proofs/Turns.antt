@@ -21,9 +21,9 @@ use Rattle.rows.specs.declared.Layout.{Layout}
 use Rattle.rows.proofs.Formulas.{length-prefix}
 use Rattle.prefixes.specs.Places.{binding-in}
 use Rattle.prefixes.proofs.Places.{prefix-row}
-use Rattle.trial.specs.declared.Outcome.{Outcome}
+use Rattle.trial.specs.declared.TurnOutcome.{TurnOutcome}
 use Rattle.trial.specs.Inner.Jumps.{values}
-use Rattle.trial.specs.Inner.Turns.{tried, unread, turns, semantic-tree, Ready, Turned}
+use Rattle.trial.specs.Inner.Turns.{tried, unread, turns, semantic-tree, TurnsReady, Turned}
 
 -- the assignment
 
@@ -68,7 +68,7 @@ module _ (s : Layout) (b : Bytes) (ok : Readable s b) where
       rw (drop-of-length-le (prefix-in s b) {i = s .variables} (omega (arith, length-prefix b ok)))
       (ap (λ u. record { verdict = u; leaves = 1 }) e)
 
-  pub turned-leaf : (o : Outcome) (i : ℕ) (table : List Bool) → i ≡ s .variables → tried o ≡ turns s b (s .variables) table
+  pub turned-leaf : (o : TurnOutcome) (i : ℕ) (table : List Bool) → i ≡ s .variables → tried o ≡ turns s b (s .variables) table
       → Turned s b i table o table
   turned-leaf o i table e h = record { outcome = rw e h; unchanged = refl }
 
@@ -95,7 +95,7 @@ pub record Own (q : Quantifier) (s : Layout) (b : Bytes) (i x : ℕ) (table : Li
   pub inside : x < length table
 
 pub own-row : {q : Quantifier} {s : Layout} {b : Bytes} {i x : ℕ} {table : List Bool} {high low : List ℕ}
-    → Ready s b high low (length table) → i < s .variables → owner s b i ≡ q → x ≡ (binding-in s b i) .variable → Own q s b i x table
+    → TurnsReady s b high low (length table) → i < s .variables → owner s b i ≡ q → x ≡ (binding-in s b i) .variable → Own q s b i x table
 own-row {i = i} ready within owned binds =
     record {
       readable = ready .playable .readable;
@@ -107,7 +107,7 @@ own-row {i = i} ready within owned binds =
     }
 
 -- 0 was tried first
-module _ {q : Quantifier} {s : Layout} {b : Bytes} {i x : ℕ} {table t₀ : List Bool} {zero : Outcome} (own : Own q s b i x table)
+module _ {q : Quantifier} {s : Layout} {b : Bytes} {i x : ℕ} {table t₀ : List Bool} {zero : TurnOutcome} (own : Own q s b i x table)
     (first : Turned s b (i + 1) (set table x false) zero t₀) where
   row-turn : turns s b i table ≡ turn q (tried zero) (turns s b (i + 1) (set table x true))
   row-turn =
@@ -132,7 +132,7 @@ module _ {q : Quantifier} {s : Layout} {b : Bytes} {i x : ℕ} {table t₀ : Lis
       }
 
   -- then 1
-  module _ {one : Outcome} {t₁ : List Bool} (second : Turned s b (i + 1) (set t₀ x true) one t₁) where
+  module _ {one : TurnOutcome} {t₁ : List Bool} (second : Turned s b (i + 1) (set t₀ x true) one t₁) where
     pub leaves-fit : zero .leaves + one .leaves < 2 ^ 64
     leaves-fit =
         omega (
@@ -149,7 +149,7 @@ module _ {q : Quantifier} {s : Layout} {b : Bytes} {i x : ℕ} {table t₀ : Lis
     pub inside-both : x < length t₁
     inside-both = rw (second .unchanged, length-set) inside-one
 
-    pub turn-went-on : {stop : Bool} → stop ≡ Bool·beq (stops-at q) (zero .verdict) → stop ≡ false → (o : Outcome)
+    pub turn-went-on : {stop : Bool} → stop ≡ Bool·beq (stops-at q) (zero .verdict) → stop ≡ false → (o : TurnOutcome)
         → (o .verdict ≡ one .verdict) × (o .leaves ≡ zero .leaves + one .leaves) → Turned s b i table o (set t₁ x (getD table x false))
     turn-went-on asked v o sum =
         record {
@@ -165,7 +165,7 @@ module _ {q : Quantifier} {s : Layout} {b : Bytes} {i x : ℕ} {table t₀ : Lis
         }
 
 -- the first turn, under the table of all false
-pub turns-first : (s : Layout) (b : Bytes) (n : ℕ) (o : Outcome) → tried o ≡ turns s b 0 (replicate n false) → tried o ≡ semantic-tree s b
+pub turns-first : (s : Layout) (b : Bytes) (n : ℕ) (o : TurnOutcome) → tried o ≡ turns s b 0 (replicate n false) → tried o ≡ semantic-tree s b
 unfolding turns semantic-tree unread
 turns-first s b n o e = e ∙ ap (try (prefix-in s b) (eval (matrix-in s b))) (fun-ext (none n))
   where
@@ -194,9 +194,9 @@ hands-over or s b i e = rw e (omega arith)
 
 -- the next row's turn has fewer calls before it, and finds what this one found
 pub next-turn : {q : Quantifier} {s : Layout} {b : Bytes} {i x t m : ℕ} {table : List Bool} {high low : List ℕ} → Own q s b i x table
-    → Ready s b high low (length table) → calls q s b i ≡ t → m ≡ length table
-    → (calls q s b (i + 1) < t) × (Ready s b high low m × (i + 1 ≤ s .variables))
+    → TurnsReady s b high low (length table) → calls q s b i ≡ t → m ≡ length table
+    → (calls q s b (i + 1) < t) × (TurnsReady s b high low m × (i + 1 ≤ s .variables))
 next-turn {q} {s} {b} {i} {high = high} {low = low} own ready is same = (
   omega (arith, falls q s b i (own .within), is),
-  (subst (Ready s b high low) (sym same) ready, omega (arith, own .within)),
+  (subst (TurnsReady s b high low) (sym same) ready, omega (arith, own .within)),
 )

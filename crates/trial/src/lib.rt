@@ -1,7 +1,7 @@
 // Trial: decides a formula by trying values, 0 first, along its semantic tree.
 use checking::Checked;
+use prefixes::bound_at;
 use prefixes::is_existential;
-use prefixes::variable_at;
 use rows::Format;
 use rows::Layout;
 use rows::refusals::TOO_MANY_TO_TRY;
@@ -23,7 +23,7 @@ ghost use Rattle.rows.specs.Tables.{NUMBERS};
 ghost use Rattle.subtrees.specs.Ends.{Indexed};
 ghost use Rattle.trial.specs.Answers.{tried-answer};
 ghost use Rattle.trial.specs.Inner.Jumps.{entry, Parent, Parents, past, Targets, Rooms, values, row-value, next, Jumps};
-ghost use Rattle.trial.specs.Inner.Turns.{tried, turns, semantic-tree, Playable, Ready, Turned};
+ghost use Rattle.trial.specs.Inner.Turns.{tried, turns, semantic-tree, Playable, TurnsReady, Turned};
 
 // What Trial answers: the verdict and the leaves tried, or a refusal's number and place.
 pub enum Tried {
@@ -32,7 +32,7 @@ pub enum Tried {
 }
 
 // A verdict and the leaves tried.
-struct Outcome {
+struct TurnOutcome {
     verdict: bool,
     leaves: u64,
 }
@@ -161,29 +161,29 @@ fn evaluate(sheet: &[u8], s: Layout, high: &[u16], low: &[u16], assignment: &[bo
 }
 
 // A leaf of the semantic tree: no prefix row is left.
-fn leaf(sheet: &[u8], s: Layout, high: &[u16], low: &[u16], assignment: &[bool]) -> Outcome
-    requires { ⌜ Ready s (now sheet) (now high) (now low) (length (now assignment)) ⌝ }
+fn leaf(sheet: &[u8], s: Layout, high: &[u16], low: &[u16], assignment: &[bool]) -> TurnOutcome
+    requires { ⌜ TurnsReady s (now sheet) (now high) (now low) (length (now assignment)) ⌝ }
     ensures { λ o. ⌜ tried o ≡ turns s (now (sheet .entry)) (s .variables) (now (assignment .entry)) ⌝ }
 {
-    Outcome {
+    TurnOutcome {
         verdict: evaluate(sheet, s, high, low, assignment),
         leaves: 1,
     }
 }
 
 // Whether a turn of the side that stops at this verdict stops.
-fn stops(zero: Outcome, verdict: bool) -> bool
+fn stops(zero: TurnOutcome, verdict: bool) -> bool
     ensures { λ b. ⌜ b ≡ Bool·beq verdict (zero .verdict) ⌝ }
 {
     verdict == zero.verdict
 }
 
 // A turn that did not stop at its first value: the second one's verdict, and the leaves of both.
-fn both(zero: Outcome, one: Outcome) -> Outcome
+fn both(zero: TurnOutcome, one: TurnOutcome) -> TurnOutcome
     requires { ⌜ zero .leaves + one .leaves < 2 ^ 64 ⌝ }
     ensures { λ o. ⌜ (o .verdict ≡ one .verdict) × (o .leaves ≡ zero .leaves + one .leaves) ⌝ }
 {
-    Outcome {
+    TurnOutcome {
         verdict: one.verdict,
         leaves: zero.leaves + one.leaves,
     }
@@ -197,8 +197,8 @@ fn existential(
     low: &[u16],
     assignment: &mut [bool],
     i: usize,
-) -> Outcome
-    requires { ⌜ Ready s (now sheet) (now high) (now low) (length (now assignment)) × (i ≤ s .variables) ⌝ }
+) -> TurnOutcome
+    requires { ⌜ TurnsReady s (now sheet) (now high) (now low) (length (now assignment)) × (i ≤ s .variables) ⌝ }
     ensures { λ o. ⌜ Turned s (now (sheet .entry)) i (now (assignment .entry)) o (now (assignment .exit)) ⌝ }
 {
     if i == s.variables {
@@ -207,7 +207,7 @@ fn existential(
     if !is_existential(sheet, s, i) {
         return universal(sheet, s, high, low, assignment, i);
     }
-    let x = variable_at(sheet, s, i);
+    let x = bound_at(sheet, s, i);
     let old = assignment[x];
     assignment[x] = false;
     let zero = existential(sheet, s, high, low, assignment, i + 1);
@@ -229,8 +229,8 @@ fn universal(
     low: &[u16],
     assignment: &mut [bool],
     i: usize,
-) -> Outcome
-    requires { ⌜ Ready s (now sheet) (now high) (now low) (length (now assignment)) × (i ≤ s .variables) ⌝ }
+) -> TurnOutcome
+    requires { ⌜ TurnsReady s (now sheet) (now high) (now low) (length (now assignment)) × (i ≤ s .variables) ⌝ }
     ensures { λ o. ⌜ Turned s (now (sheet .entry)) i (now (assignment .entry)) o (now (assignment .exit)) ⌝ }
 {
     if i == s.variables {
@@ -239,7 +239,7 @@ fn universal(
     if is_existential(sheet, s, i) {
         return existential(sheet, s, high, low, assignment, i);
     }
-    let y = variable_at(sheet, s, i);
+    let y = bound_at(sheet, s, i);
     let old = assignment[y];
     assignment[y] = false;
     let zero = universal(sheet, s, high, low, assignment, i + 1);
@@ -254,7 +254,7 @@ fn universal(
 }
 
 // Tries the whole semantic tree of a checked sheet, existential turn first; the first assignment is never read.
-fn semantic_tree(sheet: &[u8], s: Layout) -> Outcome
+fn semantic_tree(sheet: &[u8], s: Layout) -> TurnOutcome
     requires { ⌜ Playable s (now sheet) NUMBERS ⌝ }
     ensures { λ o. ⌜ tried o ≡ semantic-tree s (now (sheet .entry)) ⌝ }
 {

@@ -1,5 +1,5 @@
 pub mod Words
-mod Turn
+mod ByteTurns
 pub mod Digits
 mod Names
 pub mod Classes

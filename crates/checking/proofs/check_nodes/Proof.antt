@@ -10,7 +10,7 @@ use Rattle.rows.specs.Formulas.{node-rows-in}
 use Rattle.rows.proofs.Layouts.{length-rows-in}
 use Rattle.checking.specs.Answers.{checked-as}
 use Rattle.checking.specs.Inner.Stages.{sizes, bound-in, node}
-use Rattle.checking.proofs.Turn.{Noded, nodes-none, nodes-all, node-kind, node-unbound, node-turn}
+use Rattle.checking.proofs.RowTests.{Noded, nodes-none, nodes-all, node-kind, node-unbound, node-turn}
 use Rattle.checking.proofs.check_nodes.Statement.{statement}
 use Rattle.checking.proofs.check_nodes.Tie as tie
 

@@ -12,7 +12,7 @@ use Rattle.rows.proofs.Limits.{limits}
 use Rattle.checking.specs.Answers.{checked-as}
 use Rattle.checking.specs.Inner.Stages.{sizes, quantifier, misnumbered}
 use Rattle.checking.proofs.CheckedSheets.{never-accepted}
-use Rattle.checking.proofs.Turn.{Prefixed, numbered-low, prefix-none, prefix-all, prefix-kind, prefix-number, prefix-twice, prefix-turn}
+use Rattle.checking.proofs.RowTests.{Prefixed, numbered-low, prefix-none, prefix-all, prefix-kind, prefix-number, prefix-twice, prefix-turn}
 use Rattle.checking.proofs.check_prefix.Statement.{statement}
 use Rattle.checking.proofs.check_prefix.Tie as tie
 

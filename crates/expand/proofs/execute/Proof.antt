@@ -5,8 +5,8 @@ use Rattle.sheet.specs.Operations.{execute-call}
 use Rattle.sheet.proofs.Truthful.{execute-truthful}
 use Rattle.rows.specs.Formats.{format-of}
 use Rattle.rows.proofs.Limits.{sound}
-use Rattle.expand.specs.Inner.Plan.{Plans}
-use Rattle.expand.specs.declared.plan.Plan.the-variants.{Expands}
+use Rattle.expand.specs.Inner.ExpandPlan.{ExpandPlans}
+use Rattle.expand.specs.declared.plan.ExpandPlan.the-variants.{Expands}
 use Rattle.expand.proofs.Deciding.{refused-execution, above-ceiling, within-ceiling}
 use Rattle.expand.proofs.execute.Statement.{statement}
 use Rattle.expand.proofs.execute.Tie as tie
@@ -31,10 +31,10 @@ plan c = c .before .before .before
 
 planned : (c : tie.After-p2)
     → let a = start (plan c) .args in
-    Plans (a .f) (a .sheet .now) (a .x) (plan c .plan-expand .last .1 .1 .1 .0) (Expands (c .p2 .given .0 .0) (c .p2 .given .0 .1 .0))
+    ExpandPlans (a .f) (a .sheet .now) (a .x) (plan c .plan-expand .last .1 .1 .1 .0) (Expands (c .p2 .given .0 .0) (c .p2 .given .0 .1 .0))
 planned c =
     let a = start (plan c) .args in
-    subst (Plans (a .f) (a .sheet .now) (a .x) (plan c .plan-expand .last .1 .1 .1 .0)) (c .p2 .given .1) (plan c .plan-expand .ensures)
+    subst (ExpandPlans (a .f) (a .sheet .now) (a .x) (plan c .plan-expand .last .1 .1 .1 .0)) (c .p2 .given .1) (plan c .plan-expand .ensures)
 
 returns : tie.Need-returns
 returns c =
@@ -57,7 +57,7 @@ returns-2 c =
     let plan = told .before .before .before in
     let a = start plan .args in
     let e = refused-execution (format-of (a .f)) (a .sheet .now) (a .x) (a .ceiling) (a .out .now)
-    (subst (Plans (a .f) (a .sheet .now) (a .x) _) (told .p .given .1) (plan .plan-expand .ensures)) in
+    (subst (ExpandPlans (a .f) (a .sheet .now) (a .x) _) (told .p .given .1) (plan .plan-expand .ensures)) in
     (e, execute-truthful (format-of (a .f)) (sound (a .f)) (a .sheet .now) (a .x) (a .ceiling) (a .out .now) e)
 
 same-length : tie.Need-same-length

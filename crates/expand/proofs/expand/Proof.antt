@@ -6,8 +6,8 @@ use Rattle.sheet.specs.Operations.{expand-call}
 use Rattle.sheet.proofs.Truthful.{expand-truthful}
 use Rattle.rows.specs.Formats.{format-of}
 use Rattle.rows.proofs.Limits.{sound}
-use Rattle.expand.specs.Inner.Plan.{Plans}
-use Rattle.expand.specs.declared.plan.Plan.the-variants.{Expands}
+use Rattle.expand.specs.Inner.ExpandPlan.{ExpandPlans}
+use Rattle.expand.specs.declared.plan.ExpandPlan.the-variants.{Expands}
 use Rattle.expand.proofs.Deciding.{refused-quote, refused-call}
 use Rattle.expand.proofs.expand.Statement.{statement}
 use Rattle.expand.proofs.expand.Tie as tie
@@ -35,10 +35,10 @@ plan c = c .before .before .before
 
 planned : (c : tie.After-p2)
     → let a = start (plan c) .args in
-    Plans (a .f) (a .sheet .now) (a .x) (plan c .plan-expand .last .1 .1 .1 .0) (Expands (c .p2 .given .0 .0) (c .p2 .given .0 .1 .0))
+    ExpandPlans (a .f) (a .sheet .now) (a .x) (plan c .plan-expand .last .1 .1 .1 .0) (Expands (c .p2 .given .0 .0) (c .p2 .given .0 .1 .0))
 planned c =
     let a = start (plan c) .args in
-    subst (Plans (a .f) (a .sheet .now) (a .x) (plan c .plan-expand .last .1 .1 .1 .0)) (c .p2 .given .1) (plan c .plan-expand .ensures)
+    subst (ExpandPlans (a .f) (a .sheet .now) (a .x) (plan c .plan-expand .last .1 .1 .1 .0)) (c .p2 .given .1) (plan c .plan-expand .ensures)
 
 expand-planned-requires : tie.Need-expand-planned-requires
 expand-planned-requires c κs = planned (c .before .before .before) .1
@@ -50,7 +50,7 @@ returns c =
     let a = start plan .args in
     let e = refused-call (format-of (a .f)) (a .sheet .now) (a .x) (a .out .now)
     (refused-quote (format-of (a .f)) (a .sheet .now) (a .x) (length (a .out .now))
-    (subst (Plans (a .f) (a .sheet .now) (a .x) _) (told .p .given .1) (plan .plan-expand .ensures))) in
+    (subst (ExpandPlans (a .f) (a .sheet .now) (a .x) _) (told .p .given .1) (plan .plan-expand .ensures))) in
     (e, expand-truthful (format-of (a .f)) (sound (a .f)) (a .sheet .now) (a .x) (a .out .now) e)
 
 same-length : tie.Need-same-length

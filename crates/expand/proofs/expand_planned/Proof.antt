@@ -6,7 +6,7 @@ use borrow.Author.Tests.{not-true, not-false}
 use native.Mathlib.Omega.{arith}
 use Rattle.formula.specs.Tree.{of}
 use Rattle.rows.specs.declared.Layout.{Layout}
-use Rattle.stepping.proofs.Surveying.{few-raw}
+use Rattle.elimination.proofs.Surveying.{few-raw}
 use Rattle.expand.proofs.Deciding.{no-room, expands, expanded-call}
 use Rattle.expand.proofs.expand_planned.Statement.{statement}
 use Rattle.expand.proofs.expand_planned.Tie as tie

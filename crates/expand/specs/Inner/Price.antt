@@ -1,4 +1,4 @@
--- The price of a variable: whether it is in the innermost block, and if so its relevant part and raw rows.
+-- The price of a variable: whether it is in the innermost block, and if so its relevant subtree and raw rows.
 -- Assumes nothing.
 use mathlib.Core.Path.{_≡_}
 use mathlib.Core.Bool.{true, false}
@@ -10,7 +10,7 @@ use Rattle.rows.specs.Formulas.{formula-in}
 use Rattle.rows.specs.declared.Layout.{Layout}
 use Rattle.occurrences.specs.Occurrences.{Occurrences}
 use Rattle.choice.specs.Expanding.{priced-in}
-use Rattle.stepping.specs.declared.admission.Binding.{Binding}
+use Rattle.elimination.specs.declared.admission.Binding.{Binding}
 use Rattle.expand.specs.declared.price.Price.{Price}
 use Rattle.expand.specs.declared.price.Price.the-variants.{Outside, Inside}
 

@@ -9,7 +9,7 @@ use Rattle.sheet.specs.Format.{Bytes}
 use Rattle.rows.specs.Tables.{HIGHEST, NUMBERS}
 use Rattle.rows.specs.declared.Layout.{Layout}
 use Rattle.prefixes.specs.Places.{binding-in}
-use Rattle.changing.specs.Changes.{put-entry, numbers, changed}
+use Rattle.substitution.specs.Changes.{put-entry, numbers, changed}
 
 -- every variable has an entry in a table
 abbrev pub Numbered : Layout → Bytes → Type 0

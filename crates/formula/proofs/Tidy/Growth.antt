@@ -7,7 +7,7 @@ use native.Mathlib.Nat.{le-refl, zero-add, add-assoc, add-le-add}
 use native.Mathlib.Omega.{arith}
 use Rattle.formula.specs.Tree.{Op, and, or, Tree, lit, node, Forest, ∅, _▸_, _⧺_, some-child, keep}
 use Rattle.formula.specs.Tree.{Literals, rows, rows-all, has, has-any}
-use Rattle.formula.specs.Tidy.{equal, twin, spliced, splice, decides, firsts, unwrap, combine, tidy, tidy-all}
+use Rattle.formula.specs.Tidy.{equal, duplicate, spliced, splice, decides, firsts, unwrap, combine, tidy, tidy-all}
 use Rattle.formula.proofs.Booleans.{cond-cases, or-parts, or-none}
 use Rattle.formula.proofs.Tidy.Children.{some-child-firsts, some-child-splice}
 
@@ -54,7 +54,7 @@ unfolding rows-all combine
 rows-combine o ts =
     let us = splice o ts in
     cond-cases (λ t. rows t ≤ suc (rows-all ts)) (decides o us) (λ _. omega arith)
-    (λ _. omega (arith, rows-unwrap o (firsts twin (firsts equal us)), rows-firsts twin (firsts equal us), rows-firsts equal us, rows-splice o ts))
+    (λ _. omega (arith, rows-unwrap o (firsts duplicate (firsts equal us)), rows-firsts duplicate (firsts equal us), rows-firsts equal us, rows-splice o ts))
 
 mutual
   unfolding rows-all tidy-all
@@ -87,7 +87,7 @@ module _ (L : Literals) where
       let us = splice o ts in
       let at-us = some-child-splice o (has L) (has L) (λ ws q. sym (has-children ws) ∙ q) (λ t _ q. q) ts p in
       cond-cases (λ t. has L t ≡ false) (decides o us) (λ _. refl)
-      (λ _. has-unwrap o (firsts twin (firsts equal us)) (some-child-firsts twin (has L) (firsts equal us) (some-child-firsts equal (has L) us at-us)))
+      (λ _. has-unwrap o (firsts duplicate (firsts equal us)) (some-child-firsts duplicate (has L) (firsts equal us) (some-child-firsts equal (has L) us at-us)))
 
 mutual
   unfolding has-any tidy-all some-child

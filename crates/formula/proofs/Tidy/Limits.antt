@@ -7,7 +7,7 @@ use mathlib.Core.Logic.{_↔_}
 use lib.Dec.{eqb}
 use borrow.Author.Tests.{not-true}
 use Rattle.formula.specs.Tree.{Op, and, or, dual, same-op, Tree, lit, node, Forest, ∅, _▸_, some-child, some-two}
-use Rattle.formula.specs.Tidy.{is-op, is-empty, opposite, equal, twin, same-variable, splice, decides, firsts, unwrap, combine, tidy, tidy-all}
+use Rattle.formula.specs.Tidy.{is-op, is-empty, opposite, equal, duplicate, same-variable, splice, decides, firsts, unwrap, combine, tidy, tidy-all}
 use Rattle.formula.specs.Tidy.{alone, childless, breaks, faults, faults-all, root-faults, any, is-tidy}
 use Rattle.formula.proofs.Booleans.{cond-cases, or-parts, or-none}
 use Rattle.formula.proofs.Tidy.Children.{some-child-both, some-child-less, some-two-both, some-two-less}
@@ -51,17 +51,17 @@ pub record Limits (o : Op) (ts : Forest) : Type 0 where
   pub many : alone ts ≡ false
   pub kinds : some-child (is-op o) ts ≡ false
   pub variables : some-two same-variable ts ≡ false
-  pub twins : some-two twin ts ≡ false
+  pub duplicates : some-two duplicate ts ≡ false
   pub below : some-child faulty ts ≡ false
 
 pub limits : (o : Op) (ts : Forest) → root-faulty (node o ts) ≡ false → Limits o ts
 unfolding root-faults breaks any
 limits o ts p =
     let (at-root, at-ts) = or-parts (breaks o ts) _ p in
-    let (others, twins) = or-parts (alone ts || some-child (is-op o) ts || some-two same-variable ts) _ at-root in
+    let (others, duplicates) = or-parts (alone ts || some-child (is-op o) ts || some-two same-variable ts) _ at-root in
     let (single, variables) = or-parts (alone ts || some-child (is-op o) ts) _ others in
     let (many, kinds) = or-parts (alone ts) _ single in
-    record { many = many; kinds = kinds; variables = variables; twins = twins; below = sym (any-faults ts) ∙ at-ts }
+    record { many = many; kinds = kinds; variables = variables; duplicates = duplicates; below = sym (any-faults ts) ∙ at-ts }
 
 -- what a spliced child may not be; if it does not decide the node or-cases, it has no fault
 abbrev unfit : Op → Tree → Bool
@@ -105,12 +105,12 @@ fit-splice o = some-child-splice o root-faulty (unfit o) own (λ t e p. or-none 
         let l = limits o ts p in
         some-child-both (is-op o) faulty (unfit o) (λ t e q. or-none e (faulty-root t q)) ts (l .kinds) (l .below)
 
-root-faulty-unwrap : (o : Op) (ts : Forest) → some-child (is-op o) ts ≡ false → some-two same-variable ts ≡ false → some-two twin ts ≡ false
+root-faulty-unwrap : (o : Op) (ts : Forest) → some-child (is-op o) ts ≡ false → some-two same-variable ts ≡ false → some-two duplicate ts ≡ false
     → some-child faulty ts ≡ false → root-faulty (unwrap o ts) ≡ false
 unfolding root-faults breaks alone any unwrap some-child some-two faults-all
-root-faulty-unwrap o ∅ kinds variables twins p = refl
-root-faulty-unwrap o (t ▸ ∅) kinds variables twins p = faulty-root t (or-parts (faulty t) _ p .0)
-root-faulty-unwrap o (t ▸ u ▸ ts) kinds variables twins p = or-none (or-none (or-none kinds variables) twins) (any-faults (t ▸ u ▸ ts) ∙ p)
+root-faulty-unwrap o ∅ kinds variables duplicates p = refl
+root-faulty-unwrap o (t ▸ ∅) kinds variables duplicates p = faulty-root t (or-parts (faulty t) _ p .0)
+root-faulty-unwrap o (t ▸ u ▸ ts) kinds variables duplicates p = or-none (or-none (or-none kinds variables) duplicates) (any-faults (t ▸ u ▸ ts) ∙ p)
 
 root-faulty-combine : (o : Op) (ts : Forest) → some-child root-faulty ts ≡ false → root-faulty (combine o ts) ≡ false
 unfolding combine decides root-faults any breaks alone faults-all some-child some-two
@@ -125,17 +125,17 @@ root-faulty-combine o ts p = cond-cases (λ t. root-faulty t ≡ false) (decides
     ws : Forest
     ws = firsts equal us
 
-    passes : (P : Tree → Bool) → some-child P us ≡ false → some-child P (firsts twin ws) ≡ false
-    passes P p = some-child-firsts twin P ws (some-child-firsts equal P us p)
+    passes : (P : Tree → Bool) → some-child P us ≡ false → some-child P (firsts duplicate ws) ≡ false
+    passes P p = some-child-firsts duplicate P ws (some-child-firsts equal P us p)
 
-    undecided : decides o us ≡ false → root-faulty (unwrap o (firsts twin ws)) ≡ false
+    undecided : decides o us ≡ false → root-faulty (unwrap o (firsts duplicate ws)) ≡ false
     undecided d =
         let (filled, no-opposites) = or-parts (some-child (is-empty (dual o)) us) _ d in
         let kinds = some-child-less (unfit o) (is-op o) (λ t e. or-parts (is-op o t) _ e .0) us fits in
         let below = some-child-both (unfit o) (is-empty (dual o)) faulty (fit o) us fits filled in
         let opposites = some-two-firsts equal opposite us no-opposites in
         let variables = some-two-both opposite equal same-variable together ws opposites (firsts-differ equal us) in
-        root-faulty-unwrap o (firsts twin ws) (passes (is-op o) kinds) (some-two-firsts twin same-variable ws variables) (firsts-differ twin ws)
+        root-faulty-unwrap o (firsts duplicate ws) (passes (is-op o) kinds) (some-two-firsts duplicate same-variable ws variables) (firsts-differ duplicate ws)
         (passes faulty below)
 
 mutual
@@ -161,10 +161,10 @@ decides-none o ts l =
     let filled = some-child-less faulty (is-empty (dual o)) (faulty-empty (dual o)) ts (l .below) in
     or-none filled (some-two-less same-variable opposite (λ t u e. apart t u e .0) ts (l .variables))
 
-firsts-none : (o : Op) (ts : Forest) → Limits o ts → firsts twin (firsts equal ts) ≡ ts
+firsts-none : (o : Op) (ts : Forest) → Limits o ts → firsts duplicate (firsts equal ts) ≡ ts
 firsts-none o ts l =
-    ap (firsts twin) (firsts-all equal ts (some-two-less same-variable equal (λ t u e. apart t u e .1) ts (l .variables))) ∙
-    firsts-all twin ts (l .twins)
+    ap (firsts duplicate) (firsts-all equal ts (some-two-less same-variable equal (λ t u e. apart t u e .1) ts (l .variables))) ∙
+    firsts-all duplicate ts (l .duplicates)
 
 unwrap-none : (o : Op) (ts : Forest) → alone ts ≡ false → unwrap o ts ≡ node o ts
 unfolding alone unwrap

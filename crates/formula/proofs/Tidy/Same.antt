@@ -6,7 +6,7 @@ use mathlib.Core.Logic.{_↔_}
 use lib.Dec.{eqb}
 use borrow.Author.Tests.{eqb-true, eq-eqb}
 use Rattle.formula.specs.Tree.{Op, and, or, same-op, Tree, lit, node, Forest, ∅, _▸_, keep}
-use Rattle.formula.specs.Tidy.{equal, same-tree, same-trees, twin, firsts}
+use Rattle.formula.specs.Tidy.{equal, same-tree, same-trees, duplicate, firsts}
 use Rattle.formula.proofs.Booleans.{and-parts}
 use Rattle.formula.proofs.Tidy.Children.{keep-every, keep-keep, keep-swap, same-kind}
 
@@ -24,7 +24,7 @@ same-op-refl : (o : Op) → same-op o o ≡ true
 same-op-refl and = refl
 same-op-refl or = refl
 
--- equal, same-tree, twin: equality
+-- equal, same-tree, duplicate: equality
 
 pub equal-same : (t u : Tree) → equal t u ≡ true → t ≡ u
 unfolding equal
@@ -80,25 +80,25 @@ same-tree-sym t u = by (same-tree t u) (same-tree u t) refl refl
 pub same-tree-trans : (t u w : Tree) → same-tree t u ≡ true → same-tree u w ≡ true → same-tree t w ≡ true
 same-tree-trans t u w e f = same-tree-exactly t w .1 (same-tree-same t u e ∙ same-tree-same u w f)
 
-pub twin-same : (t u : Tree) → twin t u ≡ true → t ≡ u
-unfolding twin
-twin-same (lit s v) u e = cc
-twin-same (node o ts) u e = same-tree-same (node o ts) u e
+pub duplicate-same : (t u : Tree) → duplicate t u ≡ true → t ≡ u
+unfolding duplicate
+duplicate-same (lit s v) u e = cc
+duplicate-same (node o ts) u e = same-tree-same (node o ts) u e
 
-pub twin-refl : (o : Op) (ts : Forest) → twin (node o ts) (node o ts) ≡ true
-unfolding twin
-twin-refl o ts = same-tree-refl (node o ts)
+pub duplicate-refl : (o : Op) (ts : Forest) → duplicate (node o ts) (node o ts) ≡ true
+unfolding duplicate
+duplicate-refl o ts = same-tree-refl (node o ts)
 
-pub twin-sym : (t u : Tree) → twin t u ≡ twin u t
-unfolding twin same-tree
-twin-sym (lit s v) (lit s′ v′) = refl
-twin-sym (lit s v) (node k us) = refl
-twin-sym (node o ts) (lit s v) = refl
-twin-sym (node o ts) (node k us) = same-tree-sym (node o ts) (node k us)
+pub duplicate-sym : (t u : Tree) → duplicate t u ≡ duplicate u t
+unfolding duplicate same-tree
+duplicate-sym (lit s v) (lit s′ v′) = refl
+duplicate-sym (lit s v) (node k us) = refl
+duplicate-sym (node o ts) (lit s v) = refl
+duplicate-sym (node o ts) (node k us) = same-tree-sym (node o ts) (node k us)
 
 -- equal literals, or equal operators
-pub same-tree-by : (t u : Tree) → same-tree t u ≡ (equal t u || twin t u)
-unfolding same-tree equal twin
+pub same-tree-by : (t u : Tree) → same-tree t u ≡ (equal t u || duplicate t u)
+unfolding same-tree equal duplicate
 same-tree-by (lit s v) (lit s′ v′) = sym (or-false _)
 same-tree-by (lit s v) (node k us) = refl
 same-tree-by (node o ts) u = refl
@@ -132,12 +132,12 @@ module _ (Q R S : Tree → Tree → Bool) (either : (t u : Tree) → S t u ≡ (
       neither true b = refl
       neither false b = refl
 
-literal-no-twin : (t u w : Tree) → equal t u ≡ true → twin u w ≡ false
-unfolding equal twin
-literal-no-twin (node o ts) u w e = cc
-literal-no-twin (lit s v) (lit s′ v′) w e = refl
-literal-no-twin (lit s v) (node k us) w e = cc
+literal-no-duplicate : (t u w : Tree) → equal t u ≡ true → duplicate u w ≡ false
+unfolding equal duplicate
+literal-no-duplicate (node o ts) u w e = cc
+literal-no-duplicate (lit s v) (lit s′ v′) w e = refl
+literal-no-duplicate (lit s v) (node k us) w e = cc
 
 -- rules 4 and 5 in one pass
-pub firsts-once : (ts : Forest) → firsts twin (firsts equal ts) ≡ firsts same-tree ts
-firsts-once = firsts-both equal twin same-tree same-tree-by literal-no-twin
+pub firsts-once : (ts : Forest) → firsts duplicate (firsts equal ts) ≡ firsts same-tree ts
+firsts-once = firsts-both equal duplicate same-tree same-tree-by literal-no-duplicate

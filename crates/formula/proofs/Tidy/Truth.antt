@@ -7,9 +7,9 @@ use lib.Dec.{eqb}
 use borrow.Author.Tests.{eqb-true, not-false}
 use Rattle.formula.specs.Tree.{Op, and, or, dual, Tree, lit, node, Forest, ∅, _▸_, _⧺_, some-child, some-two, keep}
 use Rattle.formula.specs.Truth.{Assignment, join, unit, eval, eval-all}
-use Rattle.formula.specs.Tidy.{is-empty, opposite, equal, twin, spliced, splice, decides, firsts, unwrap, combine, tidy, tidy-all}
+use Rattle.formula.specs.Tidy.{is-empty, opposite, equal, duplicate, spliced, splice, decides, firsts, unwrap, combine, tidy, tidy-all}
 use Rattle.formula.proofs.Evaluation.{eval-decided}
-use Rattle.formula.proofs.Tidy.Same.{equal-same, twin-same}
+use Rattle.formula.proofs.Tidy.Same.{equal-same, duplicate-same}
 use Rattle.formula.proofs.Booleans.{cond-cases, or-cases, join-assoc, join-comm, join-unit, join-twice, join-swap, join-zero}
 
 -- rule 1: splicing
@@ -111,7 +111,7 @@ unfolding eval-all combine
 eval-combine o ρ ts =
     let us = splice o ts in
     let apart = firsts equal us in
-    let undecided = eval-unwrap o ρ (firsts twin apart) ∙ eval-firsts twin twin-same o ρ apart ∙ eval-firsts equal equal-same o ρ us in
+    let undecided = eval-unwrap o ρ (firsts duplicate apart) ∙ eval-firsts duplicate duplicate-same o ρ apart ∙ eval-firsts equal equal-same o ρ us in
     cond-cases (λ t. eval t ρ ≡ eval-all us o ρ) (decides o us) (λ d. sym (eval-decides o ρ us d)) (λ _. undecided) ∙ eval-splice o ρ ts
 
 mutual

@@ -15,7 +15,7 @@ start c = c .before .before .before .before .before .before
 abbrev filled : tie.After-sift → tie.After-fill-ends
 filled c = c .before .before .before .before .before .before
 
-abbrev sifted : tie.After-write-part → tie.After-sift
+abbrev sifted : tie.After-write-selection → tie.After-sift
 sifted c = c .before .before .before .before .before .before .before .before .before
 
 slice-aggregate-fill-ends : tie.Need-slice-aggregate-fill-ends
@@ -35,24 +35,24 @@ slice-aggregate-sift-2 c = search needs
 sift-requires : tie.Need-sift-requires
 sift-requires c κs = search needs
 
-slice-aggregate-write-part : tie.Need-slice-aggregate-write-part
-slice-aggregate-write-part c = search needs
+slice-aggregate-write-selection : tie.Need-slice-aggregate-write-selection
+slice-aggregate-write-selection c = search needs
 
 array-share-prefix-kept : tie.Need-array-share-prefix-kept
 array-share-prefix-kept c = search needs
 
-slice-aggregate-write-part-2 : tie.Need-slice-aggregate-write-part-2
-slice-aggregate-write-part-2 c =
+slice-aggregate-write-selection-2 : tie.Need-slice-aggregate-write-selection-2
+slice-aggregate-write-selection-2 c =
     let made = c .before .before .before .before .before .before .before .sift in
     sym (length-take-le (made .result .guards) (made .last .1 .1 .1 .0) (search needs))
 
-write-part-requires : tie.Need-write-part-requires
-write-part-requires c κs = search needs
+write-selection-requires : tie.Need-write-selection-requires
+write-selection-requires c κs = search needs
 
 add-seal : tie.Need-add-seal
 add-seal c =
     let wrote = c .before .before .before .before in
-    let e = wrote .write-part .ensures .0 in
+    let e = wrote .write-selection .ensures .0 in
     let z = sifted wrote .sift .ensures .chosen in
     omega (arith, ap (λ (l : Layout). l .variables) e, ap (λ (l : Layout). l .nodes) e, z .no-more, z .readable .few-variables, z .readable .few-nodes)
 
@@ -60,7 +60,7 @@ seal-requires : tie.Need-seal-requires
 seal-requires c κs =
     let wrote = c .before .before .before .before in
     let a = start (filled (sifted wrote)) in
-    let part = wrote .write-part in (
+    let part = wrote .write-selection in (
       kept-room (sifted wrote .sift .ensures) (part .result) (part .ensures .0) (part .last .1 .1 .1 .1 .1 .0) (a .args .out .now)
           (part .kept .1 .1 .1 .1 .1 .0) (a .pre .1),
       omega arith,
@@ -81,7 +81,7 @@ returns c =
     let sealed = c .before .before in
     let wrote = sealed .before .before .before .before .before in
     let a = start (filled (sifted wrote)) in
-    let part = wrote .write-part in
+    let part = wrote .write-selection in
     kept-told (sifted wrote .sift .ensures) (part .result) (part .ensures .0) _ (a .args .out .now) (part .kept .1 .1 .1 .1 .1 .0) (a .pre .1)
     (part .ensures .1) (sealed .seal .ensures .1) (sealed .seal .ensures .0)
 
@@ -94,10 +94,10 @@ keep-spec =
     slice-aggregate-sift
     slice-aggregate-sift-2
     sift-requires
-    slice-aggregate-write-part
+    slice-aggregate-write-selection
     array-share-prefix-kept
-    slice-aggregate-write-part-2
-    write-part-requires
+    slice-aggregate-write-selection-2
+    write-selection-requires
     add-seal
     seal-requires
     same-length

@@ -19,11 +19,11 @@ use Rattle.solve.specs.Inner.Running.{answered}
 use Rattle.solve.specs.declared.Verdict as verdict
 use Rattle.solve.specs.declared.Solved.{Solved}
 use Rattle.solve.specs.declared.Solved as solved
-use Rattle.guards.specs.declared.part.Part.{Part}
+use Rattle.guards.specs.declared.selection.Selection.{Selection}
 use Rattle.guards.specs.declared.sift.Sieve.{Sieve}
 use Rattle.guards.specs.declared.sift.Word.{Word}
 use Rattle.guards.specs.declared.sift.Word.the-variants.{False, True, Stopped}
-use Rattle.guards.specs.Inner.Parts.{guards-in, Chosen}
+use Rattle.guards.specs.Inner.Selections.{guards-in, Chosen}
 
 -- the word of an answer
 abbrev pub word-for : Solved → Word
@@ -63,7 +63,7 @@ clashed s b most = clash (conjoined (prefix-in s b) ((clashing-in s b most) .tho
 abbrev pub starts : List ℕ → Sieve → List ℕ
 starts table g = take (g .guards) table
 
-abbrev pub kept-part : Layout → Sieve → Part
+abbrev pub kept-part : Layout → Sieve → Selection
 kept-part s g = record { guards = g .guards; rows = g .rows; rest = s .nodes }
 
 pub record Sifted (s : Layout) (b : Bytes) (most : ℕ) (ends table : List ℕ) (g : Sieve) : Type 0 where

@@ -2,7 +2,7 @@
 use Prim.Native.Nat.{_-_}
 use native.Mathlib.Omega.{arith}
 use lib.ListN.{length}
-use Rattle.occurrences.proofs.Turn.{Filling, fill-none, fill-turn, fill-all}
+use Rattle.occurrences.proofs.TableTurns.{Filling, fill-none, fill-turn, fill-all}
 use Rattle.occurrences.proofs.fill.Statement.{statement}
 use Rattle.occurrences.proofs.fill.Tie as tie
 

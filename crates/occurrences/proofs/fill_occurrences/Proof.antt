@@ -1,6 +1,6 @@
 -- `occurrences::fill_occurrences` meets its contract. Assumes nothing.
 use borrow.Author.Needs.{needs}
-use Rattle.occurrences.proofs.Turn.{occurrences-filled}
+use Rattle.occurrences.proofs.TableTurns.{occurrences-filled}
 use Rattle.occurrences.proofs.fill_occurrences.Statement.{statement}
 use Rattle.occurrences.proofs.fill_occurrences.Tie as tie
 

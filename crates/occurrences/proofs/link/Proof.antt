@@ -4,7 +4,7 @@ use Prim.Native.Nat.{_-_, _≤_, _<_}
 use native.Mathlib.Omega.{arith}
 use lib.ListN.{length, length-set}
 use Rattle.occurrences.specs.Occurrences.{Firsts, Nexts}
-use Rattle.occurrences.proofs.Turn.{first-none-left, next-none-left, first-turn, next-turn}
+use Rattle.occurrences.proofs.TableTurns.{first-none-left, next-none-left, first-turn, next-turn}
 use Rattle.occurrences.proofs.link.Statement.{statement}
 use Rattle.occurrences.proofs.link.Tie as tie
 
@@ -33,8 +33,8 @@ loop-holds c =
 sub-i : tie.Need-sub-i Inv-loop μ-loop
 sub-i c = omega arith
 
-variable-at-requires : tie.Need-variable-at-requires Inv-loop μ-loop
-variable-at-requires c κs = (c .before .before .before .before .before .before .before .before .before .before .pre .0, omega (arith, c .before .loop .inv .2))
+literal-at-requires : tie.Need-literal-at-requires Inv-loop μ-loop
+literal-at-requires c κs = (c .before .before .before .before .before .before .before .before .before .before .pre .0, omega (arith, c .before .loop .inv .2))
 
 mul-look : tie.Need-mul-look Inv-loop μ-loop
 mul-look c = omega arith
@@ -65,7 +65,7 @@ loop-again c =
     let head = c .before .before .before .before .before .before .before .before in
     let a = c .before .before .before .before .before .before .before .before .before .before .before .before .before .before .before .before .before in
     let inside : head .loop .i - 1 < a .args .s .nodes = omega (arith, head .loop .inv .2) in
-    let variable = c .before .before .before .before .before .before .variable-at .ensures .0 in (
+    let variable = c .before .before .before .before .before .before .literal-at .ensures .0 in (
       rw (c .before .before .store .ensures)
           (first-turn (a .args .b .now) (a .pre .0) (omega arith) inside variable (head .loop .inv .0)),
       next-turn (a .args .b .now) (a .pre .0) (omega arith) inside variable (head .loop .inv .0) (c .before .before .before .before .look .ensures)
@@ -95,7 +95,7 @@ link-spec =
     fill-requires
     loop-holds
     sub-i
-    variable-at-requires
+    literal-at-requires
     mul-look
     look-requires
     mul-next

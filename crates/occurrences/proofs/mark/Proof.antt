@@ -3,7 +3,7 @@ use mathlib.Core.Path.{_≡_, refl, sym, _∙_}
 use Prim.Native.Nat.{_-_, _≤_}
 use native.Mathlib.Omega.{arith}
 use Rattle.occurrences.specs.Occurrences.{Lasts, FirstsKept}
-use Rattle.occurrences.proofs.Turn.{mark-none, mark-turn, kept-turn}
+use Rattle.occurrences.proofs.TableTurns.{mark-none, mark-turn, kept-turn}
 use Rattle.occurrences.proofs.mark.Statement.{statement}
 use Rattle.occurrences.proofs.mark.Tie as tie
 
@@ -16,8 +16,8 @@ abbrev μ-loop : tie.MeasureT-loop
 loop-holds : tie.Need-loop-holds Inv-loop μ-loop
 loop-holds c = let a = c .before .before in (mark-none (a .args .b .now) (a .pre .0) (a .pre .1), λ x. refl, omega arith)
 
-variable-at-requires : tie.Need-variable-at-requires Inv-loop μ-loop
-variable-at-requires c κs = let a = c .before .before .before .before .before in (a .pre .0, c .if1 .taken)
+literal-at-requires : tie.Need-literal-at-requires Inv-loop μ-loop
+literal-at-requires c κs = let a = c .before .before .before .before .before in (a .pre .0, c .if1 .taken)
 
 mul-store : tie.Need-mul-store Inv-loop μ-loop
 mul-store c = omega arith
@@ -42,9 +42,9 @@ loop-again c =
     let stored = c .before .before in
     let head = c .before .before .before .before .before .before .before in
     let a = c .before .before .before .before .before .before .before .before .before .before in
-    let x = c .before .before .before .before .variable-at .result in (
+    let x = c .before .before .before .before .literal-at .result in (
       rw (stored .store .ensures)
-          (mark-turn (a .args .b .now) (a .pre .0) (omega arith) (c .before .before .before .before .before .if1 .taken) (c .before .before .before .before .variable-at .ensures .0) (head .loop .inv .0)),
+          (mark-turn (a .args .b .now) (a .pre .0) (omega arith) (c .before .before .before .before .before .if1 .taken) (c .before .before .before .before .literal-at .ensures .0) (head .loop .inv .0)),
       rw (stored .store .ensures) (kept-turn (a .args .ranges .now) (head .loop .ranges) x (head .loop .i) (head .loop .inv .1)),
       omega arith,
     )
@@ -64,7 +64,7 @@ mark-spec =
     Inv-loop
     μ-loop
     loop-holds
-    variable-at-requires
+    literal-at-requires
     mul-store
     add-store
     cast-store

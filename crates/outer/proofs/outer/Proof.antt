@@ -5,8 +5,8 @@ use borrow.Author.Needs.{needs}
 use Rattle.rows.specs.Formats.{format-of}
 use Rattle.rows.specs.declared.Format.{Format}
 use Rattle.outer.specs.Answers.{outer-written}
-use Rattle.outer.specs.Inner.Plan.{Plans}
-use Rattle.outer.specs.declared.plan.Plan.the-variants.{Copies}
+use Rattle.outer.specs.Inner.OuterPlan.{OuterPlans}
+use Rattle.outer.specs.declared.plan.OuterPlan.the-variants.{Copies}
 use Rattle.outer.proofs.Sheets.{refused-plan}
 use Rattle.outer.proofs.Telling.{outer-told}
 use Rattle.outer.proofs.outer.Statement.{statement}
@@ -19,11 +19,11 @@ start c = c .before .before .before .before .before
 planned : (c : tie.After-p2)
     → let k = c .before .before .before .before in
     let a = start k .args in
-    Plans (a .f) (a .sheet .now) (a .x) (k .plan-outer .last .1 .1 .1 .0) (k .plan-outer .last .1 .1 .1 .1 .0) (Copies (c .p2 .given .0 .0))
+    OuterPlans (a .f) (a .sheet .now) (a .x) (k .plan-outer .last .1 .1 .1 .0) (k .plan-outer .last .1 .1 .1 .1 .0) (Copies (c .p2 .given .0 .0))
 planned c =
     let plan = c .before .before .before .before in
     let a = start plan .args in
-    subst (Plans (a .f) (a .sheet .now) (a .x) _ _) (c .p2 .given .1) (plan .plan-outer .ensures)
+    subst (OuterPlans (a .f) (a .sheet .now) (a .x) _ _) (c .p2 .given .1) (plan .plan-outer .ensures)
 
 slice-aggregate-plan-outer : tie.Need-slice-aggregate-plan-outer
 slice-aggregate-plan-outer c = search needs
@@ -56,7 +56,7 @@ returns c =
     let a = start plan .args in
     outer-told (a .f) (a .sheet .now) (a .x) (a .out .now)
     (refused-plan (format-of (a .f)) (a .sheet .now) (a .x) (a .out .now)
-    (subst (Plans (a .f) (a .sheet .now) (a .x) _ _) (told .p .given .1) (plan .plan-outer .ensures)))
+    (subst (OuterPlans (a .f) (a .sheet .now) (a .x) _ _) (told .p .given .1) (plan .plan-outer .ensures)))
 
 same-length : tie.Need-same-length
 same-length c = search needs

@@ -6,10 +6,10 @@ use Prim.Native.Nat.{ℕ}
 use Rattle.formula.specs.Tree.{and}
 use Rattle.sheet.specs.Format.{Bytes}
 use Rattle.sheet.specs.Sheet.{operator-kind}
-use Rattle.changing.specs.Changes.{chosen}
+use Rattle.substitution.specs.Changes.{chosen}
 use Rattle.dependence.specs.declared.Target.{Target}
-use Rattle.stepping.specs.Survey.{Drafts}
-use Rattle.stepping.specs.declared.survey.Draft.{Draft}
+use Rattle.elimination.specs.Survey.{Drafts}
+use Rattle.elimination.specs.declared.survey.Draft.{Draft}
 
 -- the draft of their expansion: the row of t's variable goes, the raw sheet has so many variables, and AND joins the copies
 pub record DraftsChosen (table : List ℕ) (b : Bytes) (t : Target) (variables : ℕ) (ends next : List ℕ) (d : Draft) : Type 0 where

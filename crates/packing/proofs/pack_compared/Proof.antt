@@ -1,8 +1,8 @@
 -- `packing::pack_compared` packs an answer of Compare.
 -- Assumes nothing.
 use mathlib.Core.Path.{sym, _∙_, ap}
-use Rattle.order.specs.Answers.{compared-answer}
-use Rattle.order.specs.declared.compare.Compared.{Compared}
+use Rattle.sort_compare.specs.Answers.{compared-answer}
+use Rattle.sort_compare.specs.declared.compare.Compared.{Compared}
 use Rattle.packing.specs.Order.{packed-compared}
 use borrow.Author.Needs.{needs}
 use Rattle.packing.proofs.pack_compared.Statement.{statement}

@@ -14,15 +14,15 @@ abbrev μ-loop : tie.MeasureT-loop
 loop-holds : tie.Need-loop-holds Inv-loop μ-loop
 loop-holds c = let a = c .before in find-start (a .args .b .now) (a .pre) (a .args .x)
 
-variable-at-requires : tie.Need-variable-at-requires Inv-loop μ-loop
-variable-at-requires c κs = let a = c .before .before .before in (a .pre, omega arith)
+bound-at-requires : tie.Need-bound-at-requires Inv-loop μ-loop
+bound-at-requires c κs = let a = c .before .before .before in (a .pre, omega arith)
 
 returns : tie.Need-returns Inv-loop μ-loop
 returns c =
     let head = c .before .before .before in
     let a = head .before .before in
     find-found (a .args .b .now) (a .pre) (a .args .x) (head .loop .i) (c .before .before .loop-test .taken) (head .loop .inv)
-    (c .before .variable-at .ensures .0) (c .if1 .taken)
+    (c .before .bound-at .ensures .0) (c .if1 .taken)
 
 add-i : tie.Need-add-i Inv-loop μ-loop
 add-i c = omega arith
@@ -35,7 +35,7 @@ loop-again c =
     let head = c .before .before .before in
     let a = head .before .before in
     find-on (a .args .b .now) (a .pre) (a .args .x) (head .loop .i) (c .before .before .loop-test .taken) (omega arith) (head .loop .inv)
-    (c .before .variable-at .ensures .0) (c .if1 .left)
+    (c .before .bound-at .ensures .0) (c .if1 .left)
 
 returns-2 : tie.Need-returns-2 Inv-loop μ-loop
 returns-2 c =
@@ -50,7 +50,7 @@ find-variable-spec =
     Inv-loop
     μ-loop
     loop-holds
-    variable-at-requires
+    bound-at-requires
     returns
     add-i
     loop-less

@@ -19,7 +19,7 @@ use Rattle.words.specs.declared.token.Token as code
 use Rattle.qdimacs.specs.Inner.Lists.{first-length, whole-lists}
 use Rattle.qdimacs.specs.Inner.Cursor.{tokens-at}
 use Rattle.qdimacs.specs.Inner.Clauses.{literal-said}
-use Rattle.qdimacs.specs.declared.write.Place.{Place}
+use Rattle.qdimacs.specs.declared.write.ListPlace.{ListPlace}
 
 -- rows with others put from row r on
 abbrev pub spliced : List Row → ℕ → List Row → List Row
@@ -30,16 +30,16 @@ abbrev pub clause-rows : List Token → List Row
 clause-rows ts = forest-rows (clause-trees (lists ts))
 
 -- a clause begins
-abbrev pub begins : Place → ℕ → Bool
+abbrev pub begins : ListPlace → ℕ → Bool
 begins p k = p .fresh && not (eqb k 0)
 
-abbrev pub open-place : Place → ℕ → Place
+abbrev pub open-place : ListPlace → ℕ → ListPlace
 open-place p k = cond (begins p k) (record { at = p .at; row = p .row + 1; fresh = p .fresh }) p
 
-abbrev pub open-rows : Bytes → Place → ℕ → List Row → List Row
+abbrev pub open-rows : Bytes → ListPlace → ℕ → List Row → List Row
 open-rows b p k rs = cond (begins p k) (set rs (p .row) (row 6 (first-length (tokens-at b (p .at))))) rs
 
-pub record Openable (b : Bytes) (p : Place) (k : ℕ) (s : Layout) (len : ℕ) : Type 0 where
+pub record Openable (b : Bytes) (p : ListPlace) (k : ℕ) (s : Layout) (len : ℕ) : Type 0 where
   pub room : Room s len
   pub inside : p .at ≤ length b
   pub has-row : begins p k ≡ true → p .row < total s
@@ -51,12 +51,12 @@ abbrev pub literal-row : ℤ → Row
 literal-row l = row (kind l) (variable l)
 
 -- a word's row
-abbrev pub word-place : code.Token → Place → Place
+abbrev pub word-place : code.Token → ListPlace → ListPlace
 word-place t p =
     cond (eqb (t .class) 6) (record { at = t .to; row = p .row; fresh = true })
     (cond (ltb (t .class) 6) (record { at = t .to; row = p .row; fresh = p .fresh }) (record { at = t .to; row = p .row + 1; fresh = false }))
 
-abbrev pub word-rows : code.Token → Place → List Row → List Row
+abbrev pub word-rows : code.Token → ListPlace → List Row → List Row
 word-rows t p rs =
     cond (eqb (t .class) 6) rs
     (cond (ltb (t .class) 6) rs (set rs (p .row) (literal-row (literal-said t))))

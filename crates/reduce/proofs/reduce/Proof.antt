@@ -7,7 +7,7 @@ use Rattle.sheet.proofs.Truthful.{reduce-truthful}
 use Rattle.rows.specs.Formats.{format-of}
 use Rattle.rows.proofs.Limits.{sound}
 use Rattle.checking.proofs.CheckedSheets.{sheet-format}
-use Rattle.reduce.specs.Inner.Plan.{Planned, Plans}
+use Rattle.reduce.specs.Inner.ReducePlan.{ReducePlanned, ReducePlans}
 use Rattle.reduce.proofs.Deciding.{refused-call, reduced-call}
 use Rattle.reduce.proofs.reduce.Statement.{statement}
 use Rattle.reduce.proofs.reduce.Tie as tie
@@ -26,10 +26,10 @@ start c = c .before .before .before
 
 planned : (c : tie.After-p2)
     → let a = start (c .before .before) .args in
-    Planned (a .f) (a .sheet .now) (length (a .out .now)) (c .p2 .given .0 .0)
+    ReducePlanned (a .f) (a .sheet .now) (length (a .out .now)) (c .p2 .given .0 .0)
 planned c =
     let a = start (c .before .before) .args in
-    subst (Plans (a .f) (a .sheet .now) (length (a .out .now))) (c .p2 .given .1) (c .before .before .plan-reduce .ensures)
+    subst (ReducePlans (a .f) (a .sheet .now) (length (a .out .now))) (c .p2 .given .1) (c .before .before .plan-reduce .ensures)
 
 -- the layout's own format
 same-format : (c : tie.After-p2) → c .p2 .given .0 .0 .format ≡ start (c .before .before) .args .f
@@ -37,10 +37,10 @@ same-format c = sheet-format (planned c .sheet)
 
 own : (c : tie.After-p2)
     → let a = start (c .before .before) .args in
-    Planned (c .p2 .given .0 .0 .format) (a .sheet .now) (length (a .out .now)) (c .p2 .given .0 .0)
+    ReducePlanned (c .p2 .given .0 .0 .format) (a .sheet .now) (length (a .out .now)) (c .p2 .given .0 .0)
 own c =
     let a = start (c .before .before) .args in
-    subst (λ g. Planned g (a .sheet .now) (length (a .out .now)) (c .p2 .given .0 .0)) (sym (same-format c)) (planned c)
+    subst (λ g. ReducePlanned g (a .sheet .now) (length (a .out .now)) (c .p2 .given .0 .0)) (sym (same-format c)) (planned c)
 
 reduce-into-requires : tie.Need-reduce-into-requires
 reduce-into-requires c κs = own (c .before .before)
@@ -51,7 +51,7 @@ returns c =
     let plan = told .before .before in
     let a = start plan .args in
     let e = refused-call (format-of (a .f)) (a .sheet .now) (a .out .now)
-    (subst (Plans (a .f) (a .sheet .now) (length (a .out .now))) (told .p .given .1) (plan .plan-reduce .ensures)) in
+    (subst (ReducePlans (a .f) (a .sheet .now) (length (a .out .now))) (told .p .given .1) (plan .plan-reduce .ensures)) in
     (e, reduce-truthful (format-of (a .f)) (sound (a .f)) (a .sheet .now) (a .out .now) e)
 
 same-length : tie.Need-same-length

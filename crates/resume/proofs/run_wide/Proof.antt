@@ -1,19 +1,19 @@
 -- `resume::run_wide` meets its contract. Assumes nothing.
 use borrow.Author.Needs.{needs}
-use Rattle.resume.proofs.Widened.{carriable, raw-ready, ran-wide}
+use Rattle.resume.proofs.Widened.{convertible, raw-ready, ran-wide}
 use Rattle.resume.proofs.run_wide.Statement.{statement}
 use Rattle.resume.proofs.run_wide.Tie as tie
 
-abbrev start : tie.After-carry → tie.Start
+abbrev start : tie.After-convert → tie.Start
 start c = c .before .before .before .before .before
 
-carry-requires : tie.Need-carry-requires
-carry-requires c κs = carriable (c .before .before .before .before .pre)
+convert-requires : tie.Need-convert-requires
+convert-requires c κs = convertible (c .before .before .before .before .pre)
 
 run-raw-requires : tie.Need-run-raw-requires
 run-raw-requires c κs =
     let wide = c .before .before .before .before in
-    raw-ready (start wide .pre) (wide .carry .ensures .0) (wide .carry .kept .1 .1 .1 .0) (wide .carry .ensures .1)
+    raw-ready (start wide .pre) (wide .convert .ensures .0) (wide .convert .kept .1 .1 .1 .0) (wide .convert .ensures .1)
 
 same-length : tie.Need-same-length
 same-length c = search needs
@@ -25,8 +25,8 @@ returns : tie.Need-returns
 returns c =
     let ran = c .before .before .before .before in
     let wide = ran .before .before .before .before .before in
-    ran-wide (start wide .pre) (wide .carry .ensures .0) (wide .carry .kept .1 .1 .1 .0) (wide .carry .ensures .1) (ran .run-raw .ensures)
+    ran-wide (start wide .pre) (wide .convert .ensures .0) (wide .convert .kept .1 .1 .1 .0) (wide .convert .ensures .1) (ran .run-raw .ensures)
 
 pub run-wide-spec : {M : Type 1} → statement M
 run-wide-spec =
-    tie.close (tie.spec carry-requires run-raw-requires same-length same-length-2 returns)
+    tie.close (tie.spec convert-requires run-raw-requires same-length same-length-2 returns)

@@ -1,7 +1,7 @@
 -- `rows::pair_at` meets its contract. Assumes nothing.
 use borrow.Author.Needs.{needs}
 use native.Mathlib.Omega.{arith}
-use Rattle.rows.proofs.Turn.{two-bytes}
+use Rattle.rows.proofs.Digits.{two-bytes}
 use Rattle.rows.proofs.pair_at.Statement.{statement}
 use Rattle.rows.proofs.pair_at.Tie as tie
 

@@ -1,6 +1,6 @@
 -- `rows::quad_at` meets its contract. Assumes nothing.
 use native.Mathlib.Omega.{arith}
-use Rattle.rows.proofs.Turn.{four-bytes}
+use Rattle.rows.proofs.Digits.{four-bytes}
 use Rattle.rows.proofs.quad_at.Statement.{statement}
 use Rattle.rows.proofs.quad_at.Tie as tie
 

@@ -8,8 +8,8 @@ use Rattle.sheet.specs.Operations.{settle-call}
 use Rattle.sheet.proofs.Truthful.{settle-truthful}
 use Rattle.rows.specs.Formats.{format-of}
 use Rattle.rows.proofs.Limits.{sound}
-use Rattle.settle.specs.Inner.Plan.{Plans}
-use Rattle.settle.specs.declared.plan.Plan.the-variants.{Settles}
+use Rattle.settle.specs.Inner.SettlePlan.{SettlePlans}
+use Rattle.settle.specs.declared.plan.SettlePlan.the-variants.{Settles}
 use Rattle.settle.proofs.Deciding.{refused-call, settled-call}
 use Rattle.settle.proofs.settle.Statement.{statement}
 use Rattle.settle.proofs.settle.Tie as tie
@@ -28,11 +28,11 @@ start c = c .before .before .before
 
 planned : (c : tie.After-p2)
     → let a = start (c .before .before) .args in
-    Plans (a .f) (a .sheet .now) (a .x) (length (a .out .now)) (Settles (c .p2 .given .0 .0) (c .p2 .given .0 .1 .0))
+    SettlePlans (a .f) (a .sheet .now) (a .x) (length (a .out .now)) (Settles (c .p2 .given .0 .0) (c .p2 .given .0 .1 .0))
 planned c =
     let plan = c .before .before in
     let a = start plan .args in
-    subst (Plans (a .f) (a .sheet .now) (a .x) (length (a .out .now))) (c .p2 .given .1) (plan .plan-settle .ensures)
+    subst (SettlePlans (a .f) (a .sheet .now) (a .x) (length (a .out .now))) (c .p2 .given .1) (plan .plan-settle .ensures)
 
 settle-into-requires : tie.Need-settle-into-requires
 settle-into-requires c κs = planned (c .before .before) .1 .puts
@@ -53,7 +53,7 @@ returns c =
     let plan = told .before .before in
     let a = start plan .args in
     let e = refused-call (format-of (a .f)) (a .sheet .now) (a .x) (a .out .now)
-    (subst (Plans (a .f) (a .sheet .now) (a .x) (length (a .out .now))) (told .p .given .1) (plan .plan-settle .ensures)) in
+    (subst (SettlePlans (a .f) (a .sheet .now) (a .x) (length (a .out .now))) (told .p .given .1) (plan .plan-settle .ensures)) in
     (e, settle-truthful (format-of (a .f)) (sound (a .f)) (a .sheet .now) (a .x) (a .out .now) e)
 
 same-length : tie.Need-same-length

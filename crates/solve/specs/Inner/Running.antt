@@ -19,7 +19,7 @@ use Rattle.rows.specs.Formulas.{matrix-in, formula-in, layout-for}
 use Rattle.rows.specs.declared.Layout.{Layout}
 use Rattle.choice.specs.Settling.{SettleHere}
 use Rattle.tidying.specs.Limits.{Raw}
-use Rattle.stepping.specs.declared.settling.Put.{Put}
+use Rattle.elimination.specs.declared.settling.Put.{Put}
 use Rattle.solve.specs.declared.State.{State}
 use Rattle.solve.specs.declared.step.Step.{Step}
 use Rattle.solve.specs.declared.step.Step.the-variants.{Ended, Stopped, Next}
@@ -38,7 +38,7 @@ abbrev pub begun : State → ℕ
 begun s = s .settled + s .expanded + s .sheet .variables
 
 -- a state with its sheet in the first of two buffers that both have room
-pub record Ready (most : ℕ) (s : State) (first second : Bytes) : Type 0 where
+pub record RunReady (most : ℕ) (s : State) (first second : Bytes) : Type 0 where
   pub held : Held most (s .sheet) first
   pub first-room : most ≤ length first
   pub second-room : most ≤ length second

@@ -10,16 +10,16 @@ use Rattle.tidiness.proofs.first_fault.Statement.{statement}
 use Rattle.tidiness.proofs.first_fault.Tie as tie
 
 abbrev Inv-loop : tie.InvT-loop
-Inv-loop b s ends prints heads₀ links₀ members₀ i₀ heads links members i = Searching s b i × (length heads ≡ BUCKETS) × (length links ≡ 8192) × (length members ≡ 8192)
+Inv-loop b s ends hashes heads₀ links₀ members₀ i₀ heads links members i = Searching s b i × (length heads ≡ BUCKETS) × (length links ≡ 8192) × (length members ≡ 8192)
 
 abbrev μ-loop : tie.MeasureT-loop
-μ-loop b s ends prints heads₀ links₀ members₀ i₀ heads links members i = s .nodes - i
+μ-loop b s ends hashes heads₀ links₀ members₀ i₀ heads links members i = s .nodes - i
 
-slice-aggregate-fill-prints : tie.Need-slice-aggregate-fill-prints Inv-loop μ-loop
-slice-aggregate-fill-prints c = refl
+slice-aggregate-fill-hashes : tie.Need-slice-aggregate-fill-hashes Inv-loop μ-loop
+slice-aggregate-fill-hashes c = refl
 
-fill-prints-requires : tie.Need-fill-prints-requires Inv-loop μ-loop
-fill-prints-requires c κs = let a = c .before .before .before in (a .pre, a .pre .readable .few-nodes)
+fill-hashes-requires : tie.Need-fill-hashes-requires Inv-loop μ-loop
+fill-hashes-requires c κs = let a = c .before .before .before in (a .pre, a .pre .readable .few-nodes)
 
 loop-holds : tie.Need-loop-holds Inv-loop μ-loop
 loop-holds c = let a = c .before .before .before .before .before in (search-start (a .args .b .now) (a .pre .readable), refl, refl, refl)
@@ -36,7 +36,7 @@ returns c =
     (fault-plain i (subtree-in (a .args .s) (a .args .b .now) i) (sym (c .before .at-fault .ensures) ∙ c .if2 .taken))
 
 slice-aggregate-gather : tie.Need-slice-aggregate-gather Inv-loop μ-loop
-slice-aggregate-gather c = sym (c .before .before .before .before .before .before .before .fill-prints .kept .1 .1 .1 .0)
+slice-aggregate-gather c = sym (c .before .before .before .before .before .before .before .fill-hashes .kept .1 .1 .1 .0)
 
 slice-aggregate-gather-2 : tie.Need-slice-aggregate-gather-2 Inv-loop μ-loop
 slice-aggregate-gather-2 c = sym (c .before .before .before .before .before .before .loop .inv .3)
@@ -45,7 +45,7 @@ gather-requires : tie.Need-gather-requires Inv-loop μ-loop
 gather-requires c κs =
     let head = c .before .before .before .before .before .before in
     let a = head .before .before .before .before .before .before in
-    (a .pre, c .before .before .before .before .if1 .taken, head .before .before .fill-prints .ensures, omega (arith, head .loop .inv .3, a .pre .readable .few-nodes))
+    (a .pre, c .before .before .before .before .if1 .taken, head .before .before .fill-hashes .ensures, omega (arith, head .loop .inv .3, a .pre .readable .few-nodes))
 
 slice-aggregate-some-clash : tie.Need-slice-aggregate-some-clash Inv-loop μ-loop
 slice-aggregate-some-clash c = sym (c .before .before .before .before .before .before .before .before .before .loop .inv .1)
@@ -113,8 +113,8 @@ first-fault-spec =
     (tie.spec
     Inv-loop
     μ-loop
-    slice-aggregate-fill-prints
-    fill-prints-requires
+    slice-aggregate-fill-hashes
+    fill-hashes-requires
     loop-holds
     at-fault-requires
     returns

@@ -21,7 +21,7 @@ use Rattle.trial.proofs.both.Reads as both-reads
 use Rattle.prefixes.proofs.is_existential.Reads as is-existential-reads
 use Rattle.trial.proofs.leaf.Reads as leaf-reads
 use Rattle.trial.proofs.stops.Reads as stops-reads
-use Rattle.prefixes.proofs.variable_at.Reads as variable-at-reads
+use Rattle.prefixes.proofs.bound_at.Reads as bound-at-reads
 use Rattle.trial.proofs.+existential+universal.{statement}
 use Rattle.trial.proofs.+existential+universal.Tie.{close}
 
@@ -54,8 +54,8 @@ existential-callees t = (
   is-existential-reads.Learnt,
   universal-below t,
   universal.Post,
-  variable-at-reads.Asked,
-  variable-at-reads.Learnt,
+  bound-at-reads.Asked,
+  bound-at-reads.Learnt,
   existential-below t,
   existential.Post,
   stops-reads.Asked,
@@ -73,8 +73,8 @@ universal-callees t = (
   is-existential-reads.Learnt,
   existential-below t,
   existential.Post,
-  variable-at-reads.Asked,
-  variable-at-reads.Learnt,
+  bound-at-reads.Asked,
+  bound-at-reads.Learnt,
   universal-below t,
   universal.Post,
   stops-reads.Asked,
@@ -114,23 +114,23 @@ existential-returns-2 t c =
     let turned = c .before .before .universal .ensures in
     record { outcome = turned .outcome; unchanged = turned .unchanged }
 
-existential-variable-at-requires : (t : ℕ) → existential-lts.Need-variable-at-requires (existential-callees t) (existential-at t) existential.Post
-existential-variable-at-requires t c κs = (c .before .before .before .before .before .before .before .before .pre .1 .0 .playable .readable, omega arith)
+existential-bound-at-requires : (t : ℕ) → existential-lts.Need-bound-at-requires (existential-callees t) (existential-at t) existential.Post
+existential-bound-at-requires t c κs = (c .before .before .before .before .before .before .before .before .pre .1 .0 .playable .readable, omega arith)
 
 -- a row of this side, and the turn that came to it
 abbrev existential-row : ℕ → Type 0
-existential-row t = existential-lts.After-variable-at (existential-callees t) (existential-at t) existential.Post
+existential-row t = existential-lts.After-bound-at (existential-callees t) (existential-at t) existential.Post
 
 abbrev existential-start : (t : ℕ) → existential-row t → existential-lts.Start (existential-callees t) (existential-at t) existential.Post
 existential-start t c = c .before .before .before .before .before .before .before .before .before
 
 existential-own : (t : ℕ) (c : existential-row t)
     → let a = existential-start t c .args in
-    Own exists (a .s) (a .sheet .now) (a .i) (c .variable-at .result) (a .assignment .now)
+    Own exists (a .s) (a .sheet .now) (a .i) (c .bound-at .result) (a .assignment .now)
 existential-own t c =
     let a = existential-start t c in
     own-row (a .pre .1 .0) (omega (arith, a .pre .1 .1, c .before .before .before .if1 .left))
-    (owned-by _ (c .before .before .is-existential .ensures) (not-false _ (c .before .if2 .left))) (c .variable-at .ensures .0)
+    (owned-by _ (c .before .before .is-existential .ensures) (not-false _ (c .before .if2 .left))) (c .bound-at .ensures .0)
 
 existential-slice-read-old : (t : ℕ) → existential-lts.Need-slice-read-old (existential-callees t) (existential-at t) existential.Post
 existential-slice-read-old t c = existential-own t (c .before) .inside
@@ -147,7 +147,7 @@ existential-existential-requires : (t : ℕ) → existential-lts.Need-existentia
 existential-existential-requires t c κs =
     let v = c .before .before in
     let a = existential-start t v in
-    next-turn (existential-own t v) (a .pre .1 .0) (a .pre .0) (length-set (a .args .assignment .now) (v .variable-at .result) _)
+    next-turn (existential-own t v) (a .pre .1 .0) (a .pre .0) (length-set (a .args .assignment .now) (v .bound-at .result) _)
 
 existential-stops-requires : (t : ℕ) → existential-lts.Need-stops-requires (existential-callees t) (existential-at t) existential.Post
 existential-stops-requires t c κs = tt
@@ -250,23 +250,23 @@ universal-returns-2 t c =
     let turned = c .before .before .existential .ensures in
     record { outcome = turned .outcome; unchanged = turned .unchanged }
 
-universal-variable-at-requires : (t : ℕ) → universal-lts.Need-variable-at-requires (universal-callees t) (universal-at t) universal.Post
-universal-variable-at-requires t c κs = (c .before .before .before .before .before .before .before .before .pre .1 .0 .playable .readable, omega arith)
+universal-bound-at-requires : (t : ℕ) → universal-lts.Need-bound-at-requires (universal-callees t) (universal-at t) universal.Post
+universal-bound-at-requires t c κs = (c .before .before .before .before .before .before .before .before .pre .1 .0 .playable .readable, omega arith)
 
 -- a row of this side, and the turn that came to it
 abbrev universal-row : ℕ → Type 0
-universal-row t = universal-lts.After-variable-at (universal-callees t) (universal-at t) universal.Post
+universal-row t = universal-lts.After-bound-at (universal-callees t) (universal-at t) universal.Post
 
 abbrev universal-start : (t : ℕ) → universal-row t → universal-lts.Start (universal-callees t) (universal-at t) universal.Post
 universal-start t c = c .before .before .before .before .before .before .before .before .before
 
 universal-own : (t : ℕ) (c : universal-row t)
     → let a = universal-start t c .args in
-    Own for-all (a .s) (a .sheet .now) (a .i) (c .variable-at .result) (a .assignment .now)
+    Own for-all (a .s) (a .sheet .now) (a .i) (c .bound-at .result) (a .assignment .now)
 universal-own t c =
     let a = universal-start t c in
     own-row (a .pre .1 .0) (omega (arith, a .pre .1 .1, c .before .before .before .if1 .left))
-    (owned-by _ (c .before .before .is-existential .ensures) (c .before .if2 .left)) (c .variable-at .ensures .0)
+    (owned-by _ (c .before .before .is-existential .ensures) (c .before .if2 .left)) (c .bound-at .ensures .0)
 
 universal-slice-read-old : (t : ℕ) → universal-lts.Need-slice-read-old (universal-callees t) (universal-at t) universal.Post
 universal-slice-read-old t c = universal-own t (c .before) .inside
@@ -283,7 +283,7 @@ universal-universal-requires : (t : ℕ) → universal-lts.Need-universal-requir
 universal-universal-requires t c κs =
     let v = c .before .before in
     let a = universal-start t v in
-    next-turn (universal-own t v) (a .pre .1 .0) (a .pre .0) (length-set (a .args .assignment .now) (v .variable-at .result) _)
+    next-turn (universal-own t v) (a .pre .1 .0) (a .pre .0) (length-set (a .args .assignment .now) (v .bound-at .result) _)
 
 universal-stops-requires : (t : ℕ) → universal-lts.Need-stops-requires (universal-callees t) (universal-at t) universal.Post
 universal-stops-requires t c κs = tt
@@ -366,7 +366,7 @@ pub +existential+universal-spec : {M : Type 1} → statement M
     (existential-universal-requires t)
     (existential-same-length-2 t)
     (existential-returns-2 t)
-    (existential-variable-at-requires t)
+    (existential-bound-at-requires t)
     (existential-slice-read-old t)
     (existential-slice-write-assignment t)
     (existential-add-existential t)
@@ -390,7 +390,7 @@ pub +existential+universal-spec : {M : Type 1} → statement M
     (universal-existential-requires t)
     (universal-same-length-2 t)
     (universal-returns-2 t)
-    (universal-variable-at-requires t)
+    (universal-bound-at-requires t)
     (universal-slice-read-old t)
     (universal-slice-write-assignment t)
     (universal-add-universal t)

@@ -12,11 +12,11 @@ use Rattle.sheet.specs.Format.{Bytes}
 use Rattle.rows.specs.Formulas.{prefix-in, node-rows-in, matrix-in, Readable}
 use Rattle.rows.specs.declared.Layout.{Layout}
 use Rattle.prefixes.specs.Places.{binding-in}
-use Rattle.trial.specs.declared.Outcome.{Outcome}
+use Rattle.trial.specs.declared.TurnOutcome.{TurnOutcome}
 use Rattle.trial.specs.Inner.Jumps.{Rooms, values, Jumps}
 
 -- the verdict and the leaves tried
-abbrev pub tried : Outcome → Tried
+abbrev pub tried : TurnOutcome → Tried
 tried o = record { verdict = o .verdict; leaves = o .leaves }
 
 -- the prefix from row i on: the rows not yet read
@@ -41,12 +41,12 @@ pub record Playable (s : Layout) (b : Bytes) (numbers : ℕ) : Type 0 where
   pub numbered : Numbered s b numbers
 
 -- what every turn finds: such a sheet, with its matrix in the jump tables
-pub record Ready (s : Layout) (b : Bytes) (high low : List ℕ) (numbers : ℕ) : Type 0 where
+pub record TurnsReady (s : Layout) (b : Bytes) (high low : List ℕ) (numbers : ℕ) : Type 0 where
   pub playable : Playable s b numbers
   pub jumps : Jumps (node-rows-in s b) high low
   pub rooms : Rooms (s .nodes) high low
 
 -- what a turn from row i on leaves: its outcome, and the assignment as it was
-pub record Turned (s : Layout) (b : Bytes) (i : ℕ) (table : List Bool) (o : Outcome) (table′ : List Bool) : Type 0 where
+pub record Turned (s : Layout) (b : Bytes) (i : ℕ) (table : List Bool) (o : TurnOutcome) (table′ : List Bool) : Type 0 where
   pub outcome : tried o ≡ turns s b i table
   pub unchanged : table′ ≡ table

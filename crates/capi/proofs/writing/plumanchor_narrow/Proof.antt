@@ -1,12 +1,12 @@
--- `capi::writing::plumanchor_narrow` packs what `bring_back` answers.
+-- `capi::writing::plumanchor_narrow` packs what `to_narrow` answers.
 -- Assumes nothing.
 use borrow.Author.Needs.{needs}
-use Rattle.capi.proofs.Telling.{written-joined, bring-back-told}
+use Rattle.capi.proofs.Telling.{written-joined, to-narrow-told}
 use Rattle.capi.proofs.writing.plumanchor_narrow.Statement.{statement}
 use Rattle.capi.proofs.writing.plumanchor_narrow.Tie as tie
 
-bring-back-requires : tie.Need-bring-back-requires
-bring-back-requires c κs = search needs
+to-narrow-requires : tie.Need-to-narrow-requires
+to-narrow-requires c κs = search needs
 
 pack-written-requires : tie.Need-pack-written-requires
 pack-written-requires c κs = search needs
@@ -14,17 +14,17 @@ pack-written-requires c κs = search needs
 same-length : tie.Need-same-length
 same-length c = search needs
 
-abbrev called : tie.After-pack-written → tie.After-bring-back
+abbrev called : tie.After-pack-written → tie.After-to-narrow
 called c = c .before .before .before
 
-abbrev start : tie.After-bring-back → tie.Start
+abbrev start : tie.After-to-narrow → tie.Start
 start c = c .before .before .before .before
 
 returns : tie.Need-returns
 returns c =
     let a = start (called c) .args in
-    bring-back-told (a .sheet .now) (a .out .now)
-    (written-joined (c .pack-written .ensures) (called c .bring-back .ensures .0))
+    to-narrow-told (a .sheet .now) (a .out .now)
+    (written-joined (c .pack-written .ensures) (called c .to-narrow .ensures .0))
 
 pub plumanchor-narrow-spec : {M : Type 1} → statement M
-plumanchor-narrow-spec = tie.close (tie.spec bring-back-requires pack-written-requires same-length returns)
+plumanchor-narrow-spec = tie.close (tie.spec to-narrow-requires pack-written-requires same-length returns)

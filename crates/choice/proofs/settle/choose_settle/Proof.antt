@@ -3,7 +3,7 @@ use borrow.Author.Needs.{needs}
 use mathlib.Core.Bool.{false}
 use native.Mathlib.Omega.{arith}
 use lib.ListN.{length-replicate}
-use Rattle.signs.proofs.Marks.{unmarked, numbered-covers}
+use Rattle.polarity.proofs.Marks.{unmarked, numbered-covers}
 use Rattle.choice.proofs.settle.choose_settle.Statement.{statement}
 use Rattle.choice.proofs.settle.choose_settle.Tie as tie
 

@@ -6,8 +6,8 @@ use Rattle.choice.proofs.Settling.{settle-lower, settle-none, settle-on
 use Rattle.choice.proofs.settle.choose_to.Statement.{statement}
 use Rattle.choice.proofs.settle.choose_to.Tie as tie
 
-variable-at-requires : tie.Need-variable-at-requires
-variable-at-requires c κs = search needs
+bound-at-requires : tie.Need-bound-at-requires
+bound-at-requires c κs = search needs
 
 is-lower-requires : tie.Need-is-lower-requires
 is-lower-requires c κs = search needs
@@ -19,8 +19,8 @@ returns : tie.Need-returns
 returns c =
     let test = c .before in
     let a = start test in
-    settle-lower (a .args .b .now) (a .pre .0 .0) (a .pre .0 .1) (a .args .i) (a .args .best) (test .before .variable-at .result)
-    (a .pre .0 .3) (test .before .variable-at .ensures .0) (sym (test .is-lower .ensures) ∙ c .if1 .taken) (a .pre .1)
+    settle-lower (a .args .b .now) (a .pre .0 .0) (a .pre .0 .1) (a .args .i) (a .args .best) (test .before .bound-at .result)
+    (a .pre .0 .3) (test .before .bound-at .ensures .0) (sym (test .is-lower .ensures) ∙ c .if1 .taken) (a .pre .1)
 
 value-at-requires : tie.Need-value-at-requires
 value-at-requires c κs = search needs
@@ -45,14 +45,14 @@ returns-3 c =
     let test = value .before .before in
     let a = start test in
     settle-one (a .args .b .now) (a .pre .0 .0) (a .pre .0 .1) (a .args .i) (value .value-at .result) (a .args .best)
-    (test .before .variable-at .result) (known .value .given .0 .0) (a .pre .0 .3) (value .value-at .ensures) (known .value .given .1)
-    (test .before .variable-at .ensures .0) (sym (test .is-lower .ensures) ∙ value .before .if1 .left) (a .pre .1)
+    (test .before .bound-at .result) (known .value .given .0 .0) (a .pre .0 .3) (value .value-at .ensures) (known .value .given .1)
+    (test .before .bound-at .ensures .0) (sym (test .is-lower .ensures) ∙ value .before .if1 .left) (a .pre .1)
 
 pub choose-to-spec : {M : Type 1} → statement M
 choose-to-spec =
     tie.close
     (tie.spec
-    variable-at-requires
+    bound-at-requires
     is-lower-requires
     returns
     value-at-requires

@@ -8,13 +8,13 @@ use Rattle.dependence.proofs.block.add_row.Tie as tie
 is-row-requires : tie.Need-is-row-requires
 is-row-requires c κs = search needs
 
-variable-at-requires : tie.Need-variable-at-requires
-variable-at-requires c κs = search needs
+bound-at-requires : tie.Need-bound-at-requires
+bound-at-requires c κs = search needs
 
 add-requires : tie.Need-add-requires
 add-requires c κs =
     let a = c .before .before .before .before .before .before .before in
-    omega (arith, c .variable-at .ensures .0, a .pre .1 (a .args .j) (a .pre .3), a .pre .4)
+    omega (arith, c .bound-at .ensures .0, a .pre .1 (a .args .j) (a .pre .3), a .pre .4)
 
 same-length : tie.Need-same-length
 same-length c = search needs
@@ -22,7 +22,7 @@ same-length c = search needs
 returns : tie.Need-returns
 returns c =
     let a = c .before .before .before .before .before .before .before .before .before .before .args in
-    with-row (a .s) (a .b .now) (a .j) (c .before .before .before .before .before .before .is-row .ensures) (c .before .before .before .before .before .if1 .taken) (c .before .before .before .variable-at .ensures .0) (c .before .before .add .ensures .0)
+    with-row (a .s) (a .b .now) (a .j) (c .before .before .before .before .before .before .is-row .ensures) (c .before .before .before .before .before .if1 .taken) (c .before .before .before .bound-at .ensures .0) (c .before .before .add .ensures .0)
     (c .before .before .add .ensures .1)
 
 returns-2 : tie.Need-returns-2
@@ -33,4 +33,4 @@ returns-2 c =
 pub add-row-spec : {M : Type 1} → statement M
 add-row-spec =
     tie.close
-    (tie.spec is-row-requires variable-at-requires add-requires same-length returns returns-2)
+    (tie.spec is-row-requires bound-at-requires add-requires same-length returns returns-2)

@@ -18,23 +18,23 @@ returns c =
     let a = c .before .before .before .before .args in
     other-kind (a .s) (a .b .now) (a .exists) (a .j) (c .before .is-existential .ensures) (not-true _ (c .if1 .taken))
 
-variable-at-requires : tie.Need-variable-at-requires
-variable-at-requires c κs = search needs
+bound-at-requires : tie.Need-bound-at-requires
+bound-at-requires c κs = search needs
 
 occurs-requires : tie.Need-occurs-requires
 occurs-requires c κs =
     let a = c .before .before .before .before .before in
-    (a .pre .2 .holds, omega (arith, c .variable-at .ensures .0, a .pre .1 (a .args .j) (a .pre .3)))
+    (a .pre .2 .holds, omega (arith, c .bound-at .ensures .0, a .pre .1 (a .args .j) (a .pre .3)))
 
 returns-2 : tie.Need-returns-2
 returns-2 c =
     let a = c .before .before .before .before .before .before in
     its-kind (a .args .s) (a .args .b .now) (a .args .exists) (a .args .j) (c .before .before .before .is-existential .ensures) (not-false _ (c .before .before .if1 .left))
     (c .occurs .ensures ∙
-    ap (λ (y : ℕ). ltb (getD (a .args .ranges .now) (2 * y) 0) (a .args .s .nodes)) (c .before .variable-at .ensures .0) ∙
+    ap (λ (y : ℕ). ltb (getD (a .args .ranges .now) (2 * y) 0) (a .args .s .nodes)) (c .before .bound-at .ensures .0) ∙
     a .pre .2 .tells _ (a .pre .1 (a .args .j) (a .pre .3)))
 
 pub is-row-spec : {M : Type 1} → statement M
 is-row-spec =
     tie.close
-    (tie.spec is-existential-requires returns variable-at-requires occurs-requires returns-2)
+    (tie.spec is-existential-requires returns bound-at-requires occurs-requires returns-2)

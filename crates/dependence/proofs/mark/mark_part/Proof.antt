@@ -6,7 +6,7 @@ use Prim.Native.Nat.{_<_}
 use Rattle.formula.specs.Tree.{Literals, of}
 use Rattle.rows.specs.Formulas.{matrix-in}
 use Rattle.occurrences.specs.Chains.{Chain}
-use Rattle.subtrees.specs.Parts.{relevant-part}
+use Rattle.subtrees.specs.Parts.{relevant-subtree}
 use Rattle.subtrees.specs.declared.relevant.Relevant.{Relevant}
 use Rattle.relevance.proofs.Descent.{found-before}
 use Rattle.dependence.proofs.Marks.{marked-as}
@@ -14,15 +14,15 @@ use Rattle.dependence.proofs.Within.{within-literal, within-operator}
 use Rattle.dependence.proofs.mark.mark_part.Statement.{statement}
 use Rattle.dependence.proofs.mark.mark_part.Tie as tie
 
-relevant-part-requires : tie.Need-relevant-part-requires
-relevant-part-requires c κs = search needs
+relevant-subtree-requires : tie.Need-relevant-subtree-requires
+relevant-subtree-requires c κs = search needs
 
 -- the operator that is found
-at : (c : tie.After-relevant-part) →
+at : (c : tie.After-relevant-subtree) →
     let a = c .before .before .before .before .before .args in
     (L : Literals) → Chain L (a .s) (a .b .now) (a .next .now) (a .range .first) (a .range .last)
-    → c .relevant-part .result .operator ≡ (relevant-part L 0 (matrix-in (a .s) (a .b .now))) .operator
-at c L k = ap (λ (p : Relevant). p .operator) (c .relevant-part .ensures L k)
+    → c .relevant-subtree .result .operator ≡ (relevant-subtree L 0 (matrix-in (a .s) (a .b .now))) .operator
+at c L k = ap (λ (p : Relevant). p .operator) (c .relevant-subtree .ensures L k)
 
 mark-row-requires : tie.Need-mark-row-requires
 mark-row-requires c κs = search needs
@@ -38,7 +38,7 @@ returns c =
     (λ v h. sym
     (within-literal L (of v) (a .args .b .now) (a .pre .0 .indexed .readable) (a .args .range) (k .bounds) (at (c .before .before .before .before .before .before .before) L k) (c .before .before .before .before .if1 .taken)))
 
-before : (c : tie.Else1) → c .before .before .before .relevant-part .result .operator < c .before .before .before .before .before .before .before .before .args .range .first
+before : (c : tie.Else1) → c .before .before .before .relevant-subtree .result .operator < c .before .before .before .before .before .before .before .before .args .range .first
 before c =
     let a = c .before .before .before .before .before .before .before .before in
     let k = a .pre .0 .chain in
@@ -65,7 +65,7 @@ pub mark-part-spec : {M : Type 1} → statement M
 mark-part-spec =
     tie.close
     (tie.spec
-    relevant-part-requires
+    relevant-subtree-requires
     mark-row-requires
     same-length
     returns

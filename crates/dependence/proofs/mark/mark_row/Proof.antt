@@ -4,13 +4,13 @@ use Rattle.dependence.proofs.Marks.{row-marked, row-unmarked}
 use Rattle.dependence.proofs.mark.mark_row.Statement.{statement}
 use Rattle.dependence.proofs.mark.mark_row.Tie as tie
 
-variable-at-requires : tie.Need-variable-at-requires
-variable-at-requires c κs = search needs
+literal-at-requires : tie.Need-literal-at-requires
+literal-at-requires c κs = search needs
 
 returns : tie.Need-returns
 returns c =
     let a = c .before .before .before .before .args in
-    row-unmarked (a .s) (a .b .now) (a .i) (c .before .variable-at .ensures .0) (c .if1 .taken)
+    row-unmarked (a .s) (a .b .now) (a .i) (c .before .literal-at .ensures .0) (c .if1 .taken)
 
 add-requires : tie.Need-add-requires
 add-requires c κs = search needs
@@ -22,9 +22,9 @@ returns-2 : tie.Need-returns-2
 returns-2 c =
     let a = c .before .before .before .before .before .before .before .before .args in
     let added = c .before .before .add in
-    row-marked (a .s) (a .b .now) (a .i) (c .before .before .before .before .before .variable-at .ensures .0) (added .ensures .0)
+    row-marked (a .s) (a .b .now) (a .i) (c .before .before .before .before .before .literal-at .ensures .0) (added .ensures .0)
     (added .ensures .1)
 
 pub mark-row-spec : {M : Type 1} → statement M
 mark-row-spec =
-    tie.close (tie.spec variable-at-requires returns add-requires same-length returns-2)
+    tie.close (tie.spec literal-at-requires returns add-requires same-length returns-2)

@@ -22,20 +22,20 @@ returns c =
     same-kind (a .args .s) (a .args .b .now) (a .args .i) (a .args .j) (kinds .before .is-existential .ensures) (kinds .is-existential2 .ensures)
     (c .if1 .taken)
 
-variable-at-requires : tie.Need-variable-at-requires
-variable-at-requires c κs = search needs
+bound-at-requires : tie.Need-bound-at-requires
+bound-at-requires c κs = search needs
 
 occurs-requires : tie.Need-occurs-requires
 occurs-requires c κs =
     let a = c .before .before .before .before .before .before in
-    (a .pre .2 .holds, omega (arith, c .variable-at .ensures .0, a .pre .1 .few-numbers (a .args .j) (a .pre .4)))
+    (a .pre .2 .holds, omega (arith, c .bound-at .ensures .0, a .pre .1 .few-numbers (a .args .j) (a .pre .4)))
 
 returns-2 : tie.Need-returns-2
 returns-2 c =
     let named = c .before in
     let kinds = named .before .before in
     let a = kinds .before .before .before .before in
-    let x = named .variable-at .ensures .0 in
+    let x = named .bound-at .ensures .0 in
     other-kind (a .args .s) (a .args .b .now) (a .args .i) (a .args .j) (kinds .before .is-existential .ensures) (kinds .is-existential2 .ensures)
     (named .before .if1 .left)
     (c .occurs .ensures ∙ ap (λ (y : ℕ). ltb (getD (a .args .ranges .now) (2 * y) 0) (a .args .s .nodes)) x ∙
@@ -48,6 +48,6 @@ is-in-the-way-spec =
     is-existential-requires
     is-existential-requires-2
     returns
-    variable-at-requires
+    bound-at-requires
     occurs-requires
     returns-2)

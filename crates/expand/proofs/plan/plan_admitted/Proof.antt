@@ -3,10 +3,10 @@ use mathlib.Core.Path.{refl, subst}
 use borrow.Author.Needs.{needs}
 use native.Mathlib.Omega.{arith}
 use Rattle.formula.specs.Tree.{of}
-use Rattle.stepping.specs.Survey.{Drafts}
-use Rattle.stepping.specs.Expanding.{Priced}
-use Rattle.stepping.proofs.Admitting.{sheet-bound}
-use Rattle.stepping.proofs.Expansions.{drafts, prepared}
+use Rattle.elimination.specs.Survey.{Drafts}
+use Rattle.elimination.specs.Expanding.{Priced}
+use Rattle.elimination.proofs.Admitting.{sheet-bound}
+use Rattle.elimination.proofs.Expansions.{drafts, prepared}
 use Rattle.expand.specs.Inner.Price.{Prices}
 use Rattle.expand.specs.declared.price.Price.the-variants.{Inside}
 use Rattle.expand.proofs.Deciding.{not-innermost, priced, planned}

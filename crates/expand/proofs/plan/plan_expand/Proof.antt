@@ -2,9 +2,9 @@
 use mathlib.Core.Path.{subst, subst₂}
 use borrow.Author.Needs.{needs}
 use Rattle.rows.specs.Formats.{format-of}
-use Rattle.stepping.specs.Admission.{Admits}
-use Rattle.stepping.specs.declared.admission.Admission.the-variants.{Admitted}
-use Rattle.expand.specs.Inner.Plan.{Plans}
+use Rattle.elimination.specs.Admission.{Admits}
+use Rattle.elimination.specs.declared.admission.Admission.the-variants.{Admitted}
+use Rattle.expand.specs.Inner.ExpandPlan.{ExpandPlans}
 use Rattle.expand.proofs.Deciding.{refused-before}
 use Rattle.expand.proofs.plan.plan_expand.Statement.{statement}
 use Rattle.expand.proofs.plan.plan_expand.Tie as tie
@@ -60,7 +60,7 @@ returns-2 c =
     let found = planned .before .before .before .before in
     let a = start (told found) .args in
     let is = admitted found in
-    subst₂ (λ f y. Plans f (a .sheet .now) y (planned .plan-admitted .last .1 .1 .1 .1 .0) (planned .plan-admitted .result)) (is .0) (is .1)
+    subst₂ (λ f y. ExpandPlans f (a .sheet .now) y (planned .plan-admitted .last .1 .1 .1 .1 .0) (planned .plan-admitted .result)) (is .0) (is .1)
     (planned .plan-admitted .ensures)
 
 pub plan-expand-spec : {M : Type 1} → statement M

@@ -3,8 +3,8 @@ use mathlib.Core.Path.{ap₂, _∙_, subst}
 use borrow.Author.Needs.{needs}
 use Rattle.sheet.specs.Operations.{quote-call}
 use Rattle.rows.specs.Formats.{format-of}
-use Rattle.stepping.specs.Admission.{Admits}
-use Rattle.stepping.specs.declared.admission.Admission.the-variants.{Admitted}
+use Rattle.elimination.specs.Admission.{Admits}
+use Rattle.elimination.specs.declared.admission.Admission.the-variants.{Admitted}
 use Rattle.expand.proofs.Deciding.{refused-before, refused-quote-call}
 use Rattle.expand.proofs.quote.quote.Statement.{statement}
 use Rattle.expand.proofs.quote.quote.Tie as tie

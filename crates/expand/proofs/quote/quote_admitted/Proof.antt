@@ -3,7 +3,7 @@ use mathlib.Core.Path.{subst}
 use borrow.Author.Needs.{needs}
 use native.Mathlib.Omega.{arith}
 use Rattle.rows.specs.Layouts.{format-in}
-use Rattle.stepping.proofs.Admitting.{sheet-bound}
+use Rattle.elimination.proofs.Admitting.{sheet-bound}
 use Rattle.expand.specs.Inner.Price.{Prices}
 use Rattle.expand.proofs.Deciding.{not-innermost, refused-quote-call, counted}
 use Rattle.expand.proofs.quote.quote_admitted.Statement.{statement}

@@ -4,7 +4,7 @@ use Prim.Native.Nat.{_-_}
 use native.Mathlib.Omega.{arith}
 use lib.ListN.{length}
 use Rattle.rows.specs.Formulas.{prefix-in}
-use Rattle.changing.specs.Changes.{numbers}
+use Rattle.substitution.specs.Changes.{numbers}
 use Rattle.rows.proofs.Formulas.{length-prefix}
 use Rattle.force.proofs.Filling.{Filled, filled-none, filled-next, filled-all}
 use Rattle.force.proofs.moves.fill_moves.Statement.{statement}
@@ -26,8 +26,8 @@ loop-holds c =
     filled-none (prefix-in (a .args .s) (a .args .b .now)) (a .args .values .now) (a .args .tried)
     (kept .keep-all .ensures ∙ ap numbers (a .pre .3)) (kept .keep-all .kept .0 ∙ a .pre .3)
 
-variable-at-requires : tie.Need-variable-at-requires Inv-loop μ-loop
-variable-at-requires c κs =
+bound-at-requires : tie.Need-bound-at-requires Inv-loop μ-loop
+bound-at-requires c κs =
     let a = c .before .before .before .before .before .before .before .before .before .before in
     (a .pre .0, omega (arith, c .before .loop-test .taken, a .pre .2))
 
@@ -40,7 +40,7 @@ put-requires c κs =
     let a = head .before .before .before .before .before .before .before .before in
     omega (
       arith,
-      c .before .variable-at .ensures .0,
+      c .before .bound-at .ensures .0,
       a .pre .1 (head .loop .i) (omega (arith, c .before .before .before .loop-test .taken, a .pre .2)),
       head .loop .inv .long,
     )
@@ -58,10 +58,10 @@ loop-again c =
     let a = head .before .before .before .before .before .before .before .before in
     filled-next (prefix-in (a .args .s) (a .args .b .now)) (a .args .values .now) (a .args .tried)
     (omega (arith, length-prefix (a .args .b .now) (a .pre .0), a .pre .2)) (done .before .before .before .before .loop-test .taken)
-    (done .before .before .variable-at .ensures .0) (done .put .ensures) (head .loop .inv)
+    (done .before .before .bound-at .ensures .0) (done .put .ensures) (head .loop .inv)
 
-variable-at-requires-2 : tie.Need-variable-at-requires-2 Inv-loop μ-loop
-variable-at-requires-2 c κs =
+bound-at-requires-2 : tie.Need-bound-at-requires-2 Inv-loop μ-loop
+bound-at-requires-2 c κs =
     let a = c .before .before .before .before .before .before .before .before .before .before in
     (a .pre .0, omega (arith, c .before .before .loop .inv .within, a .pre .2))
 
@@ -71,7 +71,7 @@ put-requires-2 c κs =
     let a = head .before .before .before .before .before .before .before .before in
     omega (
       arith,
-      c .variable-at2 .ensures .0,
+      c .bound-at2 .ensures .0,
       a .pre .1 (head .loop .i) (omega (arith, head .loop .inv .within, a .pre .2)),
       head .loop .inv .long,
     )
@@ -88,7 +88,7 @@ returns c =
     let a = head .before .before .before .before .before .before .before .before in
     filled-all (prefix-in (a .args .s) (a .args .b .now)) (a .args .values .now) (a .args .tried)
     (omega (arith, length-prefix (a .args .b .now) (a .pre .0), a .pre .2)) (done .before .before .before .loop-test .left)
-    (done .before .variable-at2 .ensures .0) (done .put2 .ensures) (head .loop .inv)
+    (done .before .bound-at2 .ensures .0) (done .put2 .ensures) (head .loop .inv)
 
 pub fill-moves-spec : {M : Type 1} → statement M
 fill-moves-spec =
@@ -98,13 +98,13 @@ fill-moves-spec =
     μ-loop
     keep-all-requires
     loop-holds
-    variable-at-requires
+    bound-at-requires
     shared-slice-read-put
     put-requires
     add-i
     loop-less
     loop-again
-    variable-at-requires-2
+    bound-at-requires-2
     put-requires-2
     same-length
     returns)

@@ -11,12 +11,12 @@ use Rattle.sheet.specs.Trace.{room}
 use Rattle.rows.specs.Layouts.{format-in}
 use Rattle.rows.specs.Formulas.{prefix-in}
 use Rattle.subtrees.proofs.Siblings.{Walked}
-use Rattle.guards.specs.declared.part.Part.{Part}
+use Rattle.guards.specs.declared.selection.Selection.{Selection}
 use Rattle.guards.specs.declared.sift.Sieve.{Sieve}
-use Rattle.guards.specs.Inner.Parts.{Tried}
+use Rattle.guards.specs.Inner.Selections.{Tried}
 use Rattle.guards.specs.Inner.Sieves.{starts, Says}
 use Rattle.guards.proofs.Trying.{part-raw, part-said}
-use Rattle.guards.proofs.Turn.{Sifting, judged-left, kept-few, first-turn, last-turn, walked, left-few, tried, tried-read, next-turn}
+use Rattle.guards.proofs.SiftTurn.{Sifting, judged-left, kept-few, first-turn, last-turn, walked, left-few, tried, tried-read, next-turn}
 use borrow.Author.Needs.{needs}
 use Rattle.guards.proofs.sift.sift.Statement.{statement}
 use Rattle.guards.proofs.sift.sift.Tie as tie
@@ -36,10 +36,10 @@ start c = c .before .before .before .before .before .before .before
 abbrev head : tie.Then1 Inv-loop μ-loop → tie.At-loop Inv-loop μ-loop
 head c = c .before .before
 
-abbrev turn : tie.After-write-part Inv-loop μ-loop → tie.Then1 Inv-loop μ-loop
+abbrev turn : tie.After-write-selection Inv-loop μ-loop → tie.Then1 Inv-loop μ-loop
 turn c = c .before .before .before .before .before .before .before
 
-abbrev wrote : tie.After-run-raw Inv-loop μ-loop → tie.After-write-part Inv-loop μ-loop
+abbrev wrote : tie.After-run-raw Inv-loop μ-loop → tie.After-write-selection Inv-loop μ-loop
 wrote c = c .before .before .before .before .before
 
 abbrev ran : tie.After-heard Inv-loop μ-loop → tie.After-run-raw Inv-loop μ-loop
@@ -91,7 +91,7 @@ same-room : (c : tie.Then1 Inv-loop μ-loop) → room (head c .loop .first) (hea
 same-room c = ap₂ min (head c .loop .inv .2) (head c .loop .inv .3)
 
 -- the children kept and those behind the child at hand
-abbrev others : tie.At-loop Inv-loop μ-loop → Part
+abbrev others : tie.At-loop Inv-loop μ-loop → Selection
 others c =
     let g = c .loop .g in
     record { guards = g .guards + (g .left - 1); rows = g .rows + (start c .args .s .nodes - end c); rest = end c }
@@ -106,10 +106,10 @@ without c =
     (tried (a .args .s) (a .args .b .now) (most a) (a .pre .0) (a .pre .1) (more c) (head c .loop .inv .0))
 
 -- the first work buffer is as long after a try's rows are written
-room-left : (c : tie.After-write-part Inv-loop μ-loop)
+room-left : (c : tie.After-write-selection Inv-loop μ-loop)
     → let l = head (turn c) .loop in
-    room (c .write-part .last .1 .1 .1 .1 .1 .0) (l .second) ≡ room (l .first) (l .second)
-room-left c = ap (λ (n : ℕ). min n (length (head (turn c) .loop .second))) (c .write-part .kept .1 .1 .1 .1 .1 .0)
+    room (c .write-selection .last .1 .1 .1 .1 .1 .0) (l .second) ≡ room (l .first) (l .second)
+room-left c = ap (λ (n : ℕ). min n (length (head (turn c) .loop .second))) (c .write-selection .kept .1 .1 .1 .1 .1 .0)
 
 children-at-requires : tie.Need-children-at-requires Inv-loop μ-loop
 children-at-requires c κs = let h = c .before .before .before .before .before .pre .1 .readable in (h, h .some-nodes)
@@ -144,23 +144,23 @@ sub-kept c = small (c .before .before .before) .2
 add-kept : tie.Need-add-kept Inv-loop μ-loop
 add-kept c = omega (arith, small (c .before .before .before .before))
 
-slice-reshare-prefix-write-part : tie.Need-slice-reshare-prefix-write-part Inv-loop μ-loop
-slice-reshare-prefix-write-part c = omega (arith, small (c .before .before .before .before))
+slice-reshare-prefix-write-selection : tie.Need-slice-reshare-prefix-write-selection Inv-loop μ-loop
+slice-reshare-prefix-write-selection c = omega (arith, small (c .before .before .before .before))
 
-slice-aggregate-write-part : tie.Need-slice-aggregate-write-part Inv-loop μ-loop
-slice-aggregate-write-part c =
+slice-aggregate-write-selection : tie.Need-slice-aggregate-write-selection Inv-loop μ-loop
+slice-aggregate-write-selection c =
     let turn = c .before .before .before .before .before in
     sym (length-take-le _ (head turn .loop .kept) (omega (arith, small turn)))
 
-write-part-requires : tie.Need-write-part-requires Inv-loop μ-loop
-write-part-requires c κs =
+write-selection-requires : tie.Need-write-selection-requires Inv-loop μ-loop
+write-selection-requires c κs =
     let w = without (c .before .before .before .before .before .before) in
     (w .chosen, record { holds = omega (arith, w .has-room) })
 
 run-raw-requires : tie.Need-run-raw-requires Inv-loop μ-loop
 run-raw-requires c κs =
     let w = c .before .before .before .before in
-    let part = w .write-part in
+    let part = w .write-selection in
     part-raw (without (turn w)) (part .result) _ (head (turn w) .loop .second) (part .ensures .0) (part .ensures .1) (room-left w)
 
 heard-requires : tie.Need-heard-requires Inv-loop μ-loop
@@ -202,7 +202,7 @@ loop-again c =
     let F = format-in (a .args .s) in
     let s = a .args .s in
     let b = a .args .b .now in
-    let part = w .write-part in
+    let part = w .write-selection in
     let word = heard .heard in
     let said : Says (word .result) (says (fits F (most a)) (prefix-in s b) _)
     = subst₂ (λ (m : ℕ) (us : Forest). Says (word .result) (says (fits F m) (prefix-in s b) us)) (same-room now)
@@ -246,9 +246,9 @@ sift-spec =
     add-t20
     sub-kept
     add-kept
-    slice-reshare-prefix-write-part
-    slice-aggregate-write-part
-    write-part-requires
+    slice-reshare-prefix-write-selection
+    slice-aggregate-write-selection
+    write-selection-requires
     run-raw-requires
     heard-requires
     cast-kept

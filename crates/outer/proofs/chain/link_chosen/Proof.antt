@@ -3,7 +3,7 @@ use mathlib.Core.Path.{_≡_, refl, sym, _∙_, subst}
 use Prim.Native.Nat.{_-_, _≤_, _<_}
 use native.Mathlib.Omega.{arith}
 use lib.ListN.{length, length-set}
-use Rattle.changing.specs.Changes.{chosen}
+use Rattle.substitution.specs.Changes.{chosen}
 use Rattle.outer.specs.Inner.Chain.{Linking}
 use Rattle.outer.proofs.Linking.{linking-none, linking-turn, linked-all}
 use Rattle.outer.proofs.chain.link_chosen.Statement.{statement}

@@ -4,7 +4,7 @@ use mathlib.Core.Logic.{⊎-elim}
 use borrow.Author.Needs.{needs}
 use Rattle.formula.specs.Tree.{Literals}
 use Rattle.rows.specs.Formulas.{matrix-in}
-use Rattle.changing.specs.Changes.{chosen}
+use Rattle.substitution.specs.Changes.{chosen}
 use Rattle.relevance.specs.Raw.{presence}
 use Rattle.relevance.proofs.Growth.{raw-rows-by}
 use Rattle.outer.proofs.Drafting.{part-absent, chain-here, part-present, drafted}
@@ -21,9 +21,9 @@ L c = chosen (start c .args .table .now)
 abbrev linked : tie.Joined1 → tie.After-link-chosen
 linked c = c .before .before .before .before .before
 
--- the relevant part, if there is one
+-- the relevant subtree, if there is one
 part-is : (c : tie.Joined1)
-    → let a = start (linked c) .args in c .if1 .part ≡ presence (L (linked c)) (matrix-in (a .t .layout) (a .b .now))
+    → let a = start (linked c) .args in c .if1 .relevant ≡ presence (L (linked c)) (matrix-in (a .t .layout) (a .b .now))
 part-is c =
     let k = linked c in
     let b = start k .args .b .now in
@@ -37,8 +37,8 @@ part-is c =
 link-chosen-requires : tie.Need-link-chosen-requires
 link-chosen-requires c κs = search needs
 
-relevant-part-requires : tie.Need-relevant-part-requires
-relevant-part-requires c κs =
+relevant-subtree-requires : tie.Need-relevant-subtree-requires
+relevant-subtree-requires c κs =
     let k = c .before .before .before .before .before .before in
     let a = start k in
     record {
@@ -72,4 +72,4 @@ returns c =
 pub draft-chosen-spec : {M : Type 1} → statement M
 draft-chosen-spec =
     tie.close
-    (tie.spec link-chosen-requires relevant-part-requires raw-rows-of-requires same-length returns)
+    (tie.spec link-chosen-requires relevant-subtree-requires raw-rows-of-requires same-length returns)

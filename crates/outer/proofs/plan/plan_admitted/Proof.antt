@@ -9,7 +9,7 @@ use Rattle.rows.specs.Formulas.{formula-in}
 use Rattle.rows.proofs.Limits.{limits}
 use Rattle.dependence.specs.Dependents.{Dependents}
 use Rattle.raw.proofs.Plans.{rest-of}
-use Rattle.stepping.proofs.Admitting.{sheet-numbered, sheet-steppable}
+use Rattle.elimination.proofs.Admitting.{sheet-numbered, sheet-steppable}
 use Rattle.outer.proofs.Deciding.{Counted, located, second-size, distinct-here, not-out, no-numbers, room-for-all, planned}
 use Rattle.outer.proofs.plan.plan_admitted.Statement.{statement}
 use Rattle.outer.proofs.plan.plan_admitted.Tie as tie

@@ -2,9 +2,9 @@
 use mathlib.Core.Path.{subst, subst₂}
 use borrow.Author.Needs.{needs}
 use Rattle.rows.specs.Formats.{format-of}
-use Rattle.stepping.specs.Admission.{Admits}
-use Rattle.stepping.specs.declared.admission.Admission.the-variants.{Admitted}
-use Rattle.outer.specs.Inner.Plan.{Plans}
+use Rattle.elimination.specs.Admission.{Admits}
+use Rattle.elimination.specs.declared.admission.Admission.the-variants.{Admitted}
+use Rattle.outer.specs.Inner.OuterPlan.{OuterPlans}
 use Rattle.outer.proofs.Deciding.{refused-before}
 use Rattle.outer.proofs.plan.plan_outer.Statement.{statement}
 use Rattle.outer.proofs.plan.plan_outer.Tie as tie
@@ -62,7 +62,7 @@ returns-2 c =
     let b = start (told .before .before .before) .args .sheet .now in
     let is = admitted told in
     let r = plan .plan-admitted in
-    subst₂ (λ f y. Plans f b y (r .last .1 .1 .1 .0) (r .last .1 .1 .1 .1 .0) (r .result)) (is .0) (is .1) (r .ensures)
+    subst₂ (λ f y. OuterPlans f b y (r .last .1 .1 .1 .0) (r .last .1 .1 .1 .1 .0) (r .result)) (is .0) (is .1) (r .ensures)
 
 pub plan-outer-spec : {M : Type 1} → statement M
 plan-outer-spec =

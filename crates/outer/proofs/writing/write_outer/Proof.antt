@@ -4,8 +4,8 @@ use native.Mathlib.Omega.{arith}
 use lib.ListN.{length}
 use borrow.Author.Needs.{needs}
 use Rattle.rows.specs.Formulas.{prefix-in}
-use Rattle.changing.specs.Output.{Laid}
-use Rattle.changing.proofs.Splice.{laid-on}
+use Rattle.substitution.specs.Output.{Laid}
+use Rattle.substitution.proofs.Splice.{laid-on}
 use Rattle.raw.proofs.Raws.{room-on, laid-to}
 use Rattle.raw.proofs.Plans.{ready-raw, copyable-on, rest-of}
 use Rattle.renaming.specs.Prefixes.{rows-from}

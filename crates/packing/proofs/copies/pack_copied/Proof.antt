@@ -2,7 +2,7 @@
 -- Assumes nothing.
 use mathlib.Core.Path.{sym, _∙_, ap}
 use Rattle.outer.specs.Answers.{outcome-answer}
-use Rattle.outer.specs.declared.Outcome.{Outcome}
+use Rattle.outer.specs.declared.Stepped.{Stepped}
 use Rattle.packing.specs.Copies.{packed-copied}
 use borrow.Author.Needs.{needs}
 use Rattle.packing.proofs.copies.pack_copied.Statement.{statement}
@@ -28,11 +28,11 @@ pack-requires-2 c κs = search needs
 
 returns : tie.Need-returns
 unfolding packed-copied
-returns c = c .pack .ensures ∙ ap (λ (a : Outcome). packed-copied (outcome-answer a)) (sym (c .before .before .answer .given .1))
+returns c = c .pack .ensures ∙ ap (λ (a : Stepped). packed-copied (outcome-answer a)) (sym (c .before .before .answer .given .1))
 
 returns-2 : tie.Need-returns-2
 unfolding packed-copied
-returns-2 c = c .pack2 .ensures ∙ ap (λ (a : Outcome). packed-copied (outcome-answer a)) (sym (c .before .before .answer2 .given .1))
+returns-2 c = c .pack2 .ensures ∙ ap (λ (a : Stepped). packed-copied (outcome-answer a)) (sym (c .before .before .answer2 .given .1))
 
 pub pack-copied-spec : {M : Type 1} → statement M
 pack-copied-spec =

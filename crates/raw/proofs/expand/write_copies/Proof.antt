@@ -4,9 +4,9 @@ use Prim.Native.Nat.{_-_}
 use native.Mathlib.Omega.{arith}
 use lib.ListN.{length, take, drop, length-map}
 use lib.Seq.{length-take-le}
-use Rattle.changing.specs.Changes.{changed-row}
-use Rattle.changing.specs.Output.{Laid}
-use Rattle.changing.proofs.Splice.{ready-on, laid-on}
+use Rattle.substitution.specs.Changes.{changed-row}
+use Rattle.substitution.specs.Output.{Laid}
+use Rattle.substitution.proofs.Splice.{ready-on, laid-on}
 use Rattle.raw.specs.Formulas.{first-table}
 use Rattle.raw.specs.Expansions.{Climbs, runs-in, joined-at}
 use Rattle.raw.proofs.Plans.{ready-raw, rest-of, some, joined-parts}

@@ -1,8 +1,8 @@
 -- `raw::expand::write_expanded` meets its contract. Assumes nothing.
 use mathlib.Core.Path.{_≡_, sym, _∙_, subst}
 use native.Mathlib.Omega.{arith}
-use Rattle.changing.specs.Output.{Laid}
-use Rattle.changing.proofs.Splice.{ready-on, laid-on}
+use Rattle.substitution.specs.Output.{Laid}
+use Rattle.substitution.proofs.Splice.{ready-on, laid-on}
 use Rattle.raw.specs.Expansions.{new-at}
 use Rattle.raw.proofs.Raws.{laid-to}
 use Rattle.raw.proofs.Sited.{sited}

@@ -4,7 +4,7 @@ use mathlib.Core.Bool.{false}
 use native.Mathlib.Omega.{arith}
 use Rattle.formula.specs.Tree.{has}
 use Rattle.rows.specs.Formulas.{matrix-in}
-use Rattle.changing.specs.Output.{Laid}
+use Rattle.substitution.specs.Output.{Laid}
 use Rattle.raw.specs.Formulas.{chosen-by}
 use Rattle.raw.proofs.Plans.{ready-raw, absent-nodes, absent-parts}
 use borrow.Author.Needs.{needs}

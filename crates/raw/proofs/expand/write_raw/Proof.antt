@@ -2,7 +2,7 @@
 use mathlib.Core.Path.{_≡_, ap, _∙_}
 use native.Mathlib.Omega.{arith}
 use Rattle.rows.specs.declared.Layout.{Layout}
-use Rattle.changing.proofs.Splice.{laid-on}
+use Rattle.substitution.proofs.Splice.{laid-on}
 use Rattle.raw.proofs.Raws.{room-on, laid-to, raw-laid}
 use Rattle.raw.proofs.Plans.{ready-raw, copyable, copyable-on, matrix-rows, expanded-rows}
 use borrow.Author.Needs.{needs}

@@ -2,8 +2,8 @@
 use mathlib.Core.Path.{_≡_, sym, ap, _∙_, subst}
 use native.Mathlib.Omega.{arith}
 use lib.ListN.{length}
-use Rattle.changing.specs.Output.{Laid}
-use Rattle.changing.proofs.Splice.{ready-on, laid-on}
+use Rattle.substitution.specs.Output.{Laid}
+use Rattle.substitution.proofs.Splice.{ready-on, laid-on}
 use Rattle.raw.specs.Expansions.{Climbs, runs-in, new-at, joined-at}
 use Rattle.raw.proofs.Raws.{laid-to}
 use Rattle.raw.proofs.Plans.{ready-raw, copyable-on, rest-of, some, some-parts}

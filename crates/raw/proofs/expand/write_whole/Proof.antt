@@ -6,9 +6,9 @@ use native.Mathlib.Omega.{arith}
 use lib.Seq.{length-take-le}
 use Rattle.sheet.specs.Format.{row}
 use Rattle.rows.specs.Layouts.{rows-in}
-use Rattle.changing.specs.Changes.{copied}
-use Rattle.changing.specs.Output.{Laid}
-use Rattle.changing.proofs.Splice.{ready-on, laid-on}
+use Rattle.substitution.specs.Changes.{copied}
+use Rattle.substitution.specs.Output.{Laid}
+use Rattle.substitution.proofs.Splice.{ready-on, laid-on}
 use Rattle.raw.specs.Formulas.{first-table}
 use Rattle.raw.specs.Expansions.{new-at}
 use Rattle.raw.proofs.Plans.{ready-raw, rest-of, whole}
@@ -81,7 +81,7 @@ same-length c = search needs
 returns : tie.Need-returns
 returns c =
     let a = c .before .before .before .before .before .before .before .before .before .before .before .before .before .before .before .before .before .before .before .before in
-    let from = a .args .s .variables + a .args .e .part .operator in
+    let from = a .args .s .variables + a .args .e .relevant .operator in
     let to = a .args .s .variables + a .args .e .end in
     let R = rows-in (a .args .s) (a .args .b .now) in
     subst (Laid (a .args .e .layout) (a .args .out .now) _ (new-at (a .args .e)) _)

@@ -1,6 +1,6 @@
 -- `raw::runs::write_below` meets its contract. Assumes nothing.
 use native.Mathlib.Omega.{arith}
-use Rattle.changing.proofs.Splice.{ready-on, laid-on}
+use Rattle.substitution.proofs.Splice.{ready-on, laid-on}
 use borrow.Author.Needs.{needs}
 use Rattle.raw.proofs.runs.write_below.Statement.{statement}
 use Rattle.raw.proofs.runs.write_below.Tie as tie

@@ -2,9 +2,9 @@
 use Prim.Native.Nat.{_+_, _-_, _≤_}
 use native.Mathlib.Omega.{arith}
 use lib.ListN.{length, getD}
-use Rattle.changing.specs.Output.{Within}
-use Rattle.changing.proofs.Splice.{ready-on}
-use Rattle.raw.proofs.Turn.{Running, running-none, running-all, run-within, run-room, running-next}
+use Rattle.substitution.specs.Output.{Within}
+use Rattle.substitution.proofs.Splice.{ready-on}
+use Rattle.raw.proofs.RunTurns.{Running, running-none, running-all, run-within, run-room, running-next}
 use Rattle.raw.proofs.runs.write_runs.Statement.{statement}
 use Rattle.raw.proofs.runs.write_runs.Tie as tie
 

@@ -1,6 +1,6 @@
 -- `raw::settle::write_prefix` meets its contract. Assumes nothing.
-use Rattle.changing.specs.Output.{Laid}
-use Rattle.changing.proofs.Splice.{laid-on, ready-on}
+use Rattle.substitution.specs.Output.{Laid}
+use Rattle.substitution.proofs.Splice.{laid-on, ready-on}
 use Rattle.raw.proofs.Source.{prefix-without}
 use mathlib.Core.Path.{subst}
 use native.Mathlib.Omega.{arith}

@@ -1,5 +1,5 @@
 -- `raw::settle::write_settled` meets its contract. Assumes nothing.
-use Rattle.changing.proofs.Splice.{laid-on}
+use Rattle.substitution.proofs.Splice.{laid-on}
 use Rattle.raw.proofs.Raws.{room-on, raw-laid, settled-rows}
 use mathlib.Core.Path.{refl}
 use native.Mathlib.Omega.{arith}

@@ -1,7 +1,7 @@
 -- `reduce::clauses::blank_clauses` meets its contract: the clauses passed are blanked. Assumes nothing.
 use Prim.Native.Nat.{ℕ, _+_, _-_}
 use Rattle.reduce.proofs.Deciding.{clauses-start}
-use Rattle.reduce.proofs.Turn.{Reducing, new-rows, clause-literals, clause-left, clause-on, clauses-done}
+use Rattle.reduce.proofs.ClauseTurns.{Reducing, new-rows, clause-literals, clause-left, clause-on, clauses-done}
 use Rattle.reduce.specs.Inner.Clauses.{blanked}
 use Rattle.rows.specs.Formulas.{prefix-in, formula-in}
 use Rattle.rows.specs.Layouts.{rows-in}

@@ -4,7 +4,7 @@ use native.Mathlib.Omega.{arith}
 use native.Mathlib.Nat.{one-le-pow}
 use Rattle.rows.specs.Layouts.{width, rows-in}
 use Rattle.rows.specs.Formulas.{prefix-in}
-use Rattle.reduce.proofs.Turn.{literal-goes, literal-stays}
+use Rattle.reduce.proofs.ClauseTurns.{literal-goes, literal-stays}
 use Rattle.reduce.proofs.clauses.blank_literal.Statement.{statement}
 use Rattle.reduce.proofs.clauses.blank_literal.Tie as tie
 

@@ -1,7 +1,7 @@
 -- `reduce::clauses::blank_literals` meets its contract: the rows passed are blanked. Assumes nothing.
 use native.Mathlib.Omega.{arith}
 use Prim.Native.Nat.{_-_}
-use Rattle.reduce.proofs.Turn.{Blanking, blank-none, new-room, blank-literal-on, blank-all-literals}
+use Rattle.reduce.proofs.ClauseTurns.{Blanking, blank-none, new-room, blank-literal-on, blank-all-literals}
 use Rattle.reduce.proofs.clauses.blank_literals.Statement.{statement}
 use Rattle.reduce.proofs.clauses.blank_literals.Tie as tie
 

@@ -1,7 +1,7 @@
 -- `reduce::clauses::last_existential` meets its contract: the rows to come have the greatest of what is left. Assumes nothing.
 use native.Mathlib.Omega.{arith}
 use Prim.Native.Nat.{_-_}
-use Rattle.reduce.proofs.Turn.{Lasting, last-none, last-row, last-all}
+use Rattle.reduce.proofs.ClauseTurns.{Lasting, last-none, last-row, last-all}
 use Rattle.reduce.proofs.clauses.last_existential.Statement.{statement}
 use Rattle.reduce.proofs.clauses.last_existential.Tie as tie
 

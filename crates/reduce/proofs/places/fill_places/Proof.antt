@@ -20,8 +20,8 @@ sub-i c = omega arith
 cast-places : tie.Need-cast-places Inv-loop μ-loop
 cast-places c = omega (arith, c .before .before .before .before .pre .0 .readable .few-variables, c .before .loop .inv .within)
 
-variable-at-requires : tie.Need-variable-at-requires Inv-loop μ-loop
-variable-at-requires c κs = (c .before .before .before .before .pre .0 .readable, omega (arith, c .before .loop .inv .within))
+bound-at-requires : tie.Need-bound-at-requires Inv-loop μ-loop
+bound-at-requires c κs = (c .before .before .before .before .pre .0 .readable, omega (arith, c .before .loop .inv .within))
 
 mul-places : tie.Need-mul-places Inv-loop μ-loop
 mul-places c = omega arith
@@ -32,7 +32,7 @@ slice-write-places c =
     let a = head .before .before .before in
     omega (
       arith,
-      few-here (a .args .b .now) (a .pre .0) _ (omega (arith, head .loop .inv .within)) (c .variable-at .ensures .0),
+      few-here (a .args .b .now) (a .pre .0) _ (omega (arith, head .loop .inv .within)) (c .bound-at .ensures .0),
       head .loop .inv .size,
     )
 
@@ -43,7 +43,7 @@ loop-again : tie.Need-loop-again Inv-loop μ-loop
 loop-again c =
     let head = c .before .before in
     let a = head .before .before .before in
-    filling-row (a .args .b .now) (a .pre .0) (omega arith) (c .variable-at .ensures .0) (head .loop .inv)
+    filling-row (a .args .b .now) (a .pre .0) (omega arith) (c .bound-at .ensures .0) (head .loop .inv)
 
 same-length : tie.Need-same-length Inv-loop μ-loop
 same-length c = c .before .loop .inv .size ∙ sym (c .before .before .before .before .pre .1)
@@ -62,7 +62,7 @@ fill-places-spec =
     loop-holds
     sub-i
     cast-places
-    variable-at-requires
+    bound-at-requires
     mul-places
     slice-write-places
     loop-less

@@ -7,7 +7,7 @@ use Rattle.sheet.proofs.Tests.{refused-first}
 use Rattle.rows.specs.Formats.{format-of}
 use Rattle.checking.specs.Sheets.{Sheet}
 use Rattle.checking.proofs.CheckedSheets.{sheet-checked, sheet-refused, sheet-format, sheet-own}
-use Rattle.reduce.specs.Inner.Plan.{Plans}
+use Rattle.reduce.specs.Inner.ReducePlan.{ReducePlans}
 use Rattle.reduce.proofs.plan.plan_reduce.Statement.{statement}
 use Rattle.reduce.proofs.plan.plan_reduce.Tie as tie
 
@@ -42,7 +42,7 @@ returns-2 : tie.Need-returns-2
 returns-2 c =
     let told = c .before .before in
     let a = start (told .before .before) .args in
-    subst (λ g. Plans g (a .sheet .now) (a .room) (c .plan-checked .result)) (sheet-format (accepted told)) (c .plan-checked .ensures)
+    subst (λ g. ReducePlans g (a .sheet .now) (a .room) (c .plan-checked .result)) (sheet-format (accepted told)) (c .plan-checked .ensures)
 
 pub plan-reduce-spec : {M : Type 1} → statement M
 plan-reduce-spec =

@@ -54,15 +54,15 @@ chain : (c : tie.Else1) →
     Chain (of (a .x)) (a .s) (a .b .now) (a .next .now) (getD (a .ranges .now) (2 * a .x) 0) (getD (a .ranges .now) (2 * a .x + 1) 0)
 chain c = let a = c .before .before .before .before .before .before .before in a .pre .1 .chained (a .args .x) (a .pre .2) (occurs c)
 
-relevant-part-requires : tie.Need-relevant-part-requires
-relevant-part-requires c κs =
+relevant-subtree-requires : tie.Need-relevant-subtree-requires
+relevant-subtree-requires c κs =
     let a = c .before .before .before .before .before .before .before .before in
     record { indexed = a .pre .0; chosen = of (a .args .x); chain = chain (c .before) }
 
 returns-2 : tie.Need-returns-2
 returns-2 c =
     let x = c .before .before .before .before .before .before .before .before .before .args .x in
-    present (of x) _ (occurs (c .before .before)) (c .relevant-part .ensures (of x) (chain (c .before .before)))
+    present (of x) _ (occurs (c .before .before)) (c .relevant-subtree .ensures (of x) (chain (c .before .before)))
 
 pub part-of-spec : {M : Type 1} → statement M
 part-of-spec =
@@ -78,5 +78,5 @@ part-of-spec =
     mul-last-2
     shared-slice-read-last
     cast-last
-    relevant-part-requires
+    relevant-subtree-requires
     returns-2)

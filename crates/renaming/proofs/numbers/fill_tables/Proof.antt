@@ -7,8 +7,8 @@ use lib.ListN.{length}
 use Rattle.formula.specs.Solve.{those}
 use Rattle.rows.specs.Formulas.{prefix-in}
 use Rattle.sets.specs.Sets.{holds}
-use Rattle.changing.specs.Changes.{putting}
-use Rattle.changing.proofs.Tables.{length-putting}
+use Rattle.substitution.specs.Changes.{putting}
+use Rattle.substitution.proofs.Tables.{length-putting}
 use Rattle.renaming.specs.Numbers.{renumbered}
 use Rattle.renaming.proofs.Renumbering.{free-unused, second-lent, second-back}
 use borrow.Author.Needs.{needs}

@@ -19,14 +19,14 @@ loop-holds c =
     let a = c .before .before in
     (using-none (a .args .b .now) (a .pre .0) (a .pre .2), omega arith, refl)
 
-variable-at-requires : tie.Need-variable-at-requires Inv-loop μ-loop
-variable-at-requires c κs =
+bound-at-requires : tie.Need-bound-at-requires Inv-loop μ-loop
+bound-at-requires c κs =
     (c .before .before .before .before .before .pre .0, omega arith)
 
 add-requires : tie.Need-add-requires Inv-loop μ-loop
 add-requires c κs =
     let a = c .before .before .before .before .before .before in
-    omega (arith, c .before .before .before .loop .inv .0 .words, c .variable-at .ensures .0, a .pre .1 .few-numbers (c .before .before .before .loop .j) (omega arith))
+    omega (arith, c .before .before .before .loop .inv .0 .words, c .bound-at .ensures .0, a .pre .1 .few-numbers (c .before .before .before .loop .j) (omega arith))
 
 add-j : tie.Need-add-j Inv-loop μ-loop
 add-j c =
@@ -39,7 +39,7 @@ loop-again : tie.Need-loop-again Inv-loop μ-loop
 loop-again c =
     let a = c .before .before .before .before .before .before .before .before .before in
     let l = c .before .before .before .before .before .before .loop in (
-      using-next (a .args .b .now) (a .pre .0) (omega arith) (omega arith) (c .before .before .before .variable-at .ensures .0) (l .inv .0) (c .before .before .add .ensures .0) (c .before .before .add .ensures .1),
+      using-next (a .args .b .now) (a .pre .0) (omega arith) (omega arith) (c .before .before .before .bound-at .ensures .0) (l .inv .0) (c .before .before .add .ensures .0) (c .before .before .add .ensures .1),
       omega arith,
       c .before .before .add .ensures .0 ∙ l .inv .2,
     )
@@ -60,7 +60,7 @@ fill-used-spec =
     Inv-loop
     μ-loop
     loop-holds
-    variable-at-requires
+    bound-at-requires
     add-requires
     add-j
     loop-less

@@ -18,8 +18,8 @@ loop-holds c =
     let a = c .before .before .before .before in
     (renaming-none (a .args .b .now) (a .pre .0 .0) (a .args .set .now) (a .args .used .now) (a .args .highest) (a .args .table .now) (a .pre .1), omega arith)
 
-variable-at-requires : tie.Need-variable-at-requires Inv-loop μ-loop
-variable-at-requires c κs =
+bound-at-requires : tie.Need-bound-at-requires Inv-loop μ-loop
+bound-at-requires c κs =
     (c .before .before .before .before .before .before .pre .0 .0, omega arith)
 
 rename-requires : tie.Need-rename-requires Inv-loop μ-loop
@@ -28,8 +28,8 @@ rename-requires c κs =
     let l = c .before .before .before .loop in (
       (a .pre .0 .2, a .pre .0 .3, a .pre .0 .4, l .inv .0 .within),
       (
-        (omega (arith, c .before .variable-at .ensures .0, a .pre .0 .1 .few-numbers (l .j) (omega arith)), l .inv .0 .same-length ∙ a .pre .0 .5),
-        some-left (a .args .b .now) (a .pre .0 .0) (a .args .set .now) (a .args .used .now) (a .args .highest) (omega arith) (l .inv .0) (c .before .variable-at .ensures .0),
+        (omega (arith, c .before .bound-at .ensures .0, a .pre .0 .1 .few-numbers (l .j) (omega arith)), l .inv .0 .same-length ∙ a .pre .0 .5),
+        some-left (a .args .b .now) (a .pre .0 .0) (a .args .set .now) (a .args .used .now) (a .args .highest) (omega arith) (l .inv .0) (c .before .bound-at .ensures .0),
       ),
     )
 
@@ -44,7 +44,7 @@ loop-again : tie.Need-loop-again Inv-loop μ-loop
 loop-again c =
     let a = c .before .before .before .before .before .before .before .before .before .before .before in
     let l = c .before .before .before .before .before .before .loop in (
-      renaming-next (a .args .b .now) (a .pre .0 .0) (a .args .set .now) (a .args .used .now) (a .args .highest) (omega arith) (l .inv .0) (c .before .before .before .before .variable-at .ensures .0) (omega arith) (c .before .before .rename .ensures),
+      renaming-next (a .args .b .now) (a .pre .0 .0) (a .args .set .now) (a .args .used .now) (a .args .highest) (omega arith) (l .inv .0) (c .before .before .before .before .bound-at .ensures .0) (omega arith) (c .before .before .rename .ensures),
       omega arith,
     )
 
@@ -64,7 +64,7 @@ rename-all-spec =
     Inv-loop
     μ-loop
     loop-holds
-    variable-at-requires
+    bound-at-requires
     rename-requires
     add-j
     loop-less

@@ -18,8 +18,8 @@ loop-holds c =
     let a = c .before .before .before .before in
     (copying-none (a .args .b .now) (a .pre .0) (a .args .table .now) (a .args .to .layout) (a .args .out .now) (a .args .to .at), omega arith)
 
-variable-at-requires : tie.Need-variable-at-requires Inv-loop μ-loop
-variable-at-requires c κs =
+bound-at-requires : tie.Need-bound-at-requires Inv-loop μ-loop
+bound-at-requires c κs =
     (c .before .before .before .before .before .before .pre .0, omega arith)
 
 write-copied-requires : tie.Need-write-copied-requires Inv-loop μ-loop
@@ -28,7 +28,7 @@ write-copied-requires c κs =
     let l = c .before .before .before .loop in (
       room-on (a .pre .1) (l .inv .0 .same-length),
       copying-room (a .args .b .now) (a .pre .0) (a .args .table .now) (a .args .to .layout) (a .args .out .now) (a .args .to .at) (omega arith)
-          (l .inv .0) (c .before .variable-at .ensures .0) (a .pre .2),
+          (l .inv .0) (c .before .bound-at .ensures .0) (a .pre .2),
     )
 
 add-j : tie.Need-add-j Inv-loop μ-loop
@@ -42,7 +42,7 @@ loop-again : tie.Need-loop-again Inv-loop μ-loop
 loop-again c =
     let a = c .before .before .before .before .before .before .before .before .before .before .before in
     let l = c .before .before .before .before .before .before .loop in (
-      copying-next (a .args .b .now) (a .pre .0) (a .args .table .now) (a .args .to .layout) (a .args .out .now) (a .args .to .at) (omega arith) (l .inv .0) (c .before .before .before .before .variable-at .ensures .0) (omega arith) (c .before .before .write-copied .ensures) (c .before .before .write-copied .kept .0),
+      copying-next (a .args .b .now) (a .pre .0) (a .args .table .now) (a .args .to .layout) (a .args .out .now) (a .args .to .at) (omega arith) (l .inv .0) (c .before .before .before .before .bound-at .ensures .0) (omega arith) (c .before .before .write-copied .ensures) (c .before .before .write-copied .kept .0),
       omega arith,
     )
 
@@ -62,7 +62,7 @@ write-all-copied-spec =
     Inv-loop
     μ-loop
     loop-holds
-    variable-at-requires
+    bound-at-requires
     write-copied-requires
     add-j
     loop-less

@@ -2,7 +2,7 @@
 use mathlib.Core.Path.{sym, ap, subst}
 use native.Mathlib.Omega.{arith}
 use lib.ListN.{length}
-use Rattle.changing.specs.Output.{Laid}
+use Rattle.substitution.specs.Output.{Laid}
 use Rattle.rows.proofs.Limits.{number-fits}
 use Rattle.renaming.proofs.Copied.{same-row, put-row, new-row, laid-none}
 use borrow.Author.Needs.{needs}

@@ -5,8 +5,8 @@ use mathlib.Core.Bool.{false}
 use native.Mathlib.Omega.{arith}
 use lib.ListN.{length-replicate}
 use Rattle.checking.proofs.CheckedSheets.{sheet-readable}
-use Rattle.signs.proofs.Marks.{unmarked, numbered-covers}
-use Rattle.stepping.proofs.Admitting.{sheet-numbered}
+use Rattle.polarity.proofs.Marks.{unmarked, numbered-covers}
+use Rattle.elimination.proofs.Admitting.{sheet-numbered}
 use Rattle.settle.proofs.Deciding.{not-settled, no-room, planned}
 use Rattle.settle.proofs.plan.plan_admitted.Statement.{statement}
 use Rattle.settle.proofs.plan.plan_admitted.Tie as tie

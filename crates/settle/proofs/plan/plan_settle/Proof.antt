@@ -2,9 +2,9 @@
 use mathlib.Core.Path.{subst, subst₂}
 use borrow.Author.Needs.{needs}
 use Rattle.rows.specs.Formats.{format-of}
-use Rattle.stepping.specs.Admission.{Admits}
-use Rattle.stepping.specs.declared.admission.Admission.the-variants.{Admitted}
-use Rattle.settle.specs.Inner.Plan.{Plans}
+use Rattle.elimination.specs.Admission.{Admits}
+use Rattle.elimination.specs.declared.admission.Admission.the-variants.{Admitted}
+use Rattle.settle.specs.Inner.SettlePlan.{SettlePlans}
 use Rattle.settle.proofs.Deciding.{refused-before}
 use Rattle.settle.proofs.plan.plan_settle.Statement.{statement}
 use Rattle.settle.proofs.plan.plan_settle.Tie as tie
@@ -51,7 +51,7 @@ returns-2 c =
     let found = c .before .before in
     let a = start (told found) .args in
     let is = admitted found in
-    subst₂ (λ f y. Plans f (a .sheet .now) y (a .room) (c .plan-admitted .result)) (is .0) (is .1) (c .plan-admitted .ensures)
+    subst₂ (λ f y. SettlePlans f (a .sheet .now) y (a .room) (c .plan-admitted .result)) (is .0) (is .1) (c .plan-admitted .ensures)
 
 pub plan-settle-spec : {M : Type 1} → statement M
 plan-settle-spec =

@@ -6,7 +6,7 @@ use lib.ListN.{length, take}
 use lib.Seq.{length-take-le}
 use Rattle.sheet.specs.Operations.{padded}
 use Rattle.solve.specs.Inner.Running.{long-in}
-use Rattle.solve.proofs.Carrying.{cleared-part}
+use Rattle.solve.proofs.Fetching.{cleared-part}
 use borrow.Author.Needs.{needs}
 use Rattle.solve.proofs.step.bring.Statement.{statement}
 use Rattle.solve.proofs.step.bring.Tie as tie

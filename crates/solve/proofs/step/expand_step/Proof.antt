@@ -15,11 +15,11 @@ use Rattle.sheet.specs.Sheet.{sheet}
 use Rattle.rows.specs.Layouts.{format-in}
 use Rattle.rows.specs.Formulas.{formula-in}
 use Rattle.rows.specs.declared.Layout.{Layout}
-use Rattle.stepping.specs.Survey.{Drafts, Surveyed}
-use Rattle.stepping.specs.Expanding.{Priced, Prepared}
-use Rattle.stepping.proofs.Expansions.{drafts, prepared}
+use Rattle.elimination.specs.Survey.{Drafts, Surveyed}
+use Rattle.elimination.specs.Expanding.{Priced, Prepared}
+use Rattle.elimination.proofs.Expansions.{drafts, prepared}
 use Rattle.solve.proofs.Holding.{bound}
-use Rattle.solve.proofs.Carrying.{in-front}
+use Rattle.solve.proofs.Fetching.{in-front}
 use Rattle.solve.proofs.Arriving.{some-left, few-rows, zeros-behind, fetchable, taken}
 use Rattle.solve.proofs.Arriving.{raw-small, expand-stops, expand-named, few-and-short, expand-expands, expand-arrives, expand-next}
 use Rattle.solve.proofs.step.expand_step.Statement.{statement}

@@ -3,7 +3,7 @@ use mathlib.Core.Path.{sym}
 use borrow.Author.Needs.{needs}
 use native.Mathlib.Omega.{arith}
 use lib.Seq.{length-take-le}
-use Rattle.solve.proofs.Carrying.{cleared}
+use Rattle.solve.proofs.Fetching.{cleared}
 use Rattle.solve.proofs.step.fetch.Statement.{statement}
 use Rattle.solve.proofs.step.fetch.Tie as tie
 

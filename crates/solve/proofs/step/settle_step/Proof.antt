@@ -8,9 +8,9 @@ use lib.Seq.{length-take-le}
 use Rattle.sheet.specs.Sheet.{sheet}
 use Rattle.rows.specs.Layouts.{format-in}
 use Rattle.rows.specs.Formulas.{formula-in}
-use Rattle.stepping.specs.Steps.{settled-by}
+use Rattle.elimination.specs.Steps.{settled-by}
 use Rattle.solve.proofs.Holding.{readable}
-use Rattle.solve.proofs.Carrying.{in-front}
+use Rattle.solve.proofs.Fetching.{in-front}
 use Rattle.solve.proofs.Arriving.{some-left, few-rows, zeros-behind, fetchable, taken, settle-room, settle-puts, settle-arrives, settle-next}
 use borrow.Author.Needs.{needs}
 use Rattle.solve.proofs.step.settle_step.Statement.{statement}

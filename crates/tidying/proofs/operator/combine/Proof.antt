@@ -101,8 +101,8 @@ conclude-requires c κs =
           ready-left k n (test .if1 .left) r f refl
           (omega (arith, left .few _ _ _ e, t .members-fit, g .gather .kept .1 .1 .1 .1 .0))
           (omega (arith, left .few _ _ _ e, t .countable));
-      printed = left .printed _ _ _ e .0;
-      print-few = left .printed _ _ _ e .1;
+      hashed = left .hashed _ _ _ e .0;
+      hash-few = left .hashed _ _ _ e .1;
     }
 
 same-length-2 : tie.Need-same-length-2

@@ -101,7 +101,7 @@ returns-3 c =
     let a = many-of (c .before) in
     let g = a .pre .there in (
       concludes-many (g .members-fit) (omega (arith, second .if2 .left, first .if1 .left)) (omega (arith, g .is-left .headed .ends, a .pre .within, a .pre .in-place .known-fit))
-          (stored .set-row2 .ensures .0) (a .pre .printed) (ap (set (a .args .known .now) (a .args .n .row)) (c .known-of .ensures .0)),
+          (stored .set-row2 .ensures .0) (a .pre .hashed) (ap (set (a .args .known .now) (a .args .n .row)) (c .known-of .ensures .0)),
       behind-set (a .args .known .now) _ refl,
     )
 

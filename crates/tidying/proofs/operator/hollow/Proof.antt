@@ -3,7 +3,7 @@ use mathlib.Core.Path.{_≡_, refl, ap, _∙_}
 use native.Mathlib.Omega.{arith}
 use lib.ListN.{set}
 use Rattle.buckets.specs.Halves.{known-of}
-use Rattle.blocks.proofs.Blocks.{room-as}
+use Rattle.tidy_rules.proofs.Segments.{room-as}
 use Rattle.tidying.proofs.Conclude.{behind-set, hollows-short, hollows-long}
 use borrow.Author.Needs.{needs}
 use Rattle.tidying.proofs.operator.hollow.Statement.{statement}

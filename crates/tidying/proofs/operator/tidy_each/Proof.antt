@@ -40,7 +40,7 @@ combine-requires c κs =
     let rows = rows-in (a .args .s) (a .args .b .now) in (
       in-place-as (i .3) (i .7) (a .pre .0),
       tables-as (i .4) (i .5) (i .6) (a .pre .1),
-      record { before = _; first = _; blocks = _; trees = _; ready = back-ready rows counted (a .pre .2) (l .if1 .taken) (i .1) (i .2) },
+      record { before = _; first = _; segments = _; trees = _; ready = back-ready rows counted (a .pre .2) (l .if1 .taken) (i .1) (i .2) },
     )
 
 loop-less : tie.Need-loop-less Inv-loop μ-loop

@@ -5,7 +5,7 @@ use native.Mathlib.Omega.{arith}
 use lib.ListN.{length}
 use Rattle.rows.specs.Layouts.{total, rows-in}
 use Rattle.rows.proofs.Layouts.{length-rows-in}
-use Rattle.blocks.proofs.Blocks.{room-as}
+use Rattle.tidy_rules.proofs.Segments.{room-as}
 use Rattle.tidying.proofs.InPlace.{in-place-as}
 use Rattle.tidying.proofs.Packed.{Pack, pack-none, pack-told, pack-safe, pack-more, pack-end}
 use borrow.Author.Needs.{needs}

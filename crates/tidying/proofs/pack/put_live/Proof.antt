@@ -4,7 +4,7 @@ use native.Mathlib.Omega.{arith}
 use Rattle.sheet.specs.Format.{Row}
 use Rattle.rows.proofs.Layouts.{length-rows-in}
 use Rattle.rows.proofs.Sealing.{all-bytes}
-use Rattle.blocks.proofs.Blocks.{stands-row, stands-within}
+use Rattle.tidy_rules.proofs.Segments.{stands-row, stands-within}
 use Rattle.tidying.proofs.Packed.{argument-fits, put-fits, put-dead, put-row}
 use borrow.Author.Needs.{needs}
 use Rattle.tidying.proofs.pack.put_live.Statement.{statement}
@@ -38,7 +38,7 @@ set-row-requires c κs =
     let fits = argument-fits (a .args .b .now) (a .pre .0 .room) bytes (a .args .at) (omega (arith, within, counted)) in (
       a .pre .0 .room,
       omega (arith, within, counted, a .pre .2),
-      put-fits (g .block) _ (λ e. c .before .before .before .if1 .left (c .before .before .before .before .kind-at .ensures ∙ ap (λ (r : Row). r .kind) (stands-row h) ∙ e)) h (rw (stands-row h) at fits)
+      put-fits (g .segment) _ (λ e. c .before .before .before .if1 .left (c .before .before .before .before .kind-at .ensures ∙ ap (λ (r : Row). r .kind) (stands-row h) ∙ e)) h (rw (stands-row h) at fits)
           (omega (arith, counted, a .pre .0 .counted)) (c .before .argument-told .ensures _ _ _ h (g .told)),
     )
 

@@ -3,7 +3,7 @@ use mathlib.Core.Path.{_≡_, _∙_}
 use Prim.Native.Nat.{_≤_}
 use native.Mathlib.Omega.{arith}
 use lib.ListN.{length}
-use Rattle.blocks.proofs.Blocks.{room-as}
+use Rattle.tidy_rules.proofs.Segments.{room-as}
 use Rattle.tidying.proofs.InPlace.{rows-fit}
 use Rattle.tidying.proofs.TidyInPlace.{raw-preorder, prefix-left, leaves}
 use borrow.Author.Needs.{needs}
@@ -36,7 +36,7 @@ pack-requires c κs =
         counted = rows-fit (a .args .s .format) (a .pre .0 .few-rows);
         known-fit = omega (arith, k .1 .1 .1 .1 .1 .0, a .pre .3);
       },
-      record { before = _; blocks = t .blocks; after = _; laid = t .laid; told = t .told },
+      record { before = _; segments = t .segments; after = _; laid = t .laid; told = t .told },
     )
 
 -- the length is as before, and the quantifiers stand before the other rows

@@ -5,7 +5,7 @@ use Prim.Native.Nat.{_+_, _-_, _≤_, _<_}
 use native.Mathlib.Omega.{arith}
 use lib.ListN.{length, getD}
 use Rattle.words.specs.Words.{ends}
-use Rattle.words.proofs.Turn.{Led, led-none, led-ends, led-more, led-all}
+use Rattle.words.proofs.ByteTurns.{Led, led-none, led-ends, led-more, led-all}
 use Rattle.words.proofs.cursor.end_of.Statement.{statement}
 use Rattle.words.proofs.cursor.end_of.Tie as tie
 

@@ -5,7 +5,7 @@ use Prim.Native.Nat.{_+_, _-_, _≤_, _<_}
 use native.Mathlib.Omega.{arith}
 use borrow.Author.Tests.{not-true, not-false}
 use lib.ListN.{length, getD}
-use Rattle.words.proofs.Turn.{Skipped, skipped-none, skipped-ends, skipped-more, skipped-all}
+use Rattle.words.proofs.ByteTurns.{Skipped, skipped-none, skipped-ends, skipped-more, skipped-all}
 use Rattle.words.proofs.cursor.skip_white.Statement.{statement}
 use Rattle.words.proofs.cursor.skip_white.Tie as tie
 

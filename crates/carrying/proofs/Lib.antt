@@ -1,3 +1,0 @@
-mod Turn
-mod Written
-mod Tests

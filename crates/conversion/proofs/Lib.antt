@@ -1,0 +1,3 @@
+mod RowTurns
+mod Written
+mod Tests

@@ -1,0 +1,37 @@
+-- `sort_compare::compare::compare_sorted` meets its contract. Assumes nothing.
+use mathlib.Core.Path.{ap₂, _∙_}
+use Rattle.tree_order.specs.Rows.{compare-rows}
+use Rattle.tree_order.proofs.Rows.{rows-of-trees}
+use borrow.Author.Needs.{needs}
+use Rattle.sort_compare.proofs.compare.compare_sorted.Statement.{statement}
+use Rattle.sort_compare.proofs.compare.compare_sorted.Tie as tie
+
+sort-rows-requires : tie.Need-sort-rows-requires
+sort-rows-requires c κs = search needs
+
+sort-rows-requires-2 : tie.Need-sort-rows-requires-2
+sort-rows-requires-2 c κs = search needs
+
+compare-rows-requires : tie.Need-compare-rows-requires
+compare-rows-requires c κs = search needs
+
+same-length : tie.Need-same-length
+same-length c = search needs
+
+same-length-2 : tie.Need-same-length-2
+same-length-2 c = search needs
+
+returns : tie.Need-returns
+returns c =
+    c .compare-rows .ensures ∙ ap₂ compare-rows (c .before .before .before .before .before .before .before .before .before .sort-rows .ensures .0) (c .before .before .before .before .before .sort-rows2 .ensures .0) ∙ rows-of-trees _ _
+
+pub compare-sorted-spec : {M : Type 1} → statement M
+compare-sorted-spec =
+    tie.close
+    (tie.spec
+    sort-rows-requires
+    sort-rows-requires-2
+    compare-rows-requires
+    same-length
+    same-length-2
+    returns)

@@ -1,8 +1,0 @@
-pub mod Rows
-pub mod Copying
-pub mod Entries
-pub mod Arranging
-pub mod Turn
-pub mod Merge
-pub mod Halves
-pub mod Filling

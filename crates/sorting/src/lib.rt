@@ -1,4 +1,0 @@
-// Trees put in order by a table of row numbers. The sheet stays as it is; entries of the table move, a subtree as one run.
-pub mod merging;
-pub mod order;
-pub mod table;

@@ -1,0 +1,48 @@
+-- `tree_order::merging::copy_first` meets its contract. Assumes nothing.
+use mathlib.Core.Path.{_≡_, sym, ap, _∙_}
+use mathlib.Core.List.{_++_}
+use Prim.Native.Nat.{_+_}
+use native.Mathlib.Omega.{arith}
+use lib.ListN.{length, take, drop}
+use lib.Seq.{length-take-le}
+use borrow.Author.Needs.{needs}
+use Rattle.tree_order.proofs.merging.copy_first.Statement.{statement}
+use Rattle.tree_order.proofs.merging.copy_first.Tie as tie
+
+counted : (c : tie.After-copy-entries-arg) → c .before .first-size .result ≡ length (take (c .before .first-size .result) (c .before .before .before .before .before .args .at .now))
+counted c =
+    let a = c .before .before .before .before .before in
+    sym (length-take-le (c .before .first-size .result) (a .args .at .now) (omega (arith, a .pre .1, c .before .first-size .ensures)))
+
+first-size-requires : tie.Need-first-size-requires
+first-size-requires c κs = c .before .before .before .pre .0
+
+slice-aggregate-copy-entries : tie.Need-slice-aggregate-copy-entries
+slice-aggregate-copy-entries c = counted c
+
+copy-entries-requires : tie.Need-copy-entries-requires
+copy-entries-requires c κs =
+    let a = c .before .before .before .before .before .before in
+    omega (arith, a .pre .2, c .before .before .first-size .ensures, counted (c .before))
+
+same-length : tie.Need-same-length
+same-length c = search needs
+
+returns : tie.Need-returns
+returns c =
+    let a = c .before .before .before .before .before .before .before .before .before in (
+      c .before .before .before .before .before .first-size .ensures,
+      c .before .before .copy-entries .ensures ∙
+          ap (λ n. take (a .args .to) (a .args .spare .now) ++ take (c .before .before .before .before .before .first-size .result) (a .args .at .now) ++ drop (a .args .to + n) (a .args .spare .now))
+          (sym (counted (c .before .before .before .before))),
+    )
+
+pub copy-first-spec : {M : Type 1} → statement M
+copy-first-spec =
+    tie.close
+    (tie.spec
+    first-size-requires
+    slice-aggregate-copy-entries
+    copy-entries-requires
+    same-length
+    returns)
