@@ -18,9 +18,10 @@ use Rattle.subtrees.specs.Subtrees.{kids, subtree-in, siblings-in, Beside}
 use Rattle.subtrees.specs.Ends.{Indexed, Hops}
 use Rattle.subtrees.proofs.Forest.{rows-kids}
 use Rattle.subtrees.proofs.Table.{hop-on}
-use Rattle.subtrees.proofs.Siblings.{Walked, Children, siblings-none, subtree-within, walk-on}
+use Rattle.subtrees.proofs.Siblings.{Walked, Children, children-read, siblings-none, subtree-within, walk-on}
 use Rattle.occurrences.specs.Chains.{first-from, Links, Chain}
-use Rattle.relevance.specs.Walks.{span-by, child-span, Way, there, on, Leads, with-child}
+use Rattle.relevance.specs.Walks.{span-by, child-span, Way, there, on, Leads, with-child, Sited}
+use Rattle.relevance.specs.declared.Site.{Site}
 use Rattle.relevance.specs.declared.subtree.Span.{Span}
 use Rattle.relevance.specs.declared.subtree.Share.{Share}
 use Rattle.relevance.proofs.Growth.{relevant-most}
@@ -169,6 +170,25 @@ begin L {s} b {ends} {next} {first} {last} {at} {from} {k} i c before are next-r
       first-is =
           first-below L b (i .readable) (c .bounds .starts) (c .bounds .inside) before ∙ ap (first-from L s b) (sym next-row);
     }
+
+-- over the children of a site's operator, `k` of them
+abbrev pub SiteBegun : Literals → (s : Layout) → Bytes → (ends next : List ℕ) → Site → ℕ → Type 0
+SiteBegun L s b ends next o k = Begun L s b ends next (o .operator + 1) k (o .first)
+
+module _ {s : Layout} (b : Bytes) {ends next : List ℕ} {o : Site} (p : Sited s b ends next o) where
+  pub site-inside : o .operator < s .nodes
+  site-inside = omega (arith, p .before, p .chained .chain .bounds .inside)
+
+  module _ {k : ℕ} (all : k ≡ count (kids (subtree-in s b (o .operator)))) where
+    pub site-children : Children s b (o .operator) (o .operator + 1) k
+    site-children = children-read b (p .chained .indexed .readable) (o .operator) site-inside (omega arith) all
+
+    pub site-begun : (L : Literals) (last : ℕ) → Chain L s b next (o .first) last → SiteBegun L s b ends next o k
+    site-begun L last c = begin L b (p .chained .indexed) c (p .before) site-children (omega arith)
+
+    -- along the literals that the site was found by
+    pub site-chosen : SiteBegun (p .chained .chosen) s b ends next o k
+    site-chosen = site-begun (p .chained .chosen) (p .last) (p .chained .chain)
 
 -- where it is at row `at` with `left` subtrees to go, and `row` is the first literal from there on
 pub record Walk (L : Literals) (s : Layout) (b : Bytes) (at left row : ℕ) : Type 0 where

@@ -4,21 +4,25 @@ use Prim.Native.Nat.{_+_, _≤_, _<_}
 use native.Mathlib.Omega.{arith}
 use Rattle.subtrees.specs.Subtrees.{subtree-in}
 use Rattle.subtrees.proofs.Siblings.{end-subtree}
-use Rattle.relevance.proofs.TurnPart.{kept-within}
+use Rattle.relevance.proofs.TurnPart.{site-inside, kept-within}
 use Rattle.relevance.proofs.Growth.{operator-part-read}
 use Rattle.relevance.proofs.subtree.operator_part.Statement.{statement}
 use Rattle.relevance.proofs.subtree.operator_part.Tie as tie
 
+-- places in the code, each from a later one
+abbrev start : tie.After-shared-slice-known3 → tie.Start
+start c = c .before .before .before
+
 relevant-children-requires : tie.Need-relevant-children-requires
 relevant-children-requires c κs = search needs
 
-inside : (c : tie.After-struct-known) → let a = c .before .before .before .before .before .args in a .site .operator < a .s .nodes
-inside c = let a = c .before .before .before .before .before in omega (arith, a .pre .before, a .pre .chained .chain .bounds .inside)
+inside : (c : tie.After-struct-known) → let a = start (c .before .before) .args in a .site .operator < a .s .nodes
+inside c = let a = start (c .before .before) in site-inside (a .args .b .now) (a .pre)
 
 within : (c : tie.After-struct-known) →
-    let a = c .before .before .before .before .before .args in (a .site .operator + (1 + c .before .relevant-children .result .rows) ≤ a .s .nodes) × (a .s .nodes ≤ 8192)
+    let a = start (c .before .before) .args in (a .site .operator + (1 + c .before .relevant-children .result .rows) ≤ a .s .nodes) × (a .s .nodes ≤ 8192)
 within c =
-    let a = c .before .before .before .before .before in
+    let a = start (c .before .before) in
     let k = a .pre .chained in (
       kept-within (k .chosen) (a .args .b .now) (k .indexed .readable) (a .args .site .operator) (inside c)
           (c .before .relevant-children .ensures (k .chosen) (a .pre .last) (k .chain) .0),
@@ -35,14 +39,14 @@ shared-slice-read-end : tie.Need-shared-slice-read-end
 shared-slice-read-end c = search needs
 
 cast-end : tie.Need-cast-end
-cast-end c = omega (arith, c .shared-slice-known4 .given (c .before .before .before .before .before .before .args .site .operator))
+cast-end c = omega (arith, c .shared-slice-known4 .given (start (c .before .before .before) .args .site .operator))
 
 add-t10 : tie.Need-add-t10
 add-t10 c = omega (arith, within (c .before))
 
 returns : tie.Need-returns
 returns c =
-    let a = c .before .before .before .before .before .before in
+    let a = start (c .before .before .before) in
     let i = a .pre .chained .indexed in
     λ L last k.
     let share = c .before .before .relevant-children .ensures L last k in

@@ -5,33 +5,42 @@ use Rattle.relevance.proofs.Descent.{found-literal, found-before, found
 use Rattle.relevance.proofs.subtree.relevant_subtree.Statement.{statement}
 use Rattle.relevance.proofs.subtree.relevant_subtree.Tie as tie
 
+-- places in the code, each from a later one
+abbrev start : tie.After-shared-slice-known3 → tie.Start
+start c = c .before .before .before
+
+abbrev found : tie.Else1 → tie.After-ancestor
+found c = c .before .before
+
 ancestor-requires : tie.Need-ancestor-requires
 ancestor-requires c κs =
-    let a = c .before .before .before in
+    let a = start c in
     record { indexed = a .pre .indexed; chosen = a .pre .chosen; bounds = a .pre .chain .bounds }
 
 returns : tie.Need-returns
 returns c =
-    let a = c .before .before .before .before .before .before in
+    let a = start (c .before .before .before) in
     λ L k. found-literal L (a .args .b .now) (a .pre .indexed .readable) (a .args .range) (k .bounds)
     (c .before .before .ancestor .ensures L (k .bounds)) (c .if1 .taken)
 
-before : (c : tie.Else1) → c .before .before .ancestor .result < c .before .before .before .before .before .before .args .range .first
+before : (c : tie.Else1) → found c .ancestor .result < start (found c .before) .args .range .first
 before c =
-    let a = c .before .before .before .before .before .before in
+    let a = start (found c .before) in
     let k = a .pre .chain .bounds in
     found-before (a .pre .chosen) (a .args .b .now) (a .pre .indexed .readable) (a .args .range) k
-    (c .before .before .ancestor .ensures (a .pre .chosen) k) (c .if1 .left)
+    (found c .ancestor .ensures (a .pre .chosen) k) (c .if1 .left)
 
 operator-part-requires : tie.Need-operator-part-requires
-operator-part-requires c κs = record { last = c .before .before .before .before .before .before .args .range .last; chained = c .before .before .before .before .before .before .pre; before = before c }
+operator-part-requires c κs =
+    let a = start (found c .before) in
+    record { last = a .args .range .last; chained = a .pre; before = before c }
 
 returns-2 : tie.Need-returns-2
 returns-2 c =
-    let a = c .before .before .before .before .before .before .before in
+    let a = start (found (c .before) .before) in
     λ L k. c .operator-part .ensures L (a .args .range .last) k ∙
     found-operator L (a .args .b .now) (a .pre .indexed .readable) (a .args .range) (k .bounds)
-    (c .before .before .before .ancestor .ensures L (k .bounds)) (c .before .if1 .left)
+    (found (c .before) .ancestor .ensures L (k .bounds)) (c .before .if1 .left)
 
 pub relevant-subtree-spec : {M : Type 1} → statement M
 relevant-subtree-spec = tie.close (tie.spec ancestor-requires returns operator-part-requires returns-2)
