@@ -138,6 +138,12 @@ module _ (x : ℕ) (f : Formula) where
     pub of-own : (v : ℕ) → v ≤ 1024 → touches t x v ≡ true → holds found v ≡ true
     pub of-members : (y v : ℕ) → holds set y ≡ true → v ≤ 1024 → touches t y v ≡ true → holds found v ≡ true
 
+  -- a loop that grows it, with `y` the next member to take
+  pub record Closing (bs found set : List ℕ) (y : ℕ) : Type 0 where
+    pub block-is : IsBlock x f bs
+    pub growing : Growing found set
+    pub next-is : IsNext bs found set y
+
   pub grow-start : {none found set : List ℕ} → has (of x) t ≡ true → none ≡ replicate 17 0 → set ≡ replicate 17 0
       → Marked (λ v. within (of x) (of v) t) none found → Growing found set
   grow-start {none} {found} {set} h empty zeros m =
@@ -159,15 +165,15 @@ module _ (x : ℕ) (f : Formula) where
     pub member : depends x f y ≡ true
     pub new : holds set y ≡ false
 
-  pub take-left : {bs found set : List ℕ} {y : ℕ} → IsBlock x f bs → Growing found set → IsNext bs found set y → y < 1025 → Taken set y
-  take-left {bs} {found} {set} {y} is-block g l h =
-      let both = and-parts (holds bs y && holds found y) (not (holds set y)) (l .is-left h) in
+  pub take-left : {bs found set : List ℕ} {y : ℕ} → Closing bs found set y → y < 1025 → Taken set y
+  take-left {bs} {found} {set} {y} all h =
+      let both = and-parts (holds bs y && holds found y) (not (holds set y)) (all .next-is .is-left h) in
       let parts = and-parts (holds bs y) (holds found y) (both .0) in
-      let bound : binds p y ≡ true = sym (is-block .is y) ∙ parts .0 in
+      let bound : binds p y ≡ true = sym (all .block-is .is y) ∙ parts .0 in
       record {
         near = omega arith;
         occurs = block-has x f y bound;
-        member = g .reached y (omega arith) bound (parts .1);
+        member = all .growing .reached y (omega arith) bound (parts .1);
         new = flipped (holds set y) (both .1);
       }
     where
@@ -206,14 +212,14 @@ module _ (x : ℕ) (f : Formula) where
       omega (arith, more, most, l, g .words)
 
   -- in the end, what is found of the block
-  pub grow-done : {bs found set last : List ℕ} {y : ℕ} → IsBlock x f bs → Growing found set → IsNext bs found set y → 1025 ≤ y
+  pub grow-done : {bs found set last : List ℕ} {y : ℕ} → Closing bs found set y → 1025 ≤ y
       → length last ≡ length set → ((v : ℕ) → holds last v ≡ (holds bs v && holds found v)) → Dependents x f last
-  grow-done {bs} {found} {set} {last} {y} is-block g l h size both =
+  grow-done {bs} {found} {set} {last} {y} all h size both =
       record {
-        words = size ∙ g .words;
-        few = λ v e. is-block .few v (parts v e .0);
-        is = is-closed (holds last) (λ v e. g .reached v (is-block .few v (parts v e .0)) (sym (is-block .is v) ∙ parts v e .0) (parts v e .1))
-            (λ v b e. in-it v b (λ k. g .of-own v k e)) (λ w v e b q. in-it v b (λ k. by-member w v e k b q));
+        words = size ∙ all .growing .words;
+        few = λ v e. all .block-is .few v (parts v e .0);
+        is = is-closed (holds last) (λ v e. all .growing .reached v (all .block-is .few v (parts v e .0)) (sym (all .block-is .is v) ∙ parts v e .0) (parts v e .1))
+            (λ v b e. in-it v b (λ k. all .growing .of-own v k e)) (λ w v e b q. in-it v b (λ k. by-member w v e k b q));
       }
     where
       parts : (v : ℕ) → holds last v ≡ true → (holds bs v ≡ true) × (holds found v ≡ true)
@@ -221,8 +227,8 @@ module _ (x : ℕ) (f : Formula) where
 
       in-it : (v : ℕ) → binds p v ≡ true → (v ≤ 1024 → holds found v ≡ true) → holds last v ≡ true
       in-it v b reach =
-          let own : holds bs v ≡ true = is-block .is v ∙ b in
-          both v ∙ ap₂ _&&_ own (reach (is-block .few v own))
+          let own : holds bs v ≡ true = all .block-is .is v ∙ b in
+          both v ∙ ap₂ _&&_ own (reach (all .block-is .few v own))
 
       one : (m : Bool) → not m ≡ false → m ≡ true
       one true e = refl
@@ -235,9 +241,9 @@ module _ (x : ℕ) (f : Formula) where
       by-member : (w v : ℕ) → holds last w ≡ true → v ≤ 1024 → binds p v ≡ true → touches t w v ≡ true → holds found v ≡ true
       by-member w v e k b q =
           ⊎-elim
-          (λ none. g .of-members w v
-          (in-third bs found set w (parts w e .0) (parts w e .1) (none w (is-block .few w (parts w e .0)))) k q)
-          (λ none. in-third bs bs found v (is-block .is v ∙ b) (is-block .is v ∙ b) (none v k)) (l .is-last h)
+          (λ none. all .growing .of-members w v
+          (in-third bs found set w (parts w e .0) (parts w e .1) (none w (all .block-is .few w (parts w e .0)))) k q)
+          (λ none. in-third bs bs found v (all .block-is .is v ∙ b) (all .block-is .is v ∙ b) (none v k)) (all .next-is .is-last h)
 
   -- without a literal of x nothing depends on it
   no-stage : has (of x) t ≡ false → (n v : ℕ) → stage t p x n v ≡ false

@@ -5,6 +5,13 @@ use Rattle.dependence.proofs.Blocks.{with-row, without-row}
 use Rattle.dependence.proofs.block.add_row.Statement.{statement}
 use Rattle.dependence.proofs.block.add_row.Tie as tie
 
+-- places in the code, each from a later one
+abbrev start : tie.After-slice-known → tie.Start
+start c = c .before .before .before
+
+abbrev bound : tie.After-bound-at → tie.Then1
+bound c = c .before .before
+
 is-row-requires : tie.Need-is-row-requires
 is-row-requires c κs = search needs
 
@@ -13,7 +20,7 @@ bound-at-requires c κs = search needs
 
 add-requires : tie.Need-add-requires
 add-requires c κs =
-    let a = c .before .before .before .before .before .before .before in
+    let a = start (bound c .before .before) in
     omega (arith, c .bound-at .ensures .0, a .pre .1 (a .args .j) (a .pre .3), a .pre .4)
 
 same-length : tie.Need-same-length
@@ -21,13 +28,15 @@ same-length c = search needs
 
 returns : tie.Need-returns
 returns c =
-    let a = c .before .before .before .before .before .before .before .before .before .before .args in
-    with-row (a .s) (a .b .now) (a .j) (c .before .before .before .before .before .before .is-row .ensures) (c .before .before .before .before .before .if1 .taken) (c .before .before .before .bound-at .ensures .0) (c .before .before .add .ensures .0)
-    (c .before .before .add .ensures .1)
+    let added = c .before .before in
+    let here = bound (added .before) in
+    let a = start (here .before .before) .args in
+    with-row (a .s) (a .b .now) (a .j) (here .before .is-row .ensures) (here .if1 .taken) (added .before .bound-at .ensures .0)
+    (added .add .ensures .0) (added .add .ensures .1)
 
 returns-2 : tie.Need-returns-2
 returns-2 c =
-    let a = c .before .before .before .before .before .args in
+    let a = start (c .before .before) .args in
     without-row (a .s) (a .b .now) (a .j) (c .before .is-row .ensures) (c .if1 .left)
 
 pub add-row-spec : {M : Type 1} → statement M

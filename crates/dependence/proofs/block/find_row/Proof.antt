@@ -11,15 +11,19 @@ Inv-loop b s ranges exists from v j₀ j = Finding s b exists from j
 abbrev μ-loop : tie.MeasureT-loop
 μ-loop b s ranges exists from v j₀ j = v - j
 
+-- places in the code, each from a later one
+abbrev start : tie.At-loop Inv-loop μ-loop → tie.Start Inv-loop μ-loop
+start c = c .before .before .before
+
 loop-holds : tie.Need-loop-holds Inv-loop μ-loop
 loop-holds c = let a = c .before .before in find-start (a .args .s) (a .args .b .now) (a .args .exists) (a .args .from) (a .pre .3)
 
 is-row-requires : tie.Need-is-row-requires Inv-loop μ-loop
-is-row-requires c κs = let a = c .before .before .before .before in (a .pre .0, a .pre .1, a .pre .2, c .loop-test .taken)
+is-row-requires c κs = let a = start (c .before) in (a .pre .0, a .pre .1, a .pre .2, c .loop-test .taken)
 
 returns : tie.Need-returns Inv-loop μ-loop
 returns c =
-    let a = c .before .before .before .before .before .before in
+    let a = start (c .before .before .before) in
     find-found (a .args .b .now) (a .pre .0) (c .before .before .before .loop .inv) (c .before .before .loop-test .taken) (c .before .is-row .ensures) (c .if1 .taken)
 
 add-j : tie.Need-add-j Inv-loop μ-loop
@@ -30,11 +34,11 @@ loop-less c = omega arith
 
 loop-again : tie.Need-loop-again Inv-loop μ-loop
 loop-again c =
-    let a = c .before .before .before .before .before .before in
+    let a = start (c .before .before .before) in
     find-on (a .args .b .now) (a .pre .0) (c .before .before .before .loop .inv) (c .before .before .loop-test .taken) (c .before .is-row .ensures) (c .if1 .left) (omega arith)
 
 returns-2 : tie.Need-returns-2 Inv-loop μ-loop
-returns-2 c = let a = c .before .before .before .before in find-none (a .args .b .now) (a .pre .0) (c .before .loop .inv) (c .loop-test .left)
+returns-2 c = let a = start (c .before) in find-none (a .args .b .now) (a .pre .0) (c .before .loop .inv) (c .loop-test .left)
 
 pub find-row-spec : {M : Type 1} → statement M
 find-row-spec =

@@ -6,12 +6,22 @@ use Rattle.dependence.proofs.Blocks.{out-existential, out-none, out-som
 use Rattle.dependence.proofs.block.one_block_out.Statement.{statement}
 use Rattle.dependence.proofs.block.one_block_out.Tie as tie
 
+-- places in the code, each from a later one
+abbrev start : tie.After-s → tie.Start
+start c = c .before .before .before
+
+abbrev asked : tie.After-find-row → tie.After-is-existential
+asked c = c .before .before
+
+abbrev first : tie.After-find-row2 → tie.After-find-row
+first c = c .before .before .before
+
 is-existential-requires : tie.Need-is-existential-requires
 is-existential-requires c κs = search needs
 
 returns : tie.Need-returns
 returns c =
-    let a = c .before .before .before .before .before in
+    let a = start (c .before .before) in
     out-existential (a .args .b .now) (a .pre .0) (a .pre .2) (c .before .is-existential .ensures) (c .if1 .taken)
 
 add-find-row : tie.Need-add-find-row
@@ -22,9 +32,10 @@ find-row-requires c κs = search needs
 
 returns-2 : tie.Need-returns-2
 returns-2 c =
-    let a = c .before .before .before .before .before .before .before .before in
-    out-none (a .args .b .now) (a .pre .0) (a .pre .2) (c .before .before .before .before .is-existential .ensures) (c .before .before .before .if1 .left) (omega arith)
-    (c .before .before .find-row .ensures) (c .if2 .taken)
+    let found = c .before .before in
+    let a = start (asked found .before) in
+    out-none (a .args .b .now) (a .pre .0) (a .pre .2) (asked found .is-existential .ensures) (found .before .if1 .left) (omega arith)
+    (found .find-row .ensures) (c .if2 .taken)
 
 add-find-row-2 : tie.Need-add-find-row-2
 add-find-row-2 c = search needs
@@ -34,9 +45,10 @@ find-row-requires-2 c κs = search needs
 
 returns-3 : tie.Need-returns-3
 returns-3 c =
-    let a = c .before .before .before .before .before .before .before .before .before .before in
-    out-some (a .args .b .now) (a .pre .0) (a .pre .2) (c .before .before .before .before .before .before .is-existential .ensures) (c .before .before .before .before .before .if1 .left) (omega arith)
-    (c .before .before .before .before .find-row .ensures) (c .before .before .if2 .left) (omega arith) (c .before .find-row2 .ensures)
+    let found = first (c .before) in
+    let a = start (asked found .before) in
+    out-some (a .args .b .now) (a .pre .0) (a .pre .2) (asked found .is-existential .ensures) (found .before .if1 .left) (omega arith)
+    (found .find-row .ensures) (c .before .before .if2 .left) (omega arith) (c .before .find-row2 .ensures)
 
 pub one-block-out-spec : {M : Type 1} → statement M
 one-block-out-spec =

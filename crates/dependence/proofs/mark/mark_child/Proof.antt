@@ -4,6 +4,13 @@ use Rattle.dependence.proofs.Marks.{child-marked, child-unmarked}
 use Rattle.dependence.proofs.mark.mark_child.Statement.{statement}
 use Rattle.dependence.proofs.mark.mark_child.Tie as tie
 
+-- places in the code, each from a later one
+abbrev start : tie.Then1 → tie.Start
+start c = c .before .before .before
+
+abbrev there : tie.After-mark-rows → tie.Then1
+there c = c .before .before
+
 mark-rows-requires : tie.Need-mark-rows-requires
 mark-rows-requires c κs = search needs
 
@@ -12,8 +19,9 @@ same-length c = search needs
 
 returns : tie.Need-returns
 returns c =
-    let a = c .before .before .before .before .before .before .before .args in
-    child-marked (a .s) (a .b .now) (a .at) (a .end) (a .row) (c .before .before .before .before .if1 .taken) (c .before .before .mark-rows .ensures)
+    let marked = c .before .before in
+    let a = start (there marked) .args in
+    child-marked (a .s) (a .b .now) (a .at) (a .end) (a .row) (there marked .if1 .taken) (marked .mark-rows .ensures)
 
 returns-2 : tie.Need-returns-2
 returns-2 c =

@@ -14,12 +14,28 @@ use Rattle.dependence.proofs.Within.{within-literal, within-operator}
 use Rattle.dependence.proofs.mark.mark_part.Statement.{statement}
 use Rattle.dependence.proofs.mark.mark_part.Tie as tie
 
+-- places in the code, each from a later one
+abbrev known : tie.After-slice-known → tie.After-shared-slice-known
+known c = c .before .before .before
+
+abbrev start : tie.After-relevant-subtree → tie.Start
+start c = known (c .before) .before
+
+abbrev found : tie.After-struct-known2 → tie.After-relevant-subtree
+found c = c .before .before
+
+abbrev literal : tie.After-mark-row → tie.Then1
+literal c = c .before .before
+
+abbrev operator : tie.After-mark-children → tie.Else1
+operator c = c .before .before
+
 relevant-subtree-requires : tie.Need-relevant-subtree-requires
 relevant-subtree-requires c κs = search needs
 
 -- the operator that is found
 at : (c : tie.After-relevant-subtree) →
-    let a = c .before .before .before .before .before .args in
+    let a = start c .args in
     (L : Literals) → Chain L (a .s) (a .b .now) (a .next .now) (a .range .first) (a .range .last)
     → c .relevant-subtree .result .operator ≡ (relevant-subtree L 0 (matrix-in (a .s) (a .b .now))) .operator
 at c L k = ap (λ (p : Relevant). p .operator) (c .relevant-subtree .ensures L k)
@@ -32,22 +48,24 @@ same-length c = search needs
 
 returns : tie.Need-returns
 returns c =
-    let a = c .before .before .before .before .before .before .before .before .before .before .before .before in
+    let here = literal (c .before .before) in
+    let there = found (here .before) in
+    let a = start there in
     λ L k.
     marked-as (c .before .before .mark-row .ensures)
     (λ v h. sym
-    (within-literal L (of v) (a .args .b .now) (a .pre .0 .indexed .readable) (a .args .range) (k .bounds) (at (c .before .before .before .before .before .before .before) L k) (c .before .before .before .before .if1 .taken)))
+    (within-literal L (of v) (a .args .b .now) (a .pre .0 .indexed .readable) (a .args .range) (k .bounds) (at there L k) (here .if1 .taken)))
 
-before : (c : tie.Else1) → c .before .before .before .relevant-subtree .result .operator < c .before .before .before .before .before .before .before .before .args .range .first
+before : (c : tie.Else1) → found (c .before) .relevant-subtree .result .operator < start (found (c .before)) .args .range .first
 before c =
-    let a = c .before .before .before .before .before .before .before .before in
+    let a = start (found (c .before)) in
     let k = a .pre .0 .chain in
-    found-before (a .pre .0 .chosen) (a .args .b .now) (a .pre .0 .indexed .readable) (a .args .range) (k .bounds) (at (c .before .before .before) (a .pre .0 .chosen) k)
+    found-before (a .pre .0 .chosen) (a .args .b .now) (a .pre .0 .indexed .readable) (a .args .range) (k .bounds) (at (found (c .before)) (a .pre .0 .chosen) k)
     (c .if1 .left)
 
 mark-children-requires : tie.Need-mark-children-requires
 mark-children-requires c κs =
-    let a = c .before .before .before .before .before .before .before .before .before in
+    let a = start (found (c .before .before)) in
     (record { last = a .args .range .last; chained = a .pre .0; before = before (c .before) }, a .pre .1)
 
 same-length-2 : tie.Need-same-length-2
@@ -55,11 +73,13 @@ same-length-2 c = search needs
 
 returns-2 : tie.Need-returns-2
 returns-2 c =
-    let a = c .before .before .before .before .before .before .before .before .before .before .before .before in
+    let here = operator (c .before .before) in
+    let there = found (here .before) in
+    let a = start there in
     λ L k.
     marked-as (c .before .before .mark-children .ensures L (a .args .range .last) k)
     (λ v h. sym
-    (within-operator L (of v) (a .args .b .now) (a .pre .0 .indexed .readable) (a .args .range) (k .bounds) (at (c .before .before .before .before .before .before .before) L k) (c .before .before .before .before .if1 .left)))
+    (within-operator L (of v) (a .args .b .now) (a .pre .0 .indexed .readable) (a .args .range) (k .bounds) (at there L k) (here .if1 .left)))
 
 pub mark-part-spec : {M : Type 1} → statement M
 mark-part-spec =

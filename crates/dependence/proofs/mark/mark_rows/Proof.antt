@@ -13,6 +13,10 @@ Inv-loop b s from to set₀ i₀ set i = (from ≤ i) × (i ≤ to) × Marked (�
 abbrev μ-loop : tie.MeasureT-loop
 μ-loop b s from to set₀ i₀ set i = to - i
 
+-- places in the code, each from a later one
+abbrev turn : tie.After-mark-row Inv-loop μ-loop → tie.In-loop Inv-loop μ-loop
+turn c = c .before .before
+
 loop-holds : tie.Need-loop-holds Inv-loop μ-loop
 loop-holds c =
     let a = c .before .before in
@@ -32,7 +36,7 @@ loop-less c = omega arith
 
 loop-again : tie.Need-loop-again Inv-loop μ-loop
 loop-again c =
-    let head = c .before .before .before .before .before in
+    let head = turn (c .before .before) .before in
     let a = head .before .before .before .args in (
       omega arith,
       omega arith,
