@@ -78,6 +78,12 @@ module _ {s : Layout} (b : Bytes) (ends hashes : List ℕ) (e : Indexed s b ends
 
 -- the table
 
+-- a loop that fills it, from the last row down to row i
+pub record Filling (s : Layout) (b : Bytes) (before now : List ℕ) (i : ℕ) : Type 0 where
+  pub hashed : Hashed s b now i
+  pub within : i ≤ s .nodes
+  pub same-length : length now ≡ length before
+
 module _ {s : Layout} {b : Bytes} where
   pub hashed-none : {hashes : List ℕ} → s .nodes ≤ length hashes → Hashed s b hashes (s .nodes)
   hashed-none h = record { room = h; filled = λ i l u. absurd (omega arith) }

@@ -18,43 +18,56 @@ Inv-loop b s heads links members n m link₀ link = Passed members n (bucket m) 
 abbrev μ-loop : tie.MeasureT-loop
 μ-loop b s heads links members n m link₀ link = entry-of link
 
+-- places in the code, each from a later one
+abbrev known : tie.After-shared-slice-known4 Inv-loop μ-loop → tie.After-shared-slice-known Inv-loop μ-loop
+known c = c .before .before .before
+
+abbrev start : tie.After-shared-slice-known4 Inv-loop μ-loop → tie.Start Inv-loop μ-loop
+start c = known c .before
+
+abbrev met : tie.At-loop Inv-loop μ-loop → tie.After-member Inv-loop μ-loop
+met c = c .before .before .before
+
+abbrev entry : tie.At-loop Inv-loop μ-loop → tie.Start Inv-loop μ-loop
+entry c = start (met c .before)
+
+abbrev at-loop : tie.After-link Inv-loop μ-loop → tie.At-loop Inv-loop μ-loop
+at-loop c = c .before .before
+
+abbrev linked : tie.After-members-clash Inv-loop μ-loop → tie.After-link Inv-loop μ-loop
+linked c = c .before .before .before
+
 member-requires : tie.Need-member-requires Inv-loop μ-loop
-member-requires c κs = omega (arith, c .before .before .before .before .pre .2 .members-fit)
+member-requires c κs = omega (arith, start c .pre .2 .members-fit)
 
 bucket-of-requires : tie.Need-bucket-of-requires Inv-loop μ-loop
 bucket-of-requires c κs = tt
 
 first-requires : tie.Need-first-requires Inv-loop μ-loop
 first-requires c κs =
-    let a = c .before .before .before .before .before .before in
+    let a = start (c .before .before) in
     let k = c .bucket-of .ensures in
     (omega (arith, k .1, a .pre .2 .all-heads), omega (arith, a .pre .2 .members-fit), a .pre .3 .heads (c .bucket-of .result) (k .1))
 
 loop-holds : tie.Need-loop-holds Inv-loop μ-loop
 loop-holds c =
-    let a = c .before .before .before .before .before .before .before .args in
+    let a = start (c .before .before .before) .args in
     passed-none (c .first .ensures ∙ ap (λ k. last (a .members .now) k (a .n)) (c .before .bucket-of .ensures .0))
 
 enum-known-link : tie.Need-enum-known-link Inv-loop μ-loop
 enum-known-link c = search needs
 
-abbrev start : tie.At-loop Inv-loop μ-loop → tie.Start Inv-loop μ-loop
-start l = l .before .before .before .before .before .before .before .before
-
-abbrev at-loop : tie.After-link Inv-loop μ-loop → tie.At-loop Inv-loop μ-loop
-at-loop c = c .before .before
-
 -- the member that the walk has come to is there
-within : (c : tie.After-link Inv-loop μ-loop) → c .link .given .0 .0 < start (at-loop c) .args .n
+within : (c : tie.After-link Inv-loop μ-loop) → c .link .given .0 .0 < entry (at-loop c) .args .n
 within c = omega (arith, at-loop c .loop .inv .within, ap entry-of (c .link .given .1))
 
 member-requires-2 : tie.Need-member-requires-2 Inv-loop μ-loop
-member-requires-2 c κs = omega (arith, within (c .before), start (at-loop (c .before)) .pre .2 .members-fit)
+member-requires-2 c κs = omega (arith, within (c .before), entry (at-loop (c .before)) .pre .2 .members-fit)
 
 members-clash-requires : tie.Need-members-clash-requires Inv-loop μ-loop
 members-clash-requires c κs =
     let here = c .before .before in
-    let a = start (at-loop here) in
+    let a = entry (at-loop here) in
     let is-member = Member (a .args .s) (a .args .b .now) in (
       a .pre .0,
       subst is-member (sym (c .member2 .ensures .0)) (a .pre .1 (here .link .given .0 .0) (omega (arith, within here))),
@@ -63,8 +76,8 @@ members-clash-requires c κs =
 
 returns : tie.Need-returns Inv-loop μ-loop
 returns c =
-    let here = c .before .before .before .before in
-    let a = start (at-loop here) .args in
+    let here = linked (c .before) in
+    let a = entry (at-loop here) .args in
     sym
     (member-yes (clashes-with (a .s) (a .b .now) (getD (a .members .now) (a .n) 0)) (a .members .now) (a .n) (here .link .given .0 .0)
     (within here)
@@ -74,20 +87,20 @@ returns c =
 
 behind-requires : tie.Need-behind-requires Inv-loop μ-loop
 behind-requires c κs =
-    let here = c .before .before .before .before in
-    omega (arith, within here, start (at-loop here) .pre .2 .links-fit)
+    let here = linked (c .before) in
+    omega (arith, within here, entry (at-loop here) .pre .2 .links-fit)
 
 loop-less : tie.Need-loop-less Inv-loop μ-loop
 loop-less c =
-    let here = c .before .before .before .before .before in
+    let here = linked (c .before .before) in
     let l = at-loop here in
-    link-down (start l .pre .3) (l .loop .inv .within) (here .link .given .1) (c .behind .result) (c .behind .ensures)
+    link-down (entry l .pre .3) (l .loop .inv .within) (here .link .given .1) (c .behind .result) (c .behind .ensures)
 
 loop-again : tie.Need-loop-again Inv-loop μ-loop
 loop-again c =
-    let here = c .before .before .before .before .before in
+    let here = linked (c .before .before) in
     let l = at-loop here in
-    let a = start l in
+    let a = entry l in
     let found = c .before .before .members-clash .ensures in
     passed-more (a .pre .3) (l .loop .inv .within) (here .link .given .1) (c .behind .result) (c .behind .ensures) (l .loop .inv)
     (λ e.
@@ -101,7 +114,7 @@ enum-told c = search needs
 returns-2 : tie.Need-returns-2 Inv-loop μ-loop
 returns-2 c =
     let l = c .before .before in
-    let a = start l in
+    let a = entry l in
     let m = l .before .before .before .member in
     sym
     (ap (λ w. some-member (clashes-with (a .args .s) (a .args .b .now) w) (a .args .members .now) (a .args .n)) (sym (m .ensures .0)) ∙

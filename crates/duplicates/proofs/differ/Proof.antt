@@ -6,6 +6,10 @@ use Rattle.duplicates.proofs.Comparing.{tops-kind, tops-argument}
 use Rattle.duplicates.proofs.differ.Statement.{statement}
 use Rattle.duplicates.proofs.differ.Tie as tie
 
+-- places in the code, each from a later one
+abbrev kinds : tie.After-argument-at → tie.After-kind-at2
+kinds c = c .before .before
+
 kind-at-requires : tie.Need-kind-at-requires
 kind-at-requires c κs = search needs
 
@@ -26,7 +30,7 @@ argument-at-requires-2 c κs = search needs
 
 returns-2 : tie.Need-returns-2
 returns-2 c =
-    let k = c .before .before .before .before .kind-at .ensures in
+    let k = kinds (c .before) .before .kind-at .ensures in
     let k′ = c .before .before .before .kind-at2 .ensures in
     sym (ap not (tops-argument _ _ (sym k ∙ c .before .before .if1 .left ∙ k′) (c .before .argument-at .ensures .0) (c .argument-at2 .ensures .0)))
 

@@ -12,6 +12,10 @@ use Rattle.duplicates.proofs.Members.{clash-literal, clash-operator, ha
 use Rattle.duplicates.proofs.members_clash.Statement.{statement}
 use Rattle.duplicates.proofs.members_clash.Tie as tie
 
+-- places in the code, each from a later one
+abbrev other : tie.After-hash-of2 → tie.Else1
+other c = c .before .before
+
 row-of-requires : tie.Need-row-of-requires
 row-of-requires c κs = search needs
 
@@ -65,7 +69,7 @@ same-at-requires c κs = search needs
 
 returns-3 : tie.Need-returns-3
 returns-3 c =
-    let test = c .before .before .before .before in
+    let test = other (c .before .before) in
     let k = test .before in
     c .same-at .ensures ∙ trees (k .before) same-tree ∙ sym (clash-operator _ (omega (arith, kind-is k, test .if1 .left)) _)
 

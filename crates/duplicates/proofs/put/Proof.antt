@@ -8,6 +8,10 @@ use Rattle.duplicates.proofs.Gathering.{gather-more, member-tree, is-me
 use Rattle.duplicates.proofs.put.Statement.{statement}
 use Rattle.duplicates.proofs.put.Tie as tie
 
+-- places in the code, each from a later one
+abbrev start : tie.After-slice-known → tie.Start
+start c = c .before .before .before
+
 mul-small : tie.Need-mul-small
 mul-small c = search needs
 
@@ -38,7 +42,7 @@ same-length c = search needs
 returns : tie.Need-returns
 returns c ts g =
     let read = c .before in
-    let a = read .before .before .before .before .before in
+    let a = start (read .before .before) in
     let is = read .small .ensures .0 ∙ a .pre .2 .filled (a .args .at) (le-refl _) (a .pre .1) in
     gather-more g (subtree-in (a .args .s) (a .args .b .now) (a .args .at)) (a .pre .3)
     (is-member (a .args .s) (a .args .b .now) (a .args .at) (a .pre .1) is (c .member-of .ensures .0))

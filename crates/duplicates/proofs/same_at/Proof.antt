@@ -15,6 +15,13 @@ Inv-loop b s i j at₀ other₀ left₀ at other left = Comparing s b (same-tree
 abbrev μ-loop : tie.MeasureT-loop
 μ-loop b s i j at₀ other₀ left₀ at other left = s .nodes - at
 
+-- places in the code, each from a later one
+abbrev start : tie.At-loop Inv-loop μ-loop → tie.Start Inv-loop μ-loop
+start c = c .before .before
+
+abbrev at-loop : tie.After-differ Inv-loop μ-loop → tie.At-loop Inv-loop μ-loop
+at-loop c = c .before .before
+
 loop-holds : tie.Need-loop-holds Inv-loop μ-loop
 loop-holds c = let a = c .before in compare-start (a .args .b .now) (a .pre .0) (a .pre .1) (a .pre .2)
 
@@ -42,26 +49,26 @@ sub-left : tie.Need-sub-left Inv-loop μ-loop
 sub-left c = omega arith
 
 children-at-requires : tie.Need-children-at-requires Inv-loop μ-loop
-children-at-requires c κs = (c .before .before .before .before .before .pre .0, at-row (c .before .before) .0)
+children-at-requires c κs = (start (at-loop (c .before)) .pre .0, at-row (c .before .before) .0)
 
 add-left : tie.Need-add-left Inv-loop μ-loop
 add-left c =
-    let head = c .before .before .before .before in
-    let a = head .before .before in
+    let head = at-loop (c .before .before) in
+    let a = start head in
     omega (arith, few-left (a .args .b .now) (a .pre .0) (head .loop .at) (head .loop .inv .few), a .pre .0 .few-nodes, c .children-at .ensures .1)
 
 add-at : tie.Need-add-at Inv-loop μ-loop
-add-at c = omega (arith, at-row (c .before .before .before) .0, c .before .before .before .before .before .before .pre .0 .few-nodes)
+add-at c = omega (arith, at-row (c .before .before .before) .0, start (at-loop (c .before .before)) .pre .0 .few-nodes)
 
 add-other : tie.Need-add-other Inv-loop μ-loop
-add-other c = omega (arith, at-row (c .before .before .before) .1, c .before .before .before .before .before .before .pre .0 .few-nodes)
+add-other c = omega (arith, at-row (c .before .before .before) .1, start (at-loop (c .before .before)) .pre .0 .few-nodes)
 
 loop-less : tie.Need-loop-less Inv-loop μ-loop
 loop-less c = omega (arith, at-row (c .before .before .before) .0)
 
 loop-again : tie.Need-loop-again Inv-loop μ-loop
 loop-again c =
-    let head = c .before .before .before .before in
+    let head = at-loop (c .before .before) in
     let a = head .before .before in
     compare-on (a .args .b .now) (a .pre .0) (c .before .before .before .loop-test .taken) (head .loop .inv)
     (not-false _ (sym (c .before .before .differ .ensures) ∙ c .before .if1 .left)) (omega arith) (omega arith)

@@ -6,6 +6,10 @@ use Rattle.duplicates.proofs.Members.{no-variable, by-variable}
 use Rattle.duplicates.proofs.same_variable.Statement.{statement}
 use Rattle.duplicates.proofs.same_variable.Tie as tie
 
+-- places in the code, each from a later one
+abbrev start : tie.After-kind-at → tie.Start
+start c = c .before .before
+
 kind-at-requires : tie.Need-kind-at-requires
 kind-at-requires c κs = search needs
 
@@ -23,7 +27,7 @@ argument-at-requires-2 c κs = search needs
 returns-2 : tie.Need-returns-2
 returns-2 c =
     let k = c .before .before .before .kind-at .ensures in
-    let a = c .before .before .before .before .before in
+    let a = start (c .before .before .before) in
     by-variable _ _ (a .pre .3) (omega arith) (c .before .argument-at .ensures .0) (c .argument-at2 .ensures .0)
 
 pub same-variable-spec : {M : Type 1} → statement M

@@ -11,6 +11,13 @@ use Rattle.duplicates.proofs.Mixing.{kind-least, hash-literal, hash-ope
 use Rattle.duplicates.proofs.hashes.hash_at.Statement.{statement}
 use Rattle.duplicates.proofs.hashes.hash_at.Tie as tie
 
+-- places in the code, each from a later one
+abbrev entry : tie.After-shared-slice-known3 → tie.Start
+entry c = c .before .before .before
+
+abbrev read : tie.After-argument-at → tie.After-shared-slice-known3
+read c = c .before .before
+
 kind-at-requires : tie.Need-kind-at-requires
 kind-at-requires c κs = search needs
 
@@ -22,7 +29,7 @@ cast-literal-hash c = search needs
 
 literal-hash-requires : tie.Need-literal-hash-requires
 literal-hash-requires c κs =
-    let a = c .before .before .before .before .before .before .args in
+    let a = entry (read (c .before)) .args in
     let k = c .before .before .kind-at .ensures in
     (omega (arith, kind-least (subtree-in (a .s) (a .b .now) (a .i)) k), c .before .argument-at .ensures .1)
 
@@ -39,20 +46,20 @@ cast-mix-siblings c = search needs
 
 -- the children stand from the next row on, and are mixed in as the definition says
 children : (c : tie.Else1) →
-    let a = c .before .before .before .before .before .before .args in
+    let a = entry (read (c .before)) .args in
     Children (a .s) (a .b .now) (a .i) (a .i + 1) (c .before .argument-at .result)
 children c =
-    let a = c .before .before .before .before .before .before in
+    let a = entry (read (c .before)) in
     let k = c .before .before .kind-at .ensures in
     children-of (a .args .b .now) (a .pre .0 .readable) (a .args .i) (a .pre .1) (omega arith) (omega arith) (c .before .argument-at .ensures .0)
 
 mixed-in : (c : tie.Else1) (start : ℕ) →
-    let a = c .before .before .before .before .before .before .args in
+    let a = entry (read (c .before)) .args in
     let k = c .before .argument-at .result in
     Mixes (a .ends .now) (a .hashes .now) (a .i + 1) k ×
     (mixes (a .ends .now) (a .hashes .now) (a .i + 1) k start ≡ hash-on start (siblings-in (a .s) (a .b .now) (a .i + 1) k))
 mixed-in c start =
-    let a = c .before .before .before .before .before .before in
+    let a = entry (read (c .before)) in
     mixes-siblings (a .args .b .now) (a .args .ends .now) (a .args .hashes .now) (a .pre .0) (a .pre .2) (c .before .argument-at .result)
     (a .args .i + 1) start (omega arith) (children c .few)
 

@@ -14,16 +14,23 @@ Inv-loop ends hashes from count start at₀ left₀ h₀ at left h = Mixes ends 
 abbrev μ-loop : tie.MeasureT-loop
 μ-loop ends hashes from count start at₀ left₀ h₀ at left h = left
 
+-- places in the code, each from a later one
+abbrev start : tie.At-loop Inv-loop μ-loop → tie.Start Inv-loop μ-loop
+start c = c .before .before .before
+
+abbrev turn : tie.After-mixed Inv-loop μ-loop → tie.In-loop Inv-loop μ-loop
+turn c = c .before .before
+
 loop-holds : tie.Need-loop-holds Inv-loop μ-loop
 loop-holds c = (c .before .before .pre .0, refl, c .before .before .pre .1)
 
 -- the next sibling
 mixed-in : (c : tie.In-loop Inv-loop μ-loop) →
-    let a = c .before .before .before .before .args in
+    let a = start (c .before) .args in
     let l = c .before .loop in
     Mixed (a .ends .now) (a .hashes .now) (l .at) (l .left) (l .h) (getD (a .ends .now) (l .at) 0)
 mixed-in c =
-    let a = c .before .before .before .before .args in
+    let a = start (c .before) .args in
     mix-on (a .ends .now) (a .hashes .now) (c .before .loop .h) (c .loop-test .taken) (c .before .loop .inv .0)
 
 mul-mixed : tie.Need-mul-mixed Inv-loop μ-loop
@@ -45,7 +52,7 @@ shared-slice-read-at : tie.Need-shared-slice-read-at Inv-loop μ-loop
 shared-slice-read-at c = mixed-in (c .before .before .before) .in-ends
 
 cast-at : tie.Need-cast-at Inv-loop μ-loop
-cast-at c = omega (arith, c .shared-slice-known4 .given (c .before .before .before .before .loop .at))
+cast-at c = omega (arith, c .shared-slice-known4 .given (turn (c .before) .before .loop .at))
 
 sub-left : tie.Need-sub-left Inv-loop μ-loop
 sub-left c = omega arith
@@ -55,7 +62,7 @@ loop-less c = omega arith
 
 loop-again : tie.Need-loop-again Inv-loop μ-loop
 loop-again c =
-    let head = c .before .before .before .before in
+    let head = turn (c .before) .before in
     let a = head .before .before .before .args in
     let m = mixed-in (c .before .before .before) in
     let rest = mixes (a .ends .now) (a .hashes .now) (getD (a .ends .now) (head .loop .at) 0) (head .loop .left - 1) in
