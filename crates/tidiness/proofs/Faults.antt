@@ -6,7 +6,7 @@ use mathlib.Core.List.{List, [], _∷_, append-nil}
 use Prim.Native.Nat.{ℕ, zero, suc, _+_, _≤_, _<_}
 use native.Mathlib.Omega.{arith}
 use lib.Dec.{eqb}
-use lib.ListN.{drop}
+use lib.ListN.{length, drop}
 use lib.Seq.{drop-length}
 use borrow.Author.Tests.{ne-eqb}
 use Rattle.formula.proofs.Booleans.{or-none, or-later}
@@ -22,6 +22,7 @@ use Rattle.subtrees.specs.Subtrees.{top, kids, forest-in, subtree-in}
 use Rattle.subtrees.proofs.Forest.{rest, stepped-at, faults-⧺}
 use Rattle.subtrees.proofs.Matrix.{sound-nodes, trees-nodes}
 use Rattle.subtrees.proofs.Siblings.{below-row}
+use Rattle.buckets.specs.Chains.{BUCKETS}
 use Rattle.duplicates.specs.Members.{clash}
 use Rattle.tidiness.specs.Faults.{some-kind, at-fault, plain-fault}
 
@@ -129,6 +130,13 @@ pub record Searching (s : Layout) (b : Bytes) (i : ℕ) : Type 0 where
   pub within : i ≤ s .nodes
   pub first : first-fault (matrix-in s b) ≡ i + first-true (remaining s b i)
   pub some : any (root-faults (matrix-in s b)) ≡ any (remaining s b i)
+
+-- where the search's tables keep their lengths
+pub record Passing (s : Layout) (b : Bytes) (heads links members : List ℕ) (i : ℕ) : Type 0 where
+  pub searching : Searching s b i
+  pub all-heads : length heads ≡ BUCKETS
+  pub all-links : length links ≡ 8192
+  pub all-members : length members ≡ 8192
 
 module _ {s : Layout} (b : Bytes) (ok : Readable s b) where
   remaining-row : (i : ℕ) → i < s .nodes → remaining s b i ≡ at-fault i (subtree-in s b i) ∷ remaining s b (suc i)
