@@ -85,24 +85,45 @@ universal-callees t = (
 
 -- existential turns
 
+-- places in the code, each from a later one
+abbrev existential-known : (t : ℕ) → existential-lts.After-struct-known (existential-callees t) (existential-at t) existential.Post
+    → existential-lts.After-shared-slice-known2 (existential-callees t) (existential-at t) existential.Post
+existential-known t c = c .before .before .before
+
+abbrev existential-entry : (t : ℕ) → existential-lts.After-struct-known (existential-callees t) (existential-at t) existential.Post
+    → existential-lts.Start (existential-callees t) (existential-at t) existential.Post
+existential-entry t c = existential-known t c .before .before
+
+abbrev existential-asked : (t : ℕ) → existential-lts.After-is-existential (existential-callees t) (existential-at t) existential.Post
+    → existential-lts.After-struct-known (existential-callees t) (existential-at t) existential.Post
+existential-asked t c = c .before .before
+
+abbrev existential-start : (t : ℕ) → existential-lts.After-bound-at (existential-callees t) (existential-at t) existential.Post
+    → existential-lts.Start (existential-callees t) (existential-at t) existential.Post
+existential-start t c = existential-entry t (existential-asked t (c .before .before))
+
+abbrev existential-first : (t : ℕ) → existential-lts.After-stops (existential-callees t) (existential-at t) existential.Post
+    → existential-lts.After-existential (existential-callees t) (existential-at t) existential.Post
+existential-first t c = c .before .before .before
+
 existential-leaf-requires : (t : ℕ) → existential-lts.Need-leaf-requires (existential-callees t) (existential-at t) existential.Post
-existential-leaf-requires t c κs = c .before .before .before .before .before .before .before .pre .1 .0
+existential-leaf-requires t c κs = existential-entry t (c .before .before) .pre .1 .0
 
 existential-same-length : (t : ℕ) → existential-lts.Need-same-length (existential-callees t) (existential-at t) existential.Post
 existential-same-length t c = refl
 
 existential-returns : (t : ℕ) → existential-lts.Need-returns (existential-callees t) (existential-at t) existential.Post
 existential-returns t c =
-    let a = c .before .before .before .before .before .before .before .before in
+    let a = existential-entry t (c .before .before .before) in
     turned-leaf (a .args .s) (a .args .sheet .now) (a .pre .1 .0 .playable .readable) (c .leaf .result) (a .args .i) (a .args .assignment .now)
     (c .before .before .if1 .taken) (c .leaf .ensures)
 
 existential-is-existential-requires : (t : ℕ) → existential-lts.Need-is-existential-requires (existential-callees t) (existential-at t) existential.Post
-existential-is-existential-requires t c κs = (c .before .before .before .before .before .before .pre .1 .0 .playable .readable, omega arith)
+existential-is-existential-requires t c κs = (existential-entry t (c .before) .pre .1 .0 .playable .readable, omega arith)
 
 existential-universal-requires : (t : ℕ) → existential-lts.Need-universal-requires (existential-callees t) (existential-at t) existential.Post
 existential-universal-requires t c κs =
-    let a = c .before .before .before .before .before .before .before .before .before in
+    let a = existential-entry t (existential-asked t (c .before .before)) in
     let hands = hands-over exists (a .args .s) (a .args .sheet .now) (a .args .i) (owned-by _ (c .before .before .is-existential .ensures) (not-true _ (c .before .if2 .taken))) in
     (omega (arith, hands, a .pre .0), a .pre .1)
 
@@ -115,14 +136,11 @@ existential-returns-2 t c =
     record { outcome = turned .outcome; unchanged = turned .unchanged }
 
 existential-bound-at-requires : (t : ℕ) → existential-lts.Need-bound-at-requires (existential-callees t) (existential-at t) existential.Post
-existential-bound-at-requires t c κs = (c .before .before .before .before .before .before .before .before .pre .1 .0 .playable .readable, omega arith)
+existential-bound-at-requires t c κs = (existential-entry t (existential-asked t (c .before)) .pre .1 .0 .playable .readable, omega arith)
 
--- a row of this side, and the turn that came to it
+-- a row of this side
 abbrev existential-row : ℕ → Type 0
 existential-row t = existential-lts.After-bound-at (existential-callees t) (existential-at t) existential.Post
-
-abbrev existential-start : (t : ℕ) → existential-row t → existential-lts.Start (existential-callees t) (existential-at t) existential.Post
-existential-start t c = c .before .before .before .before .before .before .before .before .before
 
 existential-own : (t : ℕ) (c : existential-row t)
     → let a = existential-start t c .args in
@@ -154,36 +172,36 @@ existential-stops-requires t c κs = tt
 
 existential-slice-write-assignment-2 : (t : ℕ) → existential-lts.Need-slice-write-assignment-2 (existential-callees t) (existential-at t) existential.Post
 existential-slice-write-assignment-2 t c =
-    let turn = c .before .before .before .before in
+    let turn = existential-first t (c .before) in
     let own = existential-own t (turn .before .before .before) in
     inside-one own (turn .existential .ensures)
 
 existential-same-length-3 : (t : ℕ) → existential-lts.Need-same-length-3 (existential-callees t) (existential-at t) existential.Post
 existential-same-length-3 t c =
-    let turn = c .before .before .before .before in
+    let turn = existential-first t (c .before) in
     let own = existential-own t (turn .before .before .before) in
     ap length (restored-one own (turn .existential .ensures))
 
 existential-returns-3 : (t : ℕ) → existential-lts.Need-returns-3 (existential-callees t) (existential-at t) existential.Post
 existential-returns-3 t c =
-    let turn = c .before .before .before .before in
+    let turn = existential-first t (c .before) in
     let own = existential-own t (turn .before .before .before) in
     turn-stopped own (turn .existential .ensures) (c .before .stops .ensures) (c .if3 .taken)
 
 existential-slice-write-assignment-3 : (t : ℕ) → existential-lts.Need-slice-write-assignment-3 (existential-callees t) (existential-at t) existential.Post
 existential-slice-write-assignment-3 t c =
-    let turn = c .before .before .before .before in
+    let turn = existential-first t (c .before) in
     let own = existential-own t (turn .before .before .before) in
     inside-one own (turn .existential .ensures)
 
 existential-add-existential-2 : (t : ℕ) → existential-lts.Need-add-existential-2 (existential-callees t) (existential-at t) existential.Post
 existential-add-existential-2 t c =
-    let own = existential-own t (c .before .before .before .before .before .before .before .before) in
+    let own = existential-own t (existential-first t (c .before .before) .before .before .before) in
     omega (arith, own .within, own .few)
 
 existential-existential-requires-2 : (t : ℕ) → existential-lts.Need-existential-requires-2 (existential-callees t) (existential-at t) existential.Post
 existential-existential-requires-2 t c κs =
-    let turn = c .before .before .before .before .before in
+    let turn = existential-first t (c .before .before) in
     let v = turn .before .before .before in
     let a = existential-start t v in
     let own = existential-own t v in
@@ -192,28 +210,28 @@ existential-existential-requires-2 t c κs =
 existential-slice-write-assignment-4 : (t : ℕ) → existential-lts.Need-slice-write-assignment-4 (existential-callees t) (existential-at t) existential.Post
 existential-slice-write-assignment-4 t c =
     let again = c .before .before in
-    let turn = again .before .before .before .before .before .before in
+    let turn = existential-first t (again .before .before .before) in
     let own = existential-own t (turn .before .before .before) in
     inside-both own (turn .existential .ensures) (again .existential2 .ensures)
 
 existential-both-requires : (t : ℕ) → existential-lts.Need-both-requires (existential-callees t) (existential-at t) existential.Post
 existential-both-requires t c κs =
     let again = c .before .before in
-    let turn = again .before .before .before .before .before .before in
+    let turn = existential-first t (again .before .before .before) in
     let own = existential-own t (turn .before .before .before) in
     leaves-fit own (turn .existential .ensures) (again .existential2 .ensures)
 
 existential-same-length-4 : (t : ℕ) → existential-lts.Need-same-length-4 (existential-callees t) (existential-at t) existential.Post
 existential-same-length-4 t c =
     let again = c .before .before .before in
-    let turn = again .before .before .before .before .before .before in
+    let turn = existential-first t (again .before .before .before) in
     let own = existential-own t (turn .before .before .before) in
     ap length (restored-both own (turn .existential .ensures) (again .existential2 .ensures))
 
 existential-returns-4 : (t : ℕ) → existential-lts.Need-returns-4 (existential-callees t) (existential-at t) existential.Post
 existential-returns-4 t c =
     let again = c .before .before .before in
-    let turn = again .before .before .before .before .before .before in
+    let turn = existential-first t (again .before .before .before) in
     let own = existential-own t (turn .before .before .before) in
     let asked = again .before .before in
     turn-went-on own (turn .existential .ensures) (again .existential2 .ensures) (asked .before .stops .ensures) (asked .if3 .left) (c .both .result)
@@ -221,24 +239,45 @@ existential-returns-4 t c =
 
 -- universal turns
 
+-- places in the code, each from a later one
+abbrev universal-known : (t : ℕ) → universal-lts.After-struct-known (universal-callees t) (universal-at t) universal.Post
+    → universal-lts.After-shared-slice-known2 (universal-callees t) (universal-at t) universal.Post
+universal-known t c = c .before .before .before
+
+abbrev universal-entry : (t : ℕ) → universal-lts.After-struct-known (universal-callees t) (universal-at t) universal.Post
+    → universal-lts.Start (universal-callees t) (universal-at t) universal.Post
+universal-entry t c = universal-known t c .before .before
+
+abbrev universal-asked : (t : ℕ) → universal-lts.After-is-existential (universal-callees t) (universal-at t) universal.Post
+    → universal-lts.After-struct-known (universal-callees t) (universal-at t) universal.Post
+universal-asked t c = c .before .before
+
+abbrev universal-start : (t : ℕ) → universal-lts.After-bound-at (universal-callees t) (universal-at t) universal.Post
+    → universal-lts.Start (universal-callees t) (universal-at t) universal.Post
+universal-start t c = universal-entry t (universal-asked t (c .before .before))
+
+abbrev universal-first : (t : ℕ) → universal-lts.After-stops (universal-callees t) (universal-at t) universal.Post
+    → universal-lts.After-universal (universal-callees t) (universal-at t) universal.Post
+universal-first t c = c .before .before .before
+
 universal-leaf-requires : (t : ℕ) → universal-lts.Need-leaf-requires (universal-callees t) (universal-at t) universal.Post
-universal-leaf-requires t c κs = c .before .before .before .before .before .before .before .pre .1 .0
+universal-leaf-requires t c κs = universal-entry t (c .before .before) .pre .1 .0
 
 universal-same-length : (t : ℕ) → universal-lts.Need-same-length (universal-callees t) (universal-at t) universal.Post
 universal-same-length t c = refl
 
 universal-returns : (t : ℕ) → universal-lts.Need-returns (universal-callees t) (universal-at t) universal.Post
 universal-returns t c =
-    let a = c .before .before .before .before .before .before .before .before in
+    let a = universal-entry t (c .before .before .before) in
     turned-leaf (a .args .s) (a .args .sheet .now) (a .pre .1 .0 .playable .readable) (c .leaf .result) (a .args .i) (a .args .assignment .now)
     (c .before .before .if1 .taken) (c .leaf .ensures)
 
 universal-is-existential-requires : (t : ℕ) → universal-lts.Need-is-existential-requires (universal-callees t) (universal-at t) universal.Post
-universal-is-existential-requires t c κs = (c .before .before .before .before .before .before .pre .1 .0 .playable .readable, omega arith)
+universal-is-existential-requires t c κs = (universal-entry t (c .before) .pre .1 .0 .playable .readable, omega arith)
 
 universal-existential-requires : (t : ℕ) → universal-lts.Need-existential-requires (universal-callees t) (universal-at t) universal.Post
 universal-existential-requires t c κs =
-    let a = c .before .before .before .before .before .before .before .before .before in
+    let a = universal-entry t (universal-asked t (c .before .before)) in
     let hands = hands-over for-all (a .args .s) (a .args .sheet .now) (a .args .i) (owned-by _ (c .before .before .is-existential .ensures) (c .before .if2 .taken)) in
     (omega (arith, hands, a .pre .0), a .pre .1)
 
@@ -251,14 +290,11 @@ universal-returns-2 t c =
     record { outcome = turned .outcome; unchanged = turned .unchanged }
 
 universal-bound-at-requires : (t : ℕ) → universal-lts.Need-bound-at-requires (universal-callees t) (universal-at t) universal.Post
-universal-bound-at-requires t c κs = (c .before .before .before .before .before .before .before .before .pre .1 .0 .playable .readable, omega arith)
+universal-bound-at-requires t c κs = (universal-entry t (universal-asked t (c .before)) .pre .1 .0 .playable .readable, omega arith)
 
--- a row of this side, and the turn that came to it
+-- a row of this side
 abbrev universal-row : ℕ → Type 0
 universal-row t = universal-lts.After-bound-at (universal-callees t) (universal-at t) universal.Post
-
-abbrev universal-start : (t : ℕ) → universal-row t → universal-lts.Start (universal-callees t) (universal-at t) universal.Post
-universal-start t c = c .before .before .before .before .before .before .before .before .before
 
 universal-own : (t : ℕ) (c : universal-row t)
     → let a = universal-start t c .args in
@@ -290,36 +326,36 @@ universal-stops-requires t c κs = tt
 
 universal-slice-write-assignment-2 : (t : ℕ) → universal-lts.Need-slice-write-assignment-2 (universal-callees t) (universal-at t) universal.Post
 universal-slice-write-assignment-2 t c =
-    let turn = c .before .before .before .before in
+    let turn = universal-first t (c .before) in
     let own = universal-own t (turn .before .before .before) in
     inside-one own (turn .universal .ensures)
 
 universal-same-length-3 : (t : ℕ) → universal-lts.Need-same-length-3 (universal-callees t) (universal-at t) universal.Post
 universal-same-length-3 t c =
-    let turn = c .before .before .before .before in
+    let turn = universal-first t (c .before) in
     let own = universal-own t (turn .before .before .before) in
     ap length (restored-one own (turn .universal .ensures))
 
 universal-returns-3 : (t : ℕ) → universal-lts.Need-returns-3 (universal-callees t) (universal-at t) universal.Post
 universal-returns-3 t c =
-    let turn = c .before .before .before .before in
+    let turn = universal-first t (c .before) in
     let own = universal-own t (turn .before .before .before) in
     turn-stopped own (turn .universal .ensures) (c .before .stops .ensures) (c .if3 .taken)
 
 universal-slice-write-assignment-3 : (t : ℕ) → universal-lts.Need-slice-write-assignment-3 (universal-callees t) (universal-at t) universal.Post
 universal-slice-write-assignment-3 t c =
-    let turn = c .before .before .before .before in
+    let turn = universal-first t (c .before) in
     let own = universal-own t (turn .before .before .before) in
     inside-one own (turn .universal .ensures)
 
 universal-add-universal-2 : (t : ℕ) → universal-lts.Need-add-universal-2 (universal-callees t) (universal-at t) universal.Post
 universal-add-universal-2 t c =
-    let own = universal-own t (c .before .before .before .before .before .before .before .before) in
+    let own = universal-own t (universal-first t (c .before .before) .before .before .before) in
     omega (arith, own .within, own .few)
 
 universal-universal-requires-2 : (t : ℕ) → universal-lts.Need-universal-requires-2 (universal-callees t) (universal-at t) universal.Post
 universal-universal-requires-2 t c κs =
-    let turn = c .before .before .before .before .before in
+    let turn = universal-first t (c .before .before) in
     let v = turn .before .before .before in
     let a = universal-start t v in
     let own = universal-own t v in
@@ -328,28 +364,28 @@ universal-universal-requires-2 t c κs =
 universal-slice-write-assignment-4 : (t : ℕ) → universal-lts.Need-slice-write-assignment-4 (universal-callees t) (universal-at t) universal.Post
 universal-slice-write-assignment-4 t c =
     let again = c .before .before in
-    let turn = again .before .before .before .before .before .before in
+    let turn = universal-first t (again .before .before .before) in
     let own = universal-own t (turn .before .before .before) in
     inside-both own (turn .universal .ensures) (again .universal2 .ensures)
 
 universal-both-requires : (t : ℕ) → universal-lts.Need-both-requires (universal-callees t) (universal-at t) universal.Post
 universal-both-requires t c κs =
     let again = c .before .before in
-    let turn = again .before .before .before .before .before .before in
+    let turn = universal-first t (again .before .before .before) in
     let own = universal-own t (turn .before .before .before) in
     leaves-fit own (turn .universal .ensures) (again .universal2 .ensures)
 
 universal-same-length-4 : (t : ℕ) → universal-lts.Need-same-length-4 (universal-callees t) (universal-at t) universal.Post
 universal-same-length-4 t c =
     let again = c .before .before .before in
-    let turn = again .before .before .before .before .before .before in
+    let turn = universal-first t (again .before .before .before) in
     let own = universal-own t (turn .before .before .before) in
     ap length (restored-both own (turn .universal .ensures) (again .universal2 .ensures))
 
 universal-returns-4 : (t : ℕ) → universal-lts.Need-returns-4 (universal-callees t) (universal-at t) universal.Post
 universal-returns-4 t c =
     let again = c .before .before .before in
-    let turn = again .before .before .before .before .before .before in
+    let turn = universal-first t (again .before .before .before) in
     let own = universal-own t (turn .before .before .before) in
     let asked = again .before .before in
     turn-went-on own (turn .universal .ensures) (again .universal2 .ensures) (asked .before .stops .ensures) (asked .if3 .left) (c .both .result)

@@ -11,6 +11,16 @@ use borrow.Author.Needs.{needs}
 use Rattle.trial.proofs.build.Statement.{statement}
 use Rattle.trial.proofs.build.Tie as tie
 
+-- places in the code, each from a later one
+abbrev start : tie.After-slice-known2 → tie.Start
+start c = c .before .before .before
+
+abbrev filled : tie.After-parents → tie.After-fill-ends
+filled c = c .before .before .before
+
+abbrev wired : tie.After-slice-known3 → tie.After-wire
+wired c = c .before .before .before
+
 slice-aggregate-fill-ends : tie.Need-slice-aggregate-fill-ends
 slice-aggregate-fill-ends c = search needs
 
@@ -25,10 +35,10 @@ slice-aggregate-wire-2 c = search needs
 
 wire-requires : tie.Need-wire-requires
 wire-requires c κs =
-    let a = c .before .before .before .before .before .before .before .before .before .before in
-    let called = c .before .before .before .before .before .fill-ends in
+    let ends = filled (c .before .before) in
+    let a = start (ends .before .before) in
     let few = a .pre .0 .few-nodes in
-    (called .ensures .0, omega (arith, few), a .pre .1)
+    (ends .fill-ends .ensures .0, omega (arith, few), a .pre .1)
 
 same-length : tie.Need-same-length
 same-length c = search needs
@@ -38,12 +48,12 @@ same-length-2 c = search needs
 
 returns : tie.Need-returns
 returns c =
-    let a = c .before .before .before .before .before .before .before .before .before .before .before .before .before .before .before .before in
+    let tables = wired (c .before .before) in
+    let ends = filled (tables .before .before .before) in
+    let a = start (ends .before .before) in
     let R = node-rows-in (a .args .s) (a .args .sheet .now) in
     let all = length-nodes (a .args .sheet .now) (a .pre .0) in
-    let wired = c .before .before .before .before .before .wire .ensures in
-    let filled = c .before .before .before .before .before .before .before .before .before .before .before .fill-ends .ensures .0 in
-    jumps R _ _ _ (λ i h. end-entry (a .args .sheet .now) (a .pre .0) i (omega (arith, all)) _ filled) (subst (Targets R _ _ _) (sym all) wired)
+    jumps R _ _ _ (λ i h. end-entry (a .args .sheet .now) (a .pre .0) i (omega (arith, all)) _ (ends .fill-ends .ensures .0)) (subst (Targets R _ _ _) (sym all) (tables .wire .ensures))
     (matrix-in (a .args .s) (a .args .sheet .now)) (sym (one-tree (a .args .sheet .now) (a .pre .0)))
 
 pub build-spec : {M : Type 1} → statement M

@@ -25,20 +25,27 @@ Inv-loop sheet s high low assignment n r₀ i =
 abbrev μ-loop : tie.MeasureT-loop
 μ-loop sheet s high low assignment n r₀ i = n + 2 - i
 
+-- places in the code, each from a later one
+abbrev known : tie.After-shared-slice-known4 Inv-loop μ-loop → tie.After-shared-slice-known Inv-loop μ-loop
+known c = c .before .before .before
+
+abbrev entry : tie.After-shared-slice-known4 Inv-loop μ-loop → tie.Start Inv-loop μ-loop
+entry c = known c .before
+
 abbrev head : tie.After-next Inv-loop μ-loop → tie.At-loop Inv-loop μ-loop
 head c = c .before .before
 
 abbrev start : tie.After-next Inv-loop μ-loop → tie.Start Inv-loop μ-loop
-start c = c .before .before .before .before .before .before .before
+start c = entry (head c .before)
 
 loop-holds : tie.Need-loop-holds Inv-loop μ-loop
 loop-holds c =
-    let a = c .before .before .before .before in
+    let a = entry c in
     (omega arith, a .pre .1 .decides (values (a .args .assignment .now)))
 
 next-requires : tie.Need-next-requires Inv-loop μ-loop
 next-requires c κs =
-    let a = c .before .before .before .before .before .before in
+    let a = entry (c .before .before) in
     (a .pre .0, c .loop-test .taken, a .pre .2)
 
 on : (c : tie.After-next Inv-loop μ-loop)
@@ -62,7 +69,7 @@ loop-again c = (on c .1, on c .2)
 returns : tie.Need-returns Inv-loop μ-loop
 unfolding matrix-in
 returns c =
-    let a = c .before .before .before .before .before .before in
+    let a = entry (c .before .before) in
     let all = length-nodes (a .args .sheet .now) (a .pre .0) in
     verdict-at _ (a .args .s .nodes) _ _ (c .before .loop .i) all (c .loop-test .left) (c .before .loop .inv .1)
 

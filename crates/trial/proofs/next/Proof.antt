@@ -8,6 +8,19 @@ use borrow.Author.Needs.{needs}
 use Rattle.trial.proofs.next.Statement.{statement}
 use Rattle.trial.proofs.next.Tie as tie
 
+-- places in the code, each from a later one
+abbrev known : tie.After-shared-slice-known4 → tie.After-shared-slice-known
+known c = c .before .before .before
+
+abbrev start : tie.After-shared-slice-known4 → tie.Start
+start c = known c .before
+
+abbrev high : tie.After-shared-slice-known5 → tie.After-row-value
+high c = c .before .before
+
+abbrev low : tie.After-shared-slice-known6 → tie.After-row-value
+low c = c .before .before
+
 children-at-requires : tie.Need-children-at-requires
 children-at-requires c κs = search needs
 
@@ -16,7 +29,7 @@ add-result c = search needs
 
 returns : tie.Need-returns
 returns c =
-    let a = c .before .before .before .before .before .before in
+    let a = start (c .before .before) in
     next-child (node-rows-in (a .args .s) (a .args .sheet .now)) (a .args .high .now) (a .args .low .now) (values (a .args .assignment .now)) (a .args .i)
     (c .before .children-at .result) (children-row (a .args .sheet .now) (a .pre .0) (a .args .i) (a .pre .1) (c .before .children-at .ensures .0)) (c .if1 .taken)
 
@@ -34,12 +47,13 @@ to-row-requires c κs = search needs
 
 returns-2 : tie.Need-returns-2
 returns-2 c =
-    let a = c .before .before .before .before .before .before .before .before .before .before in
-    let kids = c .before .before .before .before .before .children-at in
-    let value = c .before .before .before .row-value in
+    let at = high (c .before) in
+    let a = start (at .before .before .before) in
+    let kids = at .before .before .children-at in
+    let value = at .row-value in
     next-high (node-rows-in (a .args .s) (a .args .sheet .now)) (a .args .high .now) (a .args .low .now) (values (a .args .assignment .now)) (a .args .i) (kids .result)
     (children-row (a .args .sheet .now) (a .pre .0) (a .args .i) (a .pre .1) (kids .ensures .0))
-    (c .before .before .before .before .if1 .left) (value .result) (value .ensures) (c .to-row .result)
+    (at .before .if1 .left) (value .result) (value .ensures) (c .to-row .result)
     (c .before .before .if2 .taken) (c .to-row .ensures)
 
 mul-to-row-2 : tie.Need-mul-to-row-2
@@ -53,12 +67,13 @@ to-row-requires-2 c κs = search needs
 
 returns-3 : tie.Need-returns-3
 returns-3 c =
-    let a = c .before .before .before .before .before .before .before .before .before .before in
-    let kids = c .before .before .before .before .before .children-at in
-    let value = c .before .before .before .row-value in
+    let at = low (c .before) in
+    let a = start (at .before .before .before) in
+    let kids = at .before .before .children-at in
+    let value = at .row-value in
     next-low (node-rows-in (a .args .s) (a .args .sheet .now)) (a .args .high .now) (a .args .low .now) (values (a .args .assignment .now)) (a .args .i) (kids .result)
     (children-row (a .args .sheet .now) (a .pre .0) (a .args .i) (a .pre .1) (kids .ensures .0))
-    (c .before .before .before .before .if1 .left) (value .result) (value .ensures) (c .to-row2 .result)
+    (at .before .if1 .left) (value .result) (value .ensures) (c .to-row2 .result)
     (c .before .before .if2 .left) (c .to-row2 .ensures)
 
 pub next-spec : {M : Type 1} → statement M

@@ -12,11 +12,15 @@ Inv-loop ends parents i p₀ p = (p < i) × Closed ends p i
 abbrev μ-loop : tie.MeasureT-loop
 μ-loop ends parents i p₀ p = p
 
+-- places in the code, each from a later one
+abbrev row : tie.After-to-row Inv-loop μ-loop → tie.At-loop Inv-loop μ-loop
+row c = c .before .before
+
 abbrev head : tie.After-to-row2 Inv-loop μ-loop → tie.At-loop Inv-loop μ-loop
-head c = c .before .before .before .before .before
+head c = row (c .before .before .before)
 
 abbrev start : tie.After-to-row2 Inv-loop μ-loop → tie.Start Inv-loop μ-loop
-start c = c .before .before .before .before .before .before .before .before
+start c = head c .before .before .before
 
 sub-p : tie.Need-sub-p Inv-loop μ-loop
 sub-p c = omega arith
@@ -57,7 +61,7 @@ loop-again c = (omega (arith, up c .0), up c .1)
 
 returns : tie.Need-returns Inv-loop μ-loop
 returns c =
-    let at = c .before .before .before .loop in
+    let at = row (c .before) .loop in
     record { before = at .inv .0; still-open = omega (arith, c .before .to-row .ensures); others-closed = at .inv .1 }
 
 pub parent-of-spec : {M : Type 1} → statement M

@@ -10,6 +10,10 @@ use borrow.Author.Needs.{needs}
 use Rattle.trial.proofs.row_value.Statement.{statement}
 use Rattle.trial.proofs.row_value.Tie as tie
 
+-- places in the code, each from a later one
+abbrev start : tie.After-kind-at → tie.Start
+start c = c .before .before .before
+
 kind-at-requires : tie.Need-kind-at-requires
 kind-at-requires c κs = search needs
 
@@ -21,14 +25,14 @@ value-of-requires c κs = search needs
 
 returns : tie.Need-returns
 returns c =
-    let a = c .before .before .before .before .before .before in
+    let a = start (c .before .before .before) in
     let x = getD (node-rows-in (a .args .s) (a .args .sheet .now)) (a .args .i) (row 0 0) in
     value-literal x (values (a .args .assignment .now)) _ _ (c .value-of .result) (kind-row (a .args .sheet .now) (a .pre .0) (a .args .i) (a .pre .1) (c .before .before .before .kind-at .ensures))
     (argument-row (a .args .sheet .now) (a .pre .0) (a .args .i) (a .pre .1) (c .before .argument-at .ensures .0)) (c .value-of .ensures) (c .before .before .if1 .taken)
 
 returns-2 : tie.Need-returns-2
 returns-2 c =
-    let a = c .before .before .before .before in
+    let a = start (c .before) in
     let x = getD (node-rows-in (a .args .s) (a .args .sheet .now)) (a .args .i) (row 0 0) in
     value-operator x (values (a .args .assignment .now)) _ (kind-row (a .args .sheet .now) (a .pre .0) (a .args .i) (a .pre .1) (c .before .kind-at .ensures)) (c .if1 .left)
 

@@ -6,6 +6,16 @@ use borrow.Author.Needs.{needs}
 use Rattle.trial.proofs.semantic_tree.Statement.{statement}
 use Rattle.trial.proofs.semantic_tree.Tie as tie
 
+-- places in the code, each from a later one
+abbrev start : tie.After-low → tie.Start
+start c = c .before .before .before
+
+abbrev built : tie.After-low2 → tie.After-build
+built c = c .before .before
+
+abbrev opened : tie.After-assignment → tie.After-low2
+opened c = c .before .before .before
+
 slice-aggregate-build : tie.Need-slice-aggregate-build
 slice-aggregate-build c = search needs
 
@@ -14,7 +24,7 @@ slice-aggregate-build-2 c = search needs
 
 build-requires : tie.Need-build-requires
 build-requires c κs =
-    let p = c .before .before .before .pre in
+    let p = start c .pre in
     let room = p .readable .few-nodes in
     (p .readable, record { high-room = omega (arith, room); low-room = omega (arith, room) })
 
@@ -29,15 +39,15 @@ slice-aggregate-existential-3 c = search needs
 
 existential-requires : tie.Need-existential-requires
 existential-requires c κs =
-    let p = c .before .before .before .before .before .before .before .before .before .pre in
-    let built = c .before .before .before .before .before .build in (
+    let tables = built (opened c) in
+    let p = start (tables .before) .pre in (
       record {
         playable = p;
-        jumps = built .ensures;
+        jumps = tables .build .ensures;
         rooms =
             record {
-              high-room = omega (arith, p .readable .few-nodes, built .kept .1 .1 .0);
-              low-room = omega (arith, p .readable .few-nodes, built .kept .1 .1 .1 .0);
+              high-room = omega (arith, p .readable .few-nodes, tables .build .kept .1 .1 .0);
+              low-room = omega (arith, p .readable .few-nodes, tables .build .kept .1 .1 .1 .0);
             };
       },
       omega arith,
@@ -45,7 +55,7 @@ existential-requires c κs =
 
 returns : tie.Need-returns
 returns c =
-    let a = c .before .before .before .before .before .before .before .before .before .before .before .args in
+    let a = start (built (opened (c .before .before)) .before) .args in
     turns-first (a .s) (a .sheet .now) 1025 (c .before .existential .result) (c .before .existential .ensures .outcome)
 
 pub semantic-tree-spec : {M : Type 1} → statement M

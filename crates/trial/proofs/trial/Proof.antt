@@ -10,6 +10,13 @@ use Rattle.trial.proofs.Answers.{check-refuses, playable, many-refused,
 use Rattle.trial.proofs.trial.Statement.{statement}
 use Rattle.trial.proofs.trial.Tie as tie
 
+-- places in the code, each from a later one
+abbrev asked : tie.After-checked2 → tie.After-check
+asked c = c .before .before
+
+abbrev start : tie.After-checked2 → tie.Start
+start c = asked c .before .before
+
 check-requires : tie.Need-check-requires
 check-requires c κs = search needs
 
@@ -20,14 +27,11 @@ enum-known-checked-2 : tie.Need-enum-known-checked-2
 enum-known-checked-2 c = search needs
 
 -- the sheet that Check accepted
-abbrev start : tie.After-checked2 → tie.Start
-start c = c .before .before .before .before
-
 abbrev layout : tie.After-checked2 → Layout
 layout c = c .checked2 .given .0 .0
 
 accepted : (c : tie.After-checked2) → Sheet (start c .args .f) (start c .args .sheet .now) (layout c)
-accepted c = sheet-checked (c .checked2 .given .1) (c .before .before .check .ensures)
+accepted c = sheet-checked (c .checked2 .given .1) (asked c .check .ensures)
 
 -- where its variables have been counted
 abbrev counted : tie.After-struct-known → tie.After-checked2

@@ -22,8 +22,24 @@ Inv-loop sheet s ends parents₀ high₀ low₀ n i₀ parents high low i =
 abbrev μ-loop : tie.MeasureT-loop
 μ-loop sheet s ends parents₀ high₀ low₀ n i₀ parents high low i = n - i
 
+-- places in the code, each from a later one
+abbrev opened : tie.After-slice-known3 Inv-loop μ-loop → tie.After-shared-slice-known2 Inv-loop μ-loop
+opened c = c .before .before .before
+
+abbrev entry : tie.After-slice-known3 Inv-loop μ-loop → tie.Start Inv-loop μ-loop
+entry c = opened c .before .before
+
 abbrev start : tie.At-loop Inv-loop μ-loop → tie.Start Inv-loop μ-loop
-start c = c .before .before .before .before .before .before
+start c = entry (c .before)
+
+abbrev turn : tie.After-parent-of Inv-loop μ-loop → tie.In-loop Inv-loop μ-loop
+turn c = c .before .before
+
+abbrev told : tie.After-shared-slice-known4 Inv-loop μ-loop → tie.After-parent-of Inv-loop μ-loop
+told c = c .before .before .before
+
+abbrev written : tie.After-past Inv-loop μ-loop → tie.After-shared-slice-known4 Inv-loop μ-loop
+written c = c .before .before
 
 abbrev R : tie.Start Inv-loop μ-loop → List Row
 R a = node-rows-in (a .args .s) (a .args .sheet .now)
@@ -48,7 +64,7 @@ slice-write-low c = omega arith
 
 loop-holds : tie.Need-loop-holds Inv-loop μ-loop
 loop-holds c =
-    let a = c .before .before .before .before .before in
+    let a = entry c in
     let n = a .args .s .nodes in
     record {
       parents-length = refl;
@@ -138,14 +154,16 @@ loop-less c = omega arith
 
 loop-again : tie.Need-loop-again Inv-loop μ-loop
 loop-again c =
-    let head = c .before .before .before .before .before .before .before .before .before .before in
+    let wrote = written (c .before .before) in
+    let here = turn (told wrote) in
+    let head = here .before in
     let a = start head in
     let ends = a .args .ends .now in
     let i = head .loop .i in
     let inv = head .loop .inv in
-    let taken = c .before .before .before .before .before .before .before .before .before .loop-test .taken in
-    let up = c .before .before .before .before .before .before .before .parent-of in
-    let kind = c .before .before .before .before .before .before .kind-at in
+    let taken = here .loop-test .taken in
+    let up = told wrote .parent-of in
+    let kind = wrote .before .before .kind-at in
     record {
       parents-length = simp length-set (inv .parents-length);
       high-length = simp length-set (inv .high-length ∙ simp length-set);
