@@ -99,8 +99,10 @@ tells w = by-e (is-e w) refl
 
     digits : (z : Bool) → eqb (magnitude w) 0 ≡ z → unsigned w ≡ true → is-e w ≡ false → is-a w ≡ false → is-word w (112 ∷ []) ≡ false
         → is-word w (99 ∷ 110 ∷ 102 ∷ []) ≡ false → Tells w (class-of w)
-    digits true z u e a p f = made {k = 6} {t = plain (magnitude w)} (no-name e a p f ∙ rw (u, z)) (said e a ∙ rw u) p f u (subst (λ k. View k (plain (magnitude w)) (magnitude w)) (rw z) (view-unsigned (magnitude w)))
-    digits false z u e a p f = made {k = 7} {t = plain (magnitude w)} (no-name e a p f ∙ rw (u, z)) (said e a ∙ rw u) p f u (subst (λ k. View k (plain (magnitude w)) (magnitude w)) (rw z) (view-unsigned (magnitude w)))
+    digits true z u e a p f = made {k = 6} {t = plain (magnitude w)} (no-name e a p f ∙ rw (u, z)) (said e a ∙ rw u) p f u
+        (subst (λ k. View k (plain (magnitude w)) (magnitude w)) (rw z) (view-unsigned (magnitude w)))
+    digits false z u e a p f = made {k = 7} {t = plain (magnitude w)} (no-name e a p f ∙ rw (u, z)) (said e a ∙ rw u) p f u
+        (subst (λ k. View k (plain (magnitude w)) (magnitude w)) (rw z) (view-unsigned (magnitude w)))
 
     numbers : (u n : Bool) → unsigned w ≡ u → negative w ≡ n → is-e w ≡ false → is-a w ≡ false → is-word w (112 ∷ []) ≡ false
         → is-word w (99 ∷ 110 ∷ 102 ∷ []) ≡ false → Tells w (class-of w)

@@ -83,7 +83,9 @@ words-behind (c ∷ b) = go (separator c) refl (words-behind b)
 
 pub words-lead : (b : Bytes) → 0 < lead separator b → separated b ≡ take (lead separator b) b ∷ separated (drop (lead separator b) b)
 unfolding separated nonempty is-nil
-words-lead b l = ap nonempty (split-lead separator b) ∙ first b (lead separator b) (behind separator (drop (lead separator b) b)) l (lead-within separator b) ∙ ap (λ ws. take (lead separator b) b ∷ ws) (words-behind b)
+words-lead b l =
+    ap nonempty (split-lead separator b) ∙ first b (lead separator b) (behind separator (drop (lead separator b) b)) l (lead-within separator b) ∙
+    ap (λ ws. take (lead separator b) b ∷ ws) (words-behind b)
   where
     first : (b : Bytes) (n : ℕ) (ps : List Bytes) → 0 < n → n ≤ length b → nonempty (take n b ∷ ps) ≡ take n b ∷ nonempty ps
     first b zero ps l h = absurd (omega arith)

@@ -17,7 +17,9 @@ negated-requires c κs = search needs
 
 returns : tie.Need-returns
 unfolding literal
-returns c = toZ-ofZ w32 (c .negated .result) (subst (SFits w32) (sym (c .negated .ensures)) (literal-fits (c .before .before .args .magnitude))) ∙ c .negated .ensures ∙ ap (λ s. literal s (c .before .before .args .magnitude)) (sym (c .before .if1 .taken))
+returns c =
+    toZ-ofZ w32 (c .negated .result) (subst (SFits w32) (sym (c .negated .ensures)) (literal-fits (c .before .before .args .magnitude))) ∙ c .negated .ensures ∙
+    ap (λ s. literal s (c .before .before .args .magnitude)) (sym (c .before .if1 .taken))
 
 returns-2 : tie.Need-returns-2
 returns-2 c = literal-large (c .if2 .taken) ∙ ap (λ s. literal s (c .before .before .args .magnitude)) (sym (c .before .if1 .left))

@@ -15,6 +15,9 @@ Inv-loop b from to i₀ i = Looked b from to i
 abbrev μ-loop : tie.MeasureT-loop
 μ-loop b from to i₀ i = to - i
 
+abbrev start : tie.At-loop Inv-loop μ-loop → tie.Start Inv-loop μ-loop
+start c = c .before .before
+
 loop-holds : tie.Need-loop-holds Inv-loop μ-loop
 loop-holds c = looked-none _ _ _ (c .before .pre .0)
 
@@ -25,7 +28,9 @@ is-digit-requires : tie.Need-is-digit-requires Inv-loop μ-loop
 is-digit-requires c κs = search needs
 
 returns : tie.Need-returns Inv-loop μ-loop
-returns c = let told = c .before in looked-other (told .before .before .before .loop .inv) (told .before .before .before .before .before .pre .1) (omega arith) (sym (told .is-digit .ensures) ∙ not-true _ (c .if1 .taken))
+returns c =
+    let told = c .before in looked-other (told .before .before .before .loop .inv) (start (told .before .before .before) .pre .1) (omega arith)
+    (sym (told .is-digit .ensures) ∙ not-true _ (c .if1 .taken))
 
 add-i : tie.Need-add-i Inv-loop μ-loop
 add-i c = search needs
@@ -34,10 +39,12 @@ loop-less : tie.Need-loop-less Inv-loop μ-loop
 loop-less c = search needs
 
 loop-again : tie.Need-loop-again Inv-loop μ-loop
-loop-again c = let told = c .before in looked-digit (told .before .before .before .loop .inv) (told .before .before .before .before .before .pre .1) (omega arith) (sym (told .is-digit .ensures) ∙ not-false _ (c .if1 .left))
+loop-again c =
+    let told = c .before in looked-digit (told .before .before .before .loop .inv) (start (told .before .before .before) .pre .1) (omega arith)
+    (sym (told .is-digit .ensures) ∙ not-false _ (c .if1 .left))
 
 returns-2 : tie.Need-returns-2 Inv-loop μ-loop
-returns-2 c = looked-all (c .before .loop .inv) (c .before .before .before .pre .1) (omega arith)
+returns-2 c = looked-all (c .before .loop .inv) (start (c .before) .pre .1) (omega arith)
 
 pub all-digits-spec : {M : Type 1} → statement M
 all-digits-spec =

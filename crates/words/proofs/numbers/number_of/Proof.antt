@@ -14,6 +14,9 @@ Inv-loop b from to value₀ i₀ value i = Counted b from to i value
 abbrev μ-loop : tie.MeasureT-loop
 μ-loop b from to value₀ i₀ value i = to - i
 
+abbrev start : tie.At-loop Inv-loop μ-loop → tie.Start Inv-loop μ-loop
+start c = c .before .before
+
 loop-holds : tie.Need-loop-holds Inv-loop μ-loop
 loop-holds c = counted-none _ _ _ (c .before .pre .0) (c .before .pre .2)
 
@@ -21,7 +24,7 @@ shared-slice-read-with-digit : tie.Need-shared-slice-read-with-digit Inv-loop μ
 shared-slice-read-with-digit c = search needs
 
 with-digit-requires : tie.Need-with-digit-requires Inv-loop μ-loop
-with-digit-requires c κs = counted-here (c .before .before .loop .inv) (c .before .before .before .before .pre .1) (omega arith)
+with-digit-requires c κs = counted-here (c .before .before .loop .inv) (start (c .before .before) .pre .1) (omega arith)
 
 add-i : tie.Need-add-i Inv-loop μ-loop
 add-i c = search needs
@@ -30,10 +33,12 @@ loop-less : tie.Need-loop-less Inv-loop μ-loop
 loop-less c = search needs
 
 loop-again : tie.Need-loop-again Inv-loop μ-loop
-loop-again c = let told = c in counted-digit (told .before .before .before .loop .inv) (told .before .before .before .before .before .pre .1) (omega arith) (told .with-digit .ensures .0) (told .with-digit .ensures .1)
+loop-again c =
+    let told = c in counted-digit (told .before .before .before .loop .inv) (start (told .before .before .before) .pre .1) (omega arith) (told .with-digit .ensures .0)
+    (told .with-digit .ensures .1)
 
 returns : tie.Need-returns Inv-loop μ-loop
-returns c = counted-all (c .before .loop .inv) (c .before .before .before .pre .1) (omega arith)
+returns c = counted-all (c .before .loop .inv) (start (c .before) .pre .1) (omega arith)
 
 pub number-of-spec : {M : Type 1} → statement M
 number-of-spec =

@@ -8,6 +8,18 @@ use Rattle.words.proofs.Names.{slice-one, slice-three, name-other}
 use Rattle.words.proofs.token.name_of.Statement.{statement}
 use Rattle.words.proofs.token.name_of.Tie as tie
 
+abbrev start : tie.After-shared-slice-known → tie.Start
+start c = c .before
+
+abbrev entered : tie.Then2 → tie.After-shared-slice-known
+entered c = c .before .before
+
+abbrev after-shared-slice-known5 : tie.After-three-letters → tie.After-shared-slice-known5
+after-shared-slice-known5 c = c .before
+
+abbrev then-2 : tie.After-three-letters → tie.Then2
+then-2 c = after-shared-slice-known5 c .before .before .before
+
 sub-if1 : tie.Need-sub-if1
 sub-if1 c = search needs
 
@@ -19,7 +31,7 @@ letter-requires c κs = search needs
 
 returns : tie.Need-returns
 returns c =
-    let a = c .before .before .before .before in
+    let a = start (c .before .before .before) in
     c .letter .ensures ∙ ap name-of (sym (slice-one (a .args .b .now) (a .args .from) (a .args .to) (a .pre .1) (omega arith)))
 
 sub-if2 : tie.Need-sub-if2
@@ -45,7 +57,7 @@ three-letters-requires c κs = search needs
 
 returns-2 : tie.Need-returns-2
 returns-2 c =
-    let a = c .before .before .before .before .before .before .before in
+    let a = start (entered (then-2 c)) in
     c .three-letters .ensures ∙ ap name-of (sym (slice-three (a .args .b .now) (a .args .from) (a .args .to) (a .pre .1) (omega arith)))
 
 returns-3 : tie.Need-returns-3

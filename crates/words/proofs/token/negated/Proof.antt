@@ -8,6 +8,9 @@ use Rattle.words.proofs.Tokens.{negated-nothing, negated-other, negated
 use Rattle.words.proofs.token.negated.Statement.{statement}
 use Rattle.words.proofs.token.negated.Tie as tie
 
+abbrev start : tie.After-all-digits → tie.Start
+start c = c .before .before .before
+
 returns : tie.Need-returns
 returns c = let a = c .before .before in (negated-nothing (a .args .b .now) (a .args .from) (a .args .to) (a .pre .1) (c .if1 .taken), refl)
 
@@ -18,14 +21,14 @@ returns-2 : tie.Need-returns-2
 returns-2 c = (negated-other (sym (c .before .all-digits .ensures) ∙ not-true _ (c .if2 .taken)), refl)
 
 number-of-requires : tie.Need-number-of-requires
-number-of-requires c κs = let a = c .before .before .before .before in (a .pre .0, a .pre .1, sym (c .before .all-digits .ensures) ∙ not-false _ (c .if2 .left))
+number-of-requires c κs = let a = start (c .before) in (a .pre .0, a .pre .1, sym (c .before .all-digits .ensures) ∙ not-false _ (c .if2 .left))
 
 returns-3 : tie.Need-returns-3
 returns-3 c = (negated-zero ((c .before) .number-of .ensures) (c .if3 .taken), refl)
 
 returns-4 : tie.Need-returns-4
 returns-4 c =
-    let a = c .before .before .before .before .before .before in (
+    let a = start (c .before .before .before) in (
       negated-some (a .args .b .now) (a .args .from) (a .args .to) (omega (arith, a .pre .0)) (a .pre .1)
           (sym (c .before .before .before .all-digits .ensures) ∙ not-false _ (c .before .before .if2 .left)) (c .before .number-of .ensures) (c .if3 .left),
       refl,
