@@ -7,7 +7,8 @@ use Prim.Native.Nat.{ℕ, zero, suc}
 use native.Mathlib.Omega.{arith}
 use lib.Dec.{eqb·suc-zero}
 use Rattle.formula.specs.Tree.{Quantifier, Prefix}
-use Rattle.sheet.specs.Qdimacs.{onto-first, split, is-nil, all, Token, opener, plain, minus, other, is-plain, is-whole, is-end, is-opener, pieces, ended-lists, open-list, is-quantified, are-clauses, in-order, well-listed, quantified, bindings, bound, clauses}
+use Rattle.sheet.specs.Qdimacs.{onto-first, split, is-nil, all, Token, opener, plain, minus, other, is-plain, is-whole, is-end}
+use Rattle.sheet.specs.Qdimacs.{is-opener, pieces, ended-lists, open-list, is-quantified, are-clauses, in-order, well-listed, quantified, bindings, bound, clauses}
 use Rattle.sheet.proofs.Qdimacs.Lists.{cut, split-separator, split-within}
 use Rattle.sheet.specs.Texts.{lists}
 use Rattle.qdimacs.specs.Inner.Lists.{State, between, within, ordered, clause-tokens, bound-from, whole-lists}

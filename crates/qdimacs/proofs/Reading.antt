@@ -9,7 +9,8 @@ use lib.Dec.{eqb, leb, eqb·suc-zero, eqb·zero-suc, leb·zero}
 use lib.ListN.{length}
 use Rattle.formula.specs.Tree.{Quantifier, and, or, Tree, lit, node, Forest, ∅, _▸_, Prefix, rows, rows-all, count}
 use Rattle.formula.proofs.Booleans.{and-parts}
-use Rattle.sheet.specs.Qdimacs.{is-nil, all, split, Token, opener, plain, minus, other, is-plain, is-whole, is-end, absolute, pieces, ended-lists, is-quantified, are-clauses, in-order, quantified, bindings, bound, clauses, literals, clause-trees, matrix-of, named, numbers-of}
+use Rattle.sheet.specs.Qdimacs.{is-nil, all, split, Token, opener, plain, minus, other, is-plain, is-whole, is-end, absolute, pieces}
+use Rattle.sheet.specs.Qdimacs.{ended-lists, is-quantified, are-clauses, in-order, quantified, bindings, bound, clauses, literals, clause-trees, matrix-of, named, numbers-of}
 use Rattle.sheet.proofs.Qdimacs.Lists.{all-++}
 use Rattle.sheet.proofs.Qdimacs.Accepted.{whole-unquantified}
 use Rattle.sheet.specs.Texts.{up-to, lists}

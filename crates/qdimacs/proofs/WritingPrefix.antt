@@ -217,4 +217,5 @@ module _ {b : Bytes} {from : ℕ} {rs₀ rs : List Row} {r st at : ℕ} (h : Bou
 pub bound-written-all : {b : Bytes} {from : ℕ} {rs₀ rs : List Row} {r st at : ℕ} → BoundWritten b from rs₀ rs r st at → length b ≤ at
     → (rs ≡ spliced rs₀ from (map binding-row (bindings-in b))) × (r ≡ from + length (bindings-in b))
 unfolding bound-from
-bound-written-all {b} {from} {rs₀} {rs} {r} {st} {at} h l = finished b (h .done) (bound-from (h .walked .state) (tokens-at b at)) (h .parts) (ap (bound-from (h .walked .state)) (no-tokens b at l)) (h .put)
+bound-written-all {b} {from} {rs₀} {rs} {r} {st} {at} h l =
+    finished b (h .done) (bound-from (h .walked .state) (tokens-at b at)) (h .parts) (ap (bound-from (h .walked .state)) (no-tokens b at l)) (h .put)

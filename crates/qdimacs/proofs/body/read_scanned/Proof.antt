@@ -20,11 +20,17 @@ use Rattle.qdimacs.proofs.Whole.{twice, too-many, short, whole-sheet, f
 use Rattle.qdimacs.proofs.body.read_scanned.Statement.{statement}
 use Rattle.qdimacs.proofs.body.read_scanned.Tie as tie
 
+abbrev called : tie.After-marks → tie.Start
+called c = c .before .before .before
+
+abbrev after-bind : tie.After-marks3 → tie.After-bind
+after-bind c = c .before .before .before
+
 bind-requires : tie.Need-bind-requires
-bind-requires c κs = (c .before .before .before .pre .listed, refl)
+bind-requires c κs = (called c .pre .listed, refl)
 
 abbrev begun : tie.After-bind → tie.Start
-begun c = c .before .before .before .before
+begun c = called (c .before)
 
 name-requires : tie.Need-name-requires
 name-requires c κs = (begun (c .before) .pre .inside, c .before .bind .ensures .marked .size)
@@ -36,7 +42,7 @@ count-free-requires c κs =
 
 -- before the first test: the arguments, the marks of all numbers, and the layout that they make
 abbrev bound : tie.After-count-free → tie.After-bind
-bound c = c .before .before .before .before
+bound c = after-bind (c .before)
 
 abbrev start : tie.After-count-free → tie.Start
 start c = begun (bound c)

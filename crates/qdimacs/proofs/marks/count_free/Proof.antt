@@ -13,6 +13,9 @@ Inv-loop marks most count₀ x₀ count x = FreeSoFar marks most count x
 abbrev μ-loop : tie.MeasureT-loop
 μ-loop marks most count₀ x₀ count x = most - x
 
+abbrev start : tie.At-loop Inv-loop μ-loop → tie.Start Inv-loop μ-loop
+start c = c .before
+
 loop-holds : tie.Need-loop-holds Inv-loop μ-loop
 loop-holds c = free-none _ _
 
@@ -26,7 +29,7 @@ one-if-free-requires : tie.Need-one-if-free-requires Inv-loop μ-loop
 one-if-free-requires c κs = search needs
 
 add-count : tie.Need-add-count Inv-loop μ-loop
-add-count c = omega (arith, c .before .before .before .before .pre .0, free-more (c .before .before .before .loop .inv) (omega arith) (c .one-if-free .ensures) .few)
+add-count c = omega (arith, start (c .before .before .before) .pre .0, free-more (c .before .before .before .loop .inv) (omega arith) (c .one-if-free .ensures) .few)
 
 loop-less : tie.Need-loop-less Inv-loop μ-loop
 loop-less c = search needs
