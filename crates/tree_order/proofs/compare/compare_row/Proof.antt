@@ -7,6 +7,21 @@ use borrow.Author.Needs.{needs}
 use Rattle.tree_order.proofs.compare.compare_row.Statement.{statement}
 use Rattle.tree_order.proofs.compare.compare_row.Tie as tie
 
+abbrev entered : tie.After-kind-at2 → tie.After-struct-known
+entered c = c .before .before .before
+
+abbrev start : tie.After-kind-at2 → tie.Start
+start c = entered c .before .before .before
+
+abbrev after-kind-at : tie.After-kind-at2 → tie.After-kind-at
+after-kind-at c = c .before .before
+
+abbrev after-kind-at2 : tie.After-argument-at → tie.After-kind-at2
+after-kind-at2 c = c .before .before
+
+abbrev after-compare-numbers : tie.After-then → tie.After-compare-numbers
+after-compare-numbers c = c .before .before .before
+
 add-kind-at : tie.Need-add-kind-at
 add-kind-at c = search needs
 
@@ -60,12 +75,13 @@ then-requires-2 c κs = search needs
 
 returns : tie.Need-returns
 returns c =
-    let numbers = c .before .before .before .before in
+    let numbers = after-compare-numbers (c .before) in
     let classes = numbers .before .before in
-    let a = classes .before .before .before .before .before .before .before .before .before .before .before .args in
+    let at-kind-at2 = after-kind-at2 (classes .before .before .before) in
+    let a = start at-kind-at2 .args in
     row-compared (row-in (a .s) (a .first .now) (a .i)) (row-in (a .t) (a .second .now) (a .j))
-    (classes .before .before .before .before .before .before .before .kind-at .ensures ∙ kind-in (a .s) (a .first .now) (a .i))
-    (classes .before .before .before .before .before .kind-at2 .ensures ∙ kind-in (a .t) (a .second .now) (a .j))
+    (after-kind-at at-kind-at2 .kind-at .ensures ∙ kind-in (a .s) (a .first .now) (a .i))
+    (at-kind-at2 .kind-at2 .ensures ∙ kind-in (a .t) (a .second .now) (a .j))
     (classes .before .before .before .argument-at .ensures .0 ∙ argument-in (a .s) (a .first .now) (a .i))
     (classes .before .argument-at2 .ensures .0 ∙ argument-in (a .t) (a .second .now) (a .j))
     (numbers .compare-numbers .ensures ∙ ap₂ compare-numbers (numbers .before .before .class-of .ensures) (numbers .before .class-of2 .ensures))

@@ -14,10 +14,22 @@ Inv-loop first s at second t to n j₀ j = Locked s first at t second to j
 abbrev μ-loop : tie.MeasureT-loop
 μ-loop first s at second t to n j₀ j = n - j
 
-within-left : (c : tie.At-loop Inv-loop μ-loop) → c .loop .j < c .before .shorter .result → c .loop .j < length (c .before .before .before .before .before .before .args .at .now)
+abbrev entered : tie.At-loop Inv-loop μ-loop → tie.After-shared-slice-known3 Inv-loop μ-loop
+entered c = c .before .before .before
+
+abbrev start : tie.At-loop Inv-loop μ-loop → tie.Start Inv-loop μ-loop
+start c = entered c .before .before .before
+
+abbrev at-loop : tie.In-loop Inv-loop μ-loop → tie.At-loop Inv-loop μ-loop
+at-loop c = c .before
+
+abbrev in-loop : tie.After-compare-row Inv-loop μ-loop → tie.In-loop Inv-loop μ-loop
+in-loop c = c .before .before .before
+
+within-left : (c : tie.At-loop Inv-loop μ-loop) → c .loop .j < c .before .shorter .result → c .loop .j < length (start c .args .at .now)
 within-left c h = omega (arith, c .before .shorter .ensures)
 
-within-right : (c : tie.At-loop Inv-loop μ-loop) → c .loop .j < c .before .shorter .result → c .loop .j < length (c .before .before .before .before .before .before .args .to .now)
+within-right : (c : tie.At-loop Inv-loop μ-loop) → c .loop .j < c .before .shorter .result → c .loop .j < length (start c .args .to .now)
 within-right c h = omega (arith, c .before .shorter .ensures)
 
 shorter-requires : tie.Need-shorter-requires Inv-loop μ-loop
@@ -47,7 +59,7 @@ cast-compare-row-2 c = omega (arith, c .shared-slice-known6 .given (c .before .b
 compare-row-requires : tie.Need-compare-row-requires Inv-loop μ-loop
 compare-row-requires c κs =
     let head = c .before .before .before in
-    let a = head .before .before .before .before .before .before in
+    let a = start head in
     let j = head .loop .j in
     let test = c .before .before .loop-test .taken in (
       a .pre .0,
@@ -61,9 +73,10 @@ is-same-requires c κs = tt
 
 returns : tie.Need-returns Inv-loop μ-loop
 returns c =
-    let head = c .before .before .before .before .before .before in
-    let a = head .before .before .before .before .before .before .args in
-    let test = c .before .before .before .before .before .loop-test .taken in
+    let inside = in-loop (c .before .before) in
+    let head = at-loop inside in
+    let a = start head .args in
+    let test = inside .loop-test .taken in
     locked-differ (a .s) (a .first .now) (a .at .now) (a .t) (a .second .now) (a .to .now) (head .loop .j) (within-left head test) (within-right head test)
     (head .loop .inv) (c .before .before .compare-row .ensures) (sym (c .before .is-same .ensures) ∙ not-true _ (c .if1 .taken))
 
@@ -75,15 +88,16 @@ loop-less c = omega arith
 
 loop-again : tie.Need-loop-again Inv-loop μ-loop
 loop-again c =
-    let head = c .before .before .before .before .before .before in
-    let a = head .before .before .before .before .before .before .args in
-    let test = c .before .before .before .before .before .loop-test .taken in
+    let inside = in-loop (c .before .before) in
+    let head = at-loop inside in
+    let a = start head .args in
+    let test = inside .loop-test .taken in
     locked-on (a .s) (a .first .now) (a .at .now) (a .t) (a .second .now) (a .to .now) (head .loop .j) (omega arith) (within-left head test)
     (within-right head test) (head .loop .inv) (c .before .before .compare-row .ensures) (sym (c .before .is-same .ensures) ∙ not-false _ (c .if1 .left))
 
 returns-2 : tie.Need-returns-2 Inv-loop μ-loop
 returns-2 c =
-    let a = c .before .before .before .before .before .before .before .args in
+    let a = start (c .before) .args in
     locked-out (a .s) (a .first .now) (a .at .now) (a .t) (a .second .now) (a .to .now) (c .before .loop .j) (c .before .before .shorter .ensures) (c .loop-test .left)
     (c .before .loop .inv)
 

@@ -29,28 +29,73 @@ arrange-below t = and 4 arrange-kinds.ps (falls 4 arrange-kinds.ps _<_ μ-arrang
 abbrev callees : ℕ → arrange-lts.Claims
 callees t = (first-size-reads.Asked, first-size-reads.Learnt, arrange-below t, arrange.Post, merge-reads.Asked, merge-reads.Learnt)
 
--- the first half arranged, and how the call began
+-- a place of the code, of a call with measure t
+
+abbrev Begun : ℕ → Type 0
+Begun t = arrange-lts.Start (callees t) (arrange-at t) arrange.Post
+
 abbrev First : ℕ → Type 0
 First t = arrange-lts.After-arrange (callees t) (arrange-at t) arrange.Post
 
 abbrev Second : ℕ → Type 0
 Second t = arrange-lts.After-arrange2 (callees t) (arrange-at t) arrange.Post
 
-abbrev began : (t : ℕ) → First t → arrange-lts.Start (callees t) (arrange-at t) arrange.Post
-began t c = c .before .before .before .before .before .before .before .before .before
+abbrev Merged : ℕ → Type 0
+Merged t = arrange-lts.After-merge (callees t) (arrange-at t) arrange.Post
+
+-- how the call began: with the tables' lengths known, with a tree at least, before and after the first half
+
+abbrev called : (t : ℕ) → arrange-lts.After-slice-known (callees t) (arrange-at t) arrange.Post → Begun t
+called t c = c .before .before .before
+
+abbrev called-some : (t : ℕ) → arrange-lts.Else1 (callees t) (arrange-at t) arrange.Post → Begun t
+called-some t c = called t (c .before .before)
+
+abbrev called-more : (t : ℕ) → arrange-lts.After-arrange-arg2 (callees t) (arrange-at t) arrange.Post → Begun t
+called-more t c = called-some t (c .before .before .before)
+
+abbrev began : (t : ℕ) → First t → Begun t
+began t c = called-more t (c .before)
+
+-- the first half, with both tables back, before and after the second half
+
+abbrev table-back : (t : ℕ) → arrange-lts.After-spare (callees t) (arrange-at t) arrange.Post → First t
+table-back t c = c .before .before .before
+
+abbrev tables-back : (t : ℕ) → arrange-lts.After-slice-known4 (callees t) (arrange-at t) arrange.Post → First t
+tables-back t c = table-back t (c .before)
 
 abbrev halved : (t : ℕ) → Second t → First t
-halved t c = c .before .before .before .before .before .before .before
+halved t c = tables-back t (c .before .before .before)
+
+-- the second half, likewise, before and after the merge
+
+abbrev table-back-2 : (t : ℕ) → arrange-lts.After-spare2 (callees t) (arrange-at t) arrange.Post → Second t
+table-back-2 t c = c .before .before .before
+
+abbrev tables-back-2 : (t : ℕ) → arrange-lts.After-slice-known6 (callees t) (arrange-at t) arrange.Post → Second t
+tables-back-2 t c = table-back-2 t (c .before)
+
+abbrev both-halved : (t : ℕ) → Merged t → Second t
+both-halved t c = tables-back-2 t (c .before .before .before)
+
+-- the merge, with both tables back
+
+abbrev table-back-3 : (t : ℕ) → arrange-lts.After-spare3 (callees t) (arrange-at t) arrange.Post → Merged t
+table-back-3 t c = c .before .before .before
+
+abbrev merged : (t : ℕ) → arrange-lts.After-slice-known8 (callees t) (arrange-at t) arrange.Post → Merged t
+merged t c = table-back-3 t (c .before)
 
 half-less : (n : ℕ) → n / 2 ≤ n
 half-less n = omega arith
 
 arrange-returns : (t : ℕ) → arrange-lts.Need-returns (callees t) (arrange-at t) arrange.Post
-arrange-returns t c = none-arranged (c .before .before .before .before .before .pre .1 .1) (c .if1 .taken)
+arrange-returns t c = none-arranged (called t (c .before .before) .pre .1 .1) (c .if1 .taken)
 
 arrange-first-size-requires : (t : ℕ) → arrange-lts.Need-first-size-requires (callees t) (arrange-at t) arrange.Post
 arrange-first-size-requires t c κs =
-    let a = c .before .before .before .before .before .before .before in
+    let a = called-some t (c .before .before) in
     first-sized (a .pre .1 .0) (a .args .at .now) (omega arith) (a .pre .1 .1)
 
 arrange-same-length : (t : ℕ) → arrange-lts.Need-same-length (callees t) (arrange-at t) arrange.Post
@@ -58,12 +103,12 @@ arrange-same-length t c = refl
 
 arrange-returns-2 : (t : ℕ) → arrange-lts.Need-returns-2 (callees t) (arrange-at t) arrange.Post
 arrange-returns-2 t c =
-    let a = c .before .before .before .before .before .before .before .before in
+    let a = called-some t (c .before .before .before) in
     one-arranged (a .pre .1 .1) (a .pre .1 .0) (c .before .before .if2 .taken) (c .first-size .ensures)
 
 arrange-arrange-requires : (t : ℕ) → arrange-lts.Need-arrange-requires (callees t) (arrange-at t) arrange.Post
 arrange-arrange-requires t c κs =
-    let a = c .before .before .before .before .before .before .before .before in
+    let a = called-more t c in
     (omega (arith, a .pre .0), (a .pre .1 .0, half-stands (a .args .at .now) (a .pre .1 .1) (half-less (a .args .k)), a .pre .1 .2))
 
 first-within : (t : ℕ) (f : First t) → f .arrange .result ≤ length (f .arrange .last .1 .1 .1 .0)
@@ -82,7 +127,8 @@ both-within : (t : ℕ) (g : Second t) →
 both-within t g =
     let f = halved t g in
     let a = began t f in
-    halves-within (a .args .at .now) (a .pre .1 .1) (half-less (a .args .k)) (f .arrange .last .1 .1 .1 .0) (f .arrange .ensures .0) (f .arrange .ensures .1) (g .arrange2 .last .1 .1 .1 .0) (g .arrange2 .ensures .0) (g .arrange2 .ensures .1)
+    halves-within (a .args .at .now) (a .pre .1 .1) (half-less (a .args .k)) (f .arrange .last .1 .1 .1 .0) (f .arrange .ensures .0) (f .arrange .ensures .1)
+    (g .arrange2 .last .1 .1 .1 .0) (g .arrange2 .ensures .0) (g .arrange2 .ensures .1)
 
 -- no table gets longer or shorter
 
@@ -111,13 +157,13 @@ joined-length t g =
     same-len-mid middle (length at - middle) at (g .arrange2 .last .1 .1 .1 .0) (g .arrange2 .kept .1 .1 .1 .0)
 
 arrange-mul-arrange : (t : ℕ) → arrange-lts.Need-mul-arrange (callees t) (arrange-at t) arrange.Post
-arrange-mul-arrange t c = omega (arith, first-within t (c .before .before .before .before))
+arrange-mul-arrange t c = omega (arith, first-within t (tables-back t c))
 
 arrange-sub-arrange : (t : ℕ) → arrange-lts.Need-sub-arrange (callees t) (arrange-at t) arrange.Post
-arrange-sub-arrange t c = omega (arith, first-within t (c .before .before .before .before))
+arrange-sub-arrange t c = omega (arith, first-within t (tables-back t c))
 
 arrange-part-arrange-start : (t : ℕ) → arrange-lts.Need-part-arrange-start (callees t) (arrange-at t) arrange.Post
-arrange-part-arrange-start t c = omega (arith, first-within t (c .before .before .before .before))
+arrange-part-arrange-start t c = omega (arith, first-within t (tables-back t c))
 
 arrange-part-arrange-end : (t : ℕ) → arrange-lts.Need-part-arrange-end (callees t) (arrange-at t) arrange.Post
 arrange-part-arrange-end t c = omega arith
@@ -127,44 +173,56 @@ arrange-sub-arrange-2 t c = half-less _
 
 arrange-arrange-requires-2 : (t : ℕ) → arrange-lts.Need-arrange-requires-2 (callees t) (arrange-at t) arrange.Post
 arrange-arrange-requires-2 t c κs =
-    let f = c .before .before .before .before .before .before in
-    let a = began t f in
-    (omega (arith, a .pre .0, more-than-one t f), (a .pre .1 .0, lent-stands (a .args .at .now) (a .pre .1 .1) (half-less (a .args .k)) (f .arrange .last .1 .1 .1 .0) (f .arrange .ensures .0) (f .arrange .ensures .1), lent-length t f))
+    let f = tables-back t (c .before .before) in
+    let a = began t f in (
+      omega (arith, a .pre .0, more-than-one t f),
+      (
+        a .pre .1 .0,
+        lent-stands (a .args .at .now) (a .pre .1 .1) (half-less (a .args .k)) (f .arrange .last .1 .1 .1 .0) (f .arrange .ensures .0) (f .arrange .ensures .1),
+        lent-length t f,
+      ),
+    )
 
 arrange-sub-t18 : (t : ℕ) → arrange-lts.Need-sub-t18 (callees t) (arrange-at t) arrange.Post
 arrange-sub-t18 t c = half-less _
 
 arrange-merge-requires : (t : ℕ) → arrange-lts.Need-merge-requires (callees t) (arrange-at t) arrange.Post
 arrange-merge-requires t c κs =
-    let g = c .before .before .before .before .before .before in
+    let g = tables-back-2 t (c .before .before) in
     let f = halved t g in
-    let a = began t f in
-    (a .pre .1 .0, halves-ready (a .args .at .now) (a .pre .1 .1) (half-less (a .args .k)) (f .arrange .last .1 .1 .1 .0) (f .arrange .ensures .0) (f .arrange .ensures .1) (g .arrange2 .last .1 .1 .1 .0) (g .arrange2 .ensures .0) (g .arrange2 .ensures .1), refl, omega (arith, joined-length t g, table-length t f, spare-length t f, g .arrange2 .kept .1 .1 .1 .1 .0, a .pre .1 .2))
+    let a = began t f in (
+      a .pre .1 .0,
+      halves-ready (a .args .at .now) (a .pre .1 .1) (half-less (a .args .k)) (f .arrange .last .1 .1 .1 .0) (f .arrange .ensures .0) (f .arrange .ensures .1)
+          (g .arrange2 .last .1 .1 .1 .0) (g .arrange2 .ensures .0) (g .arrange2 .ensures .1),
+      refl,
+      omega (arith, joined-length t g, table-length t f, spare-length t f, g .arrange2 .kept .1 .1 .1 .1 .0, a .pre .1 .2),
+    )
 
 arrange-add-result : (t : ℕ) → arrange-lts.Need-add-result (callees t) (arrange-at t) arrange.Post
 arrange-add-result t c =
-    let g = c .before .before .before .before .before .before .before .before .before .before .before in
+    let g = both-halved t (merged t c) in
     omega (arith, both-within t g, joined-length t g, table-length t (halved t g), began t (halved t g) .good)
 
 arrange-same-length-2 : (t : ℕ) → arrange-lts.Need-same-length-2 (callees t) (arrange-at t) arrange.Post
 arrange-same-length-2 t c =
-    let m = c .before .before .before .before in
-    let g = m .before .before .before .before .before .before .before in
+    let m = merged t c in
+    let g = both-halved t m in
     m .merge .kept .1 .1 .1 .0 ∙ joined-length t g ∙ table-length t (halved t g)
 
 arrange-same-length-3 : (t : ℕ) → arrange-lts.Need-same-length-3 (callees t) (arrange-at t) arrange.Post
 arrange-same-length-3 t c =
-    let m = c .before .before .before .before in
-    let g = m .before .before .before .before .before .before .before in
+    let m = merged t c in
+    let g = both-halved t m in
     m .merge .kept .1 .1 .1 .1 .0 ∙ g .arrange2 .kept .1 .1 .1 .1 .0 ∙ spare-length t (halved t g)
 
 arrange-returns-3 : (t : ℕ) → arrange-lts.Need-returns-3 (callees t) (arrange-at t) arrange.Post
 arrange-returns-3 t c =
-    let m = c .before .before .before .before in
-    let g = m .before .before .before .before .before .before .before in
+    let m = merged t c in
+    let g = both-halved t m in
     let f = halved t g in
     let a = began t f in
-    halves-merged (a .args .at .now) (a .pre .1 .1) (half-less (a .args .k)) (f .arrange .last .1 .1 .1 .0) (f .arrange .ensures .0) (f .arrange .ensures .1) (g .arrange2 .last .1 .1 .1 .0) (g .arrange2 .ensures .0) (g .arrange2 .ensures .1) (m .merge .last .1 .1 .1 .0) (m .merge .ensures)
+    halves-merged (a .args .at .now) (a .pre .1 .1) (half-less (a .args .k)) (f .arrange .last .1 .1 .1 .0) (f .arrange .ensures .0) (f .arrange .ensures .1)
+    (g .arrange2 .last .1 .1 .1 .0) (g .arrange2 .ensures .0) (g .arrange2 .ensures .1) (m .merge .last .1 .1 .1 .0) (m .merge .ensures)
 
 pub +arrange-spec : {M : Type 1} → statement M
 +arrange-spec = close μ-arrange λ t. arrange-lts.spec (callees t)

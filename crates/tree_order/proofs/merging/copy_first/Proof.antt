@@ -9,9 +9,21 @@ use borrow.Author.Needs.{needs}
 use Rattle.tree_order.proofs.merging.copy_first.Statement.{statement}
 use Rattle.tree_order.proofs.merging.copy_first.Tie as tie
 
-counted : (c : tie.After-copy-entries-arg) → c .before .first-size .result ≡ length (take (c .before .first-size .result) (c .before .before .before .before .before .args .at .now))
+abbrev entered : tie.After-copy-entries-arg → tie.After-slice-known
+entered c = c .before .before
+
+abbrev start : tie.After-copy-entries-arg → tie.Start
+start c = entered c .before .before .before
+
+abbrev after-first-size : tie.After-copy-entries-arg → tie.After-first-size
+after-first-size c = c .before
+
+abbrev after-copy-entries-arg : tie.After-spare → tie.After-copy-entries-arg
+after-copy-entries-arg c = c .before .before .before
+
+counted : (c : tie.After-copy-entries-arg) → c .before .first-size .result ≡ length (take (c .before .first-size .result) (start c .args .at .now))
 counted c =
-    let a = c .before .before .before .before .before in
+    let a = start c in
     sym (length-take-le (c .before .first-size .result) (a .args .at .now) (omega (arith, a .pre .1, c .before .first-size .ensures)))
 
 first-size-requires : tie.Need-first-size-requires
@@ -22,7 +34,7 @@ slice-aggregate-copy-entries c = counted c
 
 copy-entries-requires : tie.Need-copy-entries-requires
 copy-entries-requires c κs =
-    let a = c .before .before .before .before .before .before in
+    let a = start (c .before) in
     omega (arith, a .pre .2, c .before .before .first-size .ensures, counted (c .before))
 
 same-length : tie.Need-same-length
@@ -30,11 +42,13 @@ same-length c = search needs
 
 returns : tie.Need-returns
 returns c =
-    let a = c .before .before .before .before .before .before .before .before .before in (
-      c .before .before .before .before .before .first-size .ensures,
+    let at-copy-entries-arg = after-copy-entries-arg (c .before) in
+    let at-first-size = after-first-size at-copy-entries-arg in
+    let a = start at-copy-entries-arg in (
+      at-first-size .first-size .ensures,
       c .before .before .copy-entries .ensures ∙
-          ap (λ n. take (a .args .to) (a .args .spare .now) ++ take (c .before .before .before .before .before .first-size .result) (a .args .at .now) ++ drop (a .args .to + n) (a .args .spare .now))
-          (sym (counted (c .before .before .before .before))),
+          ap (λ n. take (a .args .to) (a .args .spare .now) ++ take (at-first-size .first-size .result) (a .args .at .now) ++ drop (a .args .to + n) (a .args .spare .now))
+          (sym (counted at-copy-entries-arg)),
     )
 
 pub copy-first-spec : {M : Type 1} → statement M

@@ -11,22 +11,28 @@ use Rattle.tree_order.proofs.MergeTurn.{starts-within, left-alone, left
 use Rattle.tree_order.proofs.merging.takes_left.Statement.{statement}
 use Rattle.tree_order.proofs.merging.takes_left.Tie as tie
 
+abbrev start : tie.After-shared-slice-known3 → tie.Start
+start c = c .before .before .before
+
+abbrev entered : tie.After-in-order-arg → tie.After-shared-slice-known3
+entered c = c .before .before .before
+
 returns : tie.Need-returns
 returns c =
-    let a = c .before .before .before .before .before in
+    let a = start (c .before .before) in
     left-alone (a .pre .0) (a .args .at .now) (a .args .m) (a .pre .1) (a .pre .2) (c .if1 .taken)
 
-left-within : (c : tie.Else1) → c .before .before .before .before .before .args .m .left < length (c .before .before .before .before .before .args .at .now)
+left-within : (c : tie.Else1) → start (c .before .before) .args .m .left < length (start (c .before .before) .args .at .now)
 left-within c =
-    let a = c .before .before .before .before .before in
+    let a = start (c .before .before) in
     starts-within (a .pre .0) (a .args .at .now) (a .args .m .left) (a .pre .2) (a .pre .1 .left-stands)
 
-some-right : (c : tie.Else1) → 0 < c .before .before .before .before .before .args .m .rights
+some-right : (c : tie.Else1) → 0 < start (c .before .before) .args .m .rights
 some-right c = omega arith
 
-right-within : (c : tie.Else1) → c .before .before .before .before .before .args .m .right < length (c .before .before .before .before .before .args .at .now)
+right-within : (c : tie.Else1) → start (c .before .before) .args .m .right < length (start (c .before .before) .args .at .now)
 right-within c =
-    let a = c .before .before .before .before .before in
+    let a = start (c .before .before) in
     starts-within (a .pre .0) (a .args .at .now) (a .args .m .right) (some-right c) (a .pre .1 .right-stands)
 
 mul-in-order : tie.Need-mul-in-order
@@ -55,7 +61,7 @@ part-in-order-end-2 c = omega arith
 
 in-order-requires : tie.Need-in-order-requires
 in-order-requires c κs =
-    let a = c .before .before .before .before .before .before .before in
+    let a = start (entered (c .before)) in
     let holds : List ℕ → Type 0 = λ l. Stands (a .args .s) (a .args .b .now) (a .args .ends .now) l 1 in (
       a .pre .0,
       subst holds (sym (suffix (a .args .at .now) (a .args .m .left))) (fewer (a .pre .2) (a .pre .1 .left-stands)),
@@ -64,7 +70,7 @@ in-order-requires c κs =
 
 returns-2 : tie.Need-returns-2
 returns-2 c =
-    let a = c .before .before .before .before .before .before .before .before in
+    let a = start (entered (c .before .before)) in
     left-compared (a .pre .0) (a .args .at .now) (a .args .m) (a .pre .1) (a .pre .2) (some-right (c .before .before .before))
     (c .in-order .ensures ∙
     ap₂ (λ x y. leads (root (standing (a .args .s) (a .args .b .now) x)) (root (standing (a .args .s) (a .args .b .now) y)))

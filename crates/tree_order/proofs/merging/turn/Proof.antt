@@ -14,11 +14,26 @@ use borrow.Author.Needs.{needs}
 use Rattle.tree_order.proofs.merging.turn.Statement.{statement}
 use Rattle.tree_order.proofs.merging.turn.Tie as tie
 
+abbrev start : tie.After-shared-slice-known3 → tie.Start
+start c = c .before .before .before
+
+abbrev else-1 : tie.After-copy-first2 → tie.Else1
+else-1 c = c .before .before .before
+
+abbrev then-1 : tie.After-copy-first → tie.Then1
+then-1 c = c .before .before .before
+
+abbrev after-copy-first : tie.After-struct-known → tie.After-copy-first
+after-copy-first c = c .before .before .before
+
+abbrev after-copy-first2 : tie.After-struct-known3 → tie.After-copy-first2
+after-copy-first2 c = c .before .before .before
+
 abbrev before-left : tie.Then1 → tie.Start
-before-left c = c .before .before .before .before .before .before
+before-left c = start (c .before .before .before)
 
 abbrev before-right : tie.Else1 → tie.Start
-before-right c = c .before .before .before .before .before .before
+before-right c = start (c .before .before .before)
 
 left-stays : (c : tie.Then1) → before-left c .args .m .left < length (before-left c .args .at .now)
 left-stays c =
@@ -66,22 +81,22 @@ right-room c e =
     room-right (a .pre .0) (a .args .at .now) (a .args .m) (a .pre .1) (a .pre .2) (a .args .spare .now) (a .pre .3) (right-next c e)
 
 left-size : (c : tie.After-copy-first) → c .copy-first .result ≡
-    first-size (before-left (c .before .before .before) .args .ends .now)
-    (drop (before-left (c .before .before .before) .args .m .left) (before-left (c .before .before .before) .args .at .now))
+    first-size (before-left (then-1 c) .args .ends .now)
+    (drop (before-left (then-1 c) .args .m .left) (before-left (then-1 c) .args .at .now))
 left-size c =
-    let a = before-left (c .before .before .before) .args in
+    let a = before-left (then-1 c) .args in
     c .copy-first .ensures .0 ∙ ap (first-size (a .ends .now)) (suffix (a .at .now) (a .m .left))
 
 right-size : (c : tie.After-copy-first2) → c .copy-first2 .result ≡
-    first-size (before-right (c .before .before .before) .args .ends .now)
-    (drop (before-right (c .before .before .before) .args .m .right) (before-right (c .before .before .before) .args .at .now))
+    first-size (before-right (else-1 c) .args .ends .now)
+    (drop (before-right (else-1 c) .args .m .right) (before-right (else-1 c) .args .at .now))
 right-size c =
-    let a = before-right (c .before .before .before) .args in
+    let a = before-right (else-1 c) .args in
     c .copy-first2 .ensures .0 ∙ ap (first-size (a .ends .now)) (suffix (a .at .now) (a .m .right))
 
 takes-left-requires : tie.Need-takes-left-requires
 takes-left-requires c κs =
-    let a = c .before .before .before .before in
+    let a = start (c .before) in
     (a .pre .0, a .pre .1, a .pre .2)
 
 mul-copy-first : tie.Need-mul-copy-first
@@ -103,21 +118,21 @@ copy-first-requires c κs =
     (left-room (c .before .before) refl)
 
 add-t13 : tie.Need-add-t13
-add-t13 c = omega (arith, left-next (c .before .before .before .before .before) (left-size (c .before .before)) .is-within)
+add-t13 c = omega (arith, left-next (then-1 (c .before .before)) (left-size (c .before .before)) .is-within)
 
 sub-t15 : tie.Need-sub-t15
-sub-t15 c = omega (arith, before-left (c .before .before .before .before .before .before) .pre .2)
+sub-t15 c = omega (arith, before-left (then-1 (after-copy-first c)) .pre .2)
 
 add-t20 : tie.Need-add-t20
-add-t20 c = omega (arith, left-room (c .before .before .before .before .before .before .before) (left-size (c .before .before .before .before)))
+add-t20 c = omega (arith, left-room (then-1 (after-copy-first (c .before))) (left-size (after-copy-first (c .before))))
 
 same-length : tie.Need-same-length
 same-length c = search needs
 
 returns : tie.Need-returns
 returns c =
-    let moved = c .before .before .before .before in
-    let chosen = moved .before .before .before in
+    let moved = after-copy-first (c .before) in
+    let chosen = then-1 moved in
     let a = before-left chosen in
     let n = moved .copy-first .result in
     turned-left (a .pre .0) (a .args .at .now) (a .args .m) (a .pre .1) (a .pre .2) (a .args .spare .now) (moved .copy-first .last .1 .1 .0) (a .pre .3)
@@ -145,21 +160,21 @@ copy-first-requires-2 c κs =
     (right-room (c .before .before) refl)
 
 add-t21 : tie.Need-add-t21
-add-t21 c = omega (arith, right-next (c .before .before .before .before .before) (right-size (c .before .before)) .is-within)
+add-t21 c = omega (arith, right-next (else-1 (c .before .before)) (right-size (c .before .before)) .is-within)
 
 sub-t23 : tie.Need-sub-t23
-sub-t23 c = omega (arith, right-some (c .before .before .before .before .before .before))
+sub-t23 c = omega (arith, right-some (else-1 (after-copy-first2 c)))
 
 add-t28 : tie.Need-add-t28
-add-t28 c = omega (arith, right-room (c .before .before .before .before .before .before .before) (right-size (c .before .before .before .before)))
+add-t28 c = omega (arith, right-room (else-1 (after-copy-first2 (c .before))) (right-size (after-copy-first2 (c .before))))
 
 same-length-2 : tie.Need-same-length-2
 same-length-2 c = search needs
 
 returns-2 : tie.Need-returns-2
 returns-2 c =
-    let moved = c .before .before .before .before in
-    let chosen = moved .before .before .before in
+    let moved = after-copy-first2 (c .before) in
+    let chosen = else-1 moved in
     let a = before-right chosen in
     let n = moved .copy-first2 .result in
     turned-right (a .pre .0) (a .args .at .now) (a .args .m) (a .pre .1) (a .pre .2) (a .args .spare .now) (moved .copy-first2 .last .1 .1 .0) (a .pre .3)
