@@ -15,6 +15,21 @@ use borrow.Author.Needs.{needs}
 use Rattle.renaming.proofs.numbers.fill_tables.Statement.{statement}
 use Rattle.renaming.proofs.numbers.fill_tables.Tie as tie
 
+abbrev entered : tie.After-fill-used → tie.After-slice-known
+entered c = c .before .before
+
+abbrev start : tie.After-fill-used → tie.Start
+start c = entered c .before .before .before
+
+abbrev after-fill-used : tie.After-fill-both → tie.After-fill-used
+after-fill-used c = c .before .before .before
+
+abbrev after-fill-both : tie.After-used3 → tie.After-fill-both
+after-fill-both c = c .before .before .before
+
+abbrev after-used3 : tie.After-tables2 → tie.After-used3
+after-used3 c = c .before .before .before
+
 slice-aggregate-fill-used : tie.Need-slice-aggregate-fill-used
 slice-aggregate-fill-used c = search needs
 
@@ -38,10 +53,19 @@ part-rename-all-end c = search needs
 
 rename-all-requires : tie.Need-rename-all-requires
 rename-all-requires c κs =
-    let a = c .before .before .before .before .before .before .before .before .before .before .before .before in
+    let at-fill-both = after-fill-both (c .before) in
+    let at-fill-used = after-fill-used at-fill-both in
+    let a = start at-fill-used in
     let x = a .args .x in (
-      (a .pre .0 .0, a .pre .0 .1, a .pre .0 .2, c .before .before .before .before .before .before .before .fill-used .ensures .words, a .pre .0 .3, ap length (second-lent (putting x false) (putting x true) (c .before .before .before .before .fill-both .ensures) (length-putting x false)) ∙ length-putting x true),
-      omega (arith, a .pre .1, ap length (free-unused (c .before .before .before .before .before .before .before .fill-used .ensures) (a .args .highest) 1)),
+      (
+        a .pre .0 .0,
+        a .pre .0 .1,
+        a .pre .0 .2,
+        at-fill-used .fill-used .ensures .words,
+        a .pre .0 .3,
+        ap length (second-lent (putting x false) (putting x true) (at-fill-both .fill-both .ensures) (length-putting x false)) ∙ length-putting x true,
+      ),
+      omega (arith, a .pre .1, ap length (free-unused (at-fill-used .fill-used .ensures) (a .args .highest) 1)),
     )
 
 same-length : tie.Need-same-length
@@ -49,13 +73,16 @@ same-length c = search needs
 
 returns : tie.Need-returns
 returns c =
-    let a = c .before .before .before .before .before .before .before .before .before .before .before .before .before .before .before in
+    let at-used3 = after-used3 (c .before) in
+    let at-fill-both = after-fill-both at-used3 in
+    let at-fill-used = after-fill-used at-fill-both in
+    let a = start at-fill-used in
     let x = a .args .x in
-    second-back (putting x false) (putting x true) (c .before .before .before .before .before .before .before .fill-both .ensures) (length-putting x false) _ ∙
+    second-back (putting x false) (putting x true) (at-fill-both .fill-both .ensures) (length-putting x false) _ ∙
     ap (λ l. putting x false ++ l)
     (c .before .before .rename-all .ensures ∙
-    ap₂ (renumbered (those (holds (a .args .set .now)) (prefix-in (a .args .s) (a .args .b .now)))) (free-unused (c .before .before .before .before .before .before .before .before .before .before .fill-used .ensures) (a .args .highest) 1)
-    (second-lent (putting x false) (putting x true) (c .before .before .before .before .before .before .before .fill-both .ensures) (length-putting x false)))
+    ap₂ (renumbered (those (holds (a .args .set .now)) (prefix-in (a .args .s) (a .args .b .now)))) (free-unused (at-fill-used .fill-used .ensures) (a .args .highest) 1)
+    (second-lent (putting x false) (putting x true) (at-fill-both .fill-both .ensures) (length-putting x false)))
 
 pub fill-tables-spec : {M : Type 1} → statement M
 fill-tables-spec =

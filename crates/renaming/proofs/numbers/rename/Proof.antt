@@ -9,12 +9,18 @@ use borrow.Author.Needs.{needs}
 use Rattle.renaming.proofs.numbers.rename.Statement.{statement}
 use Rattle.renaming.proofs.numbers.rename.Tie as tie
 
+abbrev entered : tie.After-holds → tie.After-slice-known
+entered c = c .before
+
+abbrev start : tie.After-holds → tie.Start
+start c = entered c .before .before .before
+
 holds-requires : tie.Need-holds-requires
 holds-requires c κs = search needs
 
 returns : tie.Need-returns
 returns c =
-    let a = c .before .before .before .before .before in
+    let a = start (c .before) in
     renamed-not (a .args .set .now) (a .args .used .now) (a .args .highest) (a .args .from) (a .args .v) (a .args .table .now) (a .pre .0 .3)
     (sym (c .before .holds .ensures) ∙ not-true (c .before .holds .result) (c .if1 .taken))
 
@@ -38,7 +44,7 @@ same-length c = search needs
 
 returns-2 : tie.Need-returns-2
 returns-2 c =
-    let a = c .before .before .before .before .before .before in
+    let a = start (c .before .before) in
     let member : holds (a .args .set .now) (a .args .v) ≡ true = sym (c .before .before .holds .ensures) ∙ not-false (c .before .before .holds .result) (c .before .if1 .left) in
     renamed-member (a .args .set .now) (a .args .used .now) (a .args .highest) (a .args .from) (a .args .v) (a .args .table .now) member
     (c .next-unused .ensures) (found-within (a .args .used .now) (a .args .highest) (c .next-unused .ensures) (a .pre .1 .1 member)) (omega arith)
