@@ -63,7 +63,8 @@ module _ (t : Bytes) {from end : ℕ} (found : HeaderAt t from) (e : end ≡ fro
 pub unread-lent : (at : ℕ) (t : Bytes) → take (length t - at) (drop at t) ≡ drop at t
 unread-lent at t = take-all (length t - at) (drop at t) (omega (arith, length-drop at t))
 
-pub headed-from : (t : Bytes) (at : ℕ) {h : Header} {to : ℕ} → at ≤ length t → Headed-at (take (length t - at) (drop at t)) 0 (record { header = h; to = to }) → Headed-at t at (record { header = h; to = at + to })
+pub headed-from : (t : Bytes) (at : ℕ) {h : Header} {to : ℕ} → at ≤ length t → Headed-at (take (length t - at) (drop at t)) 0 (record { header = h; to = to }) →
+    Headed-at t at (record { header = h; to = at + to })
 headed-from t at {h} {to} within lent =
     let from = subst (λ (b : Bytes). Headed-at b 0 (record { header = h; to = to })) (unread-lent at t) lent in
     record {

@@ -40,5 +40,6 @@ module _ (α : NamedLft) where
     pub lent : (d : Reader) → ent 𝓤 (sem 𝓤 H A (Held d)) (sep 𝓤 (sem 𝓤 H A (Text (d .text))) (sem 𝓤 H A (Held d)))
     lent d =
         qed W (‵ (Held d) ∷ []) ∵ use1 W (‵ (Held d) ⊛ ‵ (Held d)) (LL.copy (T.the-type α) (T′.the-copy α) 𝓤 H A W .twice d (T′.lowered d ∷ [])) $ split ! $
-        use1 W (given (T′.lowered d ∷ [] ≡ T′.lowered d ∷ []) (‵ (all-own (T.the-type α .parts) (T′.the-laws α) (d .text, (d .at, tt))))) (own-open 𝓤 H A W (T.the-type α) (T′.the-laws α) (d .text, (d .at, tt)) (T′.lowered d)) $
+        use1 W (given (T′.lowered d ∷ [] ≡ T′.lowered d ∷ []) (‵ (all-own (T.the-type α .parts) (T′.the-laws α) (d .text, (d .at, tt)))))
+        (own-open 𝓤 H A W (T.the-type α) (T′.the-laws α) (d .text, (d .at, tt)) (T′.lowered d)) $
         learn ! (λ _. fsplit ! $ move ! (1 ∷ []) $ drop ! $ frame ! $ done !)

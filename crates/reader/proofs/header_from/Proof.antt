@@ -4,6 +4,9 @@ use Rattle.reader.proofs.Heading.{headed-from}
 use Rattle.reader.proofs.header_from.Statement.{statement}
 use Rattle.reader.proofs.header_from.Tie as tie
 
+abbrev start : tie.After-header-of → tie.Start
+start c = c .before .before .before
+
 sub-header-of : tie.Need-sub-header-of
 sub-header-of c = search needs
 
@@ -21,7 +24,7 @@ add-to c = search needs
 
 returns : tie.Need-returns
 returns c =
-    let a = c .before .before .before .before .before in headed-from (a .args .text .now) (a .args .at) (a .pre) (c .before .before .header-of .ensures)
+    let a = start (c .before .before) in headed-from (a .args .text .now) (a .args .at) (a .pre) (c .before .before .header-of .ensures)
 
 pub header-from-spec : {M : Type 1} → statement M
 header-from-spec = tie.close (tie.spec sub-header-of part-header-of-start part-header-of-end header-of-requires add-to returns)

@@ -120,7 +120,8 @@ module _ {M : Type 1} (𝓤 : URA M) (H : Heap 𝓤) (A : Atoms 𝓤) (W : Given
         use1 W (raw (Heads 𝓤 H A at-mem run .pre to-from) ⊛ ‵ (Held α d)) (from-goes (typed .1 .1 .0 .fits) within) $
         split ! $
         calls-at ! fm (Heads 𝓤 H A at-mem run) known to-from (and-then ! (load ! (from ! (stop !)) (look ! 4 refl)) (and-then ! (load ! (from ! (stop !)) (look ! 2 refl)) (no-more !))) (λ w.
-        use1 W (later (some (λ (h : Headed). ((‵ (flft κ q) ⊛ ‵ ftrue) ⊛ ‵ (K.the-row .own h (w ∷ []))) ⊛ raw (ensured 𝓤 H A header-from.ended (header-from.clauses 𝓤 H A at-mem run) (κ, tt) (d .text, (d .at, tt)) tt h)))) (id⊢ 𝓤 _) $ await ! tt $ pick ! (λ h.
+        use1 W (later (some (λ (h : Headed). ((‵ (flft κ q) ⊛ ‵ ftrue) ⊛ ‵ (K.the-row .own h (w ∷ []))) ⊛
+        raw (ensured 𝓤 H A header-from.ended (header-from.clauses 𝓤 H A at-mem run) (κ, tt) (d .text, (d .at, tt)) tt h)))) (id⊢ 𝓤 _) $ await ! tt $ pick ! (λ h.
         split ! $
         move ! (1 ∷ []) $
         use1 W (raw (fact 𝓤 (Said h))) (from-told h) $
@@ -146,7 +147,8 @@ module _ {M : Type 1} (𝓤 : URA M) (H : Heap 𝓤) (A : Atoms 𝓤) (W : Given
         free0 ! $
         by ! (exits h w headed)))))))))
 
-module _ {M : Type 1} (𝓤 : URA M) (H : Heap 𝓤) (A : Atoms 𝓤) (W : Given 𝓤 H A) (at-mem : Memory → SProp 𝓤) (run : Routine → Fun 𝓤) (𝓣 : Tables 𝓤 H) (known : Triple 𝓤 (𝓣 .C #reader·header-from) (Heads 𝓤 H A at-mem run)) where
+module _ {M : Type 1} (𝓤 : URA M) (H : Heap 𝓤) (A : Atoms 𝓤) (W : Given 𝓤 H A) (at-mem : Memory → SProp 𝓤) (run : Routine → Fun 𝓤) (𝓣 : Tables 𝓤 H)
+    (known : Triple 𝓤 (𝓣 .C #reader·header-from) (Heads 𝓤 H A at-mem run)) where
   walks : Walks 𝓤 H A here.ended stayed (WpFn 𝓤 H (𝓣 .C) (𝓣 .Λ) code.function) (here.clauses 𝓤 H A at-mem run)
   walks =
       walked 𝓤 H A here.ended stayed (here.clauses 𝓤 H A at-mem run) (WpFn 𝓤 H (𝓣 .C) (𝓣 .Λ) code.function)

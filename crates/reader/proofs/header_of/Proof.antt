@@ -4,6 +4,12 @@ use Rattle.reader.proofs.Heading.{end-inside, headed}
 use Rattle.reader.proofs.header_of.Statement.{statement}
 use Rattle.reader.proofs.header_of.Tie as tie
 
+abbrev start : tie.After-header-line → tie.Start
+start c = c .before .before
+
+abbrev after-header-line : tie.After-read-header → tie.After-header-line
+after-header-line c = c .before .before .before
+
 header-line-requires : tie.Need-header-line-requires
 header-line-requires c κs = search needs
 
@@ -17,7 +23,7 @@ part-read-header-start : tie.Need-part-read-header-start
 part-read-header-start c = search needs
 
 part-read-header-end : tie.Need-part-read-header-end
-part-read-header-end c = end-inside (c .before .before .before .args .text .now) (c .before .header-line .ensures) (c .end-of .ensures)
+part-read-header-end c = end-inside (start (c .before) .args .text .now) (c .before .header-line .ensures) (c .end-of .ensures)
 
 read-header-requires : tie.Need-read-header-requires
 read-header-requires c κs = search needs
@@ -27,7 +33,9 @@ next-line-requires c κs = search needs
 
 returns : tie.Need-returns
 returns c =
-    headed (c .before .before .before .before .before .before .args .text .now) (c .before .before .before .before .header-line .ensures) (c .before .before .before .end-of .ensures) (c .before .read-header .ensures)
+    let at-header-line = after-header-line (c .before) in
+    headed (start at-header-line .args .text .now) (at-header-line .header-line .ensures)
+    (c .before .before .before .end-of .ensures) (c .before .read-header .ensures)
     (c .next-line .ensures)
 
 pub header-of-spec : {M : Type 1} → statement M

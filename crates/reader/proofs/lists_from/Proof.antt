@@ -12,9 +12,12 @@ use Rattle.reader.proofs.Listing.{malformed, crowded, listed-from}
 use Rattle.reader.proofs.lists_from.Statement.{statement}
 use Rattle.reader.proofs.lists_from.Tie as tie
 
+abbrev called : tie.After-struct-known → tie.Start
+called c = c .before .before .before
+
 returns : tie.Need-returns
 returns c =
-    let a = c .before .before .before .before .args in
+    let a = called (c .before) .args in
     malformed (a .f) (a .h) (drop (a .at) (a .text .now)) (a .out .now) (not-true _ (c .if1 .taken))
 
 most-variables-requires : tie.Need-most-variables-requires
@@ -22,7 +25,7 @@ most-variables-requires c κs = tt
 
 -- the header is well formed
 abbrev start : tie.After-most-variables → tie.Start
-start c = c .before .before .before .before .before
+start c = called (c .before .before)
 
 formed : (c : tie.After-most-variables) → start c .args .h .«well_formed» ≡ true
 formed c = not-false _ (c .before .if1 .left)

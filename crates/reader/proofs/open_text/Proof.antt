@@ -41,7 +41,8 @@ use Rattle.reader.proofs.open_text.Code as code
 abbrev stayed : Stays (here.ended .signature .params) (here.ended .kept)
 stayed = (stay-none-slice (0 ∷ []) tt (plain (λ _. u8)) yes, tt)
 
-module _ {M : Type 1} (𝓤 : URA M) (H : Heap 𝓤) (A : Atoms 𝓤) (W : Given 𝓤 H A) (at-mem : Memory → SProp 𝓤) (run : Routine → Fun 𝓤) (κ : Lft) (q : Share) (x : RefT (List ℕ)) (room : Room u8 (length (x .now))) where
+module _ {M : Type 1} (𝓤 : URA M) (H : Heap 𝓤) (A : Atoms 𝓤) (W : Given 𝓤 H A) (at-mem : Memory → SProp 𝓤) (run : Routine → Fun 𝓤) (κ : Lft) (q : Share) (x : RefT (List ℕ))
+    (room : Room u8 (length (x .now))) where
   abbrev α : NamedLft
   α = namedLft 1 0 tt (κ, tt)
 
@@ -75,7 +76,8 @@ module _ {M : Type 1} (𝓤 : URA M) (H : Heap 𝓤) (A : Atoms 𝓤) (W : Given
         pass1 ! (init ! 0 refl (tt, (tt, (record { fits = room .0 }, tt)))) $
         pass0 ! $
         -- [_1 text; …; _0; …; the token; what text owns]
-        assigns ! (agg ! (and-then ! (load ! (from ! (stop !)) (look ! 0 refl)) (and-then ! (lit ! tt) (no-more !)))) (from ! (stop !)) (init ! 2 refl (tt, ((tt, (record { fits = room .0 }, tt)), (record { fits = lit< tt }, tt)))) $
+        assigns ! (agg ! (and-then ! (load ! (from ! (stop !)) (look ! 0 refl)) (and-then ! (lit ! tt) (no-more !)))) (from ! (stop !))
+        (init ! 2 refl (tt, ((tt, (record { fits = room .0 }, tt)), (record { fits = lit< tt }, tt)))) $
         returns ! (look ! 2 refl) $
         forget ! 2 refl $
         forget ! 0 refl $
