@@ -106,12 +106,13 @@ uint64_t plumanchor_execute_wide(const uint8_t *sheet, size_t length, size_t x, 
 uint64_t plumanchor_solve_wide(const uint8_t *sheet, size_t length, uint8_t *first, size_t first_room, uint8_t *second,
                                size_t second_room);
 
-/* Carrying over: the narrow sheet's rows as a wide sheet, to the front of the output, zeros behind it. Accepted: the wide sheet's length
- * in HIGH. Refused, with 13 for an output shorter than the wide sheet: no byte of the output changes. The two may not overlap. */
+/* Conversion to the wide format: the narrow sheet's rows as a wide sheet, to the front of the output, zeros behind it. Accepted: the wide
+ * sheet's length in HIGH. Refused, with 13 for an output shorter than the wide sheet: no byte of the output changes. The two may not
+ * overlap. */
 uint64_t plumanchor_widen(const uint8_t *sheet, size_t length, uint8_t *output, size_t room);
 
-/* Bringing back: the wide sheet's rows as a narrow sheet, in the same way. 24 if a size or a variable's number is above the narrow
- * limits, before 13. */
+/* Conversion to the narrow format: the wide sheet's rows as a narrow sheet, in the same way. 24 if a size or a variable's number is above
+ * the narrow limits, before 13. */
 uint64_t plumanchor_narrow(const uint8_t *sheet, size_t length, uint8_t *output, size_t room);
 
 /* Force: with values for the first variables of the prefix, a byte each, whose turn is next and with which of 0 and 1 its owner forces

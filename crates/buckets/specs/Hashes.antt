@@ -5,7 +5,7 @@ use mathlib.Core.Bool.{Bool, true, false}
 use Prim.Native.Nat.{ℕ, _+_, _*_, _%_}
 use Rattle.formula.specs.Tree.{Op, and, or, Tree, lit, node, Forest, ∅, _▸_}
 
--- a literal's: the sign in the lowest bit
+-- a literal's hash: the sign is its lowest bit
 abbrev pub literal-mix : ℕ → ℕ → ℕ
 literal-mix sign v = v % 32768 * 2 + sign
 
@@ -13,7 +13,7 @@ abbrev pub sign : Bool → ℕ
 sign true = 1
 sign false = 0
 
--- an operator's: its kind, and then its children from left to right
+-- an operator's hash: its kind, then its children's hashes from left to right
 abbrev pub operator-mix : Op → ℕ
 operator-mix and = 5
 operator-mix or = 6

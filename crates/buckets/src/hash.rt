@@ -11,7 +11,7 @@ pub fn literal_hash(sign: usize, x: usize) -> usize
     x % 32768 * 2 + sign
 }
 
-// The hash of an operator so far, `h`, with one more child's.
+// The hash `h` of an operator over its first children, with the hash `p` of one more child mixed in.
 pub fn mixed(h: usize, p: usize) -> usize
     requires { ⌜ (h < 65536) × (p < 65536) ⌝ }
     ensures { λ r. ⌜ (r ≡ mix h p) × (r < 65536) ⌝ }

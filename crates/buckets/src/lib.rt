@@ -1,6 +1,6 @@
-// Chains over members that are numbered in the order in which they came, so that those of one bucket are found without a walk over
-// the others. Tables may hold anything at first: an entry is taken only if the member that it names is there and falls into its
-// bucket. A member is a tree by its row and its hash, in one number; its bucket is read off the hash.
+// Chains of members: the members of one bucket are found without a walk over the others. A member is a tree, given by its row and its hash
+// in one number; members are numbered in the order in which they are added, and a member's hash gives its bucket. The tables may hold
+// anything at first: an entry is used only if the member that it names exists and is in that bucket.
 ghost use mathlib.Core.Path.{_≡_};
 ghost use Prim.Native.Nat.{_+_, _^_, _≤_, _<_};
 ghost use lib.ListN.{length, getD, set};
@@ -18,7 +18,7 @@ pub enum Link {
     Member(usize),
 }
 
-// A number of 16 bits, and one of 32.
+// A number of 16 bits as a `usize`, and below it one of 32.
 pub fn small(x: u16) -> usize
     ensures { λ r. ⌜ (r ≡ x) × (r < 2 ^ 16) ⌝ }
 {
@@ -31,7 +31,7 @@ pub fn large(x: u32) -> usize
     x as usize
 }
 
-// The link that a table's entry stands for: 0 for the end, else one more than the member's number.
+// The link that an entry of a table means: 0 is the end, any other number is one more than the member's number.
 pub fn link_of(entry: usize) -> Link
     ensures { λ l. ⌜ entry-of l ≡ entry ⌝ }
 {
@@ -41,7 +41,7 @@ pub fn link_of(entry: usize) -> Link
     Link::Member(entry - 1)
 }
 
-// A link's entry.
+// The entry that means a link.
 pub fn entry_of(l: Link) -> usize
     requires { ⌜ entry-of l < 65536 ⌝ }
     ensures { λ entry. ⌜ entry ≡ entry-of l ⌝ }
@@ -60,7 +60,7 @@ pub fn bucket_of(m: usize) -> usize
     m / 8 % BUCKETS
 }
 
-// The last of the first `n` members that falls into bucket `k`.
+// The last of the first `n` members that is in bucket `k`.
 pub fn first(heads: &[u16], members: &[u32], n: usize, k: usize) -> Link
     requires { ⌜ (k < length (now heads)) × (n ≤ length (now members)) × Head (now members) k n (getD (now heads) k 0) ⌝ }
     ensures { λ l. ⌜ l ≡ last (now (members .entry)) k n ⌝ }
@@ -77,7 +77,7 @@ pub fn first(heads: &[u16], members: &[u32], n: usize, k: usize) -> Link
     Link::Member(i)
 }
 
-// The last of those before member `i` that falls into its bucket.
+// The last member before member `i` that is in the same bucket.
 pub fn behind(links: &[u16], i: usize) -> Link
     requires { ⌜ i < length (now links) ⌝ }
     ensures { λ l. ⌜ entry-of l ≡ getD (now (links .entry)) i 0 ⌝ }

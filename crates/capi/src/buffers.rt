@@ -63,7 +63,8 @@ pub extern "C" fn plumanchor_compare_wide(
     compare(a, b, Format::Wide, first, second)
 }
 
-// Guards, with an output: refusal number and place; the initial run as Solve's; or the kept children's sheet by its length, and the count.
+// Guards, with an output: refusal number and place; the initial run's answer, as Solve's; or the length of the kept children's sheet and
+// the count.
 fn guards(sheet: &[u8], f: Format, out: &mut [u8], first: &mut [u8], second: &mut [u8]) -> u64
     ensures { λ r. ⌜ guards-left r out first second ≡ packed-guarding (guards-call (format-of f) (now (sheet .entry)) (now (out .entry)) (now (first .entry)) (now (second .entry))) ⌝ }
     ensures { λ r. ⌜ ToldGuards (format-of f) (now (sheet .entry)) r (now (out .exit)) ⌝ }

@@ -59,8 +59,8 @@ pub extern "C" fn plumanchor_trial_wide(sheet: &[u8]) -> u64
     trial(sheet, Format::Wide)
 }
 
-// How many kind bytes the subtree at `node` covers; they stand at 4 + V + node, of a wide sheet at 8 + V + node. 0 if the sheet or the
-// node is bad.
+// How many kind bytes the subtree at `node` covers, or 0 if the sheet or the node is bad. They begin at byte 4 + V + node of a narrow sheet
+// and at byte 8 + V + node of a wide one.
 fn part(sheet: &[u8], f: Format, node: usize) -> usize
     ensures { λ r. ⌜ r ≡ length (part-call (format-of f) (now (sheet .entry)) node) ⌝ }
     ensures { λ r. ⌜ part-call (format-of f) (now (sheet .entry)) node ≡ take r (drop (part-place (format-of f) (now (sheet .entry)) node) (now (sheet .entry))) ⌝ }

@@ -1,4 +1,4 @@
-// A stopped run carried over (N13), packed as Solve's answer is.
+// Resume ("Carry a stopped run over", N13). The answer is packed as Solve's.
 use packing::pack_solved;
 use resume::Counts;
 use rows::Format;
@@ -23,7 +23,7 @@ fn named_format(narrow: usize) -> Format
 }
 
 // Resume in two work buffers, from a wide sheet if `narrow` is 0, else from a narrow one: refusal number and place; or a word, the counts
-// and the variable stopped at. Of a count the lower 16 bits come back.
+// and the variable stopped at. Only the lower 16 bits of each count are returned.
 #[no_mangle]
 pub extern "C" fn plumanchor_resume(
     started: usize,

@@ -1,4 +1,4 @@
-// QDIMACS in (N1): refusal number and place, or the length of the sheet that a text says.
+// The reader of QDIMACS (N1): refusal number and place, or the length of the text's sheet.
 use packing::pack_written;
 use rows::Format;
 ghost use mathlib.Core.Path.{_≡_};

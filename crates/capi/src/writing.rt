@@ -154,7 +154,7 @@ pub extern "C" fn plumanchor_sort_wide(sheet: &[u8], out: &mut [u8]) -> u64
     sort(sheet, Format::Wide, out)
 }
 
-// Conversion over: the length is the wide sheet's.
+// Conversion to the wide format: the length is the wide sheet's.
 #[no_mangle]
 pub extern "C" fn plumanchor_widen(sheet: &[u8], out: &mut [u8]) -> u64
     ensures { λ r. ⌜ output-left r out ≡ packed-writing (to-wide-call (now (sheet .entry)) (now (out .entry))) ⌝ }
@@ -163,7 +163,7 @@ pub extern "C" fn plumanchor_widen(sheet: &[u8], out: &mut [u8]) -> u64
     pack_written(conversion::to_wide(sheet, out))
 }
 
-// Bringing back: the length is the narrow sheet's.
+// Conversion to the narrow format: the length is the narrow sheet's.
 #[no_mangle]
 pub extern "C" fn plumanchor_narrow(sheet: &[u8], out: &mut [u8]) -> u64
     ensures { λ r. ⌜ output-left r out ≡ packed-writing (to-narrow-call (now (sheet .entry)) (now (out .entry))) ⌝ }

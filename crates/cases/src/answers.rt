@@ -1,4 +1,4 @@
-// What a line tells of each kind of answer.
+// What a line contains for each kind of answer.
 use crate::outputs::print_reached;
 use crate::outputs::print_short;
 use crate::outputs::print_sum;

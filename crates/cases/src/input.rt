@@ -23,7 +23,7 @@ fn read_call() -> Call {
     }
 }
 
-// Reads the call's list and makes the call, or answers that the list is too long.
+// Reads the call's list and makes the call; returns false if the list is too long.
 fn make_call(call: Call, sheet: &[u8], out: &mut [u8]) -> bool {
     let mut space = [0u8; ROOM];
     let length = call.list_length;
@@ -37,7 +37,7 @@ fn make_call(call: Call, sheet: &[u8], out: &mut [u8]) -> bool {
     true
 }
 
-// Reads the next call on `sheet` and makes it, with a part of `space` as its output, or answers that it could not.
+// Reads the next call on `sheet` and makes it, with a part of `space` as its output; returns false if it can't be made.
 fn next_call(sheet: &[u8], space: &mut [u8]) -> bool {
     let call = read_call();
     if call.operation == 0 {
@@ -51,7 +51,7 @@ fn next_call(sheet: &[u8], space: &mut [u8]) -> bool {
     make_call(call, sheet, out)
 }
 
-// Makes so many calls on `sheet`, or answers that one could not be made.
+// Makes `calls` calls on `sheet`; returns false if one can't be made.
 fn run_calls(sheet: &[u8], calls: usize) -> bool {
     let mut space = [0u8; ROOM];
     let mut left = calls;
@@ -64,7 +64,7 @@ fn run_calls(sheet: &[u8], calls: usize) -> bool {
     true
 }
 
-// Reads the next sheet and makes its calls, or answers that there is none or that a call could not be made.
+// Reads the next sheet and makes its calls; returns false if there is no sheet or a call can't be made.
 fn next_case(space: &mut [u8]) -> bool {
     let mut head = [0u8; 8];
     let got = io::read_full(0, &mut head);

@@ -4,15 +4,16 @@
 // numbers. Numbers have four bytes, low byte first. A line is written for each call.
 //
 // Letters: c Check, t Trial, p Part, q Quote, d Tidy, r Reduce, a Sort, s Settle, e Expand, x Execute with its ceiling as the list, u the
-// step one block out, o Solve. Of the last eight a line tells the answer (of Solve: the program's line), a sum over each whole output and,
-// if it is short, the new sheet in hexadecimal. Of f, Force with the values as its list and the buffers of Solve, it tells the answer and the sums; g is Guards,
-// whose number is the length of its second buffer and whose list that of its first, told in the same way; k is Compare with
-// the sheet in the list, in an output and a buffer of the number's length. Outputs are filled with one byte before, so that the sums tell zeros and bytes left alone too.
+// step one block out, o Solve. For the last eight the line contains the answer (for Solve: the program's line), a sum over each whole
+// output and, if it is short, the new sheet in hexadecimal. f is Force, with the values as its list and the buffers of Solve; its line
+// contains the answer and the sums. g is Guards: its number is the length of its second buffer, its list the length of its first, and its
+// line contains the same. k is Compare with the sheet in the list; the output and a buffer of the number's length are its work buffers.
+// Outputs are filled with one byte before a call, so that the sums also show which bytes were cleared and which were left alone.
 //
-// Of m, QDIMACS in, the sheet's bytes are the text.
+// m reads QDIMACS: the sheet's bytes are the text.
 //
-// The same letters as capitals take the sheet for a wide one (N11), and their lines begin with that word. W carries a narrow sheet over to
-// the wide format, N brings a wide one back.
+// A capital makes the same call on a wide sheet (N11), and its line begins with "wide". W converts a narrow sheet to the wide format, N a
+// wide one to the narrow format.
 mod answers;
 mod copies;
 mod input;

@@ -1,4 +1,4 @@
-// The operations: each is called and its line written, but for the line's end.
+// Calls each operation and writes its line, without the line's end.
 use crate::ROOM;
 use crate::answers::print_checked;
 use crate::answers::print_compared;
@@ -187,7 +187,7 @@ fn run_to_narrow(sheet: &[u8], out: &mut [u8]) {
     print_written(answer, out);
 }
 
-// Calls the operation of this letter: a capital's, but for W and N, is the small letter's on a wide sheet.
+// Calls the operation of this letter. A capital other than W and N is the small letter's operation on a wide sheet.
 pub fn run(operation: u8, number: usize, sheet: &[u8], list: &[u8], out: &mut [u8]) {
     fill(out);
     match operation {

@@ -1,4 +1,4 @@
-// Outputs: what they are filled with before a call, and what a line tells of them after it.
+// Outputs: what they are filled with before a call, and what a line contains of them after it.
 use printing::print_number;
 use rows::Format;
 use rows::fit::sheet_length;
@@ -55,7 +55,8 @@ pub fn print_short(out: &[u8], length: usize) {
     }
 }
 
-// Writes the sheet at the front of Solve's first buffer if it is short; the filling that a refused call leaves has no small sizes.
+// Writes the sheet at the front of Solve's first buffer if it is short. A refused call leaves the filling there, which isn't taken for a
+// short sheet.
 pub fn print_reached(first: &[u8], f: Format) {
     if first.len() < header(f) {
         return;

@@ -37,7 +37,7 @@ priced-in s b i =
     let x = (binding-in s b i) .variable in
     record { row = i; variable = x; relevant = presence (of x) (matrix-in s b); raw = raw-rows (of x) (matrix-in s b) }
 
--- fewer raw rows, ties to the lower number
+-- the first has fewer raw rows, or as many and the lower number
 abbrev pub beats : Candidate → Candidate → Bool
 beats r q = ltb (r .raw) (q .raw) || (eqb (r .raw) (q .raw) && ltb (r .variable) (q .variable))
 

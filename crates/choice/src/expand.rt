@@ -57,8 +57,8 @@ fn cheaper_of(best: Candidate, own: Candidate) -> Candidate
     own
 }
 
-// The innermost-block variable with the fewest raw rows, where none may be settled: every row then has a literal, so the block is the
-// run of equal kinds at the end of the prefix, and is walked from the last row back to its first.
+// The innermost-block variable with the fewest raw rows, of a sheet in which no variable may be settled. Every row of its prefix then has a
+// literal, so the innermost block is the run of equal kinds at the end of the prefix. It is walked from the last row back to its first.
 pub fn choose_expand(b: &[u8], s: Layout, ends: &[u16], ranges: &[u16], next: &[u16]) -> Candidate
     requires { ⌜ Indexed s (now b) (now ends) × Bound s (now b) × Occurrences s (now b) (now ranges) (now next) × (0 < s .variables) × Unsettled s (now b) ⌝ }
     ensures { λ r. ⌜ ToExpand s (now (b .entry)) r ⌝ }

@@ -20,7 +20,7 @@ pub enum SettleChoice {
     Nothing,
 }
 
-// Whether the choice so far has a number below `x`: a variable `x` is then not the lowest, whether or not it may be settled.
+// Whether the choice so far has a number below `x`. Then `x` is not the lowest, whether or not it may be settled.
 fn is_lower(best: SettleChoice, x: usize) -> bool
     ensures { λ r. ⌜ r ≡ is-lower best x ⌝ }
 {
@@ -61,7 +61,8 @@ fn choose_by(b: &[u8], s: Layout, signs: &[bool]) -> SettleChoice
     best
 }
 
-// The lowest-numbered variable that may be settled, where no number is above `most`: where it is low, the smaller table of signs is enough.
+// The lowest-numbered variable that may be settled. No number of the prefix is above `most`; if `most` is small, the smaller table of signs
+// is enough.
 pub fn choose_settle(b: &[u8], s: Layout, most: usize) -> SettleChoice
     requires { ⌜ Readable s (now b) × Bound s (now b) × NumberedTo most s (now b) ⌝ }
     ensures { λ r. ⌜ ToSettle s (now (b .entry)) r ⌝ }

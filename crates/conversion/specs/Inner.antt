@@ -1,2 +1,2 @@
--- What carrying rows asks for: definitions that no entry point cites.
+-- What converting rows asks for: definitions that no entry point cites.
 pub mod Rows

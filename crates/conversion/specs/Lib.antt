@@ -1,2 +1,2 @@
--- The contracts of carrying over and bringing back need no definition of their own.
+-- The contracts of the two conversions need no definition of their own.
 pub mod Inner

@@ -1,4 +1,4 @@
-// Conversion narrow sheets over to the wide format, and bringing wide ones back: the same rows, in numbers of the other width.
+// Conversion of narrow sheets to the wide format and of wide sheets to the narrow one: the same rows, in numbers of the other width.
 use checking::Checked;
 use checking::Written;
 use rows::Format;
@@ -27,7 +27,7 @@ ghost use Rattle.checking.specs.Answers.{wrote};
 ghost use Rattle.checking.specs.Sheets.{Sheet};
 ghost use Rattle.conversion.specs.Inner.Rows.{RowsFit, Convertible, ConvertReady, room-call};
 
-// Writes all rows of a sheet to the rows of an output, whose numbers may have another width.
+// Writes all rows of a sheet as rows of an output whose numbers may have another width.
 fn convert_rows(sheet: &[u8], s: Layout, out: &mut [u8], t: Layout)
     requires { ⌜ RowsFit s (now sheet) t (length (now out)) ⌝ }
     ensures { λ _. ⌜ rows-in t (now (out .exit)) ≡ rows-in s (now (sheet .entry)) ⌝ }
@@ -42,7 +42,7 @@ fn convert_rows(sheet: &[u8], s: Layout, out: &mut [u8], t: Layout)
     }
 }
 
-// Writes the formula whose rows stand in `source` as a sheet of the format `g`, with zeros behind it, and returns its layout.
+// Writes the formula whose rows are in `source` as a sheet of the format `g`, with zeros behind it, and returns its layout.
 pub fn convert(source: &[u8], s: Layout, g: Format, out: &mut [u8]) -> Layout
     requires { ⌜ Convertible s (now source) g (length (now out)) ⌝ }
     ensures { λ _. ⌜ now (out .exit) ≡ padded (length (now (out .entry))) (sheet (format-of g) (formula-in s (now (source .entry)))) ⌝ }
@@ -73,8 +73,8 @@ fn has_above(sheet: &[u8], s: Layout, most: usize) -> bool
     false
 }
 
-// Whether a sheet that Check accepts has a size or a number above the limits of the format `g`. A literal's number is bound, so the
-// quantifier rows tell.
+// Whether a sheet that Check accepts has a size or a number above the limits of the format `g`. Every literal's number is bound, so it is
+// enough to look at the quantifier rows.
 fn is_beyond(sheet: &[u8], s: Layout, g: Format) -> bool
     requires { ⌜ Sheet (s .format) (now sheet) s ⌝ }
     ensures { λ r. ⌜ r ≡ beyond (format-in s) (format-of g) (now (sheet .entry)) ⌝ }
@@ -90,7 +90,7 @@ fn is_beyond(sheet: &[u8], s: Layout, g: Format) -> bool
     has_above(sheet, s, variables)
 }
 
-// Converts a sheet over to the format `g`, within whose limits it is: 13 output shorter than its sheet there.
+// Converts a sheet to the format `g`, within whose limits it is: 13 output shorter than its sheet there.
 fn convert_within(sheet: &[u8], s: Layout, g: Format, out: &mut [u8]) -> Written
     requires { ⌜ ConvertReady s (now sheet) g ⌝ }
     ensures { λ r. ⌜ wrote r (now (out .exit)) ≡ room-call (format-in s) (format-of g) (now (sheet .entry)) (now (out .entry)) ⌝ }
@@ -116,7 +116,7 @@ pub fn to_wide(sheet: &[u8], out: &mut [u8]) -> Written
     }
 }
 
-// Brings back a wide sheet that Check accepts, of this layout: 24 a number or size above the narrow limits; 13.
+// Converts a wide sheet that Check accepts, of this layout, to the narrow format: 24 a number or size above the narrow limits; 13.
 fn to_narrow_checked(sheet: &[u8], s: Layout, out: &mut [u8]) -> Written
     requires { ⌜ Sheet Wide (now sheet) s ⌝ }
     ensures { λ r. ⌜ wrote r (now (out .exit)) ≡ to-narrow-call (now (sheet .entry)) (now (out .entry)) ⌝ }

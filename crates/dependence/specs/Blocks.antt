@@ -27,16 +27,16 @@ pub record Located (s : Layout) (b : Bytes) (t : Target) : Type 0 where
   pub few : t .variable ≤ 1024
   pub few-numbers : Numbered s b
 
--- the row is existential, or universal, and has a literal
+-- a row with a literal that is existential, or universal, as asked
 abbrev pub row-test : Bool → Tree → Binding → Bool
 row-test exist t z = Bool·beq (same-op exists (z .quantifier)) exist && occurs t (z .variable)
 
--- the first such row, or how many rows there are
+-- the first such row, or the number of rows if there is none
 unfoldable pub first-row : Bool → Tree → Prefix → ℕ
 first-row exist t [] = 0
 first-row exist t (z ∷ p) = cond (row-test exist t z) 0 (suc (first-row exist t p))
 
--- a set with the variable of row j, if the row is existential and has a literal
+-- the set with the variable of row j added, if the row is existential and has a literal
 pub record WithRow (s : Layout) (b : Bytes) (j : ℕ) (old new : List ℕ) : Type 0 where
   pub same-length : length new ≡ length old
   pub is : (v : ℕ) → holds new v ≡ (holds old v || (row-test true (matrix-in s b) (binding-in s b j) && eqb ((binding-in s b j) .variable) v))

@@ -17,7 +17,7 @@ pub record Dependents (x : ℕ) (f : Formula) (set : List ℕ) : Type 0 where
   pub few : (v : ℕ) → holds set v ≡ true → v ≤ 1024
   pub is : (v : ℕ) → holds set v ≡ depends x f v
 
--- a number of the block that is found and not taken; or none is left, or none of the block is not found
+-- r is a number of the block that is found and not taken; or it is 1,025, and there is no such number, or the whole block is found
 pub record IsNext (bs fs ts : List ℕ) (r : ℕ) : Type 0 where
   pub is-left : r < 1025 → left-in bs fs ts r ≡ true
   pub is-last : 1025 ≤ r → ((v : ℕ) → v ≤ 1024 → left-in bs fs ts v ≡ false) ⊎ ((v : ℕ) → v ≤ 1024 → left-in bs bs fs v ≡ false)

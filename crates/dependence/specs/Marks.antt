@@ -35,17 +35,17 @@ MarkedRow s b i = Marked (λ v. is-lit (of v) (subtree-in s b i))
 abbrev pub MarkedRows : Layout → Bytes → ℕ → ℕ → List ℕ → List ℕ → Type 0
 MarkedRows s b from to = Marked (λ v. literal-in s b v (to - from) from)
 
--- the rows, if the next literal of a chain is before their end
+-- the set with the variables of a child's rows added, if the chain's next literal is before the child's end
 abbrev pub MarkedChild : Layout → Bytes → ℕ → ℕ → ℕ → List ℕ → List ℕ → Type 0
 MarkedChild s b from to row = Marked (λ v. ltb row to && literal-in s b v (to - from) from)
 
--- the children of an operator that hold a literal of the chain
+-- the set with the variables of those children of an operator added that hold a literal of the chain
 abbrev pub MarkedChildren : Layout → Bytes → List ℕ → Site → List ℕ → List ℕ → Type 0
 MarkedChildren s b next o old new =
     (L : Literals) (last : ℕ) → Chain L s b next (o .first) last
     → Marked (λ v. has-any (of v) (relevant L (kids (subtree-in s b (o .operator))))) old new
 
--- the relevant subtree
+-- the set with the variables of the relevant subtree added
 abbrev pub MarkedPart : Layout → Bytes → List ℕ → Range → List ℕ → List ℕ → Type 0
 MarkedPart s b next c old new =
     (L : Literals) → Chain L s b next (c .first) (c .last) → Marked (λ v. within L (of v) (matrix-in s b)) old new

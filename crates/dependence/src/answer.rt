@@ -1,4 +1,4 @@
-// What the step tells of the depending variables: how many there are, and the lowest.
+// What the step answers about the depending variables: how many there are, and the lowest of them.
 use rows::NUMBERS;
 use sets::count;
 use sets::lowest;
@@ -19,7 +19,7 @@ pub fn count_dependents(set: &[u64]) -> usize
     count(set)
 }
 
-// The lowest number among them, by the trailing zeros of the first word that is not empty; 0 if there is none.
+// The lowest number in the set, or 0 if it is empty: by the trailing zeros of the first word that is not 0.
 pub fn lowest_dependent(set: &[u64]) -> usize
     requires { ⌜ length (now set) ≡ 17 ⌝ }
     ensures { λ r. ⌜ ((x : ℕ) (f : Formula) → Dependents x f (now (set .entry)) → r ≡ lowest-of (dependents x f)) ⌝ }

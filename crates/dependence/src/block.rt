@@ -1,5 +1,5 @@
-// The rows after that of a universal variable which have a literal: whether they are universal and then existential, and the existential
-// ones as a set. Each is a walk over the prefix, with the table of occurrences for the question which rows have a literal.
+// The rows with literals after that of a universal variable: whether they are universal rows and then existential ones, and the set of the
+// existential ones. Each is one walk over the prefix; the table of occurrences shows which rows have a literal.
 use crate::Target;
 use occurrences::occurs;
 use prefixes::bound_at;
@@ -42,8 +42,8 @@ fn find_row(b: &[u8], s: Layout, ranges: &[u16], exists: bool, from: usize) -> u
     j
 }
 
-// Whether a variable of the prefix is universal, and of the later rows with literals none behind the first existential one, which there
-// is, is universal.
+// Whether a variable of the prefix is universal, and the later rows with literals are universal ones, then at least one existential one,
+// and no universal one after that.
 pub fn one_block_out(b: &[u8], ranges: &[u16], t: Target) -> bool
     requires { ⌜ Readable (t .layout) (now b) × Occurring (t .layout) (now b) (now ranges) × Located (t .layout) (now b) t ⌝ }
     ensures { λ r. ⌜ r ≡ one-block-out (t .variable) (formula-in (t .layout) (now (b .entry))) ⌝ }
@@ -70,7 +70,7 @@ fn add_row(b: &[u8], s: Layout, ranges: &[u16], j: usize, set: &mut [u64])
     }
 }
 
-// Fills a set of no numbers with the existential block: the existential rows after that of the variable which have a literal.
+// Fills an empty set with the existential block: the variables of the existential rows with literals after that of the variable.
 pub fn fill_block(b: &[u8], ranges: &[u16], t: Target, set: &mut [u64])
     requires { ⌜ Readable (t .layout) (now b) × Occurring (t .layout) (now b) (now ranges) × Located (t .layout) (now b) t × (now set ≡ replicate 17 0) ⌝ }
     ensures { λ _. ⌜ IsBlock (t .variable) (formula-in (t .layout) (now (b .entry))) (now (set .exit)) ⌝ }

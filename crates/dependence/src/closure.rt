@@ -1,5 +1,5 @@
-// The depending variables: one set grows until no member of the block that is found is left, or the whole block is found. Each member
-// costs at most a walk over the rows of its relevant subtree, and no pair of variables is looked at.
+// The depending variables. A set grows until every member of the block that is found is also taken, or until the whole block is found. Each
+// member costs at most one walk over the rows of its relevant subtree; no pair of variables is looked at.
 use crate::Target;
 use crate::block::fill_block;
 use crate::mark::mark_part;
@@ -31,7 +31,8 @@ fn range_of(ranges: &[u16], y: usize) -> Range
     }
 }
 
-// The lowest number of the block that is found and not taken. None, where the whole block is found: no other can be found then.
+// The lowest number of the block that is found and not yet taken, or `NUMBERS` if there is none. It is `NUMBERS` too if the whole block is
+// found: taking more members would find nothing new.
 fn next_member(block: &[u64], found: &[u64], taken: &[u64]) -> usize
     requires { ⌜ (length (now block) ≡ 17) × (length (now found) ≡ 17) × (length (now taken) ≡ 17) ⌝ }
     ensures { λ r. ⌜ IsNext (now (block .entry)) (now (found .entry)) (now (taken .entry)) r ⌝ }
@@ -42,8 +43,9 @@ fn next_member(block: &[u64], found: &[u64], taken: &[u64]) -> usize
     lowest_left(block, found, taken)
 }
 
-// Fills a set of no numbers with the variables that depend on a variable. `found` are all that have a literal in the relevant subtree of
-// the variable or of a member that is taken; the set has those taken, and in the end the members of the block that are found.
+// Fills an empty set with the variables that depend on a variable. `found` contains all variables with a literal in the relevant subtree of
+// the variable itself or of a member that is taken. `set` contains the members taken, and in the end all members of the block that are
+// found.
 pub fn fill_dependents(
     b: &[u8],
     t: Target,

@@ -1,6 +1,6 @@
-// The variables that depend on a universal variable one block out ("Universal variables one block out"): those of the existential
-// block with a literal in its relevant subtree, those with one in the relevant subtree of a depending one, and so on. Sets of variables
-// are words of 64 numbers.
+// The variables that depend on a universal variable one block out ("Universal variables one block out"): those of the existential block
+// with a literal in its relevant subtree, those with one in the relevant subtree of a depending one, and so on. A set of variables has a
+// bit for each number, in words of 64 bits.
 use rows::Layout;
 
 pub mod answer;

@@ -1,5 +1,5 @@
-// Marks the variables that have a literal in a relevant subtree: one walk over the rows of the relevant children, for a set of literals
-// that is given by a chain.
+// Marks the variables that have a literal in a relevant subtree, in one walk over the rows of the relevant children. The relevant subtree
+// is that of a set of literals, which is given by a chain.
 use occurrences::literal_at;
 use relevance::Range;
 use relevance::Site;
@@ -16,7 +16,7 @@ ghost use Rattle.rows.specs.Formulas.{Readable};
 ghost use Rattle.relevance.specs.Walks.{Chained, Sited};
 ghost use Rattle.dependence.specs.Marks.{MarkedRow, MarkedRows, MarkedChild, MarkedChildren, MarkedPart};
 
-// Marks the variable of node row `i`, if a literal stands there.
+// Marks the variable of node row `i`, if the row is a literal.
 fn mark_row(b: &[u8], s: Layout, i: usize, set: &mut [u64])
     requires { ⌜ Readable s (now b) × (i < s .nodes) × (length (now set) ≡ 17) ⌝ }
     ensures { λ _. ⌜ MarkedRow s (now (b .entry)) i (now (set .entry)) (now (set .exit)) ⌝ }
@@ -28,7 +28,7 @@ fn mark_row(b: &[u8], s: Layout, i: usize, set: &mut [u64])
     add(set, v);
 }
 
-// Marks those of the node rows `from` to `to`.
+// Marks the variables of the node rows `from` to `to`.
 fn mark_rows(b: &[u8], s: Layout, from: usize, to: usize, set: &mut [u64])
     requires { ⌜ Readable s (now b) × (from ≤ to) × (to ≤ s .nodes) × (length (now set) ≡ 17) ⌝ }
     ensures { λ _. ⌜ MarkedRows s (now (b .entry)) from to (now (set .entry)) (now (set .exit)) ⌝ }
@@ -40,7 +40,8 @@ fn mark_rows(b: &[u8], s: Layout, from: usize, to: usize, set: &mut [u64])
     }
 }
 
-// Marks those of the subtree from row `at` up to `end`, if `row`, the first literal of the chain from there on, is before `end`.
+// Marks the variables of the subtree from row `at` up to `end`, if it holds a literal of the chain: if `row`, the first of these from `at`
+// on, is before `end`.
 fn mark_child(b: &[u8], s: Layout, at: usize, end: usize, row: usize, set: &mut [u64])
     requires { ⌜ Readable s (now b) × (at ≤ end) × (end ≤ s .nodes) × (length (now set) ≡ 17) ⌝ }
     ensures { λ _. ⌜ MarkedChild s (now (b .entry)) at end row (now (set .entry)) (now (set .exit)) ⌝ }
@@ -50,7 +51,7 @@ fn mark_child(b: &[u8], s: Layout, at: usize, end: usize, row: usize, set: &mut 
     }
 }
 
-// Marks those of an operator's children that hold a literal of the chain.
+// Marks the variables of those children of an operator that hold a literal of the chain.
 fn mark_children(b: &[u8], s: Layout, ends: &[u16], next: &[u16], site: Site, set: &mut [u64])
     requires { ⌜ Sited s (now b) (now ends) (now next) site × (length (now set) ≡ 17) ⌝ }
     ensures { λ _. ⌜ MarkedChildren s (now (b .entry)) (now (next .entry)) site (now (set .entry)) (now (set .exit)) ⌝ }
@@ -67,7 +68,7 @@ fn mark_children(b: &[u8], s: Layout, ends: &[u16], next: &[u16], site: Site, se
     }
 }
 
-// Marks those of the relevant subtree of a chain's literals: the one literal, or the relevant children of the operator found.
+// Marks the variables of the relevant subtree of a chain's literals: the one literal, or the relevant children of the operator found.
 pub fn mark_part(b: &[u8], s: Layout, ends: &[u16], next: &[u16], range: Range, set: &mut [u64])
     requires { ⌜ Chained s (now b) (now ends) (now next) (range .first) (range .last) × (length (now set) ≡ 17) ⌝ }
     ensures { λ _. ⌜ MarkedPart s (now (b .entry)) (now (next .entry)) range (now (set .entry)) (now (set .exit)) ⌝ }

@@ -14,7 +14,7 @@ pub record Hashed (s : Layout) (b : Bytes) (hashes : List ℕ) (from : ℕ) : Ty
   pub room : s .nodes ≤ length hashes
   pub filled : (i : ℕ) → from ≤ i → i < s .nodes → getD hashes i 0 ≡ hash (subtree-in s b i)
 
--- the hashes of k subtrees side by side from row i on, mixed into h by the tables, and that the tables have these rows
+-- the hashes of k subtrees side by side from row i on, mixed into h by the tables; and that the tables have entries for these rows
 unfoldable pub mixes : List ℕ → List ℕ → ℕ → ℕ → ℕ → ℕ
 mixes ends hashes i zero h = h
 mixes ends hashes i (suc k) h = mixes ends hashes (getD ends i 0) k (mix h (getD hashes i 0))

@@ -1,4 +1,4 @@
--- Siblings that may not stand side by side, as they are looked for: a member is a child, by its row and its hash.
+-- Siblings that a tidy sheet doesn't have, as they are looked for: a member is a child, by its row and its hash.
 -- Assumes nothing.
 use mathlib.Core.Path.{_≡_}
 use mathlib.Core.Bool.{Bool, false, _||_, _&&_}
@@ -18,11 +18,11 @@ use Rattle.subtrees.specs.Subtrees.{top, subtree-in}
 unfoldable pub clash : Tree → Tree → Bool
 clash t u = same-variable t u || duplicate t u
 
--- two first rows are the same
+-- two trees whose first rows are the same
 unfoldable pub same-top : Tree → Tree → Bool
 same-top t u = eqb ((top t) .kind) ((top u) .kind) && eqb ((top t) .argument) ((top u) .argument)
 
--- the tree that a member stands for
+-- the tree of a member
 abbrev pub tree-of : Layout → Bytes → ℕ → Tree
 tree-of s b m = subtree-in s b (row-of m)
 
@@ -38,7 +38,7 @@ unfoldable pub some-member : (ℕ → Bool) → List ℕ → ℕ → Bool
 some-member P M zero = false
 some-member P M (suc n) = P (getD M n 0) || some-member P M n
 
--- a member before this one that clashes with it
+-- two members clash
 abbrev pub clashes-with : Layout → Bytes → ℕ → ℕ → Bool
 clashes-with s b m w = clash (tree-of s b w) (tree-of s b m)
 
@@ -47,13 +47,13 @@ unfoldable pub two-clash : Layout → Bytes → List ℕ → ℕ → Bool
 two-clash s b M zero = false
 two-clash s b M (suc n) = some-member (clashes-with s b (getD M n 0)) M n || two-clash s b M n
 
--- The first n members are these siblings: they tell whether one clashes with a tree, and whether two clash.
+-- The first n members are these siblings: whether one clashes with a tree, and whether two clash, is the same for members and for siblings.
 pub record Gathered (s : Layout) (b : Bytes) (M : List ℕ) (n : ℕ) (ts : Forest) : Type 0 where
   pub as-many : n ≡ count ts
   pub are-members : Members s b M n
   pub one-clashes : (u : Tree) → some-member (λ m. clash (tree-of s b m) u) M n ≡ some-child (λ t. clash t u) ts
   pub two-clash-there : two-clash s b M n ≡ some-two clash ts
 
--- one sibling more
+-- the members with one sibling more
 abbrev pub Adds : Layout → Bytes → Tree → List ℕ → ℕ → List ℕ → ℕ → Type 0
 Adds s b t M n M′ n′ = (ts : Forest) → Gathered s b M n ts → Gathered s b M′ n′ (ts ⧺ (t ▸ ∅))

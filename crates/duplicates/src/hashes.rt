@@ -28,7 +28,7 @@ fn mix_siblings(ends: &[u16], hashes: &[u16], from: usize, count: usize, start: 
     h
 }
 
-// The hash of the subtree at node row `i`, by those behind it.
+// The hash of the subtree at node row `i`, from the hashes of the rows behind it.
 fn hash_at(b: &[u8], s: Layout, ends: &[u16], hashes: &[u16], i: usize) -> usize
     requires { ⌜ Indexed s (now b) (now ends) × (i < s .nodes) × Hashed s (now b) (now hashes) (suc i) ⌝ }
     ensures { λ r. ⌜ (r ≡ hash (subtree-in s (now (b .entry)) i)) × (r < 65536) ⌝ }

@@ -1,5 +1,5 @@
-// Siblings that may not stand side by side: literals of one variable, and equal operators (N4). They are found by their hashes; operators
-// whose hashes agree are compared in full, row by row.
+// Siblings that a tidy sheet doesn't have: two literals of one variable, or equal operators (N4). They are found by their hashes; operators
+// with equal hashes are compared in full, row by row.
 use buckets::Link;
 use buckets::add;
 use buckets::behind;
@@ -39,7 +39,7 @@ fn differ(b: &[u8], s: Layout, i: usize, j: usize) -> bool
     argument_at(b, s, i) != argument_at(b, s, j)
 }
 
-// Whether the subtrees at node rows `i` and `j` are the same: row by row, until as many trees are read as were begun.
+// Whether the subtrees at node rows `i` and `j` are the same: compared row by row until they end or differ.
 fn same_at(b: &[u8], s: Layout, i: usize, j: usize) -> bool
     requires { ⌜ Readable s (now b) × (i < s .nodes) × (j < s .nodes) ⌝ }
     ensures { λ r. ⌜ r ≡ same-tree (subtree-in s (now (b .entry)) i) (subtree-in s (now (b .entry)) j) ⌝ }
@@ -69,7 +69,7 @@ fn same_variable(b: &[u8], s: Layout, i: usize, j: usize) -> bool
     argument_at(b, s, i) == argument_at(b, s, j)
 }
 
-// Whether two members clash.
+// Whether two members clash: they are literals of one variable, or equal operators.
 fn members_clash(b: &[u8], s: Layout, m: usize, w: usize) -> bool
     requires { ⌜ Readable s (now b) × Member s (now b) m × Member s (now b) w ⌝ }
     ensures { λ r. ⌜ r ≡ clash (tree-of s (now (b .entry)) m) (tree-of s (now (b .entry)) w) ⌝ }
@@ -85,7 +85,7 @@ fn members_clash(b: &[u8], s: Layout, m: usize, w: usize) -> bool
     same_at(b, s, i, j)
 }
 
-// Whether a member before number `n` clashes with that one.
+// Whether a member before member `n` clashes with it.
 fn clashes(b: &[u8], s: Layout, heads: &[u16], links: &[u16], members: &[u32], n: usize) -> bool
     requires { ⌜ Readable s (now b) × Members s (now b) (now members) (n + 1) × Room (now heads) (now links) (now members) (n + 1) × Linked (now heads) (now links) (now members) n ⌝ }
     ensures { λ r. ⌜ r ≡ some-member (clashes-with s (now (b .entry)) (getD (now (members .entry)) n 0)) (now (members .entry)) n ⌝ }
@@ -125,7 +125,7 @@ pub fn some_clash(
     false
 }
 
-// Puts the subtree at node row `at` behind `n` members, and returns how many there are then.
+// Adds the subtree at node row `at` as a member behind the first `n`, and returns how many there are then.
 fn put(b: &[u8], s: Layout, hashes: &[u16], members: &mut [u32], at: usize, n: usize) -> usize
     requires { ⌜ Readable s (now b) × (at < s .nodes) × Hashed s (now b) (now hashes) at × (n < length (now members)) ⌝ }
     ensures { λ r. ⌜ Adds s (now (b .entry)) (subtree-in s (now (b .entry)) at) (now (members .entry)) n (now (members .exit)) r ⌝ }

@@ -31,7 +31,7 @@ pub record Priced (s : Layout) (b : Bytes) (ends ranges next : List ℕ) (c : Ca
   pub part-is : c .relevant ≡ presence (of (c .variable)) (matrix-in s b)
   pub raw-is : c .raw ≡ raw-rows (of (c .variable)) (matrix-in s b)
 
--- what is expanded of it: its literals, of which the table has the first; its row goes, and its quantifier's operator joins the copies
+-- what is expanded of it: its literals, the first of which the table has; its row goes, and its quantifier's operator joins the copies
 abbrev pub draft-of : Layout → Bytes → List ℕ → Candidate → Draft
 draft-of s b ranges c =
     record {

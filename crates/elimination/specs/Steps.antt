@@ -1,4 +1,4 @@
--- Sheets of which a step writes another.
+-- Sheets on which a step can be taken.
 -- Assumes nothing.
 use mathlib.Core.Path.{_≡_}
 use Prim.Native.Nat.{ℕ, _-_, _≤_, _<_}

@@ -62,7 +62,7 @@ pub record FoundPart (L : Literals) (s : Layout) (b : Bytes) (table : List ℕ) 
   pub cuts-are : w .to .relevant .all ≡ false
       → take (w .cuts) table ≡ cuts L (suc (w .to .relevant .operator)) (kids (subtree-in s b (w .to .relevant .operator)))
 
--- all that the writing needs but the tables of changes
+-- all that the writing needs, except the tables of changes
 pub record Surveyed (L : Literals) (s : Layout) (b : Bytes) (d : Draft) (table : List ℕ) (w : Survey) : Type 0 where
   pub row-is : w .to .row ≡ d .row
   pub joint-is : w .to .joint ≡ d .joint

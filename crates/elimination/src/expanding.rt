@@ -33,7 +33,7 @@ fn joint_at(b: &[u8], s: Layout, i: usize) -> u8
     AND
 }
 
-// What is expanded of a variable whose relevant subtree and price are known, by the first rows of all variables' literals.
+// What is expanded of a variable whose relevant subtree and price are known; `ranges` has the row of its first literal.
 pub fn draft(b: &[u8], s: Layout, ranges: &[u16], c: Candidate) -> Draft
     requires { ⌜ Readable s (now b) × (c .row < s .variables) × (c .variable ≤ HIGHEST) × (length (now ranges) ≡ 2 * NUMBERS) ⌝ }
     ensures { λ d. ⌜ d ≡ draft-of s (now (b .entry)) (now (ranges .entry)) c ⌝ }

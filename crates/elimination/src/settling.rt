@@ -22,8 +22,8 @@ pub struct Put {
     pub value: bool,
 }
 
-// Entries of the table for a variable: for all numbers of a narrow sheet, as it is filled anew in every step, or of a wide one. So whether
-// a number is in the table is the same for nearly all rows, and the processor need not guess.
+// How many entries the table for a variable has: as many as a narrow sheet has numbers, since the table is filled anew in every step, or as
+// many as a wide one has. Then nearly all rows give the same answer to whether their number is in the table, and the processor predicts it.
 fn entries_for(x: usize) -> usize
     requires { ⌜ x ≤ HIGHEST ⌝ }
     ensures { λ r. ⌜ (x < r) × (r ≤ NUMBERS) ⌝ }

@@ -11,8 +11,8 @@ ghost use Prim.Native.Nat.{_<_};
 ghost use lib.ListN.{length};
 ghost use Rattle.elimination.specs.Survey.{outline-of, Ended, Drafted, Surveys};
 
-// What is expanded: the relevant subtree of the literals, the first of them, and the raw sheet's node rows; and where: the prefix row that
-// goes, how many variables the raw sheet has, and the kind of the operator that joins the copies.
+// What is expanded: the relevant subtree of the literals, the row of the first literal, and how many node rows the raw sheet has. And
+// where: the prefix row that goes, how many variables the raw sheet has, and the kind of the operator that joins the copies.
 pub struct Draft {
     pub relevant: Presence,
     pub first: usize,
@@ -28,7 +28,7 @@ pub struct Survey {
     pub to: Expansion,
 }
 
-// The expansion of a draft. One without literals has an empty part, of which every child is relevant.
+// The expansion of a draft. If there is no literal, the relevant subtree is empty and every child counts as relevant.
 fn outline(s: Layout, ends: &[u16], d: Draft) -> Expansion
     requires { ⌜ Ended (now ends) (d .relevant) ⌝ }
     ensures { λ e. ⌜ e ≡ outline-of s (now (ends .entry)) d ⌝ }
@@ -72,7 +72,7 @@ fn outline(s: Layout, ends: &[u16], d: Draft) -> Expansion
     }
 }
 
-// All that the writing of the raw sheet needs but the tables of changes; the cuts stand at the front of `cuts`.
+// All that writing the raw sheet needs, except the tables of changes; the cuts are written to the front of `cuts`.
 pub fn survey_draft(
     b: &[u8],
     s: Layout,

@@ -1,5 +1,5 @@
-// The innermost block: every row after that of x which has a literal is of x's kind. One pass over the prefix, with the table of
-// occurrences for the question which rows have a literal.
+// The innermost block: every row with a literal after that of x is of x's kind. One pass over the prefix; the table of occurrences shows
+// which rows have a literal.
 use elimination::admission::Binding;
 use occurrences::occurs;
 use prefixes::bound_at;

@@ -25,7 +25,7 @@ pub mod plan;
 pub mod price;
 pub mod quote;
 
-// Converts a plan out: 13 the raw sheet doesn't fit; else it is written to `out` and tidied there.
+// Carries out a plan: 13 the raw sheet doesn't fit; else it is written to `out` and tidied there.
 fn expand_planned(
     sheet: &[u8],
     s: Layout,
@@ -59,7 +59,7 @@ pub fn expand(sheet: &[u8], f: Format, x: usize, out: &mut [u8]) -> Written
     }
 }
 
-// Converts a quote out: as Expand, but 19 if the raw sheet has more node rows than `ceiling`, before its room is tested.
+// Carries out a quote: as Expand, but 19 if the raw sheet has more node rows than `ceiling`, before its room is tested.
 pub fn execute(sheet: &[u8], f: Format, x: usize, ceiling: usize, out: &mut [u8]) -> Written
     ensures { λ r. ⌜ wrote r (now (out .exit)) ≡ execute-call (format-of f) (now (sheet .entry)) x ceiling (now (out .entry)) ⌝ }
     ensures { λ r. ⌜ TruthfulSheet (format-of f) (truth-of (format-of f) (now (sheet .entry))) (wrote r (now (out .exit))) ⌝ }

@@ -1,4 +1,4 @@
-// A value judged: the sheet under the values given and this one stands in the first buffer, and Solve runs from there.
+// Judges a value: the sheet reduced by the values given and by this one is written to the first buffer, and Solve runs from there.
 use crate::moves::fill_moves;
 use crate::moves::write_behind;
 use rows::Layout;

@@ -152,7 +152,7 @@ fn force_checked(
     Forced::Answered(turn, outcome)
 }
 
-// Says of a sheet, with values for its first variables (a byte each, 0 or 1), whose turn is next and with which values its owner forces
+// Answers for a sheet, with values for its first variables (a byte each, 0 or 1), whose turn is next and with which values its owner forces
 // the outcome wanted. Both work buffers then hold zeros; refused, they are left as they were.
 pub fn force(sheet: &[u8], f: Format, values: &[u8], first: &mut [u8], second: &mut [u8]) -> Forced
     ensures { λ r. ⌜ forcing-of r (now (first .exit)) (now (second .exit)) ≡ force-call (format-of f) (now (sheet .entry)) (now (values .entry)) (now (first .entry)) (now (second .entry)) ⌝ }

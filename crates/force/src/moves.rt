@@ -1,4 +1,4 @@
-// The sheet under the values given and tried: their rows go, and constants stand for their literals.
+// The sheet reduced by the values given and tried: their rows go, and their literals become constants.
 use prefixes::bound_at;
 use rows::Layout;
 use substitution::Span;
@@ -31,8 +31,8 @@ pub fn fill_moves(b: &[u8], s: Layout, values: &[u8], tried: bool, table: &mut [
     put(table, bound_at(b, s, i), tried);
 }
 
-// Writes the rows from row `k` on, a row of the prefix or the first node row, in one pass, and returns their layout; no table changes a
-// quantifier's row.
+// Writes the rows from row `k` on, which is a row of the prefix or the first node row, and returns their layout. One pass writes prefix and
+// matrix, since no table changes a quantifier's row.
 pub fn write_behind(b: &[u8], s: Layout, table: &[u16], k: usize, out: &mut [u8]) -> Layout
     requires { ⌜ Readable s (now b) × (k ≤ s .variables) × Room (layout-behind s k) (length (now out)) ⌝ }
     ensures { λ t. ⌜ t ≡ layout-behind s k ⌝ }

@@ -63,17 +63,17 @@ one-relevant L ts = eqb (count (relevant L ts)) 1
 unfoldable pub all-relevant : Literals → Forest → Bool
 all-relevant L ts = not (some-child (λ t. not (has L t)) ts)
 
--- the two copies of an operator over relevant children, each under an operator of the kind found
+-- the two copies of the relevant children, each under an operator of their parent's kind
 unfoldable pub copies : Copying → Op → Forest → Tree
 copies c o rs = node (c .joint) (node o (replace-all (c .first) rs) ▸ node o (replace-all (c .second) rs) ▸ ∅)
 
--- the new node at the spot of the first relevant child, the others of them removed
+-- the new node in place of the first relevant child, without the other relevant children
 unfoldable pub at-first : Literals → Tree → Forest → Forest
 at-first L new ∅ = ∅
 at-first L new (t ▸ ts) = cond (has L t) (new ▸ keep (λ u. not (has L u)) ts) (t ▸ at-first L new ts)
 
--- The raw tree. Where one child alone is relevant the deepest operator above all literals lies below it; a literal that is alone
--- is itself the relevant subtree, and its copies are bare constants.
+-- The raw tree. Where only one child is relevant, the deepest operator above all literals is in that child. A literal that is alone is
+-- itself the relevant subtree, and its copies are bare constants.
 unfoldable mutual
   pub expand-tree : Copying → Tree → Tree
   expand-tree c (lit s v) = node (c .joint) (c .first s v ▸ c .second s v ▸ ∅)
@@ -86,7 +86,7 @@ unfoldable mutual
   expand-below c ∅ = ∅
   expand-below c (t ▸ ts) = cond (has (c .chosen) t) (expand-tree c t ▸ ts) (t ▸ expand-below c ts)
 
--- with no literal chosen, the tree stays
+-- a tree without a chosen literal stays
 unfoldable pub raw-tree : Copying → Tree → Tree
 raw-tree c t = cond (has (c .chosen) t) (expand-tree c t) t
 

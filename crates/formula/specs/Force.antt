@@ -59,7 +59,7 @@ judged fits bs b f = solve fits (tried bs b f)
 unfoldable pub forced : Fits → List Bool → Formula → Forced
 forced fits bs f = forced-by (wanted (turn-after bs f)) ((judged fits bs false f) .end) ((judged fits bs true f) .end)
 
--- what an answer says of a value, and of any; one that is stopped says nothing
+-- whether an answer names a value, and whether it names any; a stopped answer names none
 unfoldable pub allows : Bool → Forced → Bool
 allows b neither = false
 allows b with-0 = not b
@@ -82,8 +82,8 @@ Told a = (x : ℕ) → a ≡ stopped-at x → ⊥
 abbrev pub is-won : List Bool → Formula → Formula → Bool
 is-won bs f g = Bool·beq (wanted (turn-after bs f)) (truth g)
 
--- What an answer is relied on for where no run stopped: it allows a value exactly if the formula so reduced has the truth wanted, and
--- some value exactly if the formula under the values given has it.
+-- What an answer is relied on for where no run stopped: it names a value exactly if the formula so reduced has the truth wanted, and it
+-- names some value exactly if the formula under the values given has it.
 pub record ForceRight (bs : List Bool) (f : Formula) (a : Forced) : Type 0 where
   pub exactly : (b : Bool) → allows b a ≡ is-won bs f (tried bs b f)
   pub some-value : allows-some a ≡ is-won bs f (given bs f)

@@ -1,4 +1,4 @@
--- The guards that clash (N10): of the children of a root AND those that are kept when each in turn is left out if the rest is still false.
+-- The guards that clash (N10): the children of a root AND that are kept when each in turn is left out if the rest is still false.
 -- Assumes nothing.
 use mathlib.Core.Bool.{Bool, true, false}
 use Prim.Native.Nat.{ℕ, zero, suc, _≤_, _<_}
@@ -70,8 +70,7 @@ removed (suc i) (t ▸ ts) = t ▸ removed i ts
 abbrev pub weakened : ℕ → Formula → Formula
 weakened i f = conjoined (f .prefix) (removed i (guards (f .matrix)))
 
--- us are some of the guards ts, as far as rows, truth and literals go: no more rows, true wherever all of ts are, no literal that ts don't
--- have
+-- us are some of the guards ts, in rows, truth and literals: no more rows, true wherever all of ts are, and no literal that ts don't have
 pub record Fewer (us ts : Forest) : Type 0 where
   pub no-more-rows : rows-all us ≤ rows-all ts
   pub still-true : (ρ : Assignment) → Leads (eval-all ts and ρ) (eval-all us and ρ)

@@ -13,7 +13,7 @@ infixr 40 _then_
 pub data Ordering : Type 0 where
   before same after : Ordering
 
--- by the first comparison, and by the second where the first finds no difference
+-- the first comparison, or the second where the first finds no difference
 abbrev pub _then_ : Ordering → Ordering → Ordering
 before then o = before
 same then o = o
@@ -98,8 +98,8 @@ compare-prefixes p q = compare-numbers (length p) (length q) then compare-bound 
 unfoldable pub compare-formulas : Formula → Formula → Ordering
 compare-formulas f g = compare-prefixes (f .prefix) (g .prefix) then compare-trees (sort (f .matrix)) (sort (g .matrix))
 
--- Trees that differ only in the order of children: the same literal, or the same operator with two neighbours exchanged, children changed
--- inside, and so on again.
+-- Trees that differ only in the order of children: the same literal, or the same operator with two neighbours exchanged or a child changed
+-- in this way, any number of times.
 mutual
   pub data Rearranged : Tree → Tree → Type 0 where
     literal : (s : Bool) (v : ℕ) → Rearranged (lit s v) (lit s v)
@@ -131,7 +131,7 @@ unfoldable pub nearly-tidy : Tree → Bool
 nearly-tidy (lit s v) = true
 nearly-tidy (node o ts) = not (strays o ts || astray-all ts)
 
--- two siblings somewhere in a tree are related by R
+-- two siblings anywhere in a tree are related by R
 unfoldable mutual
   pub siblings : (Tree → Tree → Bool) → Tree → Bool
   siblings R (lit s v) = false
@@ -151,7 +151,7 @@ turned before = after
 turned same = same
 turned after = before
 
--- Of three things, the first and the third are ordered as the two steps from one to the next say, where these agree.
+-- The order of the first and the third of three things, where the two comparisons of neighbours agree or one of them is `same`.
 abbrev pub Chain : Ordering → Ordering → Ordering → Type 0
 Chain before before o = o ≡ before
 Chain before same o = o ≡ before

@@ -65,7 +65,7 @@ splice o (t ▸ ts) = spliced o t (splice o ts)
 unfoldable pub decides : Op → Forest → Bool
 decides o ts = some-child (is-empty (dual o)) ts || some-two opposite ts
 
--- of children in the relation the first stays: rule 4 for equal literals, and rule 5 for equal operators
+-- of children in the relation only the first stays: rule 4 for equal literals, and rule 5 for equal operators
 unfoldable pub firsts : (Tree → Tree → Bool) → Forest → Forest
 firsts R ∅ = ∅
 firsts R (t ▸ ts) = t ▸ keep (λ u. not (R t u)) (firsts R ts)

@@ -46,6 +46,6 @@ truth f = bind (f .prefix) (eval (f .matrix)) (λ _. false)
 abbrev pub Ignores : (Assignment → Bool) → ℕ → Type 0
 Ignores f v = (ρ : Assignment) (b : Bool) → f (put ρ v b) ≡ f ρ
 
--- false before true
+-- if the first truth value is true, so is the second
 abbrev pub Leads : Bool → Bool → Type 0
 Leads a b = a ≡ true → b ≡ true

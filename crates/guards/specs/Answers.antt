@@ -5,7 +5,7 @@ use Rattle.sheet.specs.Guards.{Guards, guards-refused, guards-stopped, guards-t
 use Rattle.guards.specs.declared.Guarded.{Guarded}
 use Rattle.guards.specs.declared.Guarded.the-variants.{Refused, Stopped, True, Kept}
 
--- "An initial run that stops or says true is itself the answer"; else the sheet of the kept children, by its length, and the count
+-- "An initial run that stops or says true is itself the answer"; else the length of the kept children's sheet, and the count
 abbrev pub guarded-answer : Guarded → Guards
 guarded-answer (Refused number place) = guards-refused number place
 guarded-answer (Stopped x settled expanded) = guards-stopped x settled expanded

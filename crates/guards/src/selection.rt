@@ -14,14 +14,14 @@ ghost use Rattle.rows.specs.Formulas.{prefix-in};
 ghost use Rattle.substitution.specs.Output.{Laid};
 ghost use Rattle.guards.specs.Inner.Selections.{children-rows, guards-in, selection-layout, Copyable, Chosen};
 
-// How many children, how many rows they have, and the row from which on all of them are among these.
+// How many children are selected, how many rows they have, and the row from which on every child is selected.
 pub struct Selection {
     pub guards: usize,
     pub rows: usize,
     pub rest: usize,
 }
 
-// Writes the children that begin at the rows `kept`, each to where its subtree ends.
+// Writes the children that begin at the rows `kept`, each up to the end of its subtree.
 fn write_kept(b: &[u8], s: Layout, ends: &[u16], kept: &[u16], out: &mut [u8], to: Target) -> usize
     requires { ⌜ Copyable s (now b) (now ends) (now kept) (to .layout) (now out) (to .at) ⌝ }
     ensures { λ next. ⌜ Laid (to .layout) (now (out .entry)) (now (out .exit)) (to .at) next (children-rows s (now (b .entry)) (now (ends .entry)) (now (kept .entry))) ⌝ }

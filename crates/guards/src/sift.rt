@@ -22,8 +22,8 @@ pub enum Word {
     Stopped,
 }
 
-// Where the sifting stands: the row of the next child, how many aren't tried yet, how many are kept, their rows, and how many of them
-// because their run stopped.
+// The state of the sifting: the row of the next child, how many children aren't tried yet, how many are kept, how many rows these have, and
+// how many of them are kept because their run stopped.
 pub struct Sieve {
     pub at: usize,
     pub left: usize,
@@ -32,7 +32,7 @@ pub struct Sieve {
     pub stops: usize,
 }
 
-// A run's word; a run is never refused.
+// What a run said; a run is never refused.
 fn heard(answer: Solved) -> Word
     ensures { λ r. ⌜ r ≡ word-for answer ⌝ }
 {
@@ -46,7 +46,7 @@ fn heard(answer: Solved) -> Word
     }
 }
 
-// The child that ends at row `end` is left out for good if the run without it said false; else it is kept, and counted if it stopped.
+// Judges the child that ends at row `end`: left out for good if the run without it said false, else kept, and counted if that run stopped.
 fn judge(g: Sieve, word: Word, end: usize) -> Sieve
     requires { ⌜ (g .at ≤ end) × (0 < g .left) × (g .guards < 65536) × (g .rows < 65536) × (g .stops < 65536) × (end < 65536) ⌝ }
     ensures { λ r. ⌜ r ≡ judged-by g word end ⌝ }

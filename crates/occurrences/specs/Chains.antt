@@ -43,7 +43,7 @@ pub record Bounds (L : Literals) (s : Layout) (b : Bytes) (first last : ℕ) : T
   pub starts : first ≡ first-from L s b 0
   pub ends : Last L s b last
 
--- with the way from the one to the other
+-- the same with a table that leads from the first to the last
 pub record Chain (L : Literals) (s : Layout) (b : Bytes) (next : List ℕ) (first last : ℕ) : Type 0 where
   pub bounds : Bounds L s b first last
   pub links : Links L s b next

@@ -14,7 +14,7 @@ ghost use Rattle.rows.specs.Tables.{HIGHEST, NUMBERS};
 ghost use Rattle.subtrees.specs.Subtrees.{subtree-in};
 ghost use Rattle.occurrences.specs.Occurrences.{Occurrences, variable-of, Firsts, Nexts, Lasts, FirstsKept};
 
-// The variable of the literal at node row `i`; a number that no table has if an operator stands there.
+// The variable of the literal at node row `i`, or a number that no table has if the row is an operator.
 pub fn literal_at(b: &[u8], s: Layout, i: usize) -> usize
     requires { ⌜ Readable s (now b) × (i < s .nodes) ⌝ }
     ensures { λ r. ⌜ (r ≡ variable-of (subtree-in s (now (b .entry)) i)) × (r < 2 ^ 32) ⌝ }
@@ -56,7 +56,7 @@ fn fill(table: &mut [u16], value: u16)
     }
 }
 
-// The first literal of each variable, and from each literal the next one: from the last row to the first.
+// The first literal of each variable, and from each literal the next one: one pass from the last row to the first.
 fn link(b: &[u8], s: Layout, ranges: &mut [u16], next: &mut [u16])
     requires { ⌜ Readable s (now b) × (length (now ranges) ≡ 2 * NUMBERS) × (s .nodes ≤ length (now next)) ⌝ }
     ensures { λ _. ⌜ Firsts s (now (b .entry)) 0 (now (ranges .exit)) × Nexts s (now (b .entry)) 0 (now (next .exit)) ⌝ }
@@ -71,7 +71,7 @@ fn link(b: &[u8], s: Layout, ranges: &mut [u16], next: &mut [u16])
     }
 }
 
-// The last literal of each variable: from the first row to the last, each over those before.
+// The last literal of each variable: one pass from the first row to the last, in which a later row replaces an earlier one.
 fn mark(b: &[u8], s: Layout, ranges: &mut [u16])
     requires { ⌜ Readable s (now b) × (length (now ranges) ≡ 2 * NUMBERS) ⌝ }
     ensures { λ _. ⌜ Lasts s (now (b .entry)) (s .nodes) (now (ranges .exit)) × FirstsKept (now (ranges .entry)) (now (ranges .exit)) ⌝ }

@@ -19,7 +19,7 @@ pub record OuterWritten : Type 0 where
   pub answer : Answer Copies
   pub output : Bytes
 
--- that call's words: the length alone
+-- that call's answer: the length alone
 abbrev pub lengths : Answer Copies → Answer ℕ
 lengths (refused number place) = refused number place
 lengths (accepted c) = accepted (c .new-length)

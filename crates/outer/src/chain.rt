@@ -22,7 +22,7 @@ fn is_chosen(b: &[u8], s: Layout, table: &[u16], i: usize) -> bool
     entry(table, v) != v
 }
 
-// The range with row `i` in front of it, if a literal stands there; a range without rows ends at `none`.
+// The range with row `i` put in front, if that row is chosen; the last row of a range without rows is `none`.
 fn with_row(r: Range, none: usize, i: usize, chosen: bool) -> Range
     ensures { λ n. ⌜ n ≡ with-row chosen none i r ⌝ }
 {
@@ -38,7 +38,7 @@ fn with_row(r: Range, none: usize, i: usize, chosen: bool) -> Range
     }
 }
 
-// The rows of the first and the last literal that the table changes, N if there is none, and in `next` from each to the next one.
+// The rows of the first and the last literal that the table changes, N if there is none, and in `next` the way from each to the next one.
 pub fn link_chosen(b: &[u8], s: Layout, table: &[u16], next: &mut [u16]) -> Range
     requires { ⌜ Readable s (now b) × (length (now table) ≡ NUMBERS) × (s .nodes ≤ length (now next)) ⌝ }
     ensures { λ r. ⌜ Linked (chosen (now (table .entry))) s (now (b .entry)) (now (next .exit)) r ⌝ }

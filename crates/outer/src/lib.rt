@@ -47,7 +47,7 @@ fn outer_into(b: &[u8], tables: &[u16], cuts: &[u16], w: Copying, out: &mut [u8]
     sheet_length(f, t.variables, t.nodes)
 }
 
-// Converts a plan out: 13 the raw sheet doesn't fit; else it is written to `out` and tidied there.
+// Carries out a plan: 13 the raw sheet doesn't fit; else it is written to `out` and tidied there.
 fn outer_planned(sheet: &[u8], tables: &[u16], cuts: &[u16], w: Copying, out: &mut [u8]) -> Stepped
     requires { ⌜ OuterPlanned (now sheet) (now tables) (now cuts) w ⌝ }
     ensures { λ r. ⌜ record { answer = outcome-answer r; output = now (out .exit) } ≡ outer-written (format-in (w .from)) (now (sheet .entry)) (w .variable) (now (out .entry)) ⌝ }

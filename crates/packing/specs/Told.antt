@@ -1,4 +1,4 @@
--- What a number returned to C says about truth, by the parts that the header takes out of it.
+-- What a number returned to C means for the truth, by the parts into which the header takes it.
 -- Assumes nothing.
 use mathlib.Core.Path.{_≡_}
 use mathlib.Core.Bool.{Bool, true, false}
@@ -12,28 +12,28 @@ use Rattle.sheet.specs.Guards.{Clashing}
 use Rattle.sheet.specs.Force.{values-of}
 use Rattle.packing.specs.Unpacked.{number-of, word-of, low-of, high-of, turn-of, outcome-of}
 
--- Operations that write a sheet: with the number 0, so many bytes at the front of the output as HIGH says are a sheet that Check accepts,
--- of the truth of what was given.
+-- Operations that write a sheet: if NUMBER is 0, the first HIGH bytes of the output are a sheet that Check accepts, of the truth of what
+-- was given.
 pub record ToldSheet (F : Format) (t : Bool) (n : ℕ) (output : Bytes) : Type 0 where
   pub on-accepted : number-of n ≡ 0 → SheetOf F t (take (high-of n) output)
 
--- the step one block out: so it is with LOW
+-- the step one block out: the same, with the length in LOW
 pub record ToldCopied (F : Format) (t : Bool) (n : ℕ) (output : Bytes) : Type 0 where
   pub on-accepted : number-of n ≡ 0 → SheetOf F t (take (low-of n) output)
 
--- Trial: with the number 0, WORD is 1 for a true sheet alone, and 0 for a false one
+-- Trial: if NUMBER is 0, WORD is 1 only for a true sheet, and 0 only for a false one
 pub record ToldTrial (t : Bool) (n : ℕ) : Type 0 where
   pub on-true : number-of n ≡ 0 → word-of n ≡ 1 → t ≡ true
   pub on-false : number-of n ≡ 0 → word-of n ≡ 0 → t ≡ false
 
--- Solve and Resume: so it is there; where WORD is 2, the first buffer holds a sheet of the same truth
+-- Solve and Resume: the same for WORD 1 and 0; if WORD is 2, the first buffer holds a sheet of the same truth
 pub record ToldSolve (F : Format) (t : Bool) (n : ℕ) (first : Bytes) : Type 0 where
   pub on-true : number-of n ≡ 0 → word-of n ≡ 1 → t ≡ true
   pub on-false : number-of n ≡ 0 → word-of n ≡ 0 → t ≡ false
   pub on-stopped : number-of n ≡ 0 → word-of n ≡ 2 → Holds F t first
 
--- Guards: WORD 1 is said of a true sheet, and WORD 0 of a false one; the sheet then written, of HIGH bytes, is false, and true without any one
--- child if LOW, the runs that stopped, is 0
+-- Guards: WORD is 1 only for a true sheet, and 0 only for a false one. The sheet then written, of HIGH bytes, is false; it is true without
+-- any one child if LOW, the number of runs that stopped, is 0.
 pub record ToldGuards (F : Format) (b : Bytes) (n : ℕ) (output : Bytes) : Type 0 where
   pub on-true : number-of n ≡ 0 → word-of n ≡ 1 → truth-of F b ≡ true
   pub on-kept : number-of n ≡ 0 → word-of n ≡ 0 → (truth-of F b ≡ false) × Clashing F b (take (high-of n) output) (low-of n)

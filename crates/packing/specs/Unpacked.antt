@@ -1,4 +1,4 @@
--- How a caller takes an answer of 64 bits apart (include/plumanchor.h), and the answer that it then has.
+-- How a caller takes an answer of 64 bits apart (include/plumanchor.h), and the answer that this gives.
 -- Assumes nothing.
 use mathlib.Core.Bool.{Bool, cond}
 use Prim.Native.Nat.{ℕ, _+_, _-_, _/_, _%_, _≤_, _<_}
@@ -54,7 +54,7 @@ unpacked-solved n =
     (cond (eqb (word-of n) 2) (is-stopped (high-of n / 65536) (low-of n) (high-of n % 65536)) (is-ended (eqb (word-of n) 1) (low-of n) (high-of n % 65536)))
     (is-refused (number-of n) (low-of n))
 
--- of Resume a count's lower 16 bits come back: the whole count is the one given plus what those bits are ahead of it, modulo 65,536
+-- Resume returns the lower 16 bits of a count: the whole count is the one given plus how far these bits are ahead of it, modulo 65,536.
 abbrev pub whole-count : ℕ → ℕ → ℕ
 whole-count given low = given + (low + 65536 - given % 65536) % 65536
 
@@ -83,7 +83,7 @@ order-of w = cond (eqb w 0) before (cond (eqb w 1) same after)
 abbrev pub unpacked-compared : ℕ → Compared
 unpacked-compared n = cond (eqb (number-of n) 0) (is-ordered (order-of (word-of n))) (order.is-refused (word-of n) (number-of n) (low-of n))
 
--- The values that keep their places: a refusal's number isn't 0, and each value has as many bits as its place.
+-- Values that fit their places: a refusal's number isn't 0, and no value has more bits than its place.
 pub record Tellable (number place : ℕ) : Type 0 where
   pub is-number : 1 ≤ number
   pub small-number : number < 256

@@ -1,4 +1,4 @@
-// Answers as numbers, for callers in C and Rust: each answer of an operation in one number. include/plumanchor.h tells how.
+// Answers as numbers, for callers in C and Rust: each answer of an operation in one number. include/plumanchor.h describes its parts.
 ghost use mathlib.Core.Path.{_≡_};
 ghost use Rattle.checking.specs.Answers.{checked-answer, written-answer};
 ghost use Rattle.trial.specs.Answers.{tried-answer};
@@ -93,7 +93,8 @@ pub fn pack_solved(answer: solve::Solved) -> u64
     }
 }
 
-// What Guards answers: refusal number and place; the initial run as Solve's; or the kept children's sheet by its length, and the count.
+// What Guards answers: refusal number and place; the initial run's answer, as Solve's; or the length of the kept children's sheet and the
+// count.
 pub fn pack_guarded(answer: guards::Guarded) -> u64
     ensures { λ r. ⌜ r ≡ packed-guards (guarded-answer answer) ⌝ }
 {

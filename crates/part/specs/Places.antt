@@ -6,7 +6,7 @@ use lib.Dec.{ltb}
 use Rattle.sheet.specs.Format.{Bytes, Format, header, variables, nodes}
 use Rattle.sheet.specs.Check.{passes, check-tests}
 
--- the subtree's first kind byte; where sheet or node is bad, the part is empty and stands at the first byte
+-- the subtree's first kind byte; if the sheet or the node is bad, the part is empty and at the first byte
 unfoldable pub part-place : Format → Bytes → ℕ → ℕ
 part-place F b i = cond (passes (check-tests F b) && ltb i (nodes F b)) (header F + (variables F b + i)) 0
 

@@ -2,8 +2,8 @@
 use checking::Checked;
 use rows::Format;
 
-// Tells on standard error what to do with a good sheet of 16-bit numbers. It is never a good wide one, since its N stands where a wide
-// sheet has the upper half of V.
+// Writes to standard error what to do with a good sheet of 16-bit numbers. It is never a good wide one, since its N is where a wide sheet
+// has the upper half of V.
 fn hint(input: &[u8]) {
     match checking::check(input, Format::Narrow) {
         Checked::Accepted(_) => {

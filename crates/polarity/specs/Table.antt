@@ -12,7 +12,7 @@ use Rattle.rows.specs.Formulas.{matrix-in}
 use Rattle.rows.specs.declared.Layout.{Layout}
 use Rattle.prefixes.specs.Places.{binding-in}
 
--- the entry of x for unit literals or for literals anywhere, of a sign
+-- the entry of x for its literals of a sign: for unit literals, or for literals anywhere
 abbrev pub entry-of : Bool → Bool → ℕ → ℕ
 entry-of unit sign x = 4 * x + 2 * cond unit 1 0 + cond sign 0 1
 
@@ -24,8 +24,8 @@ last-entry x = 4 * x + 3
 abbrev pub Unmarked : List Bool → Type 0
 Unmarked signs = (e : ℕ) → getD signs e false ≡ false
 
--- of the numbers that the table has, those that pass the test of unit literals or of literals anywhere, and of a sign,
--- are marked too, and no other
+-- entries are marked that were marked before, and those whose variable passes the test P, which takes whether the entry is for unit
+-- literals, the sign and the variable; this holds for every variable that the table has
 pub record Marked (before after : List Bool) (P : Bool → Bool → ℕ → Bool) : Type 0 where
   pub same-length : length after ≡ length before
   pub added : (unit sign : Bool) (x : ℕ) → last-entry x < length before
@@ -35,7 +35,7 @@ pub record Marked (before after : List Bool) (P : Bool → Bool → ℕ → Bool
 abbrev pub Covers : Layout → Bytes → ℕ → Type 0
 Covers s b n = (i : ℕ) → i < s .variables → last-entry ((binding-in s b i) .variable) < n
 
--- the table of a sheet: whether x, if the table has it, has a literal of a sign, and a unit literal
+-- the table of a sheet: for each variable that it has, whether it has a literal of each sign, and whether it has a unit literal of it
 pub record Signed (s : Layout) (b : Bytes) (signs : List Bool) : Type 0 where
   pub covers : Covers s b (length signs)
   pub anywhere : (sign : Bool) (x : ℕ) → last-entry x < length signs

@@ -42,7 +42,7 @@ abbrev pub value-of : Settling → Option Bool
 value-of (Take c) = some c
 value-of Not = none
 
--- the signs of x in a matrix, and as a table has them
+-- the signs of x: in a matrix, and in a table
 abbrev pub signs-of : ℕ → Tree → Signs
 signs-of x t =
     record {
@@ -61,7 +61,7 @@ signs-in signs x =
       «negative_unit» = getD signs (entry-of true false x) false;
     }
 
--- the value by a quantifier and signs, if there is one
+-- the value for a quantifier and signs, if there is one
 abbrev pub settling-by : Quantifier → Signs → Option Bool
 settling-by q g =
     cond (not (g .positive || g .negative)) (some false)

@@ -43,7 +43,7 @@ fn mark(signs: &mut [bool], x: usize, positive: bool, unit: bool)
     signs[entry(x, unit, positive)] = true;
 }
 
-// Marks the literal of node row `i`, if one stands there, and tells how many children the row has.
+// Marks the literal of node row `i`, if it is one, and returns how many children the row has.
 fn mark_row(b: &[u8], s: Layout, i: usize, unit: bool, signs: &mut [bool]) -> usize
     requires { ⌜ Readable s (now b) × (i < s .nodes) ⌝ }
     ensures { λ _. ⌜ Marked (now (signs .entry)) (now (signs .exit)) (λ u p x. (not u || unit) && is-lit (of-sign p x) (subtree-in s (now (b .entry)) i)) ⌝ }
@@ -58,7 +58,8 @@ fn mark_row(b: &[u8], s: Layout, i: usize, unit: bool, signs: &mut [bool]) -> us
     0
 }
 
-// How many trees are left of the child of the root at hand behind a row, by those left at it: 0 where a child of the root begins there.
+// How many subtrees of the current child of the root are owed behind a row, if `left` were owed at it: the row pays for one and adds its
+// children. If none was owed, the row begins a child of the root, and only its own children are owed.
 fn left_behind(left: usize, children: usize) -> usize
     requires { ⌜ left + children < 2 ^ 32 ⌝ }
     ensures { λ r. ⌜ r ≡ left - 1 + children ⌝ }
@@ -69,8 +70,8 @@ fn left_behind(left: usize, children: usize) -> usize
     left - 1 + children
 }
 
-// Fills the table, where no sign is marked before. One pass is enough: in preorder a child of the root begins where no tree is left of the
-// one before, so a literal there is a unit literal, and so is the root.
+// Fills the table, in which no sign is marked yet. One pass is enough: in preorder a child of the root begins where nothing is owed for the
+// one before. A literal there is a unit literal, and so is a root that is a literal.
 pub fn fill_signs(b: &[u8], s: Layout, signs: &mut [bool])
     requires { ⌜ Readable s (now b) × Unmarked (now signs) × Covers s (now b) (length (now signs)) ⌝ }
     ensures { λ _. ⌜ Signed s (now (b .entry)) (now (signs .exit)) ⌝ }

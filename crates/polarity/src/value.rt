@@ -37,7 +37,8 @@ fn table_value(quantifier: usize, sign: usize) -> bool
     VALUE[quantifier][sign] == 1
 }
 
-// The value by a quantifier and signs: a sign gives it if no literal has the opposite one or a unit literal has it; 0 with no literal.
+// The value for a quantifier and the signs of a variable's literals. A sign gives it if all literals have that sign or a unit literal has
+// it; without literals it is 0.
 pub fn settling_by(quantifier: usize, signs: Signs) -> Settling
     requires { ⌜ quantifier < 2 ⌝ }
     ensures { λ r. ⌜ value-of r ≡ settling-by (quantifier-at quantifier) signs ⌝ }

@@ -21,8 +21,8 @@ ghost use Rattle.qdimacs.specs.Inner.Lists.{first-length};
 ghost use Rattle.qdimacs.specs.Inner.Cursor.{tokens-at};
 ghost use Rattle.qdimacs.specs.Inner.Clauses.{count-step, Counts, literal-said, says-above};
 
-// What the clauses are: whether all words are whole numbers, whether one is still open, how many clauses are ended, and
-// how many words there are, those that end clauses too.
+// What is known of the clauses: whether all words are whole numbers, whether the last clause is still open, how many clauses are ended, and
+// how many words there are, the zeros that end clauses among them.
 pub struct Clauses {
     pub whole: bool,
     pub ongoing: bool,
@@ -30,7 +30,7 @@ pub struct Clauses {
     pub words: usize,
 }
 
-// One word more.
+// The same with one word more.
 fn count_word(c: Clauses, class: u8) -> Clauses
     requires { ⌜ (c .count < largest) × (c .words < largest) ⌝ }
     ensures { λ r. ⌜ r ≡ count-step c class ⌝ }

@@ -1,4 +1,4 @@
-// The header: comment lines and blank ones stand above it, and p cnf and two numbers are all of it.
+// The header: comment lines and blank ones may be above it, and its line is p cnf and two numbers.
 use words::cursor::end_of;
 use words::cursor::skip_white;
 use words::token::CNF;
@@ -16,14 +16,15 @@ ghost use Rattle.sheet.specs.Qdimacs.{header-of};
 ghost use Rattle.sheet.specs.Texts.{Line, is-skipped, separated};
 ghost use Rattle.qdimacs.specs.Inner.Header.{HeaderAt, next-line, unsigned-class, is-header, Heads};
 
-// Whether the header is as it should be, and how many variables and clauses it says; a number above 64 bits is the largest of them.
+// Whether the header is as it should be, and its numbers of variables and of clauses; a number too large for 64 bits is read as the largest
+// one.
 pub struct Header {
     pub well_formed: bool,
     pub variables: usize,
     pub clauses: usize,
 }
 
-// A comment line, or a blank one.
+// Whether a line is a comment or blank.
 fn is_skipped(line: &[u8]) -> bool
     requires { ⌜ Line (now line) ⌝ }
     ensures { λ r. ⌜ r ≡ is-skipped (now (line .entry)) ⌝ }
@@ -62,7 +63,7 @@ pub fn header_line(text: &[u8]) -> usize
     at
 }
 
-// A number without sign.
+// Whether a word of this class is a number without sign.
 fn is_unsigned(class: u8) -> bool
     ensures { λ r. ⌜ r ≡ unsigned-class class ⌝ }
 {
@@ -72,7 +73,7 @@ fn is_unsigned(class: u8) -> bool
     class == POSITIVE
 }
 
-// p cnf, two unsigned numbers, and no more words.
+// Whether the words of a line are p, cnf and two unsigned numbers, and no more.
 fn is_header(p: u8, cnf: u8, variables: u8, clauses: u8, last: u8) -> bool
     ensures { λ r. ⌜ r ≡ is-header p cnf variables clauses last ⌝ }
 {
@@ -91,7 +92,7 @@ fn is_header(p: u8, cnf: u8, variables: u8, clauses: u8, last: u8) -> bool
     last == NONE
 }
 
-// What a line says as a header.
+// Reads a line as a header.
 pub fn read_header(line: &[u8]) -> Header
     ensures { λ r. ⌜ Heads (header-of (separated (now (line .entry)))) r ⌝ }
 {

@@ -28,7 +28,7 @@ pub struct Bound {
     pub count: usize,
 }
 
-// A number of a quantifier line is marked as bound.
+// Marks a number of a quantifier line as bound.
 fn bind_word(found: Bound, t: Token, marks: &mut [u8; NUMBERS]) -> Bound
     requires { ⌜ (t .class ≡ 7 → t .magnitude < NUMBERS) × (found .count < largest) × (length (now marks) ≡ NUMBERS) ⌝ }
     ensures { λ r. ⌜ r ≡ found-with found t (now (marks .entry)) ⌝ }
@@ -75,7 +75,7 @@ pub fn bind(b: &[u8], marks: &mut [u8; NUMBERS]) -> Bound
     found
 }
 
-// A literal's variable that is not bound is marked as free.
+// Marks the variable of a literal as free, if it is not bound.
 fn name_literal(literal: i32, marks: &mut [u8; NUMBERS])
     requires { ⌜ length (now marks) ≡ NUMBERS ⌝ }
     ensures { λ _. ⌜ now (marks .exit) ≡ named-by literal (now (marks .entry)) ⌝ }
@@ -90,7 +90,7 @@ fn name_literal(literal: i32, marks: &mut [u8; NUMBERS])
     marks[x] = FREE;
 }
 
-// A number of a clause is named.
+// Marks the variable of a number of a clause as free, if it is not bound.
 fn name_word(t: Token, marks: &mut [u8; NUMBERS])
     requires { ⌜ length (now marks) ≡ NUMBERS ⌝ }
     ensures { λ _. ⌜ now (marks .exit) ≡ named-with t (now (marks .entry)) ⌝ }
@@ -101,7 +101,7 @@ fn name_word(t: Token, marks: &mut [u8; NUMBERS])
     name_literal(literal_said(t), marks);
 }
 
-// Marks the numbers of the clauses from `from` on.
+// Marks the variables of the clauses from `from` on that are not bound as free.
 pub fn name(b: &[u8], from: usize, marks: &mut [u8; NUMBERS])
     requires { ⌜ (from ≤ length (now b)) × (length (now marks) ≡ NUMBERS) ⌝ }
     ensures { λ _. ⌜ Names (now (b .entry)) from (now (marks .entry)) (now (marks .exit)) ⌝ }
@@ -114,7 +114,7 @@ pub fn name(b: &[u8], from: usize, marks: &mut [u8; NUMBERS])
     }
 }
 
-// One for a number that is free.
+// 1 for a free number, else 0.
 fn one_if_free(mark: u8) -> usize
     ensures { λ r. ⌜ r ≡ cond (eqb mark 2) 1 0 ⌝ }
 {

@@ -13,7 +13,7 @@ ghost use Prim.Native.Nat.{_≤_, _<_};
 ghost use lib.ListN.{length};
 ghost use Rattle.qdimacs.specs.Inner.Cursor.{opened, continued, step, Cuts};
 
-// Between two lines, within one (1 exists, 2 for all, as the kinds of rows are), at the first clause, and at a wrong word.
+// States: between two lines, within one (1 exists, 2 for all, like the kinds of rows), at the first clause, at a wrong word.
 pub const BETWEEN: u8 = 0;
 
 pub const CLAUSE: u8 = 3;
@@ -26,7 +26,7 @@ pub struct Cut {
     pub at: usize,
 }
 
-// Between two lines e and a open one, and any other word is a clause's.
+// The state after a word between two lines: e or a opens a line, and any other word belongs to a clause.
 fn opened(class: u8) -> u8
     ensures { λ r. ⌜ r ≡ opened class ⌝ }
 {
@@ -42,7 +42,7 @@ fn opened(class: u8) -> u8
     CLAUSE
 }
 
-// Within a line stand numbers without sign, and 0 ends it.
+// The state after a word within a line: numbers without sign go on, and 0 ends the line.
 fn continued(state: u8, class: u8) -> u8
     ensures { λ r. ⌜ r ≡ continued state class ⌝ }
 {
@@ -58,7 +58,7 @@ fn continued(state: u8, class: u8) -> u8
     WRONG
 }
 
-// Where a word leads.
+// The state after a word.
 pub fn step(state: u8, class: u8) -> u8
     ensures { λ r. ⌜ r ≡ step state class ⌝ }
 {

@@ -1,4 +1,4 @@
-// The rows that a text says: free variables by number, the quantifier lines' bindings, then AND over the clauses, each an OR.
+// The rows of a text: free variables by number, the bindings of the quantifier lines, then AND over the clauses, each an OR.
 use crate::clauses::literal_said;
 use crate::marks::FREE;
 use crate::prefix::BETWEEN;
@@ -34,14 +34,14 @@ ghost use Rattle.qdimacs.specs.Inner.Clauses.{variable-said};
 ghost use Rattle.qdimacs.specs.Inner.Marks.{Listed, bindings-in, frees};
 ghost use Rattle.qdimacs.specs.Inner.Rows.{spliced, clause-rows, Openable, open-place, open-rows, literal-row, word-place, word-rows, Writable};
 
-// Where the writing of clauses stands: the next word, the next row, and whether a clause begins there.
+// How far the clauses are written: the next word, the next row, and whether a clause begins there.
 pub struct ListPlace {
     pub at: usize,
     pub row: usize,
     pub fresh: bool,
 }
 
-// A free variable's row.
+// Writes the row of a number if it is free, and returns the next row.
 fn write_if_free(mark: u8, x: usize, out: &mut [u8], s: Layout, r: usize) -> usize
     requires { ⌜ Room s (length (now out)) × (mark ≡ 2 → r < total s) × (r < largest) × Fits s x ⌝ }
     ensures { λ _. ⌜ rows-in s (now (out .exit)) ≡ cond (eqb mark 2) (set (rows-in s (now (out .entry))) r (row 1 x)) (rows-in s (now (out .entry))) ⌝ }
@@ -69,7 +69,7 @@ pub fn write_free(marks: &[u8; NUMBERS], most: usize, out: &mut [u8], s: Layout)
     r
 }
 
-// The row of a number in a quantifier line of this kind.
+// Writes the row of a number in a quantifier line of this kind, and returns the next row.
 fn write_binding(t: Token, kind: u8, out: &mut [u8], s: Layout, r: usize) -> usize
     requires { ⌜ Room s (length (now out)) × (t .class ≡ 7 → r < total s) × (r < largest) × (t .class ≡ 7 → Fits s (t .magnitude)) ⌝ }
     ensures { λ _. ⌜ rows-in s (now (out .exit)) ≡ cond (eqb (t .class) 7) (set (rows-in s (now (out .entry))) r (row kind (t .magnitude))) (rows-in s (now (out .entry))) ⌝ }
@@ -104,7 +104,7 @@ pub fn write_bound(b: &[u8], out: &mut [u8], s: Layout, from: usize) -> usize
     r
 }
 
-// How many words stand from `from` on before the next 0.
+// How many words there are from `from` on before the next 0.
 fn clause_length(b: &[u8], from: usize) -> usize
     requires { ⌜ from ≤ length (now b) ⌝ }
     ensures { λ r. ⌜ r ≡ first-length (tokens-at (now (b .entry)) from) ⌝ }
@@ -122,7 +122,7 @@ fn clause_length(b: &[u8], from: usize) -> usize
     n
 }
 
-// One for a word, none where there is none.
+// 1 for a word, 0 where there is none.
 fn one_if_some(class: u8) -> usize
     ensures { λ r. ⌜ r ≡ cond (eqb class 0) 0 1 ⌝ }
 {
@@ -132,7 +132,7 @@ fn one_if_some(class: u8) -> usize
     1
 }
 
-// The OR row of a clause that begins with a word of this class.
+// Writes the OR row of a clause, if one begins with this word.
 fn open_clause(b: &[u8], p: ListPlace, class: u8, out: &mut [u8], s: Layout) -> ListPlace
     requires { ⌜ Openable (now b) p class s (length (now out)) ⌝ }
     ensures { λ r. ⌜ r ≡ open-place p class ⌝ }
@@ -153,7 +153,7 @@ fn open_clause(b: &[u8], p: ListPlace, class: u8, out: &mut [u8], s: Layout) -> 
     }
 }
 
-// The row of a literal: its kind and its variable.
+// Writes the row of a literal: its kind and its variable.
 fn write_literal(literal: i32, out: &mut [u8], s: Layout, r: usize)
     requires { ⌜ Room s (length (now out)) × (r < total s) × Fits s (variable literal) ⌝ }
     ensures { λ _. ⌜ rows-in s (now (out .exit)) ≡ set (rows-in s (now (out .entry))) r (literal-row literal) ⌝ }
@@ -163,7 +163,7 @@ fn write_literal(literal: i32, out: &mut [u8], s: Layout, r: usize)
     set_row(out, s, r, kind, x);
 }
 
-// The row of a word, which has one if it is a number other than 0.
+// Writes the row of a word, if it is a number other than 0.
 fn write_word(t: Token, p: ListPlace, out: &mut [u8], s: Layout) -> ListPlace
     requires { ⌜ Room s (length (now out)) × (7 ≤ t .class → p .row < total s) × (p .row < largest) × (7 ≤ t .class → Fits s (variable-said t)) ⌝ }
     ensures { λ r. ⌜ r ≡ word-place t p ⌝ }
@@ -191,7 +191,7 @@ fn write_word(t: Token, p: ListPlace, out: &mut [u8], s: Layout) -> ListPlace
     }
 }
 
-// Writes the rows of the clauses that stand from `from` on, from row `r` on.
+// Writes the rows of the clauses that begin at `from`, from row `r` on.
 pub fn write_clauses(b: &[u8], from: usize, out: &mut [u8], s: Layout, r: usize)
     requires { ⌜ Writable (now b) from s (length (now out)) r ⌝ }
     ensures { λ _. ⌜ rows-in s (now (out .exit)) ≡ spliced (rows-in s (now (out .entry))) r (clause-rows (tokens-at (now (b .entry)) from)) ⌝ }

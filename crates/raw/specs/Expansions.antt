@@ -21,7 +21,7 @@ use Rattle.raw.specs.Formulas.{first-table, second-table, chosen-by, ope
 use Rattle.raw.specs.declared.expand.Expansion.{Expansion}
 use Rattle.raw.specs.declared.runs.Head.{Head}
 
--- rows at which runs begin, in their order, from row lo on, the last at most n
+-- rows at which runs begin, in ascending order from row lo on, the last at most n
 abbrev pub Climbs : ℕ → List ℕ → ℕ → Type 0
 Climbs lo [] n = lo ≤ n
 Climbs lo (c ∷ cs) n = (lo ≤ c) × Climbs c cs n
@@ -44,7 +44,7 @@ head-row h = row (h .kind) (h .children)
 abbrev pub below : Row → List ℕ → List Row → List Row
 below head t rs = head ∷ map (changed-row t) rs
 
--- the rows of two copies, each below the same row, under a joint of the kind k
+-- the rows of two copies, each below the same operator's row, under a joint of the kind k
 unfoldable pub joined : ℕ → Row → List ℕ → List ℕ → List Row → List Row
 joined k head first second rs = row k 2 ∷ (below head first rs ++ below head second rs)
 
@@ -74,7 +74,7 @@ part-in s b e = subtree-in s b (e .relevant .operator)
 abbrev pub cuts-in : Layout → Bytes → List ℕ → Expansion → List ℕ
 cuts-in s b tables e = cuts (chosen-by tables) (suc (e .relevant .operator)) (kids (part-in s b e))
 
--- a chosen literal occurs: the relevant subtree, and where its subtree ends
+-- a chosen literal occurs: the relevant subtree, and the row behind it
 pub record Located (s : Layout) (b : Bytes) (tables : List ℕ) (e : Expansion) : Type 0 where
   pub present : has (chosen-by tables) (matrix-in s b) ≡ true
   pub part-is : e .relevant ≡ relevant-subtree (chosen-by tables) 0 (matrix-in s b)
@@ -84,7 +84,7 @@ pub record Located (s : Layout) (b : Bytes) (tables : List ℕ) (e : Expansion) 
 abbrev pub Found : Layout → Bytes → List ℕ → List ℕ → Expansion → Type 0
 Found s b tables cs e = Located s b tables e × (e .relevant .all ≡ false → cs ≡ cuts-in s b tables e)
 
--- whether a chosen literal occurs, and if so the part
+-- whether a chosen literal occurs, and if so its relevant subtree
 abbrev pub Told : Layout → Bytes → List ℕ → List ℕ → Expansion → Type 0
 Told s b tables cs e = (e .occurs ≡ has (chosen-by tables) (matrix-in s b)) × (e .occurs ≡ true → Found s b tables cs e)
 

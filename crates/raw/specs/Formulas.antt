@@ -22,7 +22,8 @@ without-row i p = take i p ++ drop (suc i) p
 unfoldable pub settled-raw : ℕ → List ℕ → Formula → Formula
 settled-raw i t f = record { prefix = without-row i (f .prefix); matrix = replace (changed t) (f .matrix) }
 
--- Two tables of 1,025 entries, one behind the other: of the first copy and of the second. The second one chooses.
+-- Two tables of 1,025 entries, one behind the other: the first copy's and the second copy's. The literals that the second one changes are
+-- the chosen ones.
 abbrev pub first-table : List ℕ → List ℕ
 first-table ts = take 1025 ts
 
@@ -46,7 +47,7 @@ copying-by ts k =
       second = changed (second-table ts);
     }
 
--- row i goes, and the relevant subtree gives way to two copies; with no literal chosen the matrix stays
+-- row i goes, and the relevant subtree is replaced by two copies; without a chosen literal the matrix stays
 unfoldable pub expanded-raw : ℕ → Copying → Formula → Formula
 expanded-raw i c f = record { prefix = without-row i (f .prefix); matrix = raw-tree c (f .matrix) }
 

@@ -1,5 +1,5 @@
-// The raw sheet of Expand: the relevant subtree gives way to two copies, each literal of which becomes what that copy's table says.
-// Rows outside the copies stay as they are: the runs of the other children too, by the second table, which chooses none of their literals.
+// The raw sheet of Expand: the relevant subtree is replaced by two copies, in which each literal becomes what that copy's table says. Rows
+// outside the copies stay as they are. The other children are written by the second table, which changes none of their literals.
 use crate::runs::Head;
 use crate::runs::write_below;
 use crate::runs::write_runs;
@@ -33,7 +33,8 @@ pub struct Expansion {
     pub layout: Layout,
 }
 
-// Every child is relevant, or a literal is alone: writes the joint and below it the subtree twice, by the first table and by the second.
+// For a single literal, or where every child is relevant: writes the joint and below it the subtree twice, by the first table and by the
+// second.
 fn write_whole(b: &[u8], s: Layout, tables: &[u16], e: Expansion, out: &mut [u8]) -> usize
     requires { ⌜ Copyable s (now b) (now tables) e (now out) × Located s (now b) (now tables) e × (e .relevant .all ≡ true) ⌝ }
     ensures { λ next. ⌜ Laid (e .layout) (now (out .entry)) (now (out .exit)) (new-at e) next (new-rows s (now (b .entry)) (now (tables .entry)) e) ⌝ }
@@ -56,7 +57,7 @@ fn write_whole(b: &[u8], s: Layout, tables: &[u16], e: Expansion, out: &mut [u8]
     write_copy(b, s, &tables[NUMBERS..], subtree, out, second)
 }
 
-// Not every child is relevant: writes the joint and below it the operator over the relevant children twice, by the first table and by
+// Where not every child is relevant: writes the joint and below it the operator over the relevant children twice, by the first table and by
 // the second.
 fn write_copies(
     b: &[u8],
@@ -93,8 +94,8 @@ fn write_copies(
     write_below(b, s, &tables[NUMBERS..], &cuts[1..], out, second)
 }
 
-// Not every child is relevant: writes the operator, its children before the first relevant one, the copies at that one's spot, and the
-// other children.
+// Where not every child is relevant: writes the operator, its children before the first relevant one, the copies in place of that one, and
+// the other children.
 fn write_some(
     b: &[u8],
     s: Layout,
@@ -144,7 +145,7 @@ fn write_subtree(
     write_some(b, s, tables, cuts, e, out)
 }
 
-// A chosen literal occurs: writes the matrix with the relevant subtree expanded, behind the prefix.
+// Where a chosen literal occurs: writes the matrix with the relevant subtree expanded, behind the prefix.
 fn write_expanded(
     b: &[u8],
     s: Layout,
@@ -175,7 +176,7 @@ fn write_expanded(
     write_rows(b, s, behind, out, back)
 }
 
-// Writes the matrix of the raw sheet behind the prefix, of as many rows as the layout says; with no literal chosen it stays.
+// Writes the matrix of the raw sheet behind the prefix, of as many rows as the layout says; if no chosen literal occurs, it is the old one.
 pub fn write_matrix(
     b: &[u8],
     s: Layout,

@@ -1,4 +1,4 @@
--- What the header of a text from a place on leaves unread, and what the lists below a header are answered with.
+-- What is unread of a text behind its header, and the answer to the lists below a header.
 -- Assumes nothing.
 use mathlib.Core.Path.{_≡_}
 use Prim.Native.Nat.{ℕ, _≤_}

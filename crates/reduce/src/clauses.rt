@@ -32,7 +32,7 @@ fn later(a: usize, b: usize) -> usize
     a
 }
 
-// The prefix row behind that of the last existential literal among the rows of a clause, and 0 if there is none.
+// The prefix row behind that of the last existential literal of a clause, or 0 if the clause has none.
 fn last_existential(b: &[u8], s: Layout, places: &[u16], from: usize, to: usize) -> usize
     requires { ⌜ Placed s (now b) (now places) × Literals s (now b) from to ⌝ }
     ensures { λ n. ⌜ n ≡ last-existential (prefix-in s (now (b .entry))) (slice from to (rows-in s (now (b .entry)))) ⌝ }
@@ -46,7 +46,8 @@ fn last_existential(b: &[u8], s: Layout, places: &[u16], from: usize, to: usize)
     last
 }
 
-// Whether the literal at row `r` goes: it is universal, and the last existential one of its clause doesn't stand behind it.
+// Whether the literal at row `r` goes: it is universal, and no existential literal of its clause is after it in the prefix; `last` is the
+// prefix row behind the last one.
 fn goes_at(b: &[u8], s: Layout, places: &[u16], r: usize, last: usize) -> bool
     requires { ⌜ Placed s (now b) (now places) × Bound s (now b) r ⌝ }
     ensures { λ g. ⌜ g ≡ goes-row (prefix-in s (now (b .entry))) last (row-of s (now (b .entry)) r) ⌝ }

@@ -31,7 +31,7 @@ pub fn place_at(b: &[u8], s: Layout, places: &[u16], r: usize) -> usize
     places[argument_at(b, s, r)] as usize
 }
 
-// The row behind that, if the variable is existential, and 0 if not.
+// The prefix row behind that of the literal's variable if the variable is existential, else 0.
 pub fn behind_at(b: &[u8], s: Layout, places: &[u16], r: usize) -> usize
     requires { ⌜ Placed s (now b) (now places) × Bound s (now b) r ⌝ }
     ensures { λ i. ⌜ i ≡ behind (prefix-in s (now (b .entry))) (variable-of s (now (b .entry)) r) ⌝ }

@@ -1,5 +1,5 @@
-// The clause profile of a tidy tree: no operator but the root is AND. A tidy OR has no OR among its children, so under one that is not
-// AND either, all are literals.
+// The clause profile of a tidy tree: no operator except the root is AND. An OR then has only literals as children, since a tidy OR has no
+// OR among them.
 use rows::AND;
 use rows::Layout;
 use rows::read::kind_at;
@@ -7,7 +7,7 @@ ghost use mathlib.Core.Path.{_≡_};
 ghost use Rattle.formula.specs.Inner.Clauses.{and-below};
 ghost use Rattle.rows.specs.Formulas.{matrix-in, Readable};
 
-// Whether a node row but the first is AND.
+// Whether a node row other than the first is AND.
 pub fn has_inner_and(b: &[u8], s: Layout) -> bool
     requires { ⌜ Readable s (now b) ⌝ }
     ensures { λ r. ⌜ r ≡ and-below (matrix-in s (now (b .entry))) ⌝ }

@@ -12,7 +12,7 @@ use Rattle.relevance.specs.declared.variable.Presence.the-variants.{Abse
 abbrev pub added : Relevant → ℕ
 added p = p .rows + cond (p .all) 1 2
 
--- with the rows of the matrix
+-- with the rows of the matrix added
 abbrev pub grown : ℕ → Relevant → ℕ
 grown n p = n + added p
 
@@ -20,12 +20,12 @@ grown n p = n + added p
 unfoldable pub presence : Literals → Tree → Presence
 presence L t = cond (has L t) (Present (relevant-subtree L 0 t)) Absent
 
--- with no literal, the matrix stays
+-- without a literal the matrix stays
 abbrev pub grown-by : ℕ → Presence → ℕ
 grown-by n Absent = n
 grown-by n (Present p) = grown n p
 
--- E, or 0
+-- E, or 0 without a literal
 abbrev pub copied : Presence → ℕ
 copied Absent = 0
 copied (Present p) = p .rows

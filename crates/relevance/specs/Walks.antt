@@ -29,7 +29,7 @@ span-by ends r at zero = record { from = at; to = at }
 span-by ends r at (suc k) =
     cond (ltb r (getD ends at 0)) (record { from = at; to = getD ends at 0 }) (span-by ends r (getD ends at 0) k)
 
--- the same of the trees, where the first tree's row is row i
+-- the same for the trees themselves, where the first tree's row is row i
 unfoldable pub child-span : ℕ → ℕ → Forest → Span
 child-span r i ∅ = record { from = i; to = i }
 child-span r i (t ▸ ts) = cond (ltb r (i + rows t)) (record { from = i; to = i + rows t }) (child-span r (i + rows t) ts)
@@ -46,7 +46,7 @@ pub record Bounded (s : Layout) (b : Bytes) (ends : List ℕ) (c : Range) : Type
   pub chosen : Literals
   pub bounds : Bounds chosen s b (c .first) (c .last)
 
--- or the chain of some set
+-- a sheet with its ends, and the chain of some set
 pub record Chained (s : Layout) (b : Bytes) (ends next : List ℕ) (first last : ℕ) : Type 0 where
   pub indexed : Indexed s b ends
   pub chosen : Literals
@@ -56,7 +56,7 @@ pub record Chained (s : Layout) (b : Bytes) (ends next : List ℕ) (first last :
 abbrev pub IsAncestor : Layout → Bytes → Range → ℕ → Type 0
 IsAncestor s b c r = (L : Literals) → Bounds L s b (c .first) (c .last) → r ≡ (relevant-subtree L 0 (matrix-in s b)) .operator
 
--- along a table from row to row, ever later ones, to the first that is not before row `end`
+-- a way along a table: each row leads to a later one, up to the first that is not before row `end`
 pub data Way : List ℕ → ℕ → ℕ → ℕ → Type 0 where
   there : {next : List ℕ} {end row : ℕ} → end ≤ row → Way next end row row
   on : {next : List ℕ} {end row to : ℕ} → row < end → row < length next → row < getD next row 0 → Way next end (getD next row 0) to
@@ -93,7 +93,7 @@ abbrev pub IsPart : Layout → Bytes → List ℕ → Range → Relevant → Typ
 IsPart s b next c r =
     (L : Literals) → Chain L s b next (c .first) (c .last) → r ≡ relevant-subtree L 0 (matrix-in s b)
 
--- a cut at row `at`, unless the run goes on
+-- the runs after a cut at row `at`; without one the run goes on
 unfoldable pub run-cut : Bool → Runs → Runs
 run-cut holds r = cond (Bool·beq holds (r .holding)) r (record { cuts = r .cuts + 1; holding = holds })
 

@@ -1,6 +1,7 @@
-// Where an expansion takes place: the relevant subtree of a matrix for a set of literals, and the rows that the expansion adds ("Expand x").
-// The set is given by a chain: the rows of its first and its last literal, and a table that leads from each literal to the next, as
-// crate `occurrences` fills it for all variables. A part costs its literals, the path to them and the children hopped over, not a pass.
+// Where an expansion takes place: the relevant subtree of a matrix for a set of literals, and the rows that the expansion adds ("Expand
+// x"). The set is given by a chain: the rows of its first and its last literal, and a table that leads from each literal to the next, as
+// crate `occurrences` fills it for all variables. The time is that of the literals, the path to them and the children passed over, not of a
+// pass over all rows.
 pub mod cuts;
 pub mod subtree;
 pub mod variable;

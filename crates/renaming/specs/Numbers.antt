@@ -35,7 +35,7 @@ renumbered (y ∷ ys) (n ∷ ns) t = renumbered ys ns (set t y n)
 abbrev pub copy-tables : ℕ → List ℕ → List ℕ → List ℕ
 copy-tables x ys ns = putting x false ++ renumbered ys ns (putting x true)
 
--- what is left to do after v, whose number is taken if it is in the set
+-- what is left to rename after v, which gets a new number if it is in the set
 pub record Renamed (ws used : List ℕ) (highest from v : ℕ) (before table : List ℕ) (next : ℕ) : Type 0 where
   pub within : next ≤ suc highest
   pub same-length : length table ≡ length before

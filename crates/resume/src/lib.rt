@@ -28,7 +28,7 @@ pub struct Counts {
     pub expanded: usize,
 }
 
-// Whether settled, expanded and variables left add up to the starting count: subtracted step by step, so that no sum is too large.
+// Whether settled, expanded and variables left add up to the starting count. They are subtracted one by one, so that no sum is too large.
 fn adds_up(c: Counts, left: usize) -> bool
     ensures { λ r. ⌜ r ≡ eqb (c .settled + c .expanded + left) (c .started) ⌝ }
 {
@@ -83,8 +83,9 @@ fn resume_checked(sheet: &[u8], s: Layout, c: Counts, first: &mut [u8], second: 
     add_counts(answer, c)
 }
 
-// Converts a stopped run over: goes on from the sheet reached, of the format `f`, with the counts of the run so far. The first work buffer
-// then holds the sheet reached, a wide one, and zeros, the second only zeros; refused, both are left as they were.
+// Carries a stopped run over ("Carry a stopped run over"): goes on from the sheet reached, of the format `f`, with the counts of the run so
+// far. The first work buffer then holds the sheet reached, a wide one, and zeros, the second only zeros; refused, both are left as they
+// were.
 pub fn resume(sheet: &[u8], f: Format, c: Counts, first: &mut [u8], second: &mut [u8]) -> Solved
     ensures { λ r. ⌜ record { answer = solved-answer r; first = now (first .exit); second = now (second .exit) } ≡ resume-with c (now (sheet .entry)) f (now (first .entry)) (now (second .entry)) ⌝ }
     ensures { λ r. ⌜ TruthfulSolve wide (truth-of (format-of f) (now (sheet .entry))) (record { answer = solved-answer r; first = now (first .exit); second = now (second .exit) }) ⌝ }

@@ -1,4 +1,4 @@
--- The formula whose rows stand in bytes: quantifiers first, then the nodes of one tree ("The sheet").
+-- The formula whose rows are in bytes: quantifiers first, then the nodes of one tree ("The sheet").
 -- Assumes nothing.
 use mathlib.Core.Path.{_≡_}
 use mathlib.Core.List.{List, map}
@@ -32,7 +32,7 @@ pub record Readable (s : Layout) (b : Bytes) : Type 0 where
   pub few-nodes : s .nodes ≤ 8192
   pub is-formula : formula-rows (formula-in s b) ≡ rows-in s b
 
--- the layout of a sheet of a format, by the sizes that it tells
+-- the layout of a sheet of a format, by the sizes in its first bytes
 abbrev pub layout-of : Format → Bytes → Layout
 layout-of f b = record { format = f; variables = variables (format-of f) b; nodes = nodes (format-of f) b }
 

@@ -27,7 +27,7 @@ total s = s .variables + s .nodes
 abbrev pub size : Layout → ℕ
 size s = 2 * width s + (1 + width s) * total s
 
--- where the kind of row r stands, and where its argument begins
+-- the byte of row r's kind, and the first byte of its argument
 abbrev pub kind-place : Layout → ℕ → ℕ
 kind-place s r = 2 * width s + r
 

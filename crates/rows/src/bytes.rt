@@ -1,4 +1,4 @@
-// Bytes of a sheet: a number put, a part moved, the rest cleared.
+// Writes bytes of a sheet: a number, a part moved, zeros.
 use crate::Format;
 ghost use mathlib.Core.Path.{_≡_};
 ghost use mathlib.Core.List.{_++_};

@@ -16,7 +16,7 @@ pub fn sheet_length(f: Format, v: usize, n: usize) -> usize
     2 * w + (1 + w) * (v + n)
 }
 
-// Whether such a sheet fits: its nodes the format, its bytes `room`.
+// Whether such a sheet fits: its nodes are within the format's limit, and its bytes within `room`.
 pub fn fits(f: Format, v: usize, n: usize, room: usize) -> bool
     requires { ⌜ (v < 2 ^ 32) × (n < 2 ^ 32) ⌝ }
     ensures { λ r. ⌜ r ≡ fits (format-of f) room v n ⌝ }

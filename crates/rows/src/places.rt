@@ -24,7 +24,7 @@ pub fn kind_place(s: Layout, r: usize) -> usize
     2 * width(f) + r
 }
 
-// The first byte of the argument of row `r`. Each format stands by itself, so that the compiler has its width as a number.
+// The first byte of the argument of row `r`. Each format has a branch of its own, so that the compiler knows the width as a constant.
 pub fn argument_place(s: Layout, r: usize) -> usize
     requires { ⌜ argument-place s r < 2 ^ 63 ⌝ }
     ensures { λ p. ⌜ p ≡ argument-place s r ⌝ }

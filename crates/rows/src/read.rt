@@ -13,7 +13,7 @@ ghost use Rattle.sheet.specs.Format.{header, variables, nodes, row, children};
 ghost use Rattle.rows.specs.Formats.{format-of};
 ghost use Rattle.rows.specs.Layouts.{total, rows-in, Room};
 
-// V, as a sheet's first bytes say it.
+// V, from a sheet's first bytes.
 pub fn variables_at(b: &[u8], f: Format) -> usize
     requires { ⌜ header (format-of f) ≤ length (now b) ⌝ }
     ensures { λ r. ⌜ (r ≡ variables (format-of f) (now (b .entry))) × (r < 2 ^ 32) ⌝ }
@@ -21,7 +21,7 @@ pub fn variables_at(b: &[u8], f: Format) -> usize
     number_at(b, 0, f)
 }
 
-// N, as the bytes behind V say it.
+// N, from the bytes behind V.
 pub fn nodes_at(b: &[u8], f: Format) -> usize
     requires { ⌜ header (format-of f) ≤ length (now b) ⌝ }
     ensures { λ r. ⌜ (r ≡ nodes (format-of f) (now (b .entry))) × (r < 2 ^ 32) ⌝ }

@@ -14,7 +14,7 @@ digit w k = eqb (w / 2 ^ k % 2) 1
 unfoldable pub holds : List ℕ → ℕ → Bool
 holds ws v = digit (getD ws (v / 64) 0) (v % 64)
 
--- how many numbers from i on, n of them, pass a test; and are in the set
+-- how many of the n numbers from i on pass a test; and how many are in the set
 unfoldable pub amount : (ℕ → Bool) → ℕ → ℕ → ℕ
 amount P zero i = 0
 amount P (suc n) i = cond (P i) (suc (amount P n (suc i))) (amount P n (suc i))

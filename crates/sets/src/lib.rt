@@ -1,4 +1,4 @@
-// Sets of variable numbers as 64-bit words, 64 numbers to a word: what is looked up by number, counted, and asked for its lowest member.
+// Sets of variable numbers as 64-bit words, 64 numbers to a word: membership, size and lowest member.
 ghost use mathlib.Core.Path.{_≡_};
 ghost use mathlib.Core.Bool.{_&&_, _||_};
 ghost use Prim.Native.Nat.{ℕ, _+_, _*_, _≤_, _<_};
@@ -72,7 +72,7 @@ pub fn lowest_left(first: &[u64], second: &[u64], taken: &[u64]) -> usize
     64 * i
 }
 
-// Makes the set that of the numbers which are in both others.
+// Makes `set` the numbers that are in both of the others.
 pub fn intersect(first: &[u64], second: &[u64], set: &mut [u64])
     requires { ⌜ (length (now second) ≡ length (now first)) × (length (now set) ≡ length (now first)) ⌝ }
     ensures { λ _. ⌜ length (now (set .exit)) ≡ length (now (set .entry)) ⌝ }

@@ -1,4 +1,4 @@
-// Settle: a variable is put in by a pure or a unit literal, its row goes, and the tree is tidied ("Settle x").
+// Settle: a pure or a unit literal gives the value of a variable, its row goes, and the tree is tidied ("Settle x").
 use crate::plan::SettlePlan;
 use crate::plan::plan_settle;
 use checking::Written;

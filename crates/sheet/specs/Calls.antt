@@ -14,8 +14,8 @@ use Rattle.sheet.specs.Check.{Answer, refused, accepted, Sizes, check}
 use Rattle.sheet.specs.Operations.{Written, settle-call, expand-call, execute-call}
 use Rattle.sheet.specs.Outer.{copies, outer-call}
 
--- a call: the operation, any number as x, of Execute any number as ceiling, and an output of any length and contents; a quote, which
--- writes nothing, is none
+-- A call: the operation, any number as x, for Execute any number as ceiling, and an output of any length and contents. A quote writes
+-- nothing and is no call here.
 pub data Call : Type 0 where
   settle : ℕ → Bytes → Call
   expand : ℕ → Bytes → Call
@@ -55,7 +55,7 @@ perform-all F (c ∷ cs) h =
 unfoldable pub held : Format → Bytes → List Call → Held
 held F b cs = perform-all F cs (record { sheet = b; accepted-calls = 0 })
 
--- the copies made by a list of calls: of each accepted one those that it makes
+-- the copies made by a list of calls: the sum over its accepted calls
 unfoldable pub copies-after : Answer ℕ → ℕ → ℕ
 copies-after (refused n i) k = 0
 copies-after (accepted n) k = k

@@ -1,4 +1,4 @@
--- Conversion sheets over from one format to the other, and bringing them back (N11).
+-- Conversion of sheets from one format to the other (N11).
 -- Assumes nothing.
 use mathlib.Core.Path.{_≡_}
 use mathlib.Core.Bool.{Bool, true, false, _&&_, _||_}
@@ -13,7 +13,7 @@ use Rattle.sheet.specs.Refusals.{no-room, not-narrow}
 use Rattle.sheet.specs.Check.{Test, test, passes, check-tests, check}
 use Rattle.sheet.specs.Operations.{Written, write}
 
--- the same rows, in the bytes of another format
+-- the sheet of the same rows in the other format
 unfoldable pub carried : Format → Format → Bytes → Bytes
 carried F G b = sheet G (formula F b)
 
@@ -31,22 +31,21 @@ beyond F G b =
 abbrev pub converted-room-test : Format → Format → Bytes → ℕ → Test
 converted-room-test F G b len = test (ltb len (sheet-length G (variables F b) (nodes F b))) no-room 0
 
--- Conversion over: 1 to 8 of the narrow format; 13
+-- To the wide format: 1 to 8 of the narrow format; 13
 unfoldable pub to-wide-tests : Bytes → ℕ → List Test
 to-wide-tests b len = check-tests narrow b ++ (converted-room-test narrow wide b len ∷ [])
 
 unfoldable pub to-wide-call : Bytes → Bytes → Written
 to-wide-call b out = write (to-wide-tests b (length out)) (carried narrow wide b) out
 
--- Bringing back: 1 to 8 of the wide format; 24 a number or size above the narrow limits; 13
+-- To the narrow format: 1 to 8 of the wide format; 24 a number or size above the narrow limits; 13
 unfoldable pub to-narrow-tests : Bytes → ℕ → List Test
 to-narrow-tests b len = check-tests wide b ++ (test (beyond wide narrow b) not-narrow 0 ∷ converted-room-test wide narrow b len ∷ [])
 
 unfoldable pub to-narrow-call : Bytes → Bytes → Written
 to-narrow-call b out = write (to-narrow-tests b (length out)) (carried wide narrow b) out
 
--- What a sheet and the one carried over from it have in common: Check accepts it with the same V and N, and rows, formula and truth are
--- the same.
+-- What a sheet and its conversion have in common: Check accepts both with the same V and N, and rows, formula and truth are the same.
 pub record Converted (F G : Format) (b new : Bytes) : Type 0 where
   pub same-sizes : check G new ≡ check F b
   pub is-accepted : passes (check-tests G new) ≡ true

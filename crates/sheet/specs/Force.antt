@@ -55,7 +55,7 @@ force-call F b vs first second =
     let a = answer (force-tests F b vs (room first second)) (panel F b vs (room first second)) in
     record { answer = a; first = buffer-after a first; second = buffer-after a second }
 
--- An answer beside a truth value: some value wins exactly if it holds, and "neither" is said exactly if it doesn't.
+-- An answer beside a truth value: some value wins exactly if it is true, and the answer is "neither" exactly if it is false.
 pub record Ties (o : Forced) (wins : Bool) : Type 0 where
   pub some-wins : allows-some o ≡ wins
   pub on-neither : o ≡ neither → wins ≡ false

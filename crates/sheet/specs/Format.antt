@@ -42,7 +42,7 @@ header F = 2 * F .width
 unfoldable pub sheet-length : Format → ℕ → ℕ → ℕ
 sheet-length F v n = header F + (1 + F .width) * (v + n)
 
--- a sheet of v variables and n nodes fits: its rows the format, its length the output
+-- a sheet of v variables and n nodes fits: its nodes are within the format's limit, its length within the output's
 unfoldable pub fits : Format → ℕ → ℕ → ℕ → Bool
 fits F length v n = leb n (F .most-nodes) && leb (sheet-length F v n) length
 
@@ -91,6 +91,6 @@ prefix-rows F b = take (variables F b) (all-rows F b)
 unfoldable pub node-rows : Format → Bytes → List Row
 node-rows F b = drop (variables F b) (all-rows F b)
 
--- how many children a row adds: kinds 5 AND and 6 OR say it in their argument, a literal adds none
+-- how many children a row adds: the argument of an operator (kinds 5 AND and 6 OR), none for a literal
 unfoldable pub children : Row → ℕ
 children r = cond (leb (r .kind) 4) 0 (r .argument)

@@ -67,8 +67,8 @@ guards-call F b out first second =
     guarding F out first second
     (answer (guards-tests F b (least-room out first second)) (guarded (fits F (room first second)) (formula F b)))
 
--- an answer of Guards beside that of Solve on the same sheet with the same work buffers: stopped or true it is the same, and before
--- children are kept Solve says false
+-- An answer of Guards beside that of Solve on the same sheet with the same work buffers: if it is stopped or true, Solve's is the same; if
+-- children are kept, Solve's is false.
 abbrev pub Starts : Guards → Solved → Type 0
 Starts (guards-refused n i) s = Unit {0}
 Starts (guards-stopped x n m) s = s ≡ is-stopped x n m

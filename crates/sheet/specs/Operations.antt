@@ -84,7 +84,7 @@ expand-tests F b x len = quote-tests F b x ++ (raw-room-test F b x len ∷ [])
 unfoldable pub expand-call : Format → Bytes → ℕ → Bytes → Written
 expand-call F b x out = write (expand-tests F b x (length out)) (sheet F (expanded x (formula F b))) out
 
--- Execute (N7), the carrying out of a quote: the quote's tests; 19 the raw count is above the ceiling; 13
+-- Execute (N7) carries out a quote: the quote's tests; 19 the raw count is above the ceiling; 13
 unfoldable pub execute-tests : Format → Bytes → ℕ → ℕ → ℕ → List Test
 execute-tests F b x ceiling len =
     quote-tests F b x ++ (test (ltb ceiling (raw-count F b x)) above-ceiling 0 ∷ raw-room-test F b x len ∷ [])

@@ -1,4 +1,4 @@
--- QDIMACS 1.1 in (N1): a text's words, its header and its lists, the formula that they say, and the reader's refusals.
+-- QDIMACS 1.1 in (N1): a text's words, its header and its lists, the formula that they are, and the reader's refusals.
 -- Assumes nothing.
 use mathlib.Core.Bool.{Bool, true, false, not, _&&_, _||_, cond}
 use mathlib.Core.List.{List, [], _∷_, _++_, map, tail, flatten, flatMap}
@@ -13,7 +13,7 @@ use Rattle.sheet.specs.Refusals.{size-outside, bound-twice, no-room, bad
 use Rattle.sheet.specs.Check.{Test, test}
 use Rattle.sheet.specs.Operations.{Written, write}
 
--- what stands before the first separator, between each two, and behind the last
+-- a list split at its separators: what is before the first, between each two, and behind the last
 unfoldable pub onto-first : {A : Type 0} → A → List (List A) → List (List A)
 onto-first a [] = (a ∷ []) ∷ []
 onto-first a (p ∷ ps) = (a ∷ p) ∷ ps
@@ -80,7 +80,7 @@ is-e w = is-word w (101 ∷ [])
 abbrev pub is-a : Bytes → Bool
 is-a w = is-word w (97 ∷ [])
 
--- What a word says: e or a, by the quantifier; a number without sign; n for the number -(n+1); or nothing.
+-- What a word is: e or a, by the quantifier; a number without sign; n for the number -(n+1); or none of these.
 pub data Token : Type 0 where
   opener : Quantifier → Token
   plain : ℕ → Token
@@ -145,7 +145,7 @@ words-below t = flatMap words (tail (from-header (lines t)))
 unfoldable pub tokens-below : Bytes → List Token
 tokens-below t = map token (words-below t)
 
--- 0 ends a list; what stands behind the last 0 is a list that is still open
+-- 0 ends a list; the words behind the last 0 are a list that is still open
 abbrev pub is-end : Token → Bool
 is-end (opener q) = false
 is-end (plain n) = eqb n 0
@@ -186,7 +186,7 @@ in-order (l ∷ ls) = cond (is-quantified l) (all is-plain (tail l) && in-order 
 unfoldable pub well-listed : List Token → Bool
 well-listed ts = in-order (ended-lists (pieces ts)) && is-nil (open-list (pieces ts))
 
--- the prefix that the quantifier lines say, and the clauses
+-- the prefix of the quantifier lines, and the clauses
 unfoldable pub quantified : Quantifier → List Token → Prefix
 quantified q [] = []
 quantified q (t ∷ ts) = record { quantifier = q; variable = absolute t } ∷ quantified q ts

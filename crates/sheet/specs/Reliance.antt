@@ -19,8 +19,8 @@ use Rattle.sheet.specs.Limits.{Within}
 use Rattle.sheet.specs.Trace.{room, solve-states}
 
 -- The formula that a run of Solve reached, with its counts: both buffers show it, it is within the limits and tidy, its truth is the first
--- sheet's, and every step took one variable away. Solve ends with a verdict exactly if this formula has it, and stops at a variable exactly if nothing in it
--- can be settled and that variable, its cheapest, doesn't fit.
+-- sheet's, and every step took one variable away. Solve ends with a verdict exactly if this formula has it, and stops at a variable exactly
+-- if nothing in it can be settled and that variable, its cheapest, doesn't fit.
 pub record Reached (F : Format) (b first second : Bytes) (f : Formula) (settles expands : ℕ) : Type 0 where
   pub in-first : (solve-call F b first second) .first ≡ padded (length first) (sheet F f)
   pub in-second : (solve-call F b first second) .second ≡ replicate (length second) 0
@@ -32,7 +32,7 @@ pub record Reached (F : Format) (b first second : Bytes) (f : Formula) (settles 
   pub stops : (x : ℕ) → ((solve-call F b first second) .answer ≡ is-stopped x settles expands) ↔ Stuck (fits F (room first second)) f x
 
 module _ (F : Format) (b first second : Bytes) where
-  -- What a call shows of its states: refused there is none; else it is the last, with its counts in the answer and its sheet in the
+  -- What a call shows of its states: if it is refused there is none; else the last one, with its counts in the answer and its sheet in the
   -- first buffer.
   pub data Shows : Type 0 where
     no-state : (n i : ℕ) → (solve-call F b first second) .answer ≡ is-refused n i → solve-states F b first second ≡ [] → Shows
@@ -49,8 +49,8 @@ module _ (F : Format) (b first second first′ second′ : Bytes) where
     pub in-first : (solve-call F b first second) .first ≡ padded (length first) (sheet F reached)
     pub in-first′ : (solve-call F b first′ second′) .first ≡ padded (length first′) (sheet F reached)
 
-  -- Longer buffers, same word: a verdict stays, with its counts and its sheet; the states come first, whatever the answer; of the
-  -- refusals 13 alone may turn into an answer, and no answer turns into a refusal.
+  -- Longer buffers, same word: a verdict stays, with its counts and its sheet; whatever the answer, the states of the longer run begin with
+  -- those of the shorter one; of the refusals only 13 may turn into an answer, and no answer turns into a refusal.
   pub record Longer : Type 0 where
     pub begins : IsPrefix (solve-states F b first second) (solve-states F b first′ second′)
     pub on-ended : (v : Bool) (settles expands : ℕ) → (solve-call F b first second) .answer ≡ is-ended v settles expands

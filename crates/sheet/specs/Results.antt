@@ -45,14 +45,15 @@ pub record Sorted (F : Format) (b b′ : Bytes) : Type 0 where
   pub is-sorted : formula F b′ ≡ sorted (formula F b)
   pub same-truth : truth (formula F b′) ≡ truth (formula F b)
   pub same-length : length b′ ≡ length b
-  -- Sorting can make siblings equal: every other limit is kept, and the sheet is tidy if none were alike but for the order of children.
+  -- Sorting can make siblings equal: every other limit is kept, and the sheet is tidy if no two siblings differ in the order of children
+  -- alone.
   pub nearly-as-tidy : nearly-tidy ((formula F b′) .matrix) ≡ nearly-tidy ((formula F b) .matrix)
   pub when-tidy : is-tidy ((formula F b′) .matrix) ≡ (nearly-tidy ((formula F b) .matrix) && not (siblings alike ((formula F b) .matrix)))
   pub tidy-before : is-tidy ((formula F b′) .matrix) ≡ true → is-tidy ((formula F b) .matrix) ≡ true
   pub sorted-again : sheet F (sorted (formula F b′)) ≡ b′
 
--- The reader of QDIMACS, by a call that returns n (N1): the output is as long as before; its front is a sheet that Check accepts, with as many rows
--- as prefix and matrix have, and says what the text says; behind it are zeros.
+-- The reader of QDIMACS, for a call that returns n (N1): the output is as long as before. Its front is a sheet that Check accepts, with as
+-- many rows as prefix and matrix have, and its formula is the text's; behind it are zeros.
 pub record TextRead (F : Format) (t out : Bytes) (n : ℕ) (new : Bytes) : Type 0 where
   pub same-length : length new ≡ length out
   pub is-checked : check F (take n new) ≡ accepted (record { variables = length ((qdimacs t) .prefix); nodes = rows ((qdimacs t) .matrix) })

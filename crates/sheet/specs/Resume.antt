@@ -1,4 +1,4 @@
--- Conversion a stopped run over (N13).
+-- "Carry a stopped run over" (N13).
 -- Assumes nothing.
 use mathlib.Core.Bool.{Bool, true, false, not}
 use mathlib.Core.List.{List, [], _∷_, _++_}
@@ -11,7 +11,7 @@ use Rattle.sheet.specs.Operations.{Solved, is-refused, is-stopped, is-en
 use Rattle.sheet.specs.Trace.{room}
 use Rattle.sheet.specs.Conversion.{carried, converted-room-test}
 
--- the format of the sheet reached, by a word whether it is narrow; and that sheet, "widened if the caller calls it narrow"
+-- the format of the sheet reached, by whether the caller calls it narrow; and that sheet, "widened if the caller calls it narrow"
 abbrev pub named : Bool → Format
 named true = narrow
 named false = wide

@@ -37,7 +37,7 @@ behind zero ts = ts
 behind (suc n) ∅ = ∅
 behind (suc n) (t ▸ ts) = behind n ts
 
--- Preorder, read from the last row to the first: an operator takes its children off the trees that stand behind it.
+-- Preorder, read from the last row to the first: an operator takes its children from the front of the trees behind it.
 unfoldable pub grow : Row → Forest → Forest
 grow r ts =
     cond (eqb (r .kind) 3) (lit true (r .argument) ▸ ts)

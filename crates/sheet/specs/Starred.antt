@@ -10,7 +10,7 @@ use Rattle.sheet.specs.Check.{Answer, accepted}
 use Rattle.sheet.specs.Conversion.{carried}
 use Rattle.sheet.specs.Operations.{Line, line, says-true, says-false, says-stopped, solve-call, trial-call, line-of}
 
--- a sheet of a format with what is asked of it and what is to come: the program's line with two buffers of a length, or Trial's verdict and leaves
+-- A sheet of a format with its expected answer: the program's line with two buffers of a length, or Trial's verdict and leaves.
 pub data Tested : Type 0 where
   solves : Format → Bytes → ℕ → Line → Tested
   tries : Format → Bytes → Bool → ℕ → Tested

@@ -24,7 +24,7 @@ abbrev pub single : Operation → ℕ → Bytes → Call
 single settling x out = settle x out
 single expanding x out = expand x out
 
--- a step's single call with an output of n bytes; what these hold matters to no answer and to no sheet held (`same-answer`, `same-held`)
+-- a step's single call with an output of n bytes; no answer and no sheet held depends on what these bytes are (`same-answer`, `same-held`)
 abbrev pub call-of : ℕ → Step → Call
 call-of n s = single (s .operation) (s .variable) (replicate n 0)
 

@@ -34,7 +34,7 @@ pub record TruthfulSheet (F : Format) (t : Bool) (w : Written) : Type 0 where
 abbrev pub TruthfulText : Format → Bytes → Written → Type 0
 TruthfulText F text w = TruthfulSheet F (truth (qdimacs text)) w
 
--- a list of steps: so has the sheet that it ends with
+-- a list of steps: the sheet that it ends with has the truth of the sheet given
 pub record TruthfulSteps (F : Format) (t : Bool) (l : Listed) : Type 0 where
   pub on-accepted : (n : ℕ) → l .answer ≡ accepted n → SheetOf F t (take n (l .first))
 
@@ -42,7 +42,7 @@ pub record TruthfulSteps (F : Format) (t : Bool) (l : Listed) : Type 0 where
 pub record TruthfulTrial (t : Bool) (a : Answer Tried) : Type 0 where
   pub on-accepted : (r : Tried) → a ≡ accepted r → r .verdict ≡ t
 
--- a buffer with such a sheet at its front, and zeros behind it
+-- a buffer with a sheet of this truth at its front, and zeros behind it
 pub record Holds (F : Format) (t : Bool) (b : Bytes) : Type 0 where
   pub size : ℕ
   pub at-front : SheetOf F t (take size b)
@@ -53,8 +53,8 @@ pub record TruthfulSolve (F : Format) (t : Bool) (s : Solving) : Type 0 where
   pub on-ended : (v : Bool) (settles expands : ℕ) → s .answer ≡ is-ended v settles expands → v ≡ t
   pub on-stopped : (x settles expands : ℕ) → s .answer ≡ is-stopped x settles expands → Holds F t (s .first)
 
--- Guards: "true" is said of a true sheet; children are kept of a false one, and the sheet that they make is false, and true without any
--- one of them if no run stopped
+-- Guards: the answer is "true" only for a true sheet. Children are kept only of a false one; their sheet is false, and true without any one
+-- of them if no run stopped.
 pub record TruthfulGuards (F : Format) (b : Bytes) (g : Guarding) : Type 0 where
   pub on-true : (n m : ℕ) → g .answer ≡ guards-true n m → truth-of F b ≡ true
   pub on-kept : (n stops : ℕ) → g .answer ≡ guards-kept n stops → (truth-of F b ≡ false) × Clashing F b (take n (g .output)) stops

@@ -11,8 +11,8 @@ use Rattle.sheet.specs.Sheet.{sheet}
 use Rattle.sheet.specs.Operations.{padded}
 use Rattle.sheet.specs.Trace.{solve-states}
 
--- The last state of the call solve(b, first, second) at the format F, with the counts answered; its sheet stands in the first buffer,
--- which now holds the bytes held.
+-- The last state of the call solve(b, first, second) at the format F, with the counts answered. Its sheet is in the first buffer, whose
+-- bytes are now `held`.
 pub record Stop (F : Format) (b first second held : Bytes) (settled expanded : ℕ) : Type 0 where
   pub state : State
   pub is-last : getLast? (solve-states F b first second) ≡ some state

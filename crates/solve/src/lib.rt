@@ -36,14 +36,14 @@ pub enum Solved {
     Ended(Verdict, usize, usize),
 }
 
-// Where a run stands: the layout of the sheet reached, the number settled and the number expanded.
+// The state of a run: the layout of the sheet reached, the number settled and the number expanded.
 pub struct State {
     pub sheet: Layout,
     pub settled: usize,
     pub expanded: usize,
 }
 
-// Takes steps from a state whose tidy sheet stands in the first buffer, for as long as raw sheets fit `room` bytes.
+// Takes steps from a state whose tidy sheet is in the first buffer, for as long as raw sheets fit `room` bytes.
 fn go(first: &mut [u8], second: &mut [u8], room: usize, start: State) -> Solved
     requires { ⌜ RunReady room start (now first) (now second) ⌝ }
     ensures { λ r. ⌜ Goes room start (now (first .entry)) (now (first .exit)) (solved-answer r) ⌝ }
@@ -60,8 +60,8 @@ fn go(first: &mut [u8], second: &mut [u8], room: usize, start: State) -> Solved
     }
 }
 
-// Goes on from a state whose tidy sheet stands in the first buffer, for as long as raw sheets fit `room` bytes, which both buffers have.
-// The first then holds the sheet reached and zeros, the second only zeros.
+// Goes on from a state whose tidy sheet is in the first buffer, for as long as raw sheets fit `room` bytes, which both buffers have. The
+// first then holds the sheet reached and zeros, the second only zeros.
 pub fn run(first: &mut [u8], second: &mut [u8], room: usize, start: State) -> Solved
     requires { ⌜ RunReady room start (now first) (now second) ⌝ }
     ensures { λ r. ⌜ leaves r (now (first .exit)) (now (second .exit)) ≡ run-call room start (now (first .entry)) (now (second .entry)) ⌝ }
@@ -71,7 +71,7 @@ pub fn run(first: &mut [u8], second: &mut [u8], room: usize, start: State) -> So
     answer
 }
 
-// Tidies the formula whose rows stand in the first buffer, and runs from there, with the shorter buffer's length as room.
+// Tidies the formula whose rows are in the first buffer, and runs from there, with the shorter buffer's length as room.
 pub fn run_raw(first: &mut [u8], second: &mut [u8], s: Layout) -> Solved
     requires { ⌜ RawReady s (now first) (now second) ⌝ }
     ensures { λ r. ⌜ leaves r (now (first .exit)) (now (second .exit)) ≡ raw-call s (now (first .entry)) (now (second .entry)) ⌝ }

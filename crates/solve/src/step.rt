@@ -38,7 +38,7 @@ pub enum Step {
     Next(State),
 }
 
-// Copies the sheet of `bytes` bytes that stands at the front of the second buffer to the first, and clears what stands behind it there.
+// Copies the sheet of `bytes` bytes at the front of the second buffer to the first, and clears the first behind it.
 fn fetch(first: &mut [u8], second: &[u8], bytes: usize)
     requires { ⌜ Fetchable bytes (now first) (now second) ⌝ }
     ensures { λ _. ⌜ now (first .exit) ≡ padded (length (now (first .entry))) (take bytes (now (second .entry))) ⌝ }
@@ -57,8 +57,8 @@ fn longer(a: usize, b: usize) -> usize
     a
 }
 
-// Brings the sheet of layout `to` from the front of the second buffer to the first, where one of layout `from` stands with zeros behind
-// it: no more is cleared than what stood there.
+// Copies the sheet of layout `to` from the front of the second buffer to the first. The first has a sheet of layout `from` and zeros behind
+// it, so only the bytes of that sheet are cleared.
 fn bring(first: &mut [u8], second: &[u8], from: Layout, to: Layout)
     requires { ⌜ Brings from to (now first) (now second) ⌝ }
     ensures { λ _. ⌜ now (first .exit) ≡ padded (length (now (first .entry))) (take (long-in from to) (now (second .entry))) ⌝ }
@@ -69,7 +69,7 @@ fn bring(first: &mut [u8], second: &[u8], from: Layout, to: Layout)
     fetch(&mut first[..part], second, bytes);
 }
 
-// Settles a variable with its value. The raw sheet gets the part of the second buffer that it needs, so that no more is cleared.
+// Settles a variable with its value. The raw sheet is lent only the part of the second buffer that it needs, so that no more is cleared.
 fn settle_step(first: &mut [u8], second: &mut [u8], room: usize, s: State, p: Put) -> Step
     requires { ⌜ RunReady room s (now first) (now second) × Open s (now first) × Settles s (now first) p ⌝ }
     ensures { λ r. ⌜ Stepped room s (now (first .entry)) (now (second .entry)) (now (first .exit)) (now (second .exit)) r ⌝ }
@@ -113,7 +113,7 @@ fn expand_step(first: &mut [u8], second: &mut [u8], room: usize, s: State, ends:
     })
 }
 
-// Decides what a sheet that isn't decided takes next. The table of ends is lent: it is filled anew for each sheet that is expanded.
+// Takes the next step on a sheet that isn't decided. The table of ends is lent: it is filled anew for each sheet that is expanded.
 fn open_step(first: &mut [u8], second: &mut [u8], room: usize, s: State, ends: &mut [u16]) -> Step
     requires { ⌜ RunReady room s (now first) (now second) × Open s (now first) × (ROWS ≤ length (now ends)) ⌝ }
     ensures { λ r. ⌜ Stepped room s (now (first .entry)) (now (second .entry)) (now (first .exit)) (now (second .exit)) r ⌝ }
@@ -137,7 +137,7 @@ fn open_step(first: &mut [u8], second: &mut [u8], room: usize, s: State, ends: &
     }
 }
 
-// One step from the state `s`, whose sheet stands in the first buffer.
+// One step from the state `s`, whose sheet is in the first buffer.
 pub fn take_step(
     first: &mut [u8],
     second: &mut [u8],

@@ -7,8 +7,8 @@ use Rattle.sheet.specs.Order as sheets
 use Rattle.sort_compare.specs.declared.compare.Compared as compared
 use Rattle.sort_compare.specs.declared.compare.Compared.{Compared}
 
--- refused for the first sheet (1) or the second (2) with number and place; or the first stands before the second, is equal to it, or
--- stands after it
+-- refused for the first sheet (1) or the second (2) with number and place; or the first sheet is before the second, equal to it, or after
+-- it
 abbrev pub compared-answer : Compared → sheets.Compared
 compared-answer (compared.the-variants.Refused which number place) = is-refused which number place
 compared-answer compared.the-variants.Before = is-ordered before

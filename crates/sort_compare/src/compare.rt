@@ -1,4 +1,4 @@
-// Compare: prefixes, then the rows of both sorted trees in lock step. The work buffers only end as zeros.
+// Compare: prefixes, then the rows of both sorted trees in lock step. The work buffers are only cleared.
 use checking::Checked;
 use checking::check;
 use rows::Format;
@@ -28,7 +28,8 @@ ghost use Rattle.tree_order.specs.Rows.{ordering};
 ghost use Rattle.sort_compare.specs.Answers.{compared-answer, compared-with};
 ghost use Rattle.sort_compare.specs.Inner.{checked-answer, refuses};
 
-// Refused for the first sheet (1) or the second (2) with number and place; or where the first stands beside the second.
+// Refused for the first sheet (1) or the second (2) with number and place; or whether the first is before the second, equal to it or after
+// it.
 pub enum Compared {
     Refused(usize, usize, usize),
     Before,
@@ -127,7 +128,7 @@ fn answer_of(o: Order) -> Compared
     }
 }
 
-// Compares two sheets that Check accepts, of these layouts: 13 unless each buffer holds its sheet.
+// Compares two sheets that Check accepts, of these layouts: 13 a buffer shorter than its sheet.
 fn compare_checked(
     a: &[u8],
     s: Layout,
@@ -176,7 +177,8 @@ fn is_refused(r: Compared) -> bool
     }
 }
 
-// Says where sheet `a` stands beside sheet `b`, and clears both work buffers; or refuses a sheet or its buffer, and alters nothing.
+// Returns whether sheet `a` is before sheet `b`, equal to it or after it, and clears both work buffers; or refuses a sheet or its buffer,
+// and alters nothing.
 pub fn compare(a: &[u8], b: &[u8], f: Format, first: &mut [u8], second: &mut [u8]) -> Compared
     ensures { λ r. ⌜ compared-with r (now (first .exit)) (now (second .exit)) ≡ compare-call (format-of f) (now (a .entry)) (now (b .entry)) (now (first .entry)) (now (second .entry)) ⌝ }
 {

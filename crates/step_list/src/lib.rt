@@ -1,5 +1,5 @@
-// A whole list of steps (N2), thin over the single calls. The sheet held stands at the front of the first buffer; each call writes to
-// the second, and what it accepts is copied back.
+// A whole list of steps (N2), thin over the single calls. The sheet held is at the front of the first buffer; each call writes to the
+// second, and a sheet that it writes there is copied back.
 use checking::Checked;
 use checking::Written;
 use rows::Format;
@@ -31,7 +31,7 @@ pub struct Step {
     pub answer: Written,
 }
 
-// Before the first turn: what the tests of the whole say, how many turns are taken, and the length of the sheet held.
+// Before the first turn: the outcome of the tests of the whole list, how many turns are taken, and the length of the sheet held.
 pub struct Begun {
     pub answer: Written,
     pub turns: usize,
@@ -75,7 +75,7 @@ fn begin(sheet: &[u8], f: Format, count: usize, first: &mut [u8], second: &mut [
     }
 }
 
-// The single call.
+// Makes the single call of a step.
 fn call(operation: Operation, f: Format, x: usize, sheet: &[u8], out: &mut [u8]) -> Written
     ensures { λ r. ⌜ wrote r (now (out .exit)) ≡ perform (format-of f) (single (operation-of operation) x (now (out .entry))) (now (sheet .entry)) ⌝ }
 {
@@ -119,7 +119,7 @@ fn one(s: Step, f: Format, held: usize, first: &mut [u8], second: &mut [u8]) -> 
     }
 }
 
-// Accepted, the sheet held and zeros are left in the first buffer, zeros in the second.
+// Makes the answer. Accepted, it leaves the sheet held and zeros in the first buffer, and zeros in the second.
 fn finish(b: Begun, held: usize, first: &mut [u8], second: &mut [u8]) -> Written
     requires { ⌜ held ≤ length (now first) ⌝ }
     ensures { λ r. ⌜ Finishes held (now (first .entry)) (now (second .entry)) (now (first .exit)) (now (second .exit)) (written-answer r) (b .answer) ⌝ }

@@ -17,7 +17,7 @@ ghost use Rattle.step_list.specs.Inner.Records.{operation-of};
 ghost use Rattle.step_list.specs.Inner.Parts.{Within, Loaded, Lendable, Parted, Stored};
 ghost use Rattle.step_list.specs.Numbers.{numbered-operation, answer-number, answer-value, numbers-left, numbers-call, listed-left};
 
-// So many records are lent to `follow` at once.
+// How many records are lent to `follow` at once.
 const PART: usize = 64;
 
 // After a part of the list: its records, and the length of the sheet held.
@@ -56,7 +56,7 @@ fn value_of(answer: Written) -> usize
     }
 }
 
-// Record j is the caller's record `at + j`, for each j below n.
+// Loads n records: record j is the caller's record `at + j`.
 fn load(operations: &[u8], variables: &[usize], at: usize, n: usize) -> [Step; PART]
     requires { ⌜ Within at n (length (now operations)) (length (now variables)) ⌝ }
     ensures { λ r. ⌜ Loaded (now (operations .entry)) (now (variables .entry)) at n r ⌝ }
@@ -100,7 +100,7 @@ fn follow_part(
     }
 }
 
-// The answers of the first n records go to the places from `at` on.
+// Stores the answers of the first n records from place `at` on.
 fn store(steps: [Step; PART], n: usize, at: usize, numbers: &mut [usize], values: &mut [usize])
     requires { ⌜ Within at n (length (now numbers)) (length (now values)) ⌝ }
     ensures { λ r. ⌜ Stored steps n at (now (numbers .entry)) (now (values .entry)) (now (numbers .exit)) (now (values .exit)) ⌝ }

@@ -10,8 +10,8 @@ use Rattle.formula.specs.Tree.{Tree, lit, constant, Literals}
 use Rattle.sheet.specs.Format.{Row, row}
 use Rattle.sheet.specs.Sheet.{tree-rows}
 
--- The entry of a variable is the number of the variable that its literals turn to, 1,024 at most, or that a value is put in for it:
--- 1,025 for 0, 1,026 for 1. A number past the table is its own entry.
+-- The entry of a variable is the number of the variable that its literals become literals of, 1,024 at most; or 1,025 if the value 0 is put
+-- in for it, and 1,026 if 1 is. A number past the table is its own entry.
 abbrev pub entry : List ℕ → ℕ → ℕ
 entry t v = getD t v v
 
@@ -30,7 +30,7 @@ putting-in n x c = set (numbers n) x (put-entry c)
 abbrev pub putting : ℕ → Bool → List ℕ
 putting x c = putting-in 1025 x c
 
--- the literals that don't stay
+-- the literals that change
 unfoldable pub chosen : List ℕ → Literals
 chosen t s v = not (eqb (entry t v) v)
 
@@ -41,7 +41,7 @@ became s e = cond (leb e 1024) (lit s e) (constant (Bool·beq s (eqb e 1026)))
 unfoldable pub changed : List ℕ → Bool → ℕ → Tree
 changed t s v = cond (chosen t s v) (became s (entry t v)) (lit s v)
 
--- the same of a row: one of kind 3 or 4 is a literal, every other stays
+-- the same for a row: kinds 3 and 4 are literals, every other row stays
 unfoldable pub chosen-row : List ℕ → Row → Bool
 chosen-row t r = leb 3 (r .kind) && leb (r .kind) 4 && chosen t true (r .argument)
 
@@ -49,6 +49,6 @@ unfoldable pub changed-row : List ℕ → Row → Row
 changed-row t r =
     cond (chosen-row t r) (getD (tree-rows (became (eqb (r .kind) 3) (entry t (r .argument)))) 0 (row 0 0)) r
 
--- the rows from to to, changed
+-- the rows `from` to `to`, changed
 unfoldable pub copied : List ℕ → ℕ → ℕ → List Row → List Row
 copied t from to rs = map (changed-row t) (slice from to rs)

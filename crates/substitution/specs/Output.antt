@@ -1,4 +1,4 @@
--- Rows written to an output one after the other. Its rows before row at stand already; the bytes around the rows stay.
+-- Rows written to an output one after the other. Rows before row at are written already; the bytes around the rows stay.
 -- Assumes nothing.
 use mathlib.Core.Path.{_≡_}
 use mathlib.Core.List.{List, _++_}

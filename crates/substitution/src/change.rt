@@ -18,7 +18,7 @@ ghost use Rattle.rows.specs.Layouts.{total, rows-in, Room};
 ghost use Rattle.substitution.specs.Changes.{chosen-row, changed-row};
 ghost use Rattle.substitution.specs.Output.{Within, Stays, Between};
 
-// Whether row `r` is a literal that doesn't stay. Few arguments have another entry, so that the kind is seldom looked at.
+// Whether row `r` is a literal that changes. Its argument is looked up first: few arguments change, so the kind is seldom read.
 fn is_changed(b: &[u8], s: Layout, table: &[u16], r: usize) -> bool
     requires { ⌜ Room s (length (now b)) × (r < total s) ⌝ }
     ensures { λ c. ⌜ c ≡ chosen-row (now (table .entry)) (getD (rows-in s (now (b .entry))) r (row 0 0)) ⌝ }

@@ -1,5 +1,4 @@
-// Rows copied from one sheet to another with a table that says what each variable's literals become. The source is read where it lies;
-// the output has the same format.
+// Copies rows from one sheet to another with a table that says what each variable's literals become. The output has the same format.
 use rows::Layout;
 
 pub mod change;

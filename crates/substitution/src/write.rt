@@ -1,4 +1,4 @@
-// Rows written to the output one after the other: each function takes the row to write from and returns the row behind what it wrote.
+// Writes rows to the output one after the other: each function takes the row to write to and returns the row behind what it wrote.
 use crate::Span;
 use crate::Target;
 use crate::change::changed_span;

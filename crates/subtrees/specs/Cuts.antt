@@ -7,13 +7,13 @@ use lib.Seq.{slice}
 use Rattle.formula.specs.Tree.{Forest, ∅, _▸_, Literals, rows, has}
 use Rattle.sheet.specs.Format.{Row}
 
--- where the first tree's row is row i and the run at hand holds chosen literals or not: the rows at which the next runs begin, and the end
+-- The rows at which the next runs begin, and the end, where the first tree's row is row i and the current run holds chosen literals or not.
 unfoldable pub turns : Literals → Bool → ℕ → Forest → List ℕ
 turns L holding i ∅ = i ∷ []
 turns L holding i (t ▸ ts) =
     cond (Bool·beq (has L t) holding) (turns L holding (i + rows t) ts) (i ∷ turns L (not holding) (i + rows t) ts)
 
--- the first run, which may be empty, holds none
+-- the first run holds no chosen literal and may be empty
 unfoldable pub cuts : Literals → ℕ → Forest → List ℕ
 cuts L i ts = i ∷ turns L false i ts
 

@@ -9,7 +9,7 @@ use Rattle.sheet.specs.Format.{Bytes}
 use Rattle.rows.specs.Formulas.{matrix-in, Readable}
 use Rattle.rows.specs.declared.Layout.{Layout}
 
--- of each row the row behind the subtree that starts there, where the first row is row i
+-- for each row the row behind the subtree that starts there, where the first row is row i
 unfoldable mutual
   pub subtree-ends : ℕ → Tree → List ℕ
   subtree-ends i (lit s v) = suc i ∷ []
@@ -25,7 +25,7 @@ pub record Indexed (s : Layout) (b : Bytes) (ends : List ℕ) : Type 0 where
   pub holds : s .nodes ≤ length ends
   pub filled : take (s .nodes) ends ≡ subtree-ends 0 (matrix-in s b)
 
--- from row i over k subtrees that stand side by side, by a table, and that the table has these rows
+-- the row behind k subtrees side by side from row i on, by a table; and that the table has entries for them
 unfoldable pub hops : List ℕ → ℕ → ℕ → ℕ
 hops ends i zero = i
 hops ends i (suc k) = hops ends (getD ends i 0) k

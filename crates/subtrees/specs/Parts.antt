@@ -6,11 +6,11 @@ use Rattle.formula.specs.Tree.{Tree, lit, node, Forest, ∅, _▸_, Literals, r
 use Rattle.formula.specs.Expand.{relevant, one-relevant, all-relevant}
 use Rattle.subtrees.specs.declared.relevant.Relevant.{Relevant}
 
--- of a literal at row i
+-- the relevant subtree that is a literal at row i
 abbrev pub literal-part : ℕ → Relevant
 literal-part i = record { operator = i; all = true; rows = 1; children = 0 }
 
--- of an operator at row i
+-- the relevant subtree whose operator is at row i
 unfoldable pub operator-part : Literals → ℕ → Forest → Relevant
 operator-part L i ts =
     record {

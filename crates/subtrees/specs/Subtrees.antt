@@ -28,6 +28,6 @@ subtree-in s b i = root (forest-in s b i)
 unfoldable pub siblings-in : Layout → Bytes → ℕ → ℕ → Forest
 siblings-in s b i k = front k (forest-in s b i)
 
--- there are as many
+-- there are k of them
 abbrev pub Beside : Layout → Bytes → ℕ → ℕ → Type 0
 Beside s b i k = k ≤ count (forest-in s b i)

@@ -1,4 +1,4 @@
-// What stands at a node row.
+// What a node row contains.
 use rows::Layout;
 ghost use mathlib.Core.Path.{_≡_};
 ghost use Prim.Native.Nat.{_^_, _<_};

@@ -11,7 +11,7 @@ use Rattle.subtrees.specs.Subtrees.{top}
 unfoldable pub some-kind : ℕ → Forest → Bool
 some-kind k ts = some-child (λ t. eqb ((top t) .kind) k) ts
 
--- the tree at row i is an operator at fault, and by a limit other than those on two children
+-- the tree at row i is an operator at fault, by a limit that doesn't compare two children
 unfoldable pub at-fault : ℕ → Tree → Bool
 at-fault i (lit s v) = false
 at-fault i (node o ts) = (not (eqb i 0) && childless ts) || breaks o ts

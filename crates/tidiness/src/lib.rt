@@ -39,8 +39,8 @@ fn some_kind(b: &[u8], s: Layout, ends: &[u16], c: Siblings, kind: u8) -> bool
     false
 }
 
-// Whether node row `i` is an operator at fault, by no two of its children: only the root may be childless, a child is never alone, and none
-// is of its parent's kind.
+// Whether node row `i` is an operator at fault, by the limits that don't compare two children: only the root may be childless, no child is
+// alone, and none is of its parent's kind.
 fn at_fault(b: &[u8], s: Layout, ends: &[u16], i: usize) -> bool
     requires { ⌜ Indexed s (now b) (now ends) × (i < s .nodes) ⌝ }
     ensures { λ r. ⌜ r ≡ plain-fault i (subtree-in s (now (b .entry)) i) ⌝ }

@@ -21,7 +21,7 @@ entered (gone rs) bs = bs
 entered (literal s v) bs = bs
 entered (operator o ks) bs = ks ⊕ bs
 
--- an operator's argument is the number of its children again
+-- the argument of a segment's row in a sheet: an operator's is the number of its children
 unfoldable pub ArgumentOf : Segment → ℕ → Type 0
 ArgumentOf (gone rs) a = Unit {0}
 ArgumentOf (literal s v) a = a ≡ v

@@ -1,4 +1,4 @@
--- Rules 1 to 5 at an operator's children ("Tidy sheets"), of which the number is known and not where they end.
+-- Rules 1 to 5 at an operator's children ("Tidy sheets"): how many there are is known, where they end is not.
 -- Assumes nothing.
 use mathlib.Core.Path.{_≡_}
 use mathlib.Core.Bool.{true, false}
@@ -31,21 +31,21 @@ abbrev pub judgement-of : RulesOutcome → Judgement
 judgement-of (Decided end) = Decides
 judgement-of (Left end n hash) = Members n
 
--- children of this kind have none of it among their own, as tidied ones have not
+-- a child of this kind has no child of this kind, as it is tidied
 unfoldable pub Flat : Op → Forest → Type 0
 Flat o ∅ = Unit {0}
 Flat o (lit s v ▸ ts) = Flat o ts
 Flat o (node k us ▸ ts) = (same-op o k ≡ true → some-child (is-op o) us ≡ false) × Flat o ts
 
--- rule 1 at a child, the first of as many trees from its row on, and how many are owed behind it then: a dead segment is none of them, and
--- one of the parent's own kind leaves its children in its place
+-- Rule 1 at the row of a child, the first of `owed` trees, and how many trees are then owed behind it: a dead segment is none of them, and
+-- a child of the parent's own kind is replaced by its children.
 abbrev pub SplicesAt : List Row → List Row → ℕ → ℕ → ℕ → ℕ → ℕ → Type 0
 SplicesAt R R′ at kind known owed left =
     (((at-row R at) .kind ≡ 0) × (R′ ≡ R) × (left ≡ owed)) ⊎
     ((((at-row R at) .kind ≡ 0 → ⊥) × ((at-row R at) .kind ≡ kind → ⊥) × (R′ ≡ R) × (left ≡ owed - 1)) ⊎
     (((at-row R at) .kind ≡ kind) × (R′ ≡ set R at (row 0 1)) × (left ≡ owed - 1 + children-of known)))
 
--- rows that hold as many trees, of which the table tells
+-- rows that hold enough trees, and a table with an entry for each operator in them
 pub record ChildrenAt (R : List Row) (K : List ℕ) (from to owed kind : ℕ) : Type 0 where
   pub before : List Row
   pub segments : Segments
@@ -57,8 +57,8 @@ pub record ChildrenAt (R : List Row) (K : List ℕ) (from to owed kind : ℕ) : 
   pub is : kind ≡ operator-kind op
   pub flat : Flat op (front owed (live segments))
 
--- children that can be gathered: the rows have their place and can be counted in a number, and there are tables for members, and one that
--- tells of each row
+-- Children that can be gathered: the rows have their place, an argument can hold their number, and there are tables for members and one
+-- with an entry for each row.
 pub record ToGather (w : Children) (b : Bytes) (H L M K : List ℕ) : Type 0 where
   pub room : Room (w .sheet) (length b)
   pub counted : Fits (w .sheet) (total (w .sheet))
@@ -66,8 +66,8 @@ pub record ToGather (w : Children) (b : Bytes) (H L M K : List ℕ) : Type 0 whe
   pub known-fit : total (w .sheet) ≤ length K
   pub there : ChildrenAt (rows-in (w .sheet) b) K (w .from) (total (w .sheet)) (w .owed) (w .kind)
 
--- the first trees, ts, have become what the rules leave of them, up to a row, and the others, us, are as they were: ts decide the operator,
--- or those that are left are the members
+-- The first trees, ts, have become what the rules leave of them, up to row `end`, and the others, us, are as they were. Either ts decide
+-- the operator, or those left are the members.
 pub record Gathered (R : List Row) (K M : List ℕ) (from end to : ℕ) (before after : List Row) (o : Op) (ts us : Forest) (j : Judgement) : Type 0 where
   pub first : Segments
   pub others : Segments
@@ -89,7 +89,7 @@ abbrev pub GathersIn : Children → Bytes → Bytes → List ℕ → List ℕ �
 GathersIn w b b′ K M r =
     Gathers (rows-in (w .sheet) b) (rows-in (w .sheet) b′) K M (w .from) (end-of r) (total (w .sheet)) (w .owed) (w .kind) (judgement-of r)
 
--- the members that are left are no more than rows, and the operator's hash is mixed from theirs
+-- no more members are left than there are rows, and the operator's hash is mixed from theirs
 pub record LeavesIn (w : Children) (M : List ℕ) (r : RulesOutcome) : Type 0 where
   pub few : (end n hash : ℕ) → r ≡ Left end n hash → n ≤ total (w .sheet)
   pub hashed : (end n hash : ℕ) → r ≡ Left end n hash → (hash ≡ mixes (w .kind) (take n M)) × (hash < 65536)

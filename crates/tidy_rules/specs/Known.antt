@@ -1,4 +1,4 @@
--- What a table tells of operators by their rows: how many children one has, and its hash.
+-- What a table has for operators, by their rows: the number of children and the hash.
 -- Assumes nothing.
 use mathlib.Core.Path.{_≡_}
 use mathlib.Core.List.{List}
@@ -9,13 +9,13 @@ use Rattle.buckets.specs.Halves.{known-of}
 use Rattle.buckets.specs.Hashes.{hash}
 use Rattle.tidy_rules.specs.Segments.{Segment, gone, literal, operator, Segments, none, _◂_, size, live}
 
--- one number for both
+-- an operator's number of children and its hash, in one number
 unfoldable pub Says : ℕ → Segment → Type 0
 Says w (gone rs) = Unit {0}
 Says w (literal s v) = Unit {0}
 Says w (operator o ks) = w ≡ known-of (count (live ks)) (hash (node o (live ks)))
 
--- of every operator in the segments from a row on
+-- the table has this number for every operator in the segments from a row on
 unfoldable mutual
   pub Told : List ℕ → ℕ → Segment → Type 0
   Told K r (gone rs) = Unit {0}

@@ -27,7 +27,7 @@ use Rattle.tidy_rules.specs.Walks.{at-row}
 use Rattle.tidy_rules.specs.Entered.{LiveAt, Same}
 use Rattle.tidy_rules.specs.Known.{Says, Told}
 
--- rules 2 and 3: a child behind these, of which none decides the node, does
+-- rules 2 and 3: a child decides the node, where those before it don't
 unfoldable pub decisive : Op → Forest → Tree → Bool
 decisive o ts u = is-empty (dual o) u || some-child (λ t. opposite t u) ts
 
@@ -36,7 +36,7 @@ Decides R at kind known decided =
     (us : Forest) (front : List Row) (x : Segment) (back : List Row) → Stands R at front x back → Says known x → (o : Op) → kind ≡ operator-kind o
     → decided ≡ some-child (decisive o us) (live (x ◂ none))
 
--- rules 4 and 5: a child behind these is equal to one of them
+-- rules 4 and 5: a child is equal to one of those before it
 unfoldable pub repeated : Forest → Tree → Bool
 repeated ts u = some-child (λ t. same-tree t u) ts
 
@@ -86,7 +86,7 @@ pub record Chain (rows : ℕ) (L M : List ℕ) (start : Link) : Type 0 where
   pub members-fit : count ≤ length M
   pub places : (j : ℕ) → j < count → row-of (getD M j 0) < rows
 
--- what a search along it tells: a member that it looks for, or that no member passes the test
+-- what a search along it finds: a member that it looks for, or that no member passes the test
 pub record Found (n : ℕ) (Sought : ℕ → Type 0) (i : ℕ) : Type 0 where
   pub within : i < n
   pub passes : Sought i
@@ -128,7 +128,7 @@ pub record LiveChain (R : List Row) (rows : ℕ) (L M : List ℕ) (start : Link)
   pub chain : Chain rows L M start
   pub lives : (j : ℕ) → j < chain .count → LiveAt R (row-of (getD M j 0))
 
--- the segment at a row, of which this is told, stands behind others, which are the members
+-- a segment at a row, with its number in the table, behind other segments, which are the members
 pub record Behind (R : List Row) (at known : ℕ) (H L M : List ℕ) (n : ℕ) : Type 0 where
   pub standing : Standing R at
   pub says : Says known (standing .segment)
@@ -141,8 +141,8 @@ pub record Behind (R : List Row) (at known : ℕ) (H L M : List ℕ) (n : ℕ) :
   pub few : n ≤ at
   pub linked : Linked H L M n
 
--- a child that can be judged: the rows have their place and can be counted in a number, and it stands behind members, for which there are
--- tables
+-- A child that can be judged: the rows have their place, an argument can hold their number, and the child is behind members, for which
+-- there are tables.
 pub record ToJudge (s : Layout) (b : Bytes) (c : Child) (H L M : List ℕ) : Type 0 where
   pub room : Room s (length b)
   pub counted : Fits s (total s)
@@ -155,7 +155,7 @@ pub record LiteralRow (R : List Row) (at kind : ℕ) : Type 0 where
   pub above : 2 < kind
   pub below : kind ≤ 4
 
--- the segment at a row has become another that covers the same rows, and of which a table tells what it should
+-- the segment at a row has become another that covers the same rows and has the same numbers in the table
 pub record Kept (R R′ : List Row) (at : ℕ) (x : Segment) : Type 0 where
   pub segment : Segment
   pub stored : R′ ≡ set R at (head segment)
@@ -167,7 +167,7 @@ abbrev pub is-decided : Judgement → Bool
 is-decided judgement.Decides = true
 is-decided (judgement.Members n) = false
 
--- rules 2 to 5 at one segment behind others: whether it decides the node; if it doesn't, what it has become, and the members now
+-- rules 2 to 5 at a segment behind others: whether it decides the node; if it doesn't, what it has become, and the members now
 pub record Judged (R R′ : List Row) (M′ : List ℕ) (from at : ℕ) (done : Segments) (x : Segment) (o : Op) (j : Judgement) : Type 0 where
   pub decided-is : is-decided j ≡ some-child (decisive o (live done)) (live (x ◂ none))
   pub kept : Kept R R′ at x

@@ -1,5 +1,5 @@
--- Rows while they are tidied. An operator's argument holds how many rows it covers, and rows that have gone are a dead segment, which
--- holds how many rows it covers too: so from any segment on the rows are a sequence of segments, and none is moved.
+-- Rows while they are tidied. The argument of an operator, and of the first row of a dead segment, is the number of rows that it covers. So
+-- the rows are a sequence of segments, from any segment on, and no row has to be moved.
 -- Assumes nothing.
 use mathlib.Core.Path.{_≡_}
 use mathlib.Core.Bool.{Bool}
@@ -13,7 +13,7 @@ use Rattle.sheet.specs.Sheet.{literal-kind, operator-kind}
 infixr 45 _◂_
 infixr 44 _⊕_
 mutual
-  -- rows that have gone, behind the one that says how many; a literal; an operator over its children's segments
+  -- a dead segment, whose first row has the number of rows; a literal; an operator over its children's segments
   pub data Segment : Type 0 where
     gone : List Row → Segment
     literal : Bool → ℕ → Segment
@@ -75,7 +75,7 @@ pub record Standing (R : List Row) (at : ℕ) : Type 0 where
   pub after : List Row
   pub stands : Stands R at before segment after
 
--- a walk over them: those that are done, and the rest
+-- a walk over these segments has come to a row: those that it has passed, and the rest
 pub record Here (R : List Row) (from at to : ℕ) (before : List Row) (done rest : Segments) (after : List Row) : Type 0 where
   pub whole : R ≡ before ++ (segment-rows done ++ (segment-rows rest ++ after))
   pub starts : length before ≡ from

@@ -20,7 +20,7 @@ at-row R r = getD R r (row 0 0)
 unfoldable pub extent : Row → ℕ
 extent r = cond (eqb (r .kind) 3 || eqb (r .kind) 4) 1 (r .argument)
 
--- one for a row whose segment holds a tree, none for a dead one's
+-- 1 for a row whose segment holds a tree, 0 for a dead one's
 abbrev pub Alive : Row → ℕ → Type 0
 Alive r one = ((r .kind ≡ 0) × (one ≡ 0)) ⊎ ((r .kind ≡ 0 → ⊥) × (one ≡ 1))
 
@@ -54,7 +54,7 @@ Hops R from to owed at =
     (before : List Row) (bs : Segments) (after : List Row) → Laid R from to before bs after → owed ≤ count (live bs)
     → Hopped R from at to before bs after owed
 
--- a dead segment joins the dead rows from a row on, which are then a segment up to its end; behind a live one no row is dead yet
+-- a dead segment is joined with the dead rows before it, which begin at row `run`; behind a live one the dead rows begin anew
 abbrev pub JoinsAt : List Row → List Row → ℕ → ℕ → ℕ → ℕ → Type 0
 JoinsAt R R′ run at next run′ =
     (((at-row R at) .kind ≡ 0) × (R′ ≡ set R run (row 0 (next - run))) × (run′ ≡ run)) ⊎

@@ -1,5 +1,5 @@
-// Rules 1 to 5 at an operator's children ("Tidy sheets", N4). A child is looked for among those before it by its hash; whether it is
-// equal or opposite to one of them is decided by comparing rows. A table tells of an operator how many children it has, and its hash.
+// Rules 1 to 5 at an operator's children ("Tidy sheets", N4). A child is looked for among those before it by its hash; whether it is equal
+// or opposite to one of them is decided by comparing rows. A table has the number of children and the hash of each operator.
 use crate::GONE;
 use crate::dead::join_at;
 use crate::same::same_at;
@@ -34,8 +34,8 @@ ghost use Rattle.tidy_rules.specs.Entered.{LiveAt};
 ghost use Rattle.tidy_rules.specs.Gather.{SplicesAt, ToGather, GathersIn, LeavesIn};
 ghost use Rattle.tidy_rules.specs.Rules.{Decides, mixes, literal-test, Chain, Finds, Member, Duplicates, FindsDuplicate, LiveChain, ToJudge, LiteralRow, JudgesAs, Judges, LinkedNow};
 
-// The child at row `at` of an operator of this kind, with what the table tells of it, behind `before` members; or a literal of this
-// kind there.
+// A child: its row, its parent's kind, its entry of the table of operators, and how many members are before it. For a literal, `kind` is
+// its own.
 pub struct Child {
     pub at: usize,
     pub kind: u8,
@@ -43,7 +43,7 @@ pub struct Child {
     pub before: usize,
 }
 
-// The first `owed` trees from row `from` on: the children of an operator of this kind, whose row is before them.
+// The first `owed` trees from row `from` on: the children of an operator of this kind, whose own row is before them.
 pub struct Children {
     pub sheet: Layout,
     pub from: usize,
@@ -51,14 +51,14 @@ pub struct Children {
     pub kind: u8,
 }
 
-// What the rules make of a child: it decides the operator, or there are so many members now.
+// What the rules make of a child: it decides the operator, or this is the number of members now.
 pub enum Judgement {
     Decides,
     Members(usize),
 }
 
-// What they make of all children, which end before row `end`: they decide the operator, or so many members are left of them, over which it has
-// this hash.
+// What the rules make of all children, which end before row `end`: they decide the operator; or `count` members are left, and the operator
+// over them has this hash.
 pub enum RulesOutcome {
     Decided {
         end: usize,
@@ -70,8 +70,8 @@ pub enum RulesOutcome {
     },
 }
 
-// Rule 1 at the child, the first of `owed` trees: of the parent's own kind, it leaves its children in its place. How many trees are owed
-// behind it then; a dead segment is none of them.
+// Rule 1 at a child, the first of `owed` trees: a child of the parent's own kind is replaced by its children. Returns how many trees are
+// owed behind its row; a dead segment is not one of them.
 pub fn splice_at(b: &mut [u8], s: Layout, c: Child, owed: usize) -> usize
     requires { ⌜ Room s (length (now b)) × Fits s (total s) × (c .at < total s) × (0 < owed) × (owed < 65536) × (c .known < 2 ^ 32) ⌝ }
     ensures { λ left. ⌜ SplicesAt (rows-in s (now (b .entry))) (rows-in s (now (b .exit))) (c .at) (c .kind) (c .known) owed left ⌝ }
@@ -113,7 +113,8 @@ pub fn find(b: &[u8], s: Layout, links: &[u16], members: &[u32], start: Link, x:
     Link::End
 }
 
-// Rules 3 and 4 at a literal. One that is equal to a member goes, and decides nothing, since no member is opposite to it.
+// Rules 3 and 4 at a literal. A literal equal to a member goes. It can't decide the operator: no member is opposite to the member that it
+// equals.
 pub fn judge_literal(
     b: &mut [u8],
     s: Layout,
@@ -143,7 +144,7 @@ pub fn judge_literal(
     Judgement::Members(n)
 }
 
-// Rule 2: whether the operator is empty, and of another kind than the one above.
+// Rule 2: whether the operator is empty, and of another kind than its parent.
 pub fn decides_at(b: &[u8], s: Layout, c: Child) -> bool
     requires { ⌜ Room s (length (now b)) × (c .at < total s) × (4 < (at-row (rows-in s (now b)) (c .at)) .kind) ⌝ }
     ensures { λ r. ⌜ Decides (rows-in s (now (b .entry))) (c .at) (c .kind) (c .known) r ⌝ }
@@ -154,7 +155,7 @@ pub fn decides_at(b: &[u8], s: Layout, c: Child) -> bool
     children_of(c.known) == 0
 }
 
-// Whether two members hold the same tree. Rows are compared only where the hashes are equal.
+// Whether two members are the same tree. Rows are compared only if the hashes are equal.
 pub fn are_duplicates(b: &[u8], s: Layout, t: usize, m: usize) -> bool
     requires { ⌜ Room s (length (now b)) × LiveAt (rows-in s (now b)) (row-of t) × LiveAt (rows-in s (now b)) (row-of m) ⌝ }
     ensures { λ r. ⌜ Duplicates (rows-in s (now (b .entry))) t m r ⌝ }
@@ -165,7 +166,7 @@ pub fn are_duplicates(b: &[u8], s: Layout, t: usize, m: usize) -> bool
     same_at(b, s, row_of(t), row_of(m))
 }
 
-// A member on this chain that holds the same tree as the member `m`.
+// A member on this chain that is the same tree as the member `m`.
 pub fn find_duplicate(
     b: &[u8],
     s: Layout,
@@ -187,7 +188,7 @@ pub fn find_duplicate(
     Link::End
 }
 
-// Rules 2 and 5 at an operator. One whose tree is that of a member goes.
+// Rules 2 and 5 at an operator. An operator equal to a member goes.
 pub fn judge_operator(
     b: &mut [u8],
     s: Layout,
@@ -246,7 +247,8 @@ pub fn judge(
     judge_operator(b, s, c, heads, links, members)
 }
 
-// The hash of an operator over its first `n` members, `h`, with that of member `n`, if it is among the `count` that there are now.
+// The hash `h` of an operator over its first `n` members, with the hash of member `n` mixed in if there are `count` members now and it is
+// one of them.
 pub fn hash_with(h: usize, members: &[u32], n: usize, count: usize) -> usize
     requires { ⌜ (h < 65536) × (n < length (now members)) × (count ≤ n + 1) ⌝ }
     ensures { λ p. ⌜ (p ≡ mixes h (drop n (take count (now (members .entry))))) × (p < 65536) ⌝ }
@@ -257,9 +259,10 @@ pub fn hash_with(h: usize, members: &[u32], n: usize, count: usize) -> usize
     h
 }
 
-// Rules 1 to 5 at the children. If they don't decide their operator, they are now what the rules leave of them, and rows that have gone are
-// joined, so that a later walk passes them in one step. A child of the parent's own kind is entered: its children, which are tidied, have
-// none of that kind among them. The hash is mixed as members come, which spares a walk over them. The tables of members may hold anything.
+// Rules 1 to 5 at the children of an operator. If they don't decide the operator, its children are then what the rules leave of them, and
+// the rows that have gone are joined, so that a later walk passes them in one step. A child of the parent's own kind is entered: its own
+// children are tidied, so none of them is of that kind. The hash is mixed as members are added, which saves a walk over them. The tables of
+// members may hold anything at first.
 pub fn gather(
     b: &mut [u8],
     w: Children,

@@ -1,5 +1,5 @@
-// Segments compared by their live rows. While rows are tidied an operator's argument is how many rows it covers, and dead segments lie between
-// live rows, so equal trees may differ in their bytes: an operator's row is compared by the number of its children.
+// Compares segments by their live rows. While rows are tidied, an operator's argument is the number of rows that it covers, and dead
+// segments lie between live rows, so equal trees may differ in their bytes. Operators are therefore compared by their numbers of children.
 use crate::walk::count_live;
 use crate::walk::extent_at;
 use crate::walk::first_live;
@@ -35,7 +35,7 @@ pub fn row_same(b: &[u8], s: Layout, p: usize, q: usize) -> bool
     argument_of(b, s, p) == argument_of(b, s, q)
 }
 
-// Whether the live segments at `p` and `q` hold the same tree: row by row, dead segments passed.
+// Whether the live segments at `p` and `q` are the same tree: compared row by row, without the dead segments.
 pub fn same_at(b: &[u8], s: Layout, p: usize, q: usize) -> bool
     requires { ⌜ Room s (length (now b)) × LiveAt (rows-in s (now b)) p × LiveAt (rows-in s (now b)) q ⌝ }
     ensures { λ r. ⌜ Same (rows-in s (now (b .entry))) p q r ⌝ }

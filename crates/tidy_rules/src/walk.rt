@@ -1,4 +1,4 @@
-// Walks over segments that read them.
+// Walks that read segments.
 use crate::GONE;
 use rows::Layout;
 use rows::NEGATIVE;
@@ -27,7 +27,7 @@ pub fn extent_at(b: &[u8], s: Layout, r: usize) -> usize
     argument_at(b, s, r)
 }
 
-// One for a segment that holds a tree, none for a dead one.
+// 1 for a segment that holds a tree, 0 for a dead one.
 pub fn live_at(b: &[u8], s: Layout, r: usize) -> usize
     requires { ⌜ Room s (length (now b)) × (r < total s) ⌝ }
     ensures { λ one. ⌜ Alive (at-row (rows-in s (now (b .entry))) r) one ⌝ }

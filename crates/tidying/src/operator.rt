@@ -1,5 +1,5 @@
-// Tidying at an operator's row, and at all rows from the last to the first ("Tidy sheets"). A table tells of every live operator how many
-// children it has and its hash, in one number.
+// Tidying at an operator's row, and at all rows from the last to the first ("Tidy sheets"). A table has one number for each live operator,
+// with its number of children and its hash.
 use buckets::half::known_of;
 use buckets::half::row_of;
 use buckets::member;
@@ -28,8 +28,8 @@ pub struct OperatorPlace {
     pub row: usize,
 }
 
-// The operator of this kind at a row. Its children end before row `end`, `left` members are left of them, and `hash` is the operator's
-// over these.
+// An operator of this kind at a row. Its children end before row `end`, `left` members are left of them, and `hash` is the operator's hash
+// over these members.
 pub struct Node {
     pub sheet: Layout,
     pub row: usize,
@@ -52,7 +52,7 @@ pub fn hollow(b: &mut [u8], s: Layout, r: usize, kind: u8, end: usize, known: &m
     }
 }
 
-// Rule 6 at an operator's row, once the other rules have left members of its children: a lone child replaces the node.
+// Rule 6 at an operator's row, after the other rules have left members of its children: a lone child replaces the node.
 pub fn conclude(b: &mut [u8], n: Node, members: &[u32], known: &mut [u32])
     requires { ⌜ ToConclude n (now b) (now known) (now members) ⌝ }
     ensures { λ _. ⌜ ConcludesIn n (now (b .entry)) (now (b .exit)) (now (known .entry)) (now (known .exit)) (now (members .entry)) ⌝ }
@@ -76,7 +76,7 @@ pub fn conclude(b: &mut [u8], n: Node, members: &[u32], known: &mut [u32])
     known[r] = known_of(left, n.hash) as u32;
 }
 
-// All six rules at a row, the trees behind it being tidied.
+// All six rules at a row; the trees behind it are already tidied.
 pub fn combine(
     b: &mut [u8],
     p: OperatorPlace,
@@ -116,7 +116,7 @@ pub fn combine(
     }
 }
 
-// Tidies the trees whose rows stand behind the quantifiers, each operator after its children. The tables may hold anything.
+// Tidies the trees whose rows are behind the quantifiers, each operator after its children. The tables may hold anything at first.
 pub fn tidy_each(
     b: &mut [u8],
     s: Layout,

@@ -1,4 +1,4 @@
-// Rows that have gone are left out, and the others stand one behind the other.
+// Rows that have gone are left out, and the others are moved together.
 use buckets::half::children_of;
 use buckets::large;
 use rows::Layout;
@@ -15,7 +15,7 @@ ghost use Rattle.tidy_rules.specs.Walks.{at-row};
 ghost use Rattle.tidying.specs.Inner.Packed.{stride, ToldAt, ToldRegion, ArgumentTold, Puts, Packs};
 ghost use Rattle.tidying.specs.Inner.Tables.{InPlace};
 
-// How many rows on the next row stands that may be packed: all of a dead segment is passed.
+// How many rows further the next row is that may be packed: a dead segment is passed as a whole.
 pub fn stride_at(b: &[u8], s: Layout, r: usize) -> usize
     requires { ⌜ Room s (length (now b)) × (r < total s) ⌝ }
     ensures { λ n. ⌜ (n ≡ stride (at-row (rows-in s (now (b .entry))) r)) × (n < 2 ^ 32) ⌝ }
@@ -26,7 +26,7 @@ pub fn stride_at(b: &[u8], s: Layout, r: usize) -> usize
     1
 }
 
-// The argument that the row of the live segment at `at` has in a sheet: of an operator the table tells how many children it has.
+// The argument that the row of the live segment at `at` has in a sheet; for an operator it is the number of children, which the table has.
 pub fn argument_told(b: &[u8], s: Layout, at: usize, known: &[u32]) -> usize
     requires { ⌜ InPlace s (now b) (now known) × (at < total s) ⌝ }
     ensures { λ a. ⌜ ArgumentTold (rows-in s (now (b .entry))) (now (known .entry)) at a ⌝ }
@@ -37,7 +37,7 @@ pub fn argument_told(b: &[u8], s: Layout, at: usize, known: &[u32]) -> usize
     children_of(large(known[at]))
 }
 
-// Puts the row of the segment at `at` to row `to`, if it is live, and returns the row behind those packed.
+// Copies the row of the segment at `at` to row `to`, if it is live, and returns the row behind those packed.
 pub fn put_live(b: &mut [u8], s: Layout, at: usize, to: usize, known: &[u32]) -> usize
     requires { ⌜ InPlace s (now b) (now known) × ToldAt (rows-in s (now b)) (now known) at × (to ≤ at) ⌝ }
     ensures { λ next. ⌜ Puts (rows-in s (now (b .entry))) (rows-in s (now (b .exit))) (now (known .entry)) at to next ⌝ }
@@ -51,7 +51,7 @@ pub fn put_live(b: &mut [u8], s: Layout, at: usize, to: usize, known: &[u32]) ->
     to + 1
 }
 
-// Leaves the dead segments behind the quantifiers out, and returns the row behind the last that is left.
+// Packs the rows behind the quantifiers, without the dead segments, and returns the row behind the last one packed.
 pub fn pack(b: &mut [u8], s: Layout, known: &[u32]) -> usize
     requires { ⌜ InPlace s (now b) (now known) × ToldRegion (rows-in s (now b)) (now known) (s .variables) (total s) ⌝ }
     ensures { λ m. ⌜ (m ≤ total s) × Packs (rows-in s (now (b .entry))) (rows-in s (now (b .exit))) (now (known .entry)) (s .variables) (total s) m ⌝ }

@@ -1,5 +1,6 @@
-// Rows tidied in place, with tables on the stack that are as long as there are rows, and not much longer: clearing them is what a small
-// sheet pays for. The tables have one of eight lengths; the last two are the rows of the largest narrow sheet and of the largest wide one.
+// Tidies rows in place, with tables on the stack. The tables have an entry for each row and not many more, since clearing a long table
+// would cost a small sheet most of its time. They have one of eight lengths; the last two are enough for the largest narrow sheet and for
+// the largest wide one.
 use crate::operator::tidy_each;
 use crate::pack::pack;
 use buckets::BUCKETS;
@@ -11,7 +12,7 @@ ghost use Rattle.rows.specs.Layouts.{total};
 ghost use Rattle.tidying.specs.Limits.{Raw};
 ghost use Rattle.tidying.specs.Inner.Tables.{Leaves};
 
-// Tidies the formula whose rows stand in `b`, and returns the tidied sheet's layout. The tables may hold anything.
+// Tidies the formula whose rows are in `b`, and returns the tidied sheet's layout. The tables may hold anything at first.
 pub fn tidy_by(
     b: &mut [u8],
     s: Layout,
@@ -34,7 +35,7 @@ pub fn tidy_by(
     }
 }
 
-// The same of 256 rows at most, with tables of zeros.
+// The same for 256 rows at most, with tables of zeros.
 fn tidy_256(b: &mut [u8], s: Layout) -> Layout
     requires { ⌜ Raw s (now b) × (total s ≤ 256) ⌝ }
     ensures { λ t. ⌜ Leaves s (now (b .entry)) (now (b .exit)) t ⌝ }
@@ -46,7 +47,7 @@ fn tidy_256(b: &mut [u8], s: Layout) -> Layout
     tidy_by(b, s, &mut heads, &mut links, &mut members, &mut known)
 }
 
-// The same of 512 rows at most.
+// The same for 512 rows at most.
 fn tidy_512(b: &mut [u8], s: Layout) -> Layout
     requires { ⌜ Raw s (now b) × (total s ≤ 512) ⌝ }
     ensures { λ t. ⌜ Leaves s (now (b .entry)) (now (b .exit)) t ⌝ }
@@ -58,7 +59,7 @@ fn tidy_512(b: &mut [u8], s: Layout) -> Layout
     tidy_by(b, s, &mut heads, &mut links, &mut members, &mut known)
 }
 
-// The same of 1,024 rows at most.
+// The same for 1,024 rows at most.
 fn tidy_1024(b: &mut [u8], s: Layout) -> Layout
     requires { ⌜ Raw s (now b) × (total s ≤ 1024) ⌝ }
     ensures { λ t. ⌜ Leaves s (now (b .entry)) (now (b .exit)) t ⌝ }
@@ -70,7 +71,7 @@ fn tidy_1024(b: &mut [u8], s: Layout) -> Layout
     tidy_by(b, s, &mut heads, &mut links, &mut members, &mut known)
 }
 
-// The same of 1,536 rows at most.
+// The same for 1,536 rows at most.
 fn tidy_1536(b: &mut [u8], s: Layout) -> Layout
     requires { ⌜ Raw s (now b) × (total s ≤ 1536) ⌝ }
     ensures { λ t. ⌜ Leaves s (now (b .entry)) (now (b .exit)) t ⌝ }
@@ -82,7 +83,7 @@ fn tidy_1536(b: &mut [u8], s: Layout) -> Layout
     tidy_by(b, s, &mut heads, &mut links, &mut members, &mut known)
 }
 
-// The same of 2,048 rows at most.
+// The same for 2,048 rows at most.
 fn tidy_2048(b: &mut [u8], s: Layout) -> Layout
     requires { ⌜ Raw s (now b) × (total s ≤ 2048) ⌝ }
     ensures { λ t. ⌜ Leaves s (now (b .entry)) (now (b .exit)) t ⌝ }
@@ -94,7 +95,7 @@ fn tidy_2048(b: &mut [u8], s: Layout) -> Layout
     tidy_by(b, s, &mut heads, &mut links, &mut members, &mut known)
 }
 
-// The same of 3,072 rows at most.
+// The same for 3,072 rows at most.
 fn tidy_3072(b: &mut [u8], s: Layout) -> Layout
     requires { ⌜ Raw s (now b) × (total s ≤ 3072) ⌝ }
     ensures { λ t. ⌜ Leaves s (now (b .entry)) (now (b .exit)) t ⌝ }
@@ -106,7 +107,7 @@ fn tidy_3072(b: &mut [u8], s: Layout) -> Layout
     tidy_by(b, s, &mut heads, &mut links, &mut members, &mut known)
 }
 
-// The same of 4,352 rows at most.
+// The same for 4,352 rows at most.
 fn tidy_4352(b: &mut [u8], s: Layout) -> Layout
     requires { ⌜ Raw s (now b) × (total s ≤ 4352) ⌝ }
     ensures { λ t. ⌜ Leaves s (now (b .entry)) (now (b .exit)) t ⌝ }
@@ -118,7 +119,7 @@ fn tidy_4352(b: &mut [u8], s: Layout) -> Layout
     tidy_by(b, s, &mut heads, &mut links, &mut members, &mut known)
 }
 
-// The same of 9,216 rows at most.
+// The same for 9,216 rows at most.
 fn tidy_9216(b: &mut [u8], s: Layout) -> Layout
     requires { ⌜ Raw s (now b) ⌝ }
     ensures { λ t. ⌜ Leaves s (now (b .entry)) (now (b .exit)) t ⌝ }

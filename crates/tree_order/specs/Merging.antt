@@ -19,7 +19,7 @@ left-trees s b at m = front (m .lefts) (standing s b (drop (m .left) at))
 abbrev pub right-trees : Layout → Bytes → List ℕ → Runs → Forest
 right-trees s b at m = front (m .rights) (standing s b (drop (m .right) at))
 
--- both runs are in order, and what is merged ends where the left run's rest would end at the right one's
+-- both runs are in order, and the gap between what is merged and the right run's rest has room for just the left run's rest
 pub record Merger (s : Layout) (b : Bytes) (ends at : List ℕ) (m : Runs) : Type 0 where
   pub left-stands : Stands s b ends (drop (m .left) at) (m .lefts)
   pub right-stands : Stands s b ends (drop (m .right) at) (m .rights)
@@ -28,11 +28,11 @@ pub record Merger (s : Layout) (b : Bytes) (ends at : List ℕ) (m : Runs) : Typ
   pub meets : m .to + rows-all (left-trees s b at m) ≡ m .right
   pub within : m .right + rows-all (right-trees s b at m) ≤ length at
 
--- what is merged already, and what is left, merged
+-- what is merged already, then the merge of what is left
 abbrev pub merged : Layout → Bytes → List ℕ → List ℕ → List ℕ → Runs → List Entry
 merged s b ends at spare m = take (m .to) (picked s b ends spare) ++ forest-entries (into (left-trees s b at m) (right-trees s b at m))
 
--- one tree more
+-- one tree more is merged
 pub record Turned (s : Layout) (b : Bytes) (ends at spare spare′ : List ℕ) (m m′ : Runs) : Type 0 where
   pub merger : Merger s b ends at m′
   pub same-merged : merged s b ends at spare′ m′ ≡ merged s b ends at spare m

@@ -45,7 +45,7 @@ picked s b ends at = map (entry-in s b ends) at
 abbrev pub Numbers : Layout → List ℕ → Type 0
 Numbers s at = Every (λ i. i < s .nodes) at
 
--- the trees whose rows a table picks, and that there are k of them at least, with nothing behind them
+-- the trees whose rows a table picks; and that it picks whole trees, k at least
 unfoldable pub standing : Layout → Bytes → List ℕ → Forest
 standing s b at = trees (picked-rows s b at)
 
@@ -53,7 +53,7 @@ pub record Stands (s : Layout) (b : Bytes) (ends at : List ℕ) (k : ℕ) : Type
   pub whole : picked s b ends at ≡ forest-entries (standing s b at)
   pub few : k ≤ count (standing s b at)
 
--- the rows of the first tree of a table, and that the table of ends tells them
+-- how many rows the first tree of a table has, and that the table of ends has this tree's end
 abbrev pub first-size : List ℕ → List ℕ → ℕ
 first-size ends at = getD ends (getD at 0 0) 0 - getD at 0 0
 

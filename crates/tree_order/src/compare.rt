@@ -28,7 +28,7 @@ pub fn compare_numbers(a: usize, b: usize) -> Order
     Order::Same
 }
 
-// Literals before AND before OR: both kinds of literals are one class.
+// The class of a kind: literals before AND before OR; both kinds of literals are one class.
 fn class_of(kind: u8) -> usize
     ensures { λ r. ⌜ r ≡ class kind ⌝ }
 {
@@ -59,7 +59,7 @@ pub fn is_same(o: Order) -> bool
     }
 }
 
-// Two node rows, of one sheet or of two: by class, by argument, positive first.
+// Compares two node rows, of one sheet or of two: by class, by argument, positive first.
 pub fn compare_row(first: &[u8], s: Layout, i: usize, second: &[u8], t: Layout, j: usize) -> Order
     requires { ⌜ Readable s (now first) × (i < s .nodes) × Readable t (now second) × (j < t .nodes) ⌝ }
     ensures { λ r. ⌜ ordering r ≡ compare-row (row-in s (now (first .entry)) i) (row-in t (now (second .entry)) j) ⌝ }
@@ -83,7 +83,7 @@ fn shorter(a: usize, b: usize) -> usize
     b
 }
 
-// The rows that two tables pick, in lock step until one table runs out.
+// Compares the rows that two tables pick, pair by pair until one table ends.
 pub fn compare_rows(
     first: &[u8],
     s: Layout,

@@ -14,7 +14,7 @@ ghost use Rattle.tree_order.specs.Tables.{FirstSized, first-size, picked
 ghost use Rattle.tree_order.specs.Arranging.{first-leads};
 ghost use Rattle.tree_order.specs.Merging.{Merger, Turned, all-merged, arranged};
 
-// Where the next tree of each run stands and how many are left, and where the next merged tree goes.
+// Where the next tree of each run is and how many are left, and where the next merged tree goes.
 pub struct Runs {
     pub left: usize,
     pub lefts: usize,

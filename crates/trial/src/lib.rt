@@ -44,7 +44,7 @@ fn to_row(entry: u16) -> usize
     entry as usize
 }
 
-// The parent of row `i`: up from the row before it, past every subtree that has come to its end.
+// The parent of row `i`: found by going up from the row before it, past every subtree that ends there.
 fn parent_of(ends: &[u16], parents: &[u16], i: usize) -> usize
     requires { ⌜ (0 < i) × (i < length (now ends)) × (i < length (now parents)) ×
         (i < entry (now ends) 0) × Parents (now ends) (now parents) i ⌝ }
@@ -57,7 +57,8 @@ fn parent_of(ends: &[u16], parents: &[u16], i: usize) -> usize
     p
 }
 
-// Where a child's value leads: to the next child, if its parent is undecided by it and has one, else where the parent's leads.
+// Where evaluation goes on after a child's value: at the next child, if the value doesn't decide the parent and there is one; else where it
+// goes on after the parent's value.
 fn past(undecided: bool, end: u16, last: u16, up: u16) -> u16
     ensures { λ r. ⌜ r ≡ past undecided end last up ⌝ }
 {
@@ -171,7 +172,7 @@ fn leaf(sheet: &[u8], s: Layout, high: &[u16], low: &[u16], assignment: &[bool])
     }
 }
 
-// Whether a turn of the side that stops at this verdict stops.
+// Whether a turn stops after its first value: it does if that value's verdict is the one that its side wants.
 fn stops(zero: TurnOutcome, verdict: bool) -> bool
     ensures { λ b. ⌜ b ≡ Bool·beq verdict (zero .verdict) ⌝ }
 {

@@ -1,4 +1,4 @@
--- Numbers that a machine's number stands for: digits without end are one large number.
+-- Numbers of any number of digits as machine numbers: one that is too large becomes the largest.
 -- Assumes nothing.
 use mathlib.Core.Logic.{_⊎_}
 use mathlib.Core.Path.{_≡_}

@@ -28,7 +28,7 @@ unfoldable pub first-class : List Bytes → ℕ
 first-class [] = 0
 first-class (w ∷ ws) = class-of w
 
--- what code tells of a word of digits, and of what stands behind a minus sign
+-- the token of a word of digits, and of what is behind a minus sign
 pub record Plain (w : Bytes) (t : Token) : Type 0 where
   pub class-is : t .class ≡ cond (eqb (number-from 0 w) 0) 6 7
   pub magnitude-is : Capped largest (number-from 0 w) (t .magnitude)
@@ -37,12 +37,12 @@ pub record Negated (w : Bytes) (t : Token) : Type 0 where
   pub class-is : t .class ≡ cond (unsigned w && not (eqb (number-from 0 w) 0)) 8 1
   pub magnitude-is : 6 ≤ t .class → Capped largest (number-from 0 w) (t .magnitude)
 
--- what code tells of a word
+-- the token of a word
 pub record Says (w : Bytes) (t : Token) : Type 0 where
   pub class-is : t .class ≡ class-of w
   pub magnitude-is : 6 ≤ t .class → Capped largest (magnitude w) (t .magnitude)
 
--- what code tells of the words of a text from a place on, and where it goes on
+-- the token of the first word from a place on, and where the words behind it begin
 pub record Reads (b : Bytes) (at : ℕ) (t : Token) : Type 0 where
   pub class-is : t .class ≡ first-class (separated (drop at b))
   pub magnitude-is : 6 ≤ t .class → Capped largest (magnitude (getD (separated (drop at b)) 0 [])) (t .magnitude)

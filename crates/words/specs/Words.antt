@@ -7,17 +7,17 @@ use Rattle.sheet.specs.Format.{Bytes}
 use Rattle.sheet.specs.Qdimacs.{line-end}
 use Rattle.sheet.specs.Texts.{separator}
 
--- what ends a line, or else a word
+-- the bytes that end a line, or else a word
 abbrev pub ends : Bool → ℕ → Bool
 ends true c = line-end c
 ends false c = separator c
 
--- how many bytes stand before the first that separates
+-- how many bytes are before the first that separates
 unfoldable pub lead : (ℕ → Bool) → Bytes → ℕ
 lead separates [] = 0
 lead separates (c ∷ b) = cond (separates c) 0 (suc (lead separates b))
 
--- how many white bytes stand in front
+-- how many white bytes are in front
 unfoldable pub gap : Bytes → ℕ
 gap [] = 0
 gap (c ∷ b) = cond (separator c) (suc (gap b)) 0

@@ -1,5 +1,5 @@
-// Literals as numbers of 32 bits with a sign, clamped into them: a magnitude that doesn't fit is the largest that does, which no
-// variable number is. The lowest one has no negation there.
+// Literals as signed numbers of 32 bits. A magnitude that doesn't fit is clamped to the largest that does, which is no variable's number.
+// The lowest number has no negation in 32 bits.
 use rows::NEGATIVE;
 use rows::POSITIVE;
 ghost use mathlib.Core.Path.{_≡_};
@@ -20,7 +20,7 @@ pub fn literal_of(negative: bool, magnitude: usize) -> i32
     magnitude as i32
 }
 
-// The literal with a minus sign.
+// The literal with a minus sign and this magnitude.
 fn negated(magnitude: usize) -> i32
     ensures { λ r. ⌜ r ≡ minus magnitude ⌝ }
 {
@@ -30,7 +30,7 @@ fn negated(magnitude: usize) -> i32
     -(magnitude as i32)
 }
 
-// Its variable. The lowest literal is not negated, since its negation doesn't fit 32 bits.
+// The variable of a literal. The lowest literal is not negated, since its negation doesn't fit 32 bits.
 pub fn variable_of(literal: i32) -> usize
     ensures { λ r. ⌜ r ≡ variable literal ⌝ }
 {
@@ -43,7 +43,7 @@ pub fn variable_of(literal: i32) -> usize
     literal as usize
 }
 
-// Its row's kind.
+// The kind of a literal's row.
 pub fn kind_of(literal: i32) -> u8
     ensures { λ r. ⌜ r ≡ kind literal ⌝ }
 {

@@ -84,7 +84,7 @@ fn name_of(b: &[u8], from: usize, to: usize) -> u8
     OTHER
 }
 
-// A word of digits.
+// Reads a word of digits.
 fn plain(b: &[u8], from: usize, to: usize) -> Token
     requires { ⌜ (from ≤ to) × (to ≤ length (now b)) × (all digit (slice from to (now b)) ≡ true) ⌝ }
     ensures { λ t. ⌜ Plain (slice from to (now (b .entry))) t × (t .to ≡ to) ⌝ }
@@ -104,7 +104,7 @@ fn plain(b: &[u8], from: usize, to: usize) -> Token
     }
 }
 
-// What stands behind a minus sign: a number unless it is 0.
+// Reads what is behind a minus sign: a number, unless it is 0.
 fn negated(b: &[u8], from: usize, to: usize) -> Token
     requires { ⌜ (from ≤ to) × (to ≤ length (now b)) ⌝ }
     ensures { λ t. ⌜ Negated (slice from to (now (b .entry))) t × (t .to ≡ to) ⌝ }
@@ -138,7 +138,7 @@ fn negated(b: &[u8], from: usize, to: usize) -> Token
     }
 }
 
-// What the word from `from` to `to` is.
+// Reads the word from `from` to `to`.
 fn classify(b: &[u8], from: usize, to: usize) -> Token
     requires { ⌜ (from < to) × (to ≤ length (now b)) ⌝ }
     ensures { λ t. ⌜ Says (slice from to (now (b .entry))) t × (t .to ≡ to) ⌝ }

@@ -16,7 +16,7 @@ use Rattle.rows.specs.declared.Format.{Format}
 use Rattle.rows.specs.declared.Layout.{Layout}
 use Rattle.checking.specs.declared.Reached.{Reached}
 
--- the rows have their place in len bytes, and their debt fits 64 bits
+-- the rows have their place in len bytes, and the debt of the walk over them fits 64 bits
 pub record Sized (s : Layout) (len : ℕ) : Type 0 where
   pub room : Room s len
   pub few-rows : total s < 2 ^ 16
@@ -58,7 +58,7 @@ misnumbered most x = eqb x 0 || ltb most x
 abbrev pub node : ℕ → Bool
 node kind = leb 3 kind && leb kind 6
 
--- the table's entry at a number says whether that number is bound; no number past the table is
+-- the table's entry at a number is whether that number is bound; no number past the table is bound
 pub record Marks (table : List Bool) (bound : List ℕ) : Type 0 where
   pub entries : length table ≡ 1025
   pub entry : (x : ℕ) → getD table x false ≡ member x bound

@@ -17,7 +17,7 @@ use Rattle.rows.specs.declared.Format.{Format}
 use Rattle.rows.specs.declared.Layout.{Layout}
 use Rattle.checking.specs.Sheets.{Sheet}
 
--- the rows of s can be read from b, as many of t have their place in len bytes, and every argument fits a number there
+-- the rows of s can be read from b, as many rows of t have their place in len bytes, and every argument fits a number there
 pub record RowsFit (s : Layout) (b : Bytes) (t : Layout) (len : ℕ) : Type 0 where
   pub source : Room s (length b)
   pub few-rows : total s < 2 ^ 32
@@ -25,7 +25,7 @@ pub record RowsFit (s : Layout) (b : Bytes) (t : Layout) (len : ℕ) : Type 0 wh
   pub as-many : total t ≡ total s
   pub arguments-fit : (r : ℕ) → r < total s → Fits t ((getD (rows-in s b) r (row 0 0)) .argument)
 
--- the formula whose rows stand in b is within the limits of the format g, and its sheet has its place in len bytes
+-- the formula whose rows are in b is within the limits of the format g, and its sheet has its place in len bytes
 pub record Convertible (s : Layout) (b : Bytes) (g : Format) (len : ℕ) : Type 0 where
   pub readable : Readable s b
   pub within : Within (format-of g) (formula-in s b)
@@ -36,6 +36,6 @@ pub record ConvertReady (s : Layout) (b : Bytes) (g : Format) : Type 0 where
   pub accepted : Sheet (s .format) b s
   pub within : Within (format-of g) (formula (format-in s) b)
 
--- what 13 leaves of an operation that carries a sheet over
+-- a conversion once every test but 13 has passed
 abbrev pub room-call : sheet.Format → sheet.Format → Bytes → Bytes → Written
 room-call F G b out = write (converted-room-test F G b (length out) ∷ []) (carried F G b) out

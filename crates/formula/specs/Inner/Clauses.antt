@@ -1,4 +1,5 @@
--- Universal reduction by rows, for the functions that carry it out (N8): a literal that goes becomes OR of nothing in its place, and a tidy tree is of the profile exactly if no operator but the root is AND.
+-- Universal reduction by rows, as the code makes it (N8): a literal that goes becomes OR of nothing in its place, and a tidy tree is of the
+-- clause profile exactly if no operator except the root is AND.
 -- Assumes nothing.
 use mathlib.Core.Bool.{Bool, true, false, _||_, cond}
 use Rattle.formula.specs.Tree.{and, or, Tree, lit, node, Forest, ∅, _▸_, Prefix}

@@ -24,7 +24,7 @@ children-of ends (k ∷ ks) rs = slice k (getD ends k 0) rs ++ children-of ends 
 abbrev pub children-rows : Layout → Bytes → List ℕ → List ℕ → List Row
 children-rows s b ends ks = children-of ends ks (node-rows-in s b)
 
--- the children stand one behind the other from row lo on, none is empty, and the last ends at row n at most
+-- the children are one behind the other from row lo on, none is empty, and the last ends at row n at most
 abbrev pub Placed : List ℕ → ℕ → List ℕ → ℕ → Type 0
 Placed ends lo [] n = lo ≤ n
 Placed ends lo (k ∷ ks) n = (lo ≤ k) × (k < getD ends k 0) × Placed ends (getD ends k 0) ks n
@@ -33,7 +33,7 @@ Placed ends lo (k ∷ ks) n = (lo ≤ k) × (k < getD ends k 0) × Placed ends (
 abbrev pub part-rows : Layout → Bytes → List ℕ → List ℕ → ℕ → List Row
 part-rows s b ends ks rest = children-rows s b ends ks ++ slice rest (s .nodes) (node-rows-in s b)
 
--- the children that these are
+-- these children as trees
 abbrev pub guards-in : Layout → Bytes → List ℕ → List ℕ → ℕ → Forest
 guards-in s b ends ks rest = trees (part-rows s b ends ks rest)
 
@@ -49,7 +49,7 @@ pub record Copyable (s : Layout) (b : Bytes) (ends ks : List ℕ) (t : Layout) (
   pub placed : Placed ends 0 ks (s .nodes)
   pub room : at + length (children-rows s b ends ks) ≤ total t
 
--- so many children of a readable sheet, of so many rows, and not the root's
+-- so many children of a readable sheet, of so many rows, without the root's own row
 pub record Chosen (s : Layout) (b : Bytes) (ends ks : List ℕ) (p : Selection) : Type 0 where
   pub readable : Readable s b
   pub holds : s .nodes ≤ length ends

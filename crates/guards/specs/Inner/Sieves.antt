@@ -32,7 +32,7 @@ word-for (solved.the-variants.Stopped x n m) = Stopped
 word-for (solved.the-variants.Ended verdict.the-variants.True n m) = True
 word-for (solved.the-variants.Ended verdict.the-variants.False n m) = False
 
--- and how the run ended
+-- the word for how a run ended
 abbrev pub Says : Word → End → Type 0
 Says False e = e ≡ ended false
 Says True e = e ≡ ended true
@@ -52,7 +52,7 @@ pub record Siftable (s : Layout) (b : Bytes) (most : ℕ) : Type 0 where
   pub root-is-and : is-and (matrix-in s b) ≡ true
   pub has-room : size s ≤ most
 
--- what the sifting comes to
+-- the guards that the sifting keeps
 abbrev pub clashing-in : Layout → Bytes → ℕ → Kept
 clashing-in s b most = clashing (fits (format-in s) most) (formula-in s b)
 
@@ -82,7 +82,7 @@ Said s b most a = solved-answer a ≡ answered (initial s b most)
 abbrev pub found : Layout → Bytes → ℕ → Finding
 found s b most = guarded (fits (format-in s) most) (formula-in s b)
 
--- a finding told, and the output that shows it
+-- a finding as an answer, and the output that goes with it
 pub record Telling : Type 0 where
   pub answer : Guards
   pub output : Bytes

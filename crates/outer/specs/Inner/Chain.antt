@@ -15,11 +15,11 @@ use Rattle.subtrees.specs.Subtrees.{forest-in, subtree-in}
 use Rattle.occurrences.specs.Chains.{first-from, Last, Chain}
 use Rattle.relevance.specs.declared.Range.{Range}
 
--- row i put in front, if it holds a literal of the set; a range without rows ends at `none`
+-- a range with row i put in front, if the row is a literal of the set; the last row of a range without rows is `none`
 unfoldable pub with-row : Bool → ℕ → ℕ → Range → Range
 with-row c none i r = cond c (record { first = i; last = cond (eqb (r .last) none) i (r .last) }) r
 
--- the rows from row i on: their first literal and their last one, and from each to the next
+-- the rows from row i on: their first literal and their last one, and the way from each to the next
 pub record Linking (L : Literals) (s : Layout) (b : Bytes) (i : ℕ) (next : List ℕ) (r : Range) : Type 0 where
   pub holds : s .nodes ≤ length next
   pub within : r .first ≤ s .nodes

@@ -1,4 +1,4 @@
--- What is read of the words below a header, and the sheet that they are.
+-- What is read of the words below a header, and their sheet.
 -- Assumes nothing.
 use mathlib.Core.Path.{_≡_}
 use mathlib.Core.Bool.{false}
@@ -30,7 +30,7 @@ pub record Scanned (b : Bytes) (k : Body) : Type 0 where
   pub words-are : k .words ≡ length (tokens-at b (k .from))
   pub most-is : k .most ≤ 1024
 
--- the rows: free variables, those of the quantifier lines, AND, and the clauses
+-- the rows: free variables, the variables of the quantifier lines, AND, and the clauses
 abbrev pub body-rows : Bytes → List ℕ → Body → List Row
 body-rows b m k = map binding-row (frees m (k .most)) ++ (map binding-row (bindings-in b) ++ (row 5 (k .clauses) ∷ clause-rows (tokens-at b (k .from))))
 
@@ -54,7 +54,7 @@ pub record Below (F : Format) (t b : Bytes) (n : ℕ) : Type 0 where
   pub header-good : header-fails F (text-header t) ≡ false
   pub variables-are : (text-header t) .variable-count ≡ n
 
--- the call of a text answers so, and leaves such an output
+-- the call on a text has this answer and leaves this output
 abbrev pub CallAnswers : Format → Bytes → Bytes → Answer ℕ → Bytes → Type 0
 CallAnswers F t out a new = record { answer = a; output = new } ≡ qdimacs-call F t out
 

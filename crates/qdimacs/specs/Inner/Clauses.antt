@@ -13,7 +13,7 @@ use Rattle.qdimacs.specs.Inner.Lists.{whole-lists, ends}
 use Rattle.qdimacs.specs.Inner.Cursor.{tokens-at}
 use Rattle.qdimacs.specs.declared.clauses.Clauses.{Clauses}
 
--- one word more, by its class
+-- the counts with one word more, by its class
 abbrev pub count-step : Clauses → ℕ → Clauses
 count-step c k =
     cond (eqb k 0) c

@@ -1,4 +1,4 @@
--- The words of a text from a place on, and where each leads.
+-- The words of a text from a place on, and the state after each.
 -- Assumes nothing.
 use mathlib.Core.Path.{_≡_}
 use mathlib.Core.Bool.{Bool, true, cond}
@@ -22,7 +22,7 @@ state-code between = 0
 state-code (within or) = 1
 state-code (within and) = 2
 
--- by a word's class; 3 where clauses begin, 4 at a wrong word
+-- the state after a word, by its class: 3 where clauses begin, 4 at a wrong word
 abbrev pub opened : ℕ → ℕ
 opened k = cond (eqb k 0) 0 (cond (eqb k 2) 1 (cond (eqb k 3) 2 3))
 

@@ -27,7 +27,7 @@ pub record Listed (b : Bytes) : Type 0 where
 abbrev pub bindings-in : Bytes → Prefix
 bindings-in b = bound-from between (tokens-at b 0)
 
--- a word of a quantifier line
+-- what is found, and the marks, after a word of a quantifier line
 abbrev pub found-with : Bound → code.Token → List ℕ → Bound
 found-with f t m =
     cond (eqb (t .class) 7)
@@ -36,7 +36,7 @@ found-with f t m =
 abbrev pub marks-with : code.Token → List ℕ → List ℕ
 marks-with t m = cond (eqb (t .class) 7) (cond (eqb (getD m (t .magnitude) 0) 1) m (set m (t .magnitude) 1)) m
 
--- what is bound is marked
+-- the numbers marked are those that the prefix binds
 pub record Marked (p : Prefix) (m : List ℕ) : Type 0 where
   pub size : length m ≡ 1025
   pub bound-is : (x : ℕ) → binds p x ≡ eqb (getD m x 0) 1
@@ -47,14 +47,14 @@ pub record Binds (b : Bytes) (f : Bound) (m : List ℕ) : Type 0 where
   pub count-is : f .count ≡ length (bindings-in b)
   pub marked : Marked (bindings-in b) m
 
--- a literal of a clause, and a word of one
+-- the marks after a literal of a clause, and after a word of one
 abbrev pub named-by : ℤ → List ℕ → List ℕ
 named-by l m = cond (leb 1025 (variable l)) m (cond (eqb (getD m (variable l) 0) 0) (set m (variable l) 2) m)
 
 abbrev pub named-with : code.Token → List ℕ → List ℕ
 named-with t m = cond (ltb (t .class) 6) m (named-by (literal-said t) m)
 
--- free, once the words left are named
+-- x is free once the words that are left are marked
 abbrev pub free-with : List ℕ → List Token → ℕ → Bool
 free-with m ts x = eqb (getD m x 0) 2 || (eqb (getD m x 0) 0 && named x ts)
 
@@ -62,7 +62,7 @@ pub record Names (b : Bytes) (from : ℕ) (m new : List ℕ) : Type 0 where
   pub size : length new ≡ 1025
   pub free-is : (x : ℕ) → 1 ≤ x → x ≤ 1024 → eqb (getD new x 0) 2 ≡ free-with m (tokens-at b from) x
 
--- the free numbers' bindings
+-- the bindings of the free numbers
 unfoldable pub frees : List ℕ → ℕ → Prefix
 frees m zero = []
 frees m (suc n) = frees m n ++ cond (eqb (getD m (suc n) 0) 2) (record { quantifier = exists; variable = suc n } ∷ []) []

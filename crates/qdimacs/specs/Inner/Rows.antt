@@ -1,4 +1,4 @@
--- The rows that words say.
+-- The rows of a text's words.
 -- Assumes nothing.
 use mathlib.Core.Path.{_≡_}
 use mathlib.Core.Bool.{Bool, true, false, not, _&&_, cond}
@@ -21,15 +21,15 @@ use Rattle.qdimacs.specs.Inner.Cursor.{tokens-at}
 use Rattle.qdimacs.specs.Inner.Clauses.{literal-said}
 use Rattle.qdimacs.specs.declared.write.ListPlace.{ListPlace}
 
--- rows with others put from row r on
+-- rows with others in place of those from row r on
 abbrev pub spliced : List Row → ℕ → List Row → List Row
 spliced rs r new = take r rs ++ (new ++ drop (r + length new) rs)
 
--- the rows of clauses, by their words
+-- the rows of clauses, from their words
 abbrev pub clause-rows : List Token → List Row
 clause-rows ts = forest-rows (clause-trees (lists ts))
 
--- a clause begins
+-- a clause begins with this word: the place and the rows after its OR row
 abbrev pub begins : ListPlace → ℕ → Bool
 begins p k = p .fresh && not (eqb k 0)
 
@@ -50,7 +50,7 @@ pub record Openable (b : Bytes) (p : ListPlace) (k : ℕ) (s : Layout) (len : �
 abbrev pub literal-row : ℤ → Row
 literal-row l = row (kind l) (variable l)
 
--- a word's row
+-- the place and the rows after a word
 abbrev pub word-place : code.Token → ListPlace → ListPlace
 word-place t p =
     cond (eqb (t .class) 6) (record { at = t .to; row = p .row; fresh = true })

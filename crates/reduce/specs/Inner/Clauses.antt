@@ -27,7 +27,7 @@ unfoldable pub last-existential : Prefix → List Row → ℕ
 last-existential p [] = 0
 last-existential p (r ∷ rs) = max (behind p (r .argument)) (last-existential p rs)
 
--- a literal goes: its variable is universal, and the clause's last existential one is not behind it
+-- a literal goes: its variable is universal, and no existential literal of the clause is after it in the prefix
 unfoldable pub goes-row : Prefix → ℕ → Row → Bool
 goes-row p last r = same-op for-all (quantifier-of p (r .argument)) && not (ltb (suc (place (r .argument) p)) last)
 
@@ -38,7 +38,7 @@ blank-row p last r = cond (goes-row p last r) (row 6 0) r
 unfoldable pub blank-rows : Prefix → List Row → List Row
 blank-rows p rs = map (blank-row p (last-existential p rs)) rs
 
--- the rows from to to are those of bound literals
+-- the rows `from` to `to` are literals of bound variables
 pub record Literals (s : Layout) (b : Bytes) (from to : ℕ) : Type 0 where
   pub ordered : from ≤ to
   pub inside : to ≤ total s

@@ -39,6 +39,6 @@ pub record Bound (s : Layout) (b : Bytes) (r : ℕ) : Type 0 where
 unfoldable pub existential : Prefix → ℕ → Bool
 existential p v = binds p v && same-op exists (quantifier-of p v)
 
--- the row behind it, and 0 for all others
+-- the row behind that of v if v is existential, else 0
 unfoldable pub behind : Prefix → ℕ → ℕ
 behind p v = cond (existential p v) (suc (place v p)) 0

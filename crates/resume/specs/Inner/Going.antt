@@ -1,4 +1,4 @@
--- A run that goes on from a sheet whose rows stand in bytes.
+-- A run that goes on from a sheet whose rows are in bytes.
 -- Assumes nothing.
 use mathlib.Core.Bool.{not}
 use mathlib.Core.List.{[], _∷_}
@@ -18,7 +18,7 @@ use Rattle.solve.specs.declared.Solved.{Solved}
 use Rattle.solve.specs.declared.Solved.the-variants.{Refused, Stopped, Ended}
 use Rattle.resume.specs.declared.Counts.{Counts}
 
--- the formula whose rows stand in b is within the wide limits
+-- the formula whose rows are in b is within the wide limits
 pub record Placed (s : Layout) (b : Bytes) : Type 0 where
   pub readable : Readable s b
   pub within : Within wide (formula-in s b)
@@ -35,13 +35,13 @@ wide-run s b first second = solve (fits wide (room first second)) (formula-in s 
 abbrev pub wide-call : Layout → Bytes → Bytes → Bytes → Solving
 wide-call s b first second = solving wide first second (accepted (wide-run s b first second))
 
--- the counts of an answer, added to those given, are numbers of the machine
+-- the counts of an answer, added to those given, fit a machine number
 abbrev pub Addable : ℕ → ℕ → Solved → Type 0
 Addable settled expanded (Refused number place) = Unit {0}
 Addable settled expanded (Stopped x n m) = (settled + n < 2 ^ 64) × (expanded + m < 2 ^ 64)
 Addable settled expanded (Ended v n m) = (settled + n < 2 ^ 64) × (expanded + m < 2 ^ 64)
 
--- what 25 and 13 leave of Resume
+-- Resume once every test but 25 and 13 has passed
 abbrev pub resumed : Layout → Counts → Bytes → Bytes → Bytes → Solving
 resumed s c b first second =
     resuming first second

@@ -37,7 +37,7 @@ pub record Held (most : ℕ) (s : Layout) (b : Bytes) : Type 0 where
 abbrev pub begun : State → ℕ
 begun s = s .settled + s .expanded + s .sheet .variables
 
--- a state with its sheet in the first of two buffers that both have room
+-- a state whose sheet is in the first of two buffers that both have room
 pub record RunReady (most : ℕ) (s : State) (first second : Bytes) : Type 0 where
   pub held : Held most (s .sheet) first
   pub first-room : most ≤ length first
@@ -52,7 +52,7 @@ Open s b = verdict (matrix-in (s .sheet) b) ≡ none
 abbrev pub Settles : State → Bytes → Put → Type 0
 Settles s b p = SettleHere (s .sheet) b (lowest (formula-in (s .sheet) b)) (p .row) (p .variable) (p .value)
 
--- a sheet of so many bytes at the front of the second buffer has its place in the first
+-- a sheet of so many bytes is at the front of the second buffer and has its place in the first
 pub record Fetchable (bytes : ℕ) (first second : Bytes) : Type 0 where
   pub in-first : bytes ≤ length first
   pub in-second : bytes ≤ length second
@@ -66,7 +66,7 @@ pub record ZerosBehind (n : ℕ) (b : Bytes) : Type 0 where
 abbrev pub long-in : Layout → Layout → ℕ
 long-in from to = sheet-length (format-in from) (to .variables) (to .nodes)
 
--- where it stands at the front of the second buffer, it has its place in the first, in which one of layout `from` has zeros behind it
+-- such a sheet is at the front of the second buffer and has its place in the first, which has a sheet of layout `from` and zeros behind it
 pub record Brings (from to : Layout) (first second : Bytes) : Type 0 where
   pub few-from : (from .variables < 2 ^ 32) × (from .nodes < 2 ^ 32)
   pub few-to : (to .variables < 2 ^ 32) × (to .nodes < 2 ^ 32)
@@ -115,7 +115,7 @@ pub record RawReady (s : Layout) (first second : Bytes) : Type 0 where
   pub within : Within (format-in s) (formula-in s first)
   pub has-room : size s ≤ room first second
 
--- the solution of a formula whose rows stand in the first buffer
+-- the run of Solve on the formula whose rows are in the first buffer
 abbrev pub solution : Layout → Bytes → Bytes → Run
 solution s first second = solve (fits (format-in s) (room first second)) (formula-in s first)
 

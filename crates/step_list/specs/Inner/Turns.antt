@@ -1,4 +1,4 @@
--- A list of steps between two turns: the sheet held stands at the front of the first buffer.
+-- A list of steps between two turns: the sheet held is at the front of the first buffer.
 -- Assumes nothing.
 use mathlib.Core.Path.{_≡_}
 use mathlib.Core.Bool.{true}
@@ -18,7 +18,7 @@ use Rattle.step_list.specs.Inner.Records.{step-of}
 abbrev pub room : Bytes → Bytes → ℕ
 room first second = min (length first) (length second)
 
--- what the tests of the whole say; passed, the sheet stands at the front of the first buffer and all turns are taken
+-- the outcome of the tests of the whole list; if they pass, the sheet is at the front of the first buffer and all turns are taken
 abbrev pub Begins : Format → Bytes → ℕ → Bytes → Bytes → Bytes → Bytes → ℕ → ℕ → Written → Type 0
 Begins F b count first second first′ second′ turns held (Refused k p) =
     (refused k p ≡ answer (tidy-tests F b (room first second)) b) × (turns ≡ 0) × (held ≡ 0) × (first′ ≡ first) × (second′ ≡ second)
@@ -34,13 +34,13 @@ abbrev pub Keeps : ℕ → Bytes → Bytes → Bytes → ℕ → Written → Typ
 Keeps held first second first′ held′ (Refused k p) = (held′ ≡ held) × (first′ ≡ first)
 Keeps held first second first′ held′ (Accepted n) = (held′ ≡ n) × (take n first′ ≡ take n second)
 
--- the turn of a record: it is filled, and the sheet then held stands at the front of the first buffer, no longer than the shorter one
+-- the turn of a record: it is filled, and the sheet then held is at the front of the first buffer, no longer than the shorter buffer
 pub record Took (F : Format) (s : Step) (held : ℕ) (first second first′ : Bytes) (t : Turn) : Type 0 where
   pub fills : step-of (t .step) ≡ fill F (room first second) (step-of s) (take held first)
   pub sheet-held : take (t .held) first′ ≡ (after F (call-of (room first second) (step-of s)) (given (take held first))) .sheet
   pub is-short : t .held ≤ room first second
 
--- a list of records from the sheet held on: each is filled, and the sheet that they end with stands at the front of the first buffer
+-- a list of records from the sheet held on: each is filled, and the sheet that they end with is at the front of the first buffer
 pub record Follows (F : Format) (steps : List Step) (held : ℕ) (first second : Bytes) (steps′ : List Step) (first′ : Bytes) (held′ : ℕ) : Type 0 where
   pub fills : map step-of steps′ ≡ filled F (room first second) (map step-of steps) (given (take held first))
   pub sheet-held : take held′ first′ ≡ reached F (room first second) (map step-of steps) (take held first) (length steps)

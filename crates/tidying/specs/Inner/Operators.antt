@@ -21,7 +21,7 @@ pub record Headed (R : List Row) (r to : ℕ) (before : List Row) (x : Row) (bs 
   pub starts : length before ≡ r
   pub ends : r + 1 + length (segment-rows bs) ≡ to
 
--- the rows from one number up to another have become segments that hold these trees, and the table tells of them
+-- the rows from one number up to another have become segments that hold these trees, and the table has their operators' numbers
 pub record Replaced (R : List Row) (K : List ℕ) (from to : ℕ) (before after : List Row) (ts : Forest) : Type 0 where
   pub segments : Segments
   pub laid : Laid R from to before segments after
@@ -73,7 +73,7 @@ Concludes R R′ K K′ M r end kind left =
 abbrev pub ConcludesIn : Node → Bytes → Bytes → List ℕ → List ℕ → List ℕ → Type 0
 ConcludesIn n b b′ K K′ M = Concludes (rows-in (n .sheet) b) (rows-in (n .sheet) b′) K K′ M (n .row) (n .end) (n .kind) (n .left)
 
--- a node row before segments that hold the tidied trees behind it, of which there are as many as it has children
+-- a node row, and behind it segments that hold tidied trees, of which there are at least as many as it has children
 pub record OperatorReady (R : List Row) (K : List ℕ) (r n : ℕ) (before : List Row) (x : Row) (bs : Segments) (ts : Forest) : Type 0 where
   pub headed : Headed R r n before x bs []
   pub told : AllTold K (r + 1) bs

@@ -1,4 +1,4 @@
--- Packing: how many rows on the next row stands that may be packed, and what is packed.
+-- Packing: how many rows further the next row is that may be packed, and what is packed.
 -- Assumes nothing.
 use mathlib.Core.Path.{_≡_}
 use mathlib.Core.Bool.{cond}
@@ -15,7 +15,7 @@ use Rattle.tidy_rules.specs.Known.{Told, AllTold}
 unfoldable pub stride : Row → ℕ
 stride r = cond (eqb (r .kind) 0) (r .argument) 1
 
--- the rows from one number up to another are segments of which a table tells
+-- the rows from one number up to another are segments whose operators' numbers a table has
 pub record ToldRegion (R : List Row) (K : List ℕ) (from to : ℕ) : Type 0 where
   pub before : List Row
   pub segments : Segments
@@ -23,7 +23,7 @@ pub record ToldRegion (R : List Row) (K : List ℕ) (from to : ℕ) : Type 0 whe
   pub laid : Laid R from to before segments after
   pub told : AllTold K from segments
 
--- and so is the segment at a row
+-- the same for the segment at a row
 pub record ToldAt (R : List Row) (K : List ℕ) (at : ℕ) : Type 0 where
   pub before : List Row
   pub segment : Segment
@@ -35,7 +35,7 @@ pub record ToldAt (R : List Row) (K : List ℕ) (at : ℕ) : Type 0 where
 abbrev pub ArgumentTold : List Row → List ℕ → ℕ → ℕ → Type 0
 ArgumentTold R K at a = (before : List Row) (x : Segment) (after : List Row) → Stands R at before x after → Told K at x → ArgumentOf x a
 
--- a segment's row has been put behind those packed before
+-- a segment's row has been copied behind those packed before
 pub record Put (R R′ : List Row) (at to : ℕ) (x : Segment) (next : ℕ) : Type 0 where
   pub added : take next R′ ≡ take to R ++ packed x
   pub ahead : drop (at + 1) R′ ≡ drop (at + 1) R
@@ -45,7 +45,7 @@ abbrev pub Puts : List Row → List Row → List ℕ → ℕ → ℕ → ℕ →
 Puts R R′ K at to next =
     (before : List Row) (x : Segment) (after : List Row) → Stands R at before x after → Told K at x → Put R R′ at to x next
 
--- the rows of all trees stand one behind the other
+-- the rows of all trees are one behind the other
 abbrev pub Packs : List Row → List Row → List ℕ → ℕ → ℕ → ℕ → Type 0
 Packs R R′ K v n m =
     (before : List Row) (bs : Segments) (after : List Row) → Laid R v n before bs after → AllTold K v bs

@@ -12,7 +12,7 @@ use Rattle.rows.specs.Layouts.{format-in, Fits, total, Room}
 use Rattle.rows.specs.Formulas.{formula-in, layout-for}
 use Rattle.rows.specs.declared.Layout.{Layout}
 
--- the rows have their place and can be counted in a number, and the table has an entry for each
+-- the rows have their place, an argument can hold their number, and the table has an entry for each
 pub record InPlace (s : Layout) (b : Bytes) (K : List ℕ) : Type 0 where
   pub room : Room s (length b)
   pub counted : Fits s (total s)
