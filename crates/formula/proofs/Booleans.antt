@@ -1,7 +1,9 @@
 -- Laws of `join`, the one operation behind AND, OR and both quantifiers, of the order false before true, and of tests.
 -- Assumes nothing.
 use mathlib.Core.Path.{_≡_, refl, sym, _∙_, ap}
-use mathlib.Core.Bool.{Bool, true, false, not, _&&_, _||_, cond, and-comm, or-comm, and-assoc, or-assoc, and-self, or-self, and-true, or-false, and-false, or-true, and-or-distrib-right, or-and-distrib-right, true≢false, false≢true}
+use mathlib.Core.Bool.{Bool, true, false, not, _&&_, _||_, cond, Bool·beq, true≢false, false≢true}
+use mathlib.Core.Bool.{and-comm, or-comm, and-assoc, or-assoc, and-self, or-self, and-true, or-false, and-false, or-true}
+use mathlib.Core.Bool.{and-or-distrib-right, or-and-distrib-right}
 use mathlib.Core.Logic.{_⊎_, inl, inr}
 use Prim.Native.Nat.{ℕ}
 use lib.Dec.{eqb}
@@ -104,19 +106,43 @@ pub or-cases : (a b : Bool) → (a || b) ≡ true → (a ≡ true) ⊎ (b ≡ tr
 or-cases true b h = inl refl
 or-cases false b h = inr h
 
+pub or-swap : (a b c : Bool) → (a || (b || c)) ≡ (b || (a || c))
+or-swap true true c = refl
+or-swap true false c = refl
+or-swap false b c = refl
+
+pub or-exchange : (a b c d : Bool) → ((a || b) || (c || d)) ≡ ((a || c) || (b || d))
+or-exchange true b c d = refl
+or-exchange false true true d = refl
+or-exchange false true false d = refl
+or-exchange false false c d = refl
+
 pub or-later : (a : Bool) {b : Bool} → b ≡ true → (a || b) ≡ true
 or-later true h = refl
 or-later false h = h
+
+-- a case on a computed test
+pub by-cases : {A : Type 0} (b : Bool) → (b ≡ true → A) → (b ≡ false → A) → A
+by-cases true f g = f refl
+by-cases false f g = g refl
 
 -- both branches of a test
 pub cond-cases : {A : Type 0} (C : A → Type 0) (b : Bool) {x y : A} → (b ≡ true → C x) → (b ≡ false → C y) → C (cond b x y)
 cond-cases C true f g = f refl
 cond-cases C false f g = g refl
 
+-- equality of truth values
+pub beq-refl : (a : Bool) → Bool·beq a a ≡ true
+beq-refl true = refl
+beq-refl false = refl
+
+pub beq-same : (a b : Bool) → Bool·beq a b ≡ true → a ≡ b
+beq-same true true e = refl
+beq-same true false e = cc
+beq-same false true e = cc
+beq-same false false e = refl
+
 -- equality of numbers, asked the other way round
 pub eqb-comm : (a b : ℕ) → eqb a b ≡ eqb b a
-eqb-comm a b = go (eqb a b) refl
-  where
-    go : (t : Bool) → eqb a b ≡ t → t ≡ eqb b a
-    go true e = sym (eq-eqb b a (sym (eqb-true a b e)))
-    go false e = sym (ne-eqb b a (λ p. eqb-false a b e (sym p)))
+eqb-comm a b =
+    by-cases (eqb a b) (λ e. e ∙ sym (eq-eqb b a (sym (eqb-true a b e)))) (λ e. e ∙ sym (ne-eqb b a (λ p. eqb-false a b e (sym p))))

@@ -7,7 +7,8 @@ use Prim.Native.Nat.{ℕ, suc}
 use lib.Dec.{eqb}
 use lib.ListN.{length}
 use borrow.Author.Tests.{eqb-true, eq-eqb, not-true}
-use Rattle.formula.specs.Tree.{Op, Tree, lit, node, Forest, ∅, _▸_, Prefix, Formula, Literals, of, has, has-any, constant, assigned, assign, binds, without, distinct, closed, count, keep, quantifier-of}
+use Rattle.formula.specs.Tree.{Op, Tree, lit, node, Forest, ∅, _▸_, Prefix, Formula, Literals, of, has, has-any, constant, assigned}
+use Rattle.formula.specs.Tree.{assign, binds, without, distinct, closed, count, keep, quantifier-of}
 use Rattle.formula.specs.Expand.{Copying, copying, relevant, one-relevant, all-relevant, copies, at-first, expand-tree, expand-below, raw-tree, raw}
 use Rattle.formula.proofs.Booleans.{and-parts, or-parts}
 use Rattle.formula.proofs.Evaluation.{has-cover, has-any-cover, has-replace, has-replace-all, has-constant}

@@ -5,9 +5,11 @@ use mathlib.Core.Bool.{Bool, true, false, not, _||_, cond, Bool·beq, false≢tr
 use Prim.Native.Nat.{ℕ, suc, _+_, _≤_}
 use native.Mathlib.Omega.{arith}
 use borrow.Author.Tests.{eqb-true, not-true, not-false}
-use Rattle.formula.specs.Tree.{Op, Quantifier, Tree, lit, node, Forest, ∅, _▸_, Formula, Literals, of, rows, rows-all, has, has-any, replace-all, binds, quantifier-of, without, distinct, count, some-child, keep}
+use Rattle.formula.specs.Tree.{Op, Quantifier, Tree, lit, node, Forest, ∅, _▸_, Formula, Literals, of, rows, rows-all, has, has-any}
+use Rattle.formula.specs.Tree.{replace-all, binds, quantifier-of, without, distinct, count, some-child, keep}
 use Rattle.formula.specs.Truth.{Assignment, put, join, unit, eval, eval-all, truth, Ignores}
-use Rattle.formula.specs.Expand.{all-of, occurs, occurring, later, innermost, Copying, copying, relevant, one-relevant, all-relevant, copies, at-first, expand-tree, expand-below, raw-tree, growth, growth-below, raw-rows, raw}
+use Rattle.formula.specs.Expand.{all-of, occurs, occurring, later, innermost, Copying, copying, relevant, one-relevant, all-relevant}
+use Rattle.formula.specs.Expand.{copies, at-first, expand-tree, expand-below, raw-tree, growth, growth-below, raw-rows, raw}
 use Rattle.formula.proofs.Booleans.{join-comm, join-assoc, join-self, join-unit, join-share, share-join, and-parts, or-parts}
 use Rattle.formula.proofs.Binding.{bind-ext, bind-expand}
 use Rattle.formula.proofs.Evaluation.{eval-replace-all, eval-assigned, eval-same, eval-all-same, put-other, rows-replace-all, rows-assigned}

@@ -11,12 +11,14 @@ use borrow.Author.Tests.{eq-eqb, not-true}
 use Rattle.formula.specs.Tree.{Quantifier, and, or, exists, for-all, Tree, Binding, Prefix, Formula, binds, without, distinct, closed, rows, assign}
 use Rattle.formula.specs.Truth.{join, truth}
 use Rattle.formula.specs.Solve.{End, ended, stopped, Fits}
-use Rattle.formula.specs.Force.{given-by, tried, owner, turn-after, wanted, Forced, neither, with-0, with-1, both, stopped-at, which, forced-by, judged, forced, allows, allows-some, Told, is-won, ForceRight}
+use Rattle.formula.specs.Force.{given-by, tried, owner, turn-after, wanted, Forced, neither, with-0, with-1, both, stopped-at, which}
+use Rattle.formula.specs.Force.{forced-by, judged, forced, allows, allows-some, Told, is-won, ForceRight}
 use Rattle.formula.proofs.Booleans.{and-parts}
 use Rattle.formula.proofs.Evaluation.{rows-assign}
 use Rattle.formula.proofs.Splitting.{truth-splits}
 use Rattle.formula.proofs.Closed.{closed-assigned}
 use Rattle.formula.proofs.Solve.{solve-right}
+use Rattle.formula.proofs.Prefixes.{distinct-parts}
 
 -- given
 
@@ -32,12 +34,6 @@ rows-given [] p t = refl
 rows-given (b ∷ bs) [] t = refl
 rows-given (b ∷ bs) (z ∷ p) t = rows-given bs p (assign (z .variable) b t) ∙ rows-assign (z .variable) b t
 
-distinct-∷ : (z : Binding) (p : Prefix) → distinct (z ∷ p) ≡ true → (binds p (z .variable) ≡ false) × (distinct p ≡ true)
-unfolding distinct
-distinct-∷ z p h =
-    let parts = and-parts (not (binds p (z .variable))) (distinct p) h in
-    (not-true (binds p (z .variable)) (parts .0), parts .1)
-
 without-first : (z : Binding) (p : Prefix) → without (z .variable) (z ∷ p) ≡ p
 unfolding without
 without-first z p = rw (eq-eqb (z .variable) (z .variable) refl)
@@ -46,7 +42,7 @@ pub distinct-given : (bs : List Bool) (p : Prefix) (t : Tree) → distinct p ≡
 unfolding given-by
 distinct-given [] p t d = d
 distinct-given (b ∷ bs) [] t d = d
-distinct-given (b ∷ bs) (z ∷ p) t d = distinct-given bs p (assign (z .variable) b t) (distinct-∷ z p d .1)
+distinct-given (b ∷ bs) (z ∷ p) t d = distinct-given bs p (assign (z .variable) b t) (distinct-parts z p d .1)
 
 pub closed-given : (bs : List Bool) (p : Prefix) (t : Tree) → closed (record { prefix = p; matrix = t }) ≡ true
     → closed (given-by bs p t) ≡ true
@@ -66,9 +62,9 @@ pub truth-given : (bs : List Bool) (p : Prefix) (t : Tree) → distinct p ≡ tr
     join (owner ((given-by bs p t) .prefix)) (truth (given-by (bs ++ (false ∷ [])) p t)) (truth (given-by (bs ++ (true ∷ [])) p t))
 unfolding given-by owner
 truth-given [] [] t d h = absurd (omega arith)
-truth-given [] (z ∷ p) t d h = truth-splits z p t (distinct-∷ z p d .0)
+truth-given [] (z ∷ p) t d h = truth-splits z p t (distinct-parts z p d .0)
 truth-given (b ∷ bs) [] t d h = absurd (omega arith)
-truth-given (b ∷ bs) (z ∷ p) t d h = truth-given bs p (assign (z .variable) b t) (distinct-∷ z p d .1) (omega arith)
+truth-given (b ∷ bs) (z ∷ p) t d h = truth-given bs p (assign (z .variable) b t) (distinct-parts z p d .1) (omega arith)
 
 -- the two sides
 

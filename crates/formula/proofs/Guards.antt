@@ -13,7 +13,7 @@ use Rattle.formula.specs.Guards.{is-and, guards, conjoined, Kept, judged
 use Rattle.formula.proofs.Booleans.{join-leads, and-parts, or-parts}
 use Rattle.formula.proofs.Binding.{bind-leads}
 use Rattle.formula.proofs.Closed.{unbound}
-use Rattle.formula.proofs.Tidy.Children.{⧺-assoc, ⧺-none}
+use Rattle.formula.proofs.Forests.{⧺-assoc, ⧺-none, count-rows}
 use Rattle.formula.proofs.Solve.{solve-right}
 use Rattle.formula.specs.Guards.{Fewer, Blamed}
 
@@ -217,20 +217,10 @@ stops-most says kept (t ▸ rest) =
     by (ended true) without with l m = omega arith
     by (stopped x) without with l m = omega arith
 
-rows-some : (t : Tree) → 1 ≤ rows t
-unfolding rows
-rows-some (lit s v) = omega arith
-rows-some (node o ts) = omega arith
-
-count-most : (ts : Forest) → count ts ≤ rows-all ts
-unfolding count rows
-count-most ∅ = omega arith
-count-most (t ▸ ts) = omega (arith, rows-some t, count-most ts)
-
 guards-most : (t : Tree) → count (guards t) ≤ rows t
 unfolding guards rows count
 guards-most (lit s v) = omega arith
-guards-most (node o ts) = omega (arith, count-most ts)
+guards-most (node o ts) = omega (arith, count-rows ts)
 
 pub clashing-most : (fits : Fits) (f : Formula) → (clashing fits f) .stops ≤ rows (f .matrix)
 unfolding clashing

@@ -13,6 +13,7 @@ use Rattle.formula.specs.Settle.{settling, may-settle}
 use Rattle.formula.specs.Expand.{all-of, after, among, occurs, occurring, later, innermost, in-last-block}
 use Rattle.formula.specs.Solve.{those, earlier, least, is-some, lowest}
 use Rattle.formula.proofs.Booleans.{and-parts}
+use Rattle.formula.proofs.Prefixes.{after-binds, among-all}
 
 -- a variable of the innermost block is in the prefix
 pub innermost-binds : (x : ℕ) (f : Formula) → innermost x f ≡ true → binds (f .prefix) x ≡ true
@@ -40,25 +41,6 @@ last-block x (z ∷ p) = by (eqb (z .variable) x) (last-block x p)
 
 abbrev pub AllOccur : Formula → Type 0
 AllOccur f = (x : ℕ) → binds (f .prefix) x ≡ true → occurs (f .matrix) x ≡ true
-
-after-binds : (x v : ℕ) (p : Prefix) → binds (after x p) v ≡ true → binds p v ≡ true
-unfolding binds after
-after-binds x v [] h = h
-after-binds x v (z ∷ p) h = by (eqb (z .variable) x) h (after-binds x v p)
-  where
-    by : (m : Bool) → binds (cond m p (after x p)) v ≡ true → (binds (after x p) v ≡ true → binds p v ≡ true)
-        → (eqb (z .variable) v || binds p v) ≡ true
-    by true k more = ap (λ (e : Bool). eqb (z .variable) v || e) k ∙ or-true (eqb (z .variable) v)
-    by false k more = ap (λ (e : Bool). eqb (z .variable) v || e) (more k) ∙ or-true (eqb (z .variable) v)
-
-among-all : (P : ℕ → Bool) (p : Prefix) → ((v : ℕ) → binds p v ≡ true → P v ≡ true) → among P p ≡ p
-unfolding among binds
-among-all P [] h = refl
-among-all P (z ∷ p) h =
-    ap (λ (m : Bool). cond m (z ∷ among P p) (among P p))
-    (h (z .variable) (ap (λ (m : Bool). m || binds p (z .variable)) (eq-eqb (z .variable) (z .variable) refl))) ∙
-    ap (λ q. z ∷ q)
-    (among-all P p (λ v k. h v (ap (λ (e : Bool). eqb (z .variable) v || e) k ∙ or-true (eqb (z .variable) v))))
 
 pub innermost-last-block : (x : ℕ) (f : Formula) → AllOccur f → innermost x f ≡ in-last-block x (f .prefix)
 unfolding innermost later occurring

@@ -1,4 +1,6 @@
 pub mod Booleans
+pub mod Prefixes
+pub mod Forests
 pub mod Binding
 pub mod Evaluation
 pub mod Splitting

@@ -9,7 +9,9 @@ use lib.Dec.{ltb}
 use lib.ListN.{length}
 use borrow.Author.Tests.{ltb-true, ltb-false, lt-ltb, le-ltb}
 use Rattle.formula.specs.Tree.{Op, and, or, Quantifier, Tree, lit, node, Forest, ∅, _▸_, Binding, Prefix, Formula, count}
-use Rattle.formula.specs.Order.{Ordering, before, same, after, _then_, compare-numbers, operator-rank, sign-rank, quantifier-rank, compare-trees, compare-children, not-after, leads, compare-bindings, compare-bound, compare-prefixes, compare-formulas, sort}
+use Rattle.formula.specs.Order.{Ordering, before, same, after, _then_, compare-numbers, operator-rank, sign-rank, quantifier-rank}
+use Rattle.formula.specs.Order.{compare-trees, compare-children, not-after, leads, compare-bindings, compare-bound, compare-prefixes}
+use Rattle.formula.specs.Order.{compare-formulas, sort}
 use Rattle.formula.specs.Order.{turned, Chain}
 
 -- orderings

@@ -10,15 +10,18 @@ use Prim.Native.Nat.{ℕ, _≤_}
 use native.Mathlib.Omega.{arith}
 use lib.Dec.{eqb}
 use borrow.Author.Tests.{eqb-true, eq-eqb, not-true, not-false}
-use Rattle.formula.specs.Tree.{and, or, Quantifier, same-op, exists, for-all, Tree, lit, node, Forest, ∅, _▸_, Binding, Prefix, Formula, Literals, binds, quantifier-of, distinct, closed, of, of-sign, rows, rows-all, has, has-any, some-child, some-two, keep, _⧺_}
+use Rattle.formula.specs.Tree.{and, or, Quantifier, same-op, exists, for-all, Tree, lit, node, Forest, ∅, _▸_, Binding, Prefix}
+use Rattle.formula.specs.Tree.{Formula, Literals, binds, quantifier-of, distinct, closed, of, of-sign, rows, rows-all, has, has-any}
+use Rattle.formula.specs.Tree.{some-child, some-two, keep, _⧺_}
 use Rattle.formula.specs.Truth.{Assignment, put, join, eval, eval-all, bind, truth, Leads, Ignores}
-use Rattle.formula.specs.Tidy.{is-op, equal, duplicate, same-variable, spliced, splice, decides, firsts, unwrap, combine, alone, tidy, tidy-all, is-tidy, breaks, childless, faults, faults-all, root-faults, any}
+use Rattle.formula.specs.Tidy.{is-op, equal, duplicate, same-variable, spliced, splice, decides, firsts, unwrap, combine, alone, tidy}
+use Rattle.formula.specs.Tidy.{tidy-all, is-tidy, breaks, childless, faults, faults-all, root-faults, any}
 use Rattle.formula.specs.Expand.{after, occurs}
 use Rattle.formula.specs.Reduce.{is-literal, is-clause, in-profile, has-existential, goes, stays, reduce-clause, reduce-all, reduce-tree, reduced}
 use Rattle.formula.proofs.Booleans.{share-join, and-parts, or-parts, or-none, or-cases}
 use Rattle.formula.proofs.Binding.{bind-ext, same-op-eq}
 use Rattle.formula.proofs.Evaluation.{eval-all-same, put-other}
-use Rattle.formula.proofs.Tidy.Children.{keep-same, keep-every, keep-keep, some-child-keep, some-two-keep}
+use Rattle.formula.proofs.Forests.{keep-same, keep-every, keep-keep, some-child-keep, some-two-keep}
 use Rattle.formula.proofs.Tidy.Truth.{eval-tidy}
 use Rattle.formula.proofs.Tidy.Limits.{tidy-is-tidy, any-++, faulty-root, limits}
 use Rattle.formula.proofs.Tidy.Growth.{rows-tidy, rows-keep, has-tidy}

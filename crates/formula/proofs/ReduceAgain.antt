@@ -7,12 +7,15 @@ use mathlib.Core.List.{[], _∷_}
 use Prim.Native.Nat.{ℕ}
 use lib.Dec.{eqb}
 use borrow.Author.Tests.{eqb-true, eq-eqb, not-true}
-use Rattle.formula.specs.Tree.{and, or, Quantifier, same-op, exists, for-all, Tree, lit, node, Forest, ∅, _▸_, Binding, Prefix, Formula, binds, quantifier-of, distinct, of, has, has-any, some-child, some-two, keep}
-use Rattle.formula.specs.Tidy.{is-op, is-empty, equal, duplicate, same-variable, spliced, splice, decides, firsts, unwrap, combine, alone, tidy, tidy-all, is-tidy, breaks, faults, faults-all, root-faults, any}
+use Rattle.formula.specs.Tree.{and, or, Quantifier, same-op, exists, for-all, Tree, lit, node, Forest, ∅, _▸_, Binding, Prefix}
+use Rattle.formula.specs.Tree.{Formula, binds, quantifier-of, distinct, of, has, has-any, some-child, some-two, keep}
+use Rattle.formula.specs.Tidy.{is-op, is-empty, equal, duplicate, same-variable, spliced, splice, decides, firsts, unwrap, combine}
+use Rattle.formula.specs.Tidy.{alone, tidy, tidy-all, is-tidy, breaks, faults, faults-all, root-faults, any}
 use Rattle.formula.specs.Expand.{after, occurs}
 use Rattle.formula.specs.Reduce.{is-literal, is-clause, in-profile, has-existential, goes, stays, reduce-clause, reduce-all, reduce-tree, reduced}
 use Rattle.formula.proofs.Booleans.{and-parts, or-parts, or-none}
-use Rattle.formula.proofs.Tidy.Children.{some-child-never, keep-same, keep-keep, some-child-keep, some-two-keep, splice-none}
+use Rattle.formula.proofs.Forests.{some-child-never, keep-same, keep-keep, some-child-keep, some-two-keep}
+use Rattle.formula.proofs.Tidy.Children.{splice-none}
 use Rattle.formula.proofs.Tidy.Limits.{tidy-is-tidy, tidy-id}
 use Rattle.formula.proofs.Reduce.{Clean, Cleans, no-clause, one-more, members, members-literals, lone-literal, cleans-below, clean-root}
 

@@ -10,7 +10,7 @@ use borrow.Author.Tests.{not-true}
 use Rattle.formula.specs.Tree.{Op, and, or, Quantifier, Tree, lit, node, Forest, ∅, _▸_, Formula, of, of-sign, has, has-any, assign, binds, quantifier-of, without, distinct}
 use Rattle.formula.specs.Truth.{Assignment, put, eval, eval-all, truth, Leads}
 use Rattle.formula.specs.Settle.{is-lit, at-root, may-take, value, settling, may-settle}
-use Rattle.formula.proofs.Booleans.{false-leads, leads-eq, join-leads, or-parts, or-cases}
+use Rattle.formula.proofs.Booleans.{false-leads, leads-eq, join-leads, or-parts, or-cases, beq-refl}
 use Rattle.formula.proofs.Binding.{bind-ext, bind-settle}
 use Rattle.formula.proofs.Evaluation.{eval-decided, eval-assign, eval-same, put-other}
 
@@ -60,10 +60,6 @@ unit-value x s b ρ (lit s′ v) h = by (eqb v x) s s′ h
     by false false true k = absurd (false≢true k)
     by false false false k = absurd (false≢true k)
 
-own : (s : Bool) → Bool·beq s s ≡ true
-own true = refl
-own false = refl
-
 other : (s : Bool) → Bool·beq s (not s) ≡ false
 other true = refl
 other false = refl
@@ -76,7 +72,7 @@ unit-leads x s ρ (lit s′ v) h = false-leads (unit-value x s (not s) ρ (lit s
 unit-leads x s ρ (node and ts) h =
     false-leads (eval-decided and (put ρ x (not s)) (is-lit (of-sign s x)) (λ t k. unit-value x s (not s) ρ t k ∙ other s) ts h)
 unit-leads x s ρ (node or ts) h =
-    λ e. eval-decided or (put ρ x s) (is-lit (of-sign s x)) (λ t k. unit-value x s s ρ t k ∙ own s) ts h
+    λ e. eval-decided or (put ρ x s) (is-lit (of-sign s x)) (λ t k. unit-value x s s ρ t k ∙ beq-refl s) ts h
 
 pub take-leads : (x : ℕ) (s : Bool) (ρ : Assignment) (t : Tree) → may-take s x t ≡ true
     → Leads (eval t (put ρ x (not s))) (eval t (put ρ x s))

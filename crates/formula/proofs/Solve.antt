@@ -13,7 +13,8 @@ use Rattle.formula.specs.Truth.{truth}
 use Rattle.formula.specs.Tidy.{tidied, verdict}
 use Rattle.formula.specs.Settle.{may-settle, settled}
 use Rattle.formula.specs.Expand.{raw, expanded}
-use Rattle.formula.specs.Solve.{is-some, lowest, cheapest, State, End, ended, stopped, Step, halt, next, Fits, fits-raw, settle-step, expand-step, undecided-step, step-by, step, Run, go-on, run, solve}
+use Rattle.formula.specs.Solve.{is-some, lowest, cheapest, State, End, ended, stopped, Step, halt, next, Fits, fits-raw, settle-step}
+use Rattle.formula.specs.Solve.{expand-step, undecided-step, step-by, step, Run, go-on, run, solve}
 use Rattle.formula.specs.Right.{Stuck, SolveRight}
 use Rattle.formula.proofs.Closed.{length-without}
 use Rattle.formula.proofs.Steps.{Proper, truth-tidied, proper-tidied, truth-settled, proper-settled, truth-expanded, proper-expanded, verdict-truth, decided-without-variables}

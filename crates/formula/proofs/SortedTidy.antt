@@ -7,7 +7,7 @@ use Rattle.formula.specs.Tree.{Op, or, Tree, lit, node, Forest, ∅, _�
 use Rattle.formula.specs.Tidy.{is-op, duplicate, same-variable, alone, childless, breaks, faults, faults-all, root-faults, any, is-tidy}
 use Rattle.formula.specs.Order.{leads, insert, sort, sort-all, Rearranged, literal, operator, Reordered, nothing, inside, exchanged, again}
 use Rattle.formula.proofs.Booleans.{join-swap, eqb-comm, and-parts, or-parts, or-none}
-use Rattle.formula.proofs.Tidy.Children.{some-child-same, some-two-less}
+use Rattle.formula.proofs.Forests.{some-child-same, some-two-less}
 use Rattle.formula.proofs.Tidy.Same.{duplicate-same, duplicate-sym, duplicate-refl}
 use Rattle.formula.proofs.Tidy.Limits.{faulty, any-++}
 use Rattle.formula.proofs.Sorting.{sort-rearranged, rearranged-sort, sort-idempotent, sort-exactly}

@@ -4,7 +4,8 @@ use mathlib.Core.Bool.{Bool, true, false, not, _&&_, cond}
 use mathlib.Core.List.{[], _∷_}
 use Prim.Native.Nat.{ℕ, _+_}
 use lib.Dec.{eqb}
-use Rattle.formula.specs.Tree.{Quantifier, Op, same-op, Tree, lit, node, Forest, ∅, _▸_, Prefix, Formula, Literals, of, binds, quantifier-of, without, rows, rows-all, has, replace-all, assigned, count, some-child, keep}
+use Rattle.formula.specs.Tree.{Quantifier, Op, same-op, Tree, lit, node, Forest, ∅, _▸_, Prefix, Formula, Literals, of, binds}
+use Rattle.formula.specs.Tree.{quantifier-of, without, rows, rows-all, has, replace-all, assigned, count, some-child, keep}
 use Rattle.formula.specs.Tidy.{tidy}
 
 -- every row of the prefix has the quantifier q

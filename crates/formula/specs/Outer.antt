@@ -5,7 +5,8 @@ use mathlib.Core.List.{List, [], _∷_, _++_, map}
 use Prim.Native.Nat.{ℕ, zero, suc}
 use lib.Dec.{eqb, ltb}
 use lib.ListN.{length, take}
-use Rattle.formula.specs.Tree.{and, same-op, exists, for-all, Tree, lit, node, Forest, ∅, _▸_, Binding, Prefix, Formula, Literals, of, binds, quantifier-of, without, has, has-any, constant, assigned}
+use Rattle.formula.specs.Tree.{and, same-op, exists, for-all, Tree, lit, node, Forest, ∅, _▸_, Binding, Prefix, Formula, Literals, of}
+use Rattle.formula.specs.Tree.{binds, quantifier-of, without, has, has-any, constant, assigned}
 use Rattle.formula.specs.Tidy.{tidy}
 use Rattle.formula.specs.Expand.{all-of, later, Copying, relevant, one-relevant, raw-tree, raw-rows}
 use Rattle.formula.specs.Solve.{those}

@@ -13,7 +13,7 @@ use lib.Seq.{drop-length, getD-set-same, getD-set-other}
 use borrow.Author.Tests.{eqb-true, eqb-false, ne-eqb}
 use Rattle.formula.specs.Tree.{and, or, Tree, lit, node, Forest, ∅, _▸_, Literals, of-sign, has, has-any, some-child, count, _⧺_}
 use Rattle.formula.specs.Settle.{is-lit, at-root}
-use Rattle.formula.proofs.Tidy.Children.{⧺-none, count-⧺}
+use Rattle.formula.proofs.Forests.{⧺-none, count-⧺}
 use Rattle.sheet.specs.Format.{Bytes}
 use Rattle.sheet.specs.Sheet.{behind, trees}
 use Rattle.sheet.proofs.Preorder.{length-forest-rows, count-rows}

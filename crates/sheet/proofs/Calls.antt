@@ -26,7 +26,8 @@ use Rattle.sheet.specs.Format.{Bytes, Format, fits, variables, nodes}
 use Rattle.sheet.specs.Sheet.{formula, sheet}
 use Rattle.sheet.specs.Check.{Answer, refused, accepted, Test, answer, passes, Sizes, check-tests, check}
 use Rattle.sheet.specs.Operations.{padded, output-after, write, tidy-and-bound-tests, settle-tests, settle-call, quote-tests, expand-tests, expand-call, execute-tests, execute-call}
-use Rattle.sheet.specs.Calls.{Call, settle, expand, execute, outer, perform, copies-by, Held, held-after, perform-all, held, copies-after, copies-all, copies-made, none-outer, sheet-verdict, Demand-3}
+use Rattle.sheet.specs.Calls.{Call, settle, expand, execute, outer, perform, copies-by, Held, held-after, perform-all, held}
+use Rattle.sheet.specs.Calls.{copies-after, copies-all, copies-made, none-outer, sheet-verdict, Demand-3}
 use Rattle.sheet.specs.Outer.{copies, outer-tests, outer-call}
 use Rattle.sheet.proofs.Tests.{passed-∷, passed-++, answer-passes, accepted-passes}
 use Rattle.sheet.specs.Limits.{Sound, Within}

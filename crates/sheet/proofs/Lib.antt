@@ -1,3 +1,5 @@
+pub mod Lists
+pub mod Forests
 pub mod Every
 pub mod Numbers
 pub mod Tests

@@ -14,42 +14,19 @@ use Rattle.sheet.specs.Sheet.{literal-kind, operator-kind, front, behind
 use Rattle.sheet.specs.Check.{Test, tree-test}
 use Rattle.sheet.specs.Operations.{span}
 use Rattle.sheet.proofs.Every.{every-++}
+use Rattle.sheet.proofs.Forests.{front-⧺, behind-⧺, front-behind, count-front, count-behind}
 use Rattle.formula.proofs.Booleans.{or-parts}
+use Rattle.formula.proofs.Forests.{all-⧺}
+pub use Rattle.formula.proofs.Forests.{rows-positive, count-rows}
 
--- front and behind
-
-pub front-⧺ : (ts us : Forest) → front (count ts) (ts ⧺ us) ≡ ts
-unfolding front count _⧺_
-front-⧺ ∅ us = refl
-front-⧺ (t ▸ ts) us = ap (λ r. t ▸ r) (front-⧺ ts us)
-
-behind-⧺ : (ts us : Forest) → behind (count ts) (ts ⧺ us) ≡ us
-unfolding behind count _⧺_
-behind-⧺ ∅ us = refl
-behind-⧺ (t ▸ ts) us = behind-⧺ ts us
-
-count-front : (n : ℕ) (ts : Forest) → n ≤ count ts → count (front n ts) ≡ n
-unfolding front count
-count-front zero ts h = refl
-count-front (suc n) ∅ h = omega arith
-count-front (suc n) (t ▸ ts) h = ap suc (count-front n ts (omega arith))
-
-count-behind : (n : ℕ) (ts : Forest) (d : ℕ) → count ts ≡ d + n → count (behind n ts) ≡ d
-unfolding behind count
-count-behind zero ts d e = omega arith
-count-behind (suc n) ∅ d e = omega arith
-count-behind (suc n) (t ▸ ts) d e = count-behind n ts d (omega arith)
+-- the rows of trees side by side
 
 pub forest-rows-⧺ : (ts us : Forest) → forest-rows (ts ⧺ us) ≡ forest-rows ts ++ forest-rows us
-unfolding forest-rows _⧺_
-forest-rows-⧺ ∅ us = refl
-forest-rows-⧺ (t ▸ ts) us = ap (λ rs. tree-rows t ++ rs) (forest-rows-⧺ ts us) ∙ sym (append-assoc (tree-rows t) (forest-rows ts) (forest-rows us))
+unfolding forest-rows
+forest-rows-⧺ = all-⧺ _++_ append-assoc tree-rows forest-rows (λ a. refl) (λ t ts. refl)
 
 rows-front-behind : (n : ℕ) (ts : Forest) → forest-rows (front n ts) ++ forest-rows (behind n ts) ≡ forest-rows ts
-unfolding front behind forest-rows
-rows-front-behind zero ts = refl
-rows-front-behind (suc n) ∅ = refl
-rows-front-behind (suc n) (t ▸ ts) = rw (append-assoc, rows-front-behind n ts)
+rows-front-behind n ts = sym (forest-rows-⧺ (front n ts) (behind n ts)) ∙ ap forest-rows (front-behind n ts)
 
 -- grow
 
@@ -92,18 +69,6 @@ mutual
   pub length-forest-rows : (ts : Forest) → length (forest-rows ts) ≡ rows-all ts
   length-forest-rows ∅ = refl
   length-forest-rows (t ▸ ts) = length-append (tree-rows t) (forest-rows ts) ∙ ap₂ _+_ (length-tree-rows t) (length-forest-rows ts)
-
--- rows and count
-
-pub rows-positive : (t : Tree) → 0 < rows t
-unfolding rows
-rows-positive (lit s v) = omega arith
-rows-positive (node o ts) = omega arith
-
-pub count-rows : (ts : Forest) → count ts ≤ rows-all ts
-unfolding count rows-all
-count-rows ∅ = omega arith
-count-rows (t ▸ ts) = omega (arith, rows-positive t, count-rows ts)
 
 -- the arguments are below a bound that the rows and the literals' variables are below
 module _ (m : ℕ) (L : Literals) (small : (s : Bool) (v : ℕ) → L s v ≡ false → v < m) where
@@ -218,7 +183,7 @@ count-grow : (k a : ℕ) (ts : Forest) (d : ℕ) → NodeKind k → count ts ≡
 unfolding count
 count-grow k a ts d (literal s) e = rw (grow-literal s a ts) (ap suc (e ∙ ap (λ n. d + n) (children-literal s a) ∙ add-zero d))
 count-grow k a ts d (operator o) e =
-    rw (grow-operator o a ts) (ap suc (count-behind a ts d (e ∙ ap (λ n. d + n) (children-operator o a))))
+    rw (grow-operator o a ts) (ap suc (omega (arith, count-behind a ts, e, children-operator o a)))
 
 rows-grow : (k a : ℕ) (ts : Forest) (d : ℕ) → NodeKind k → count ts ≡ d + children (row k a)
     → forest-rows (grow (row k a) ts) ≡ row k a ∷ forest-rows ts

@@ -17,5 +17,12 @@ use Rattle.sheet.specs.Conversion.{carried}
 use Rattle.sheet.specs.Starred.{starred, expected, computed}
 
 pub starred-hold : map computed starred ≡ map expected starred
-unfolding starred expected computed rows has replace assign count _⧺_ some-child some-two keep eval is-empty opposite equal same-tree duplicate spliced splice decides firsts unwrap combine tidy tidied verdict binds quantifier-of without is-lit at-root may-take value settling may-settle settled all-of after among occurring later innermost relevant one-relevant all-relevant copies at-first expand-tree raw-tree growth raw-rows raw expanded those earlier least is-some lowest cheaper cheapest fits-raw settle-step expand-step undecided-step step-by step go-on run solve turn try trial sheet-length fits number digits variables nodes kind-bytes argument-bytes zip-rows all-rows prefix-rows node-rows children binding front behind grow trees root formula binding-row tree-rows formula-rows row-kinds row-arguments sheet carried answer size-tests member quantifier-tests node-tests tree-test arguments check-tests tidy-tests solved solving solve-call trial-call line-of
+unfolding starred expected computed rows has replace assign count _⧺_ some-child some-two keep eval is-empty opposite equal same-tree
+    duplicate spliced splice decides firsts unwrap combine tidy tidied verdict binds quantifier-of without is-lit at-root may-take value
+    settling may-settle settled all-of after among occurring later innermost relevant one-relevant all-relevant copies at-first
+    expand-tree raw-tree growth raw-rows raw expanded those earlier least is-some lowest cheaper cheapest fits-raw settle-step expand-step
+    undecided-step step-by step go-on run solve turn try trial sheet-length fits number digits variables nodes kind-bytes argument-bytes
+    zip-rows all-rows prefix-rows node-rows children binding front behind grow trees root formula binding-row tree-rows formula-rows
+    row-kinds row-arguments sheet carried answer size-tests member quantifier-tests node-tests tree-test arguments check-tests tidy-tests
+    solved solving solve-call trial-call line-of
 starred-hold = refl

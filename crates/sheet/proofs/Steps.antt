@@ -20,7 +20,8 @@ use Rattle.sheet.specs.Sheet.{formula, sheet}
 use Rattle.sheet.specs.Check.{Answer, refused, accepted, Test, test, answer, passes, Sizes, check-tests, check}
 use Rattle.sheet.specs.Operations.{Written, padded, output-after, write, tidy-and-bound-tests, settle-tests, settle-call, quote-tests, raw-room-test, expand-tests, expand-call, tidy-tests}
 use Rattle.sheet.specs.Calls.{Call, perform, Held, held-after, perform-all, held, none-outer}
-use Rattle.sheet.specs.Steps.{Operation, settling, expanding, Step, single, call-of, calls, after, fill, filled, given, reached, Listed, listed, steps-call, acceptance, acceptances, Steps-demand-3}
+use Rattle.sheet.specs.Steps.{Operation, settling, expanding, Step, single, call-of, calls, after, fill, filled, given, reached}
+use Rattle.sheet.specs.Steps.{Listed, listed, steps-call, acceptance, acceptances, Steps-demand-3}
 use Rattle.sheet.specs.Limits.{Sound}
 use Rattle.sheet.proofs.Tests.{passed-++, answer-++, accepted-passes, refused-first}
 use Rattle.sheet.proofs.Calls.{front-written, demand-3, demand-3-counts}

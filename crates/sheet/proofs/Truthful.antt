@@ -15,7 +15,9 @@ use Rattle.formula.specs.Trial.{Tried}
 use Rattle.sheet.specs.Format.{Bytes, Format, narrow, wide}
 use Rattle.sheet.specs.Sheet.{formula, sheet}
 use Rattle.sheet.specs.Check.{Answer, accepted, Test, passes, check-tests, check}
-use Rattle.sheet.specs.Operations.{Written, padded, write, tidy-call, tidy-and-bound-tests, settle-tests, settle-call, quote-tests, expand-tests, expand-call, execute-tests, execute-call, reduce-call, Solving, solve-call, trial-call}
+use Rattle.sheet.specs.Operations.{Written, padded, write, tidy-call, tidy-and-bound-tests, settle-tests, settle-call, quote-tests}
+use Rattle.sheet.specs.Operations.{expand-tests, expand-call, execute-tests, execute-call, reduce-call, Solving, solve-call}
+use Rattle.sheet.specs.Operations.{trial-call}
 use Rattle.sheet.specs.Qdimacs.{qdimacs, qdimacs-call}
 use Rattle.sheet.specs.Outer.{outer-tests, outer-call}
 use Rattle.sheet.specs.Order.{sort-call}

@@ -7,7 +7,8 @@ use Prim.Native.Nat.{ℕ}
 use lib.ListN.{getD, length, replicate}
 use lib.Dec.{leb, eqb, ltb}
 use Rattle.sheet.specs.Format.{Bytes, Format}
-use Rattle.sheet.specs.Qdimacs.{all, split, is-nil, nonempty, line-end, blank, lines, words, is-comment, from-header, words-below, Token, absolute, Header, pieces, ended-lists, clauses, above-count, unsigned}
+use Rattle.sheet.specs.Qdimacs.{all, split, is-nil, nonempty, line-end, blank, lines, words, is-comment, from-header, words-below}
+use Rattle.sheet.specs.Qdimacs.{Token, absolute, Header, pieces, ended-lists, clauses, above-count, unsigned}
 
 -- a list without a separator
 abbrev pub Uncut : {A : Type 0} → (A → Bool) → List A → Type 0

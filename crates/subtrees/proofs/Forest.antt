@@ -10,30 +10,13 @@ use lib.ListN.{length, getD, drop, length-append, length-drop}
 use lib.Seq.{drop-at, drop-cons, drop-drop}
 use Rattle.formula.specs.Tree.{Tree, lit, node, Forest, ∅, _▸_, Literals, rows, rows-all, has, has-any, count, _⧺_}
 use Rattle.formula.specs.Tidy.{faults, faults-all}
-use Rattle.formula.proofs.Tidy.Children.{⧺-none}
+use Rattle.formula.proofs.Forests.{⧺-none}
+pub use Rattle.formula.proofs.Forests.{all-⧺, has-⧺}
 use Rattle.sheet.specs.Format.{Row, row}
 use Rattle.sheet.specs.Sheet.{literal-kind, operator-kind, front, trees, root, tree-rows, forest-rows}
-use Rattle.sheet.proofs.Preorder.{trees-forest, length-tree-rows, length-forest-rows}
+use Rattle.sheet.proofs.Preorder.{trees-forest, forest-rows-⧺, length-tree-rows, length-forest-rows}
 use Rattle.subtrees.specs.Ends.{subtree-ends, forest-ends}
 use Rattle.subtrees.specs.Subtrees.{top, kids}
-
--- What sums a forest up tree by tree does so over two forests side by side.
-module _ {A : Type 0} (_·_ : A → A → A) (assoc : (a b c : A) → _·_ (_·_ a b) c ≡ _·_ a (_·_ b c)) (one : Tree → A) (all : Forest → A)
-    (none : (a : A) → _·_ (all ∅) a ≡ a) (more : (t : Tree) (ts : Forest) → all (t ▸ ts) ≡ _·_ (one t) (all ts)) where
-  pub all-⧺ : (ts us : Forest) → all (ts ⧺ us) ≡ _·_ (all ts) (all us)
-  unfolding _⧺_
-  all-⧺ ∅ us = sym (none (all us))
-  all-⧺ (t ▸ ts) us =
-      more t (ts ⧺ us) ∙ ap (_·_ (one t)) (all-⧺ ts us) ∙ sym (assoc (one t) (all ts) (all us)) ∙
-      ap (λ a. _·_ a (all us)) (sym (more t ts))
-
-pub rows-⧺ : (ts us : Forest) → forest-rows (ts ⧺ us) ≡ forest-rows ts ++ forest-rows us
-unfolding forest-rows
-rows-⧺ = all-⧺ _++_ append-assoc tree-rows forest-rows (λ a. refl) (λ t ts. refl)
-
-pub has-⧺ : (L : Literals) (ts us : Forest) → has-any L (ts ⧺ us) ≡ (has-any L ts || has-any L us)
-unfolding has-any
-has-⧺ L = all-⧺ _||_ or-assoc (has L) (has-any L) (λ a. refl) (λ t ts. refl)
 
 pub faults-⧺ : (ts us : Forest) → faults-all (ts ⧺ us) ≡ faults-all ts ++ faults-all us
 unfolding faults-all
@@ -92,7 +75,7 @@ unfolding root rest forest-rows
 stepped r rs ∅ e = let z : _≡_ {A = ℕ} 0 (suc (length rs)) = ap length e in absurd (omega arith)
 stepped r rs (t ▸ ts) e =
     let all : top t ∷ (forest-rows (kids t) ++ forest-rows ts) ≡ r ∷ rs = ap (λ l. l ++ forest-rows ts) (sym (tree-rows-top t)) ∙ e in
-    let next = sound-rows (kids t ⧺ ts) (sym (ap (drop 1) all) ∙ sym (rows-⧺ (kids t) ts)) in
+    let next = sound-rows (kids t ⧺ ts) (sym (ap (drop 1) all) ∙ sym (forest-rows-⧺ (kids t) ts)) in
     record {
       whole = refl;
       is-top = sym (ap (λ l. getD l 0 (row 0 0)) all);

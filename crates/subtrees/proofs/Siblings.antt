@@ -8,8 +8,8 @@ use native.Mathlib.Nat.{add-zero, zero-add}
 use native.Mathlib.Omega.{arith}
 use lib.ListN.{length, getD}
 use Rattle.formula.specs.Tree.{and, or, Tree, lit, node, Forest, ∅, _▸_, rows, count, _⧺_}
-use Rattle.formula.proofs.Tidy.Children.{count-⧺}
-use Rattle.sheet.proofs.Preorder.{front-⧺}
+use Rattle.formula.proofs.Forests.{count-⧺}
+use Rattle.sheet.proofs.Forests.{front-⧺}
 use Rattle.sheet.specs.Format.{Bytes, Row, row, children}
 use Rattle.sheet.specs.Sheet.{front}
 use Rattle.rows.specs.Layouts.{rows-in}

@@ -9,8 +9,8 @@ use native.Mathlib.Omega.{arith}
 use lib.ListN.{length, getD, take, drop, set, length-set}
 use lib.Seq.{drop-cons, drop-drop, getD-drop, getD-take, getD-set-same, drop-set-lt, take-set-lt, length-take-le, drop-length}
 use Rattle.formula.specs.Tree.{and, or, Tree, lit, node, rows, rows-all, count, _⧺_}
-use Rattle.formula.proofs.Tidy.Children.{count-⧺}
-use Rattle.sheet.proofs.Preorder.{front-⧺}
+use Rattle.formula.proofs.Forests.{count-⧺}
+use Rattle.sheet.proofs.Forests.{front-⧺}
 use Rattle.sheet.specs.Format.{Row, row, children}
 use Rattle.sheet.specs.Sheet.{front, trees, root}
 use Rattle.subtrees.specs.Subtrees.{top, kids}

@@ -10,7 +10,8 @@ use lib.ListN.{length, getD, set, take, drop}
 use Rattle.formula.specs.Tree.{Op, and, or, dual, same-op, Tree, lit, node, Forest, ∅, _▸_, _⧺_, some-child, some-two, count}
 use Rattle.formula.specs.Tidy.{is-op, is-empty, opposite, same-tree, spliced, splice, decides, firsts}
 use Rattle.formula.proofs.Booleans.{or-parts}
-use Rattle.formula.proofs.Tidy.Children.{some-two-firsts, ⧺-none, ⧺-assoc, count-⧺, splice-⧺, splice-none}
+use Rattle.formula.proofs.Forests.{⧺-none, ⧺-assoc, count-⧺}
+use Rattle.formula.proofs.Tidy.Children.{some-two-firsts, splice-⧺, splice-none}
 use Rattle.sheet.specs.Format.{Bytes, Row, row}
 use Rattle.sheet.specs.Sheet.{operator-kind, front, behind}
 use Rattle.rows.specs.Layouts.{total, rows-in, Room}

@@ -9,7 +9,8 @@ use borrow.Author.Tests.{not-false}
 use Rattle.formula.specs.Tree.{Op, dual, Tree, lit, node, Forest, ∅, _▸_, _⧺_, some-child, some-two, keep}
 use Rattle.formula.specs.Tidy.{is-empty, opposite, same-tree, same-variable, decides, firsts}
 use Rattle.formula.proofs.Booleans.{cond-cases, and-parts, or-parts, or-none, or-cases, eqb-comm}
-use Rattle.formula.proofs.Tidy.Children.{some-child-less, some-child-⧺, firsts-all, some-child-same, keep-same, keep-⧺, keep-keep, some-child-or, some-two-⧺, keep-every}
+use Rattle.formula.proofs.Forests.{some-child-less, some-child-⧺, some-child-same, keep-same, keep-⧺, keep-keep, some-child-or, some-two-⧺, keep-every}
+use Rattle.formula.proofs.Tidy.Children.{firsts-all}
 use Rattle.formula.proofs.Tidy.Same.{same-tree-same}
 use Rattle.tidy_rules.specs.Segments.{Segment, gone, literal, operator, none, _◂_, grown, live}
 use Rattle.tidy_rules.specs.Rules.{decisive, repeated, new, Unopposed}

@@ -7,7 +7,7 @@ use Prim.Native.Nat.{ℕ, zero, suc, _+_, _-_, _≤_, _<_}
 use native.Mathlib.Omega.{arith}
 use lib.ListN.{length}
 use Rattle.formula.specs.Tree.{Tree, Forest, ∅, _▸_, _⧺_, count}
-use Rattle.formula.proofs.Tidy.Children.{⧺-none, ⧺-assoc}
+use Rattle.formula.proofs.Forests.{⧺-none, ⧺-assoc}
 use Rattle.sheet.specs.Format.{Bytes, Row}
 use Rattle.sheet.specs.Sheet.{front, behind}
 use Rattle.rows.specs.Layouts.{rows-in, Room, total}

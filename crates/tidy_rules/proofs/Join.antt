@@ -8,7 +8,7 @@ use native.Mathlib.Omega.{arith}
 use lib.ListN.{length, set, length-append}
 use lib.Seq.{set-at}
 use Rattle.formula.specs.Tree.{∅, _⧺_}
-use Rattle.formula.proofs.Tidy.Children.{⧺-none}
+use Rattle.formula.proofs.Forests.{⧺-none}
 use Rattle.sheet.specs.Format.{Row, row}
 use Rattle.tidy_rules.specs.Segments.{Segment, gone, Segments, none, _◂_, _⊕_, head, inner, segment-rows, size, grown, live, Here}
 use Rattle.tidy_rules.specs.Walks.{JoinsAt}

@@ -13,7 +13,7 @@ use borrow.Author.Tests.{ne-eqb, eqb-true, leb-true}
 use Rattle.formula.specs.Tree.{Op, and, or, dual, same-op, Tree, lit, node, Forest, ∅, _▸_, some-child, keep, count}
 use Rattle.formula.specs.Tidy.{is-empty, opposite, same-tree, childless}
 use Rattle.formula.proofs.Booleans.{and-parts}
-use Rattle.formula.proofs.Tidy.Children.{keep-all, some-child-same}
+use Rattle.formula.proofs.Forests.{keep-all, some-child-same}
 use Rattle.sheet.specs.Format.{Row, row}
 use Rattle.sheet.specs.Sheet.{literal-kind, operator-kind}
 use Rattle.buckets.specs.Chains.{bucket, Linked, Passed}

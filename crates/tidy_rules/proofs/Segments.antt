@@ -9,7 +9,7 @@ use native.Mathlib.Omega.{arith}
 use lib.ListN.{length, set, length-append}
 use lib.Seq.{getD-at, set-at}
 use Rattle.formula.specs.Tree.{and, or, Forest, ∅, _⧺_}
-use Rattle.formula.proofs.Tidy.Children.{⧺-assoc}
+use Rattle.formula.proofs.Forests.{⧺-assoc}
 use Rattle.sheet.specs.Format.{Row, row}
 use Rattle.rows.specs.Layouts.{Room}
 use Rattle.rows.specs.declared.Layout.{Layout}

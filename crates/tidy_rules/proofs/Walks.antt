@@ -10,7 +10,7 @@ use lib.ListN.{length}
 use borrow.Author.Tests.{eq-eqb, ne-eqb}
 use Rattle.formula.specs.Tree.{and, or, Tree, lit, Forest, ∅, _⧺_, count}
 use Rattle.formula.specs.Tidy.{same-tree}
-use Rattle.formula.proofs.Tidy.Children.{⧺-none, count-⧺}
+use Rattle.formula.proofs.Forests.{⧺-none, count-⧺}
 use Rattle.sheet.specs.Format.{Bytes, Row}
 use Rattle.rows.specs.Layouts.{rows-in, Room, total}
 use Rattle.rows.specs.declared.Layout.{Layout}

@@ -14,27 +14,9 @@ use Rattle.formula.specs.Outer.{within, touches, some-row, touched, grow
 use Rattle.formula.proofs.Booleans.{and-parts, or-parts, or-cases, or-later}
 use Rattle.formula.specs.Truth.{Leads}
 use Rattle.formula.proofs.Outer.Apart.{members, Linked, apart}
+use Rattle.formula.proofs.Prefixes.{some-here, some-found, some-leads}
 
 -- tests on rows
-
-some-here : (P : ℕ → Bool) (p : Prefix) (y : ℕ) → binds p y ≡ true → P y ≡ true → some-row P p ≡ true
-unfolding some-row binds
-some-here P [] y b h = absurd (false≢true b)
-some-here P (z ∷ p) y b h =
-    ⊎-elim (λ e. ap (λ (m : Bool). m || some-row P p) (ap P (eqb-true (z .variable) y e) ∙ h))
-    (λ e. or-later (P (z .variable)) (some-here P p y e h)) (or-cases (eqb (z .variable) y) (binds p y) b)
-
-some-found : (P : ℕ → Bool) (p : Prefix) → some-row P p ≡ true → (y : ℕ) × (P y ≡ true)
-unfolding some-row
-some-found P [] h = absurd (false≢true h)
-some-found P (z ∷ p) h = ⊎-elim (λ e. (z .variable, e)) (λ e. some-found P p e) (or-cases (P (z .variable)) (some-row P p) h)
-
-some-leads : (P Q : ℕ → Bool) → ((v : ℕ) → Leads (P v) (Q v)) → (p : Prefix) → Leads (some-row P p) (some-row Q p)
-unfolding some-row
-some-leads P Q f [] h = h
-some-leads P Q f (z ∷ p) h =
-    ⊎-elim (λ e. ap (λ (m : Bool). m || some-row Q p) (f (z .variable) e)) (λ e. or-later (Q (z .variable)) (some-leads P Q f p e))
-    (or-cases (P (z .variable)) (some-row P p) h)
 
 -- how many rows' variables are in a set
 unfoldable tally : (ℕ → Bool) → Prefix → ℕ

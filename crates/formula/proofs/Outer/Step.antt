@@ -10,13 +10,16 @@ use lib.Dec.{eqb, ltb}
 use lib.ListN.{length, take, length-append, length-map}
 use lib.Seq.{length-take-le}
 use borrow.Author.Tests.{eqb-true, eq-eqb, ne-eqb, not-true, not-false, ltb-false}
-use Rattle.formula.specs.Tree.{Op, and, or, same-op, exists, for-all, Tree, lit, Binding, Prefix, Formula, Literals, of, rows, has, constant, assigned, binds, quantifier-of, without, distinct, closed}
+use Rattle.formula.specs.Tree.{Op, and, or, same-op, exists, for-all, Tree, lit, Binding, Prefix, Formula, Literals, of, rows, has}
+use Rattle.formula.specs.Tree.{constant, assigned, binds, quantifier-of, without, distinct, closed}
 use Rattle.formula.specs.Truth.{Assignment, put, join, eval, truth}
 use Rattle.formula.specs.Tidy.{tidied}
 use Rattle.formula.specs.Solve.{those}
 use Rattle.formula.specs.Expand.{all-of, after, among, occurs, occurring, later, Copying, raw-tree, raw-rows, expand-tree, growth}
-use Rattle.formula.specs.Outer.{universal-then-existential, one-block-out, existentials, block, within, depends, dependents, unused, copies-of, too-few, renamed, chosen-by, renaming, outer-copying, existential, raw-outer, outer-expanded, outer-rows}
-use Rattle.formula.proofs.Booleans.{and-parts, or-parts, or-cases, or-later, join-self}
+use Rattle.formula.specs.Outer.{universal-then-existential, one-block-out, existentials, block, within, depends, dependents, unused}
+use Rattle.formula.specs.Outer.{copies-of, too-few, renamed, chosen-by, renaming, outer-copying, existential, raw-outer}
+use Rattle.formula.specs.Outer.{outer-expanded, outer-rows}
+use Rattle.formula.proofs.Booleans.{and-parts, or-parts, or-cases, or-later, cond-cases, join-self}
 use Rattle.formula.proofs.Binding.{same-op-eq, bind-ext}
 use Rattle.formula.proofs.Evaluation.{eval-same, eval-assigned, eval-constant, put-other, rows-assigned, has-cover, has-constant}
 use Rattle.formula.proofs.Expand.{Values, eval-expand, rows-expand}
@@ -25,83 +28,26 @@ use Rattle.formula.proofs.Tidy.Growth.{rows-tidy}
 use Rattle.formula.proofs.Steps.{Proper, truth-tidied, proper-tidied}
 use Rattle.formula.proofs.Outer.Closure.{stage-binds, block-apart}
 use Rattle.formula.proofs.Outer.Fresh.{rows-of, unused-above, unused-below, unused-unbound, unused-distinct, take-binds, take-distinct, renamed-other, renamed-new, those-binds}
-use Rattle.formula.proofs.Outer.Truth.{binds-++, Setting, both, copied, after-both, bind-at}
+use Rattle.formula.proofs.Outer.Truth.{Setting, both, copied, after-both, bind-at}
+use Rattle.formula.proofs.Prefixes.{binds-++, binds-later, distinct-++, after-binds, after-own, among-binds}
 
 -- rows after x, those of them with a literal, and the existential ones of these
-
-pub after-binds : (x v : ℕ) (p : Prefix) → binds (after x p) v ≡ true → binds p v ≡ true
-unfolding after binds
-after-binds x v [] h = h
-after-binds x v (z ∷ p) h = by (eqb (z .variable) x) h (after-binds x v p)
-  where
-    by : (m : Bool) → binds (cond m p (after x p)) v ≡ true → (binds (after x p) v ≡ true → binds p v ≡ true)
-        → (eqb (z .variable) v || binds p v) ≡ true
-    by true k rest = or-later (eqb (z .variable) v) k
-    by false k rest = or-later (eqb (z .variable) v) (rest k)
-
-after-own : (x : ℕ) (p : Prefix) → distinct p ≡ true → binds (after x p) x ≡ false
-unfolding after binds distinct
-after-own x [] d = refl
-after-own x (z ∷ p) d =
-    let parts = and-parts (not (binds p (z .variable))) (distinct p) d in
-    by (eqb (z .variable) x) refl (not-true (binds p (z .variable)) (parts .0)) (after-own x p (parts .1))
-  where
-    by : (m : Bool) → eqb (z .variable) x ≡ m → binds p (z .variable) ≡ false → binds (after x p) x ≡ false
-        → binds (cond m p (after x p)) x ≡ false
-    by true e f rest = ap (binds p) (sym (eqb-true (z .variable) x e)) ∙ f
-    by false e f rest = rest
-
-among-binds : (P : ℕ → Bool) (v : ℕ) (p : Prefix) → binds (among P p) v ≡ true → binds p v ≡ true
-unfolding among binds
-among-binds P v [] h = h
-among-binds P v (z ∷ p) h = by (P (z .variable)) h (among-binds P v p)
-  where
-    by : (m : Bool) → binds (cond m (z ∷ among P p) (among P p)) v ≡ true → (binds (among P p) v ≡ true → binds p v ≡ true)
-        → (eqb (z .variable) v || binds p v) ≡ true
-    by true k rest =
-        ⊎-elim (λ e. ap (λ (m : Bool). m || binds p v) e) (λ e. or-later (eqb (z .variable) v) (rest e))
-        (or-cases (eqb (z .variable) v) (binds (among P p) v) k)
-    by false k rest = or-later (eqb (z .variable) v) (rest k)
 
 existentials-binds : (v : ℕ) (p : Prefix) → binds (existentials p) v ≡ true → binds p v ≡ true
 unfolding existentials binds
 existentials-binds v [] h = h
-existentials-binds v (z ∷ p) h = by (same-op exists (z .quantifier)) h (existentials-binds v p)
-  where
-    by : (m : Bool) → binds (cond m (z ∷ existentials p) (existentials p)) v ≡ true
-        → (binds (existentials p) v ≡ true → binds p v ≡ true) → (eqb (z .variable) v || binds p v) ≡ true
-    by true k rest =
-        ⊎-elim (λ e. ap (λ (m : Bool). m || binds p v) e) (λ e. or-later (eqb (z .variable) v) (rest e))
-        (or-cases (eqb (z .variable) v) (binds (existentials p) v) k)
-    by false k rest = or-later (eqb (z .variable) v) (rest k)
+existentials-binds v (z ∷ p) h =
+    cond-cases (λ (q : Prefix). binds q v ≡ true → binds (z ∷ p) v ≡ true) (same-op exists (z .quantifier))
+    (λ e k.
+    ⊎-elim (λ i. ap (λ (m : Bool). m || binds p v) i) (λ i. binds-later z p v (existentials-binds v p i))
+    (or-cases (eqb (z .variable) v) (binds (existentials p) v) k)) (λ e k. binds-later z p v (existentials-binds v p k)) h
 
 existentials-exist : (p : Prefix) → all-of exists (existentials p) ≡ true
 unfolding existentials all-of
 existentials-exist [] = refl
-existentials-exist (z ∷ p) = by (same-op exists (z .quantifier)) refl (existentials-exist p)
-  where
-    by : (m : Bool) → same-op exists (z .quantifier) ≡ m → all-of exists (existentials p) ≡ true
-        → all-of exists (cond m (z ∷ existentials p) (existentials p)) ≡ true
-    by true e rest = ap₂ _&&_ e rest
-    by false e rest = rest
-
-pub distinct-++ : (p q : Prefix) → distinct p ≡ true → distinct q ≡ true → ((v : ℕ) → binds q v ≡ true → binds p v ≡ false)
-    → distinct (p ++ q) ≡ true
-unfolding distinct binds
-distinct-++ [] q d e h = e
-distinct-++ (z ∷ p) q d e h =
-    let parts = and-parts (not (binds p (z .variable))) (distinct p) d in
-    ap₂ (λ (a b : Bool). not a && b)
-    (binds-++ p q (z .variable) ∙ ap₂ _||_ (not-true (binds p (z .variable)) (parts .0)) (none (binds q (z .variable)) refl))
-    (distinct-++ p q (parts .1) e (λ v k. or-parts (eqb (z .variable) v) (binds p v) (h v k) .1))
-  where
-    none : (b : Bool) → binds q (z .variable) ≡ b → b ≡ false
-    none true k =
-        absurd
-        (true≢false
-        (sym (eq-eqb (z .variable) (z .variable) refl) ∙
-        or-parts (eqb (z .variable) (z .variable)) (binds p (z .variable)) (h (z .variable) k) .0))
-    none false k = refl
+existentials-exist (z ∷ p) =
+    cond-cases (λ (q : Prefix). all-of exists q ≡ true) (same-op exists (z .quantifier)) (λ e. ap₂ _&&_ e (existentials-exist p))
+    (λ e. existentials-exist p)
 
 module _ (highest x : ℕ) (f : Formula) where
   abbrev p : Prefix

@@ -20,55 +20,14 @@ use Rattle.formula.proofs.Closed.{unbound}
 use Rattle.formula.proofs.Outer.Witness.{Agree, witness, intro}
 use Rattle.formula.proofs.Outer.Fresh.{rows-of, renamed-other, renamed-new, placed, placed-other, placed-renamed}
 use Rattle.formula.proofs.Outer.Mix.{mixed, choose}
+use Rattle.formula.proofs.Prefixes.{binds-++, all-of-++, among-++, among-same, among-all}
 
 -- rows put together
-
-pub binds-++ : (p q : Prefix) (v : ℕ) → binds (p ++ q) v ≡ (binds p v || binds q v)
-unfolding binds
-binds-++ [] q v = refl
-binds-++ (z ∷ p) q v = ap (λ (m : Bool). eqb (z .variable) v || m) (binds-++ p q v) ∙ again (eqb (z .variable) v) (binds p v) (binds q v)
-  where
-    again : (a b c : Bool) → (a || (b || c)) ≡ ((a || b) || c)
-    again true b c = refl
-    again false b c = refl
-
-all-of-++ : (q : Op) (p r : Prefix) → all-of q p ≡ true → all-of q r ≡ true → all-of q (p ++ r) ≡ true
-unfolding all-of
-all-of-++ q [] r h k = k
-all-of-++ q (z ∷ p) r h k =
-    let parts = and-parts (same-op q (z .quantifier)) (all-of q p) h in
-    ap₂ _&&_ (parts .0) (all-of-++ q p r (parts .1) k)
 
 all-existential : (ns : List ℕ) → all-of exists (rows-of ns) ≡ true
 unfolding all-of
 all-existential [] = refl
 all-existential (n ∷ ns) = all-existential ns
-
-among-++ : (P : ℕ → Bool) (p q : Prefix) → among P (p ++ q) ≡ (among P p ++ among P q)
-unfolding among
-among-++ P [] q = refl
-among-++ P (z ∷ p) q = by (P (z .variable)) (among-++ P p q)
-  where
-    by : (m : Bool) → among P (p ++ q) ≡ (among P p ++ among P q)
-        → cond m (z ∷ among P (p ++ q)) (among P (p ++ q)) ≡ (cond m (z ∷ among P p) (among P p) ++ among P q)
-    by true e = ap (λ (r : Prefix). z ∷ r) e
-    by false e = e
-
-among-same : (P Q : ℕ → Bool) (p : Prefix) → ((v : ℕ) → binds p v ≡ true → P v ≡ Q v) → among P p ≡ among Q p
-unfolding among binds
-among-same P Q [] h = refl
-among-same P Q (z ∷ p) h =
-    ap₂ (λ (m : Bool) (r : Prefix). cond m (z ∷ r) r)
-    (h (z .variable) (ap (λ (m : Bool). m || binds p (z .variable)) (eq-eqb (z .variable) (z .variable) refl)))
-    (among-same P Q p (λ v k. h v (or-later (eqb (z .variable) v) k)))
-
-among-all : (P : ℕ → Bool) (p : Prefix) → ((v : ℕ) → binds p v ≡ true → P v ≡ true) → among P p ≡ p
-unfolding among binds
-among-all P [] h = refl
-among-all P (z ∷ p) h =
-    ap₂ (λ (m : Bool) (r : Prefix). cond m (z ∷ r) r)
-    (h (z .variable) (ap (λ (m : Bool). m || binds p (z .variable)) (eq-eqb (z .variable) (z .variable) refl)))
-    (among-all P p (λ v k. h v (or-later (eqb (z .variable) v) k)))
 
 -- A tree over a prefix, its existential block, x, the depending variables and their new numbers.
 pub record Setting (t : Tree) (p B : Prefix) (x : ℕ) (D : ℕ → Bool) (ys ns : List ℕ) : Type 0 where

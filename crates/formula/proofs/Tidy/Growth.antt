@@ -9,14 +9,10 @@ use Rattle.formula.specs.Tree.{Op, and, or, Tree, lit, node, Forest, ∅
 use Rattle.formula.specs.Tree.{Literals, rows, rows-all, has, has-any}
 use Rattle.formula.specs.Tidy.{equal, duplicate, spliced, splice, decides, firsts, unwrap, combine, tidy, tidy-all}
 use Rattle.formula.proofs.Booleans.{cond-cases, or-parts, or-none}
+pub use Rattle.formula.proofs.Forests.{rows-⧺}
 use Rattle.formula.proofs.Tidy.Children.{some-child-firsts, some-child-splice}
 
 -- rows
-
-pub rows-⧺ : (ts us : Forest) → rows-all (ts ⧺ us) ≡ rows-all ts + rows-all us
-unfolding rows-all _⧺_
-rows-⧺ ∅ us = sym (zero-add _)
-rows-⧺ (t ▸ ts) us = ap (λ n. rows t + n) (rows-⧺ ts us) ∙ sym (add-assoc (rows t) _ _)
 
 rows-spliced : (o : Op) (t : Tree) (us : Forest) → rows-all (spliced o t us) ≤ rows t + rows-all us
 unfolding rows-all spliced

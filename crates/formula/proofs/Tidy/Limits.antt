@@ -10,7 +10,7 @@ use Rattle.formula.specs.Tree.{Op, and, or, dual, same-op, Tree, lit, no
 use Rattle.formula.specs.Tidy.{is-op, is-empty, opposite, equal, duplicate, same-variable, splice, decides, firsts, unwrap, combine, tidy, tidy-all}
 use Rattle.formula.specs.Tidy.{alone, childless, breaks, faults, faults-all, root-faults, any, is-tidy}
 use Rattle.formula.proofs.Booleans.{cond-cases, or-parts, or-none}
-use Rattle.formula.proofs.Tidy.Children.{some-child-both, some-child-less, some-two-both, some-two-less}
+use Rattle.formula.proofs.Forests.{some-child-both, some-child-less, some-two-both, some-two-less}
 use Rattle.formula.proofs.Tidy.Children.{some-child-firsts, some-two-firsts, firsts-differ, firsts-all, some-child-splice, splice-none}
 
 -- whether a tree has a row at fault: the whole tree, and a tree below the root

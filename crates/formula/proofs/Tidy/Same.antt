@@ -7,18 +7,9 @@ use lib.Dec.{eqb}
 use borrow.Author.Tests.{eqb-true, eq-eqb}
 use Rattle.formula.specs.Tree.{Op, and, or, same-op, Tree, lit, node, Forest, ∅, _▸_, keep}
 use Rattle.formula.specs.Tidy.{equal, same-tree, same-trees, duplicate, firsts}
-use Rattle.formula.proofs.Booleans.{and-parts}
-use Rattle.formula.proofs.Tidy.Children.{keep-every, keep-keep, keep-swap, same-kind}
-
-beq-same : (a b : Bool) → Bool·beq a b ≡ true → a ≡ b
-beq-same true true e = refl
-beq-same true false e = cc
-beq-same false true e = cc
-beq-same false false e = refl
-
-beq-refl : (a : Bool) → Bool·beq a a ≡ true
-beq-refl true = refl
-beq-refl false = refl
+use Rattle.formula.proofs.Booleans.{and-parts, beq-refl, beq-same}
+use Rattle.formula.proofs.Forests.{keep-every, keep-keep, keep-swap}
+use Rattle.formula.proofs.Tidy.Children.{same-kind}
 
 same-op-refl : (o : Op) → same-op o o ≡ true
 same-op-refl and = refl

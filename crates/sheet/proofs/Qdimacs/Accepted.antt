@@ -10,14 +10,15 @@ use lib.Dec.{eqb, leb}
 use lib.ListN.{length}
 use borrow.Author.Tests.{eqb-true, eqb-false, eq-eqb, leb-true, le-leb, not-true}
 use Rattle.formula.specs.Tree.{Quantifier, exists, Prefix, Literals, binds, distinct, has, has-any, closed}
-use Rattle.formula.proofs.Booleans.{and-parts, or-cases, or-later, or-none}
+use Rattle.formula.proofs.Booleans.{and-parts, or-cases, or-later, or-none, or-swap}
 use Rattle.formula.proofs.Outer.Fresh.{unused-many}
-use Rattle.formula.proofs.Outer.Truth.{binds-++}
-use Rattle.formula.proofs.Outer.Step.{distinct-++}
-use Rattle.sheet.specs.Qdimacs.{all, Token, opener, plain, minus, other, is-plain, is-whole, absolute, is-end, is-opener, is-quantified, are-clauses, in-order, quantified, bindings, bound, clauses, literals, clause-trees, matrix-of, named, is-free, free-up-to, numbers-of}
+use Rattle.sheet.specs.Qdimacs.{all, Token, opener, plain, minus, other, is-plain, is-whole, absolute, is-end, is-opener}
+use Rattle.sheet.specs.Qdimacs.{is-quantified, are-clauses, in-order, quantified, bindings, bound, clauses, literals, clause-trees}
+use Rattle.sheet.specs.Qdimacs.{matrix-of, named, is-free, free-up-to, numbers-of}
 use Rattle.sheet.specs.Format.{Every}
 use Rattle.sheet.proofs.Qdimacs.Lists.{all-++, all-leads}
 use Rattle.sheet.specs.Texts.{Uncut, up-to}
+use Rattle.formula.proofs.Prefixes.{binds-++, distinct-++}
 
 -- numbers
 
@@ -93,11 +94,6 @@ pub binds-quantified : (x : ℕ) (q : Quantifier) (l : List Token) → binds (qu
 unfolding binds quantified named
 binds-quantified x q [] = refl
 binds-quantified x q (t ∷ l) = ap (λ (b : Bool). eqb (absolute t) x || b) (binds-quantified x q l)
-
-or-swap : (a b c : Bool) → (a || (b || c)) ≡ (b || (a || c))
-or-swap true true c = refl
-or-swap true false c = refl
-or-swap false b c = refl
 
 named-clause : (x : ℕ) (c k l : List Token) (b : Bool) → named x k ≡ (b || named x l) → named x (c ++ k) ≡ (b || named x (c ++ l))
 named-clause x c k l b h = rw (named-++ x c k, named-++ x c l, h) (or-swap (named x c) b (named x l))

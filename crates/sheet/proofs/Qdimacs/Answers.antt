@@ -16,7 +16,9 @@ use Rattle.sheet.specs.Sheet.{formula, sheet}
 use Rattle.sheet.specs.Check.{Answer, refused, accepted, answer, passes, check}
 use Rattle.sheet.specs.Operations.{padded, output-after, write}
 use Rattle.sheet.specs.Limits.{Sound, Within}
-use Rattle.sheet.specs.Qdimacs.{all, Token, is-end, Header, text-header, tokens-below, pieces, ended-lists, open-list, is-nil, in-order, well-listed, bound, clauses, numbers-of, matrix-of, said, qdimacs, above-count, said-tests, qdimacs-tests, qdimacs-call}
+use Rattle.sheet.specs.Qdimacs.{all, Token, is-end, Header, text-header, tokens-below, pieces, ended-lists, open-list, is-nil}
+use Rattle.sheet.specs.Qdimacs.{in-order, well-listed, bound, clauses, numbers-of, matrix-of, said, qdimacs, above-count, said-tests}
+use Rattle.sheet.specs.Qdimacs.{qdimacs-tests, qdimacs-call}
 use Rattle.sheet.proofs.Tests.{passed-∷, accepted-passes}
 use Rattle.sheet.proofs.Limits.{numbered-by}
 use Rattle.sheet.proofs.RoundTrip.{formula-sheet, check-sheet, length-sheet}

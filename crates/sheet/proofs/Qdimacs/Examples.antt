@@ -12,7 +12,12 @@ use Rattle.sheet.specs.Format.{Bytes, narrow, sheet-length, digits}
 use Rattle.sheet.specs.Sheet.{binding-row, tree-rows, formula-rows, row-kinds, row-arguments, sheet}
 use Rattle.sheet.specs.Check.{Answer, refused, accepted, answer}
 use Rattle.sheet.specs.Operations.{padded, output-after, write}
-use Rattle.sheet.specs.Qdimacs.{onto-first, split, is-nil, all, nonempty, lines, words, unsigned, number-from, negative, magnitude, is-word, token, is-comment, from-header, header-of, text-header, words-below, tokens-below, pieces, ended-lists, open-list, is-quantified, are-clauses, in-order, well-listed, quantified, bindings, bound, clauses, literals, clause-trees, matrix-of, named, is-free, free-up-to, said, qdimacs, numbers-of, above-count, said-tests, qdimacs-tests, qdimacs-call, decimal-before, decimal, highest, literal-words, clauses-words, list-text, header-text, printed}
+use Rattle.sheet.specs.Qdimacs.{onto-first, split, is-nil, all, nonempty, lines, words, unsigned, number-from, negative, magnitude}
+use Rattle.sheet.specs.Qdimacs.{is-word, token, is-comment, from-header, header-of, text-header, words-below, tokens-below, pieces}
+use Rattle.sheet.specs.Qdimacs.{ended-lists, open-list, is-quantified, are-clauses, in-order, well-listed, quantified, bindings}
+use Rattle.sheet.specs.Qdimacs.{bound, clauses, literals, clause-trees, matrix-of, named, is-free, free-up-to, said, qdimacs}
+use Rattle.sheet.specs.Qdimacs.{numbers-of, above-count, said-tests, qdimacs-tests, qdimacs-call, decimal-before, decimal, highest}
+use Rattle.sheet.specs.Qdimacs.{literal-words, clauses-words, list-text, header-text, printed}
 
 unfoldable pub bytes-from : ℕ → ℕ → String → Bytes
 bytes-from zero i s = []
@@ -27,14 +32,23 @@ answer-of s = (qdimacs-call narrow (bytes s) (replicate 60 0)) .answer
 abbrev output-of : String → Bytes
 output-of s = (qdimacs-call narrow (bytes s) (replicate 26 7)) .output
 
--- 1 is in no quantifier line, and stands in front; zeros behind the sheet
+-- what a call computes with
+reading : Unit {0}
+unfolding bytes-from rows count binds distinct sheet-length digits binding-row tree-rows formula-rows row-kinds row-arguments sheet answer
+    padded output-after write flatten flatMap onto-first split is-nil all nonempty lines words unsigned number-from negative magnitude
+    is-word token is-comment from-header header-of text-header words-below tokens-below pieces ended-lists open-list is-quantified
+    are-clauses in-order well-listed quantified bindings bound clauses literals clause-trees matrix-of named is-free free-up-to said
+    qdimacs numbers-of above-count said-tests qdimacs-tests qdimacs-call
+reading = tt
+
+-- 1 is in no quantifier line, and comes first; zeros behind the sheet
 pub free-in-front : output-of "p cnf 2 1\na 2 0\n1 -2 0" ≡ (2 ∷ 0 ∷ 4 ∷ 0 ∷ 1 ∷ 2 ∷ 5 ∷ 6 ∷ 3 ∷ 4 ∷ 1 ∷ 0 ∷ 2 ∷ 0 ∷ 1 ∷ 0 ∷ 2 ∷ 0 ∷ 1 ∷ 0 ∷ 2 ∷ 0 ∷ 0 ∷ 0 ∷ 0 ∷ 0 ∷ [])
-unfolding bytes-from rows count binds distinct sheet-length digits binding-row tree-rows formula-rows row-kinds row-arguments sheet answer padded output-after write flatten flatMap onto-first split is-nil all nonempty lines words unsigned number-from negative magnitude is-word token is-comment from-header header-of text-header words-below tokens-below pieces ended-lists open-list is-quantified are-clauses in-order well-listed quantified bindings bound clauses literals clause-trees matrix-of named is-free free-up-to said qdimacs numbers-of above-count said-tests qdimacs-tests qdimacs-call
+unfolding reading
 free-in-front = refl
 
 -- by number, and not as they occur
 pub free-by-number : output-of "p cnf 3 1\na 2 0\n3 -1 0" ≡ (3 ∷ 0 ∷ 4 ∷ 0 ∷ 1 ∷ 1 ∷ 2 ∷ 5 ∷ 6 ∷ 3 ∷ 4 ∷ 1 ∷ 0 ∷ 3 ∷ 0 ∷ 2 ∷ 0 ∷ 1 ∷ 0 ∷ 2 ∷ 0 ∷ 3 ∷ 0 ∷ 1 ∷ 0 ∷ 0 ∷ [])
-unfolding bytes-from rows count binds distinct sheet-length digits binding-row tree-rows formula-rows row-kinds row-arguments sheet answer padded output-after write flatten flatMap onto-first split is-nil all nonempty lines words unsigned number-from negative magnitude is-word token is-comment from-header header-of text-header words-below tokens-below pieces ended-lists open-list is-quantified are-clauses in-order well-listed quantified bindings bound clauses literals clause-trees matrix-of named is-free free-up-to said qdimacs numbers-of above-count said-tests qdimacs-tests qdimacs-call
+unfolding reading
 free-by-number = refl
 
 pub record Tried : Type 0 where
@@ -96,7 +110,7 @@ texts =
     []
 
 pub texts-answered : map (λ (t : Tried). answer-of (t .text)) texts ≡ map (λ (t : Tried). t .says) texts
-unfolding texts bytes-from rows count binds distinct sheet-length digits binding-row tree-rows formula-rows row-kinds row-arguments sheet answer padded output-after write flatten flatMap onto-first split is-nil all nonempty lines words unsigned number-from negative magnitude is-word token is-comment from-header header-of text-header words-below tokens-below pieces ended-lists open-list is-quantified are-clauses in-order well-listed quantified bindings bound clauses literals clause-trees matrix-of named is-free free-up-to said qdimacs numbers-of above-count said-tests qdimacs-tests qdimacs-call
+unfolding reading texts
 texts-answered = refl
 
 -- and a formula as a text

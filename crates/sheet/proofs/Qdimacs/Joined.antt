@@ -4,7 +4,8 @@ use mathlib.Core.Path.{_≡_, refl, sym, _∙_, ap, ap₂}
 use mathlib.Core.Bool.{true, false, _&&_, false≢true}
 use mathlib.Core.List.{List, [], _∷_, _++_, append-assoc, flatMap}
 use Rattle.formula.proofs.Booleans.{and-parts}
-use Rattle.sheet.specs.Qdimacs.{split, is-nil, all, Token, opener, plain, minus, other, is-whole, is-end, pieces, ended-lists, open-list, is-quantified, are-clauses, in-order, well-listed, bindings, bound, clauses}
+use Rattle.sheet.specs.Qdimacs.{split, is-nil, all, Token, opener, plain, minus, other, is-whole, is-end, pieces, ended-lists}
+use Rattle.sheet.specs.Qdimacs.{open-list, is-quantified, are-clauses, in-order, well-listed, bindings, bound, clauses}
 use Rattle.sheet.specs.Format.{Every}
 use Rattle.sheet.proofs.Qdimacs.Lists.{split-piece}
 use Rattle.sheet.specs.Texts.{Uncut, lists}

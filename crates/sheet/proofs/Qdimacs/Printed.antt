@@ -13,7 +13,12 @@ use Rattle.formula.specs.Tree.{and, or, Quantifier, Tree, lit, node, Forest, �
 use Rattle.formula.specs.Reduce.{is-literal, is-clause}
 use Rattle.formula.proofs.Booleans.{and-parts, or-none, or-parts, or-cases, or-later}
 use Rattle.sheet.specs.Format.{Bytes, Format, Every}
-use Rattle.sheet.specs.Qdimacs.{split, is-nil, nonempty, all, line-end, blank, words, digit, unsigned, number-from, decimal-before, decimal, magnitude, is-word, Token, opener, plain, token, is-plain, is-whole, absolute, is-end, are-clauses, is-quantified, in-order, quantified, bindings, bound, clauses, literals, clause-trees, named, is-free, free-up-to, is-comment, Header, header-of, text-header, tokens-below, matrix-of, said, qdimacs, above-count, numbers-of, well-listed, qdimacs-call, header-text, list-text, literal-word, literal-words, clause-words, clauses-words, row-words, letter, highest, printed, is-clause-set}
+use Rattle.sheet.specs.Qdimacs.{split, is-nil, nonempty, all, line-end, blank, words, digit, unsigned, number-from, decimal-before}
+use Rattle.sheet.specs.Qdimacs.{decimal, magnitude, is-word, Token, opener, plain, token, is-plain, is-whole, absolute, is-end}
+use Rattle.sheet.specs.Qdimacs.{are-clauses, is-quantified, in-order, quantified, bindings, bound, clauses, literals, clause-trees}
+use Rattle.sheet.specs.Qdimacs.{named, is-free, free-up-to, is-comment, Header, header-of, text-header, tokens-below, matrix-of, said}
+use Rattle.sheet.specs.Qdimacs.{qdimacs, above-count, numbers-of, well-listed, qdimacs-call, header-text, list-text, literal-word}
+use Rattle.sheet.specs.Qdimacs.{literal-words, clause-words, clauses-words, row-words, letter, highest, printed, is-clause-set}
 use Rattle.sheet.specs.Sheet.{sheet}
 use Rattle.sheet.specs.Limits.{numbered, Within}
 use Rattle.sheet.proofs.Every.{every-++}
@@ -25,6 +30,7 @@ use Rattle.sheet.proofs.Qdimacs.Joined.{joined, clauses-all, clauses-bi
 use Rattle.sheet.proofs.Qdimacs.Answers.{accepts}
 use Rattle.sheet.specs.Operations.{holds}
 use Rattle.sheet.proofs.Qdimacs.Accepted.{whole-unquantified, named-++, named-lists}
+use Rattle.sheet.proofs.Lists.{map-++}
 
 -- decimal
 
@@ -163,10 +169,6 @@ unfolding flatMap separated split nonempty is-nil
 lists-words [] h = refl
 lists-words (ws ∷ wss) h =
     list-words ws (flatMap list-text wss) (h .0) ∙ ap (λ (us : List Bytes). (ws ++ zero-word ∷ []) ++ us) (lists-words wss (h .1))
-
-map-++ : {A B : Type 0} (g : A → B) (k l : List A) → map g (k ++ l) ≡ map g k ++ map g l
-map-++ g [] l = refl
-map-++ {A} {B} g (a ∷ k) l = ap {B = List B} (λ r. g a ∷ r) (map-++ g k l)
 
 tokens-joined : (wss : List (List Bytes)) → map token (flatMap (λ ws. ws ++ zero-word ∷ []) wss) ≡ joined (map (map token) wss)
 unfolding flatMap token is-word unsigned is-nil all magnitude number-from

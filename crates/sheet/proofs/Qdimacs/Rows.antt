@@ -17,7 +17,7 @@ literal-row t = row (literal-kind (is-plain t)) (absolute t)
 abbrev pub clause-rows : List Token → List Row
 clause-rows c = row 6 (length c) ∷ map literal-row c
 
-count-literals : (c : List Token) → count (literals c) ≡ length c
+pub count-literals : (c : List Token) → count (literals c) ≡ length c
 unfolding count literals
 count-literals [] = refl
 count-literals (t ∷ c) = ap suc (count-literals c)
@@ -27,7 +27,7 @@ unfolding tree-rows literals
 literals-rows [] = refl
 literals-rows (t ∷ c) = ap (λ (rs : List Row). literal-row t ∷ rs) (literals-rows c)
 
-count-clauses : (cs : List (List Token)) → count (clause-trees cs) ≡ length cs
+pub count-clauses : (cs : List (List Token)) → count (clause-trees cs) ≡ length cs
 unfolding count clause-trees
 count-clauses [] = refl
 count-clauses (c ∷ cs) = ap suc (count-clauses cs)

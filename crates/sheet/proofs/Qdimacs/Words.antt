@@ -13,7 +13,9 @@ use Rattle.formula.proofs.Booleans.{and-parts}
 use Rattle.sheet.specs.Format.{Bytes, Format}
 use Rattle.sheet.specs.Sheet.{sheet}
 use Rattle.sheet.specs.Operations.{write}
-use Rattle.sheet.specs.Qdimacs.{split, is-nil, nonempty, all, line-end, blank, lines, words, digit, unsigned, number-from, negative, magnitude, is-word, Token, plain, minus, other, token, is-comment, from-header, Header, header-of, text-header, words-below, tokens-below, said, qdimacs, said-tests, qdimacs-tests, qdimacs-call}
+use Rattle.sheet.specs.Qdimacs.{split, is-nil, nonempty, all, line-end, blank, lines, words, digit, unsigned, number-from, negative}
+use Rattle.sheet.specs.Qdimacs.{magnitude, is-word, Token, plain, minus, other, token, is-comment, from-header, Header, header-of}
+use Rattle.sheet.specs.Qdimacs.{text-header, words-below, tokens-below, said, qdimacs, said-tests, qdimacs-tests, qdimacs-call}
 use Rattle.sheet.proofs.Qdimacs.Lists.{split-++, split-separator, split-uncut, split-piece, split-either, nonempty-++, nonempty-flatMap}
 use Rattle.sheet.specs.Texts.{Uncut, separator, separated, Line, is-skipped, header-words, TextWords}
 use Rattle.sheet.specs.Texts.{LeadingZeros, SameWords, as-it-is, unsigned-zeros, negative-zeros}
