@@ -444,9 +444,10 @@ fn is_open(path: &str) -> bool {
 
 /// The definitions reached that stand where no reader looks for them.
 fn hidden(files: &Files, reached: &Reached) -> Vec<String> {
-    let outside = reached.definitions.iter().filter(|((path, at), _)| {
-        !is_open(path) && !files[path].declared[*at].is_shorthand
-    });
+    let outside = reached
+        .definitions
+        .iter()
+        .filter(|((path, at), _)| !is_open(path) && !files[path].declared[*at].is_shorthand);
     outside
         .map(|((path, at), by)| format!("{path}: {}, used by {by}", files[path].declared[*at].name))
         .collect()

@@ -49,7 +49,7 @@ fn records(rng: &mut Rng, reading: &Reading, sheet: &[u8], count: usize, room: u
     let longer = |rng: &mut Rng| if rng.one_in(2) { 0 } else { rng.below(3) };
     let (more, other) = (longer(rng), longer(rng));
     records.operations.extend((0..longer(rng)).map(|_| 1));
-    records.variables.extend((0..longer(rng)).map(|i| i));
+    records.variables.extend(0..longer(rng));
     records.numbers = (0..count + more).map(|_| rng.word() as usize).collect();
     records.values = (0..count + other).map(|_| rng.word() as usize).collect();
     records

@@ -43,7 +43,7 @@ pub fn valve_clauses(count: usize) -> Formula {
     let others = count / 4;
     let of = |at: usize| {
         let (pair, round) = (at / 2 % others, at / 2 / others);
-        let sign = |negative: usize| if negative % 2 == 0 { 1 } else { -1 };
+        let sign = |negative: usize| if negative.is_multiple_of(2) { 1 } else { -1 };
         let (one, other) = (sign(round), sign(at) * (2 + pair as i32));
         clause(&if round < 2 { [one, other] } else { [other, one] })
     };

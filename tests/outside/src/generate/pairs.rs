@@ -10,7 +10,7 @@ use crate::reference::{Binding, Formula, Node, Quantifier, Variable};
 pub fn paired_formula(rng: &mut Rng, limits: Limits) -> Formula {
     let count = rng.between(2, limits.variables);
     let numbers = variable_numbers(rng, limits.format, count);
-    let universal = rng.between(1, (count + 1) / 2);
+    let universal = rng.between(1, count.div_ceil(2));
     let outside = if rng.one_in(3) { rng.below(count - universal) } else { 0 };
     let any = |rng: &mut Rng| rng.pick(&[Quantifier::Exists, Quantifier::ForAll]);
     let mut prefix: Vec<Binding> = Vec::new();

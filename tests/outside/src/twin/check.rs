@@ -26,8 +26,8 @@ impl Twin {
         self.raw.clear();
         let mut unclosed = 1usize;
         let mut end = None;
-        for row in v..v + n {
-            let (kind, argument) = (kinds[row], argument(row));
+        for (row, &kind) in kinds.iter().enumerate().skip(v) {
+            let argument = argument(row);
             if !(POSITIVE..=OR).contains(&kind) {
                 return Err((4, row));
             }

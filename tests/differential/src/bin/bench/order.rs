@@ -8,7 +8,8 @@ use outside::reference::{Formula, Node, Quantifier};
 
 /// So many literals under one operator, from the last to the first.
 fn flat(literals: usize, variables: usize) -> Node {
-    let literal = |i: usize| Node::Lit { positive: i % 2 == 0, var: 1 + i * 7919 % variables };
+    let literal =
+        |i: usize| Node::Lit { positive: i.is_multiple_of(2), var: 1 + i * 7919 % variables };
     Node::or((0..literals).rev().map(literal).collect())
 }
 
