@@ -54,6 +54,9 @@ fn answer(mut words: Vec<String>, standard_input: Box<dyn Read>) -> Result<Answe
     if name == "--help" && rest.is_empty() {
         return Ok(help().into());
     }
+    if name == "--version" && rest.is_empty() {
+        return Ok(format!("plumanchor {}\n", env!("CARGO_PKG_VERSION")).into());
+    }
     let command = COMMANDS.iter().find(|command| command.name == name);
     let command = command.ok_or_else(|| {
         Misuse::new(format!("no command '{name}'; a sheet is solved by 'plumanchor solve SHEET'"))
@@ -72,7 +75,7 @@ fn help() -> String {
     for command in COMMANDS {
         text += &format!("  {:<10} {}\n", command.name, command.purpose);
     }
-    text + "\n'plumanchor COMMAND --help' tells more. A sheet is a file, or '-' or nothing for standard\n\
-            input; '--from FORMAT' says what it is written in. Only the result is on standard output.\n\
-            The exit status is 0 with an answer, 1 for a refused input, 2 for wrong use.\n"
+    text + "\n'plumanchor COMMAND --help' tells more, 'plumanchor --version' the version. A sheet is a file, or\n\
+            '-' or nothing for standard input; '--from FORMAT' says what it is written in. Only the result is\n\
+            on standard output. The exit status is 0 with an answer, 1 for a refused input, 2 for wrong use.\n"
 }
