@@ -109,12 +109,13 @@ const NARROW_TRUE: [u8; 7] = [0, 0, 1, 0, 5, 0, 0];
 #[test]
 fn wrong_use_is_never_ignored() {
     let name = example("equal-after");
-    let calls: [&[&str]; 21] = [
+    let calls: [&[&str]; 22] = [
         &[],
-        &["--version"],
+        &["--versions"],
         &["sheet", &name],
         &[&name],
         &["--help", "solve"],
+        &["--version", "solve"],
         &["check", &name, &name],
         &["check", "--room", "5", &name],
         &["check", "-x", &name],
