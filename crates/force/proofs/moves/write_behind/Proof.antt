@@ -7,8 +7,11 @@ use Rattle.force.proofs.Rows.{behind-rows}
 use Rattle.force.proofs.moves.write_behind.Statement.{statement}
 use Rattle.force.proofs.moves.write_behind.Tie as tie
 
+abbrev entered : tie.After-write-copy-arg → tie.After-slice-known
+entered c = c .before .before .before
+
 abbrev start : tie.After-write-copy-arg → tie.Start
-start c = c .before .before .before .before .before .before
+start c = entered c .before .before .before
 
 sub-t10 : tie.Need-sub-t10
 sub-t10 c = search needs
