@@ -16,8 +16,26 @@ use borrow.Author.Needs.{needs}
 use Rattle.guards.proofs.after_run.Statement.{statement}
 use Rattle.guards.proofs.after_run.Tie as tie
 
+abbrev called : tie.After-slice-known2 → tie.Start
+called c = c .before .before .before
+
+abbrev entered : tie.After-answer → tie.After-slice-known2
+entered c = c .before .before .before
+
+abbrev after-answer3 : tie.After-known-told3 → tie.After-answer3
+after-answer3 c = c .before
+
+abbrev told-to-keep : tie.After-keep-arg → tie.After-known-told3
+told-to-keep c = c .before .before .before
+
+abbrev told-to-clear : tie.After-clear-arg2 → tie.After-known-told3
+told-to-clear c = c .before .before .before
+
+abbrev after-keep : tie.After-first → tie.After-keep
+after-keep c = c .before .before .before
+
 abbrev start : tie.After-answer3 → tie.Start
-start c = c .before .before .before .before .before .before
+start c = called (c .before .before .before)
 
 abbrev most : tie.Start → ℕ
 most a = room (a .args .first .now) (a .args .second .now)
@@ -58,7 +76,7 @@ keep-requires c κs = search needs
 
 returns : tie.Need-returns
 returns c =
-    let a = c .before .before .before .before .before .before .before in
+    let a = called (entered (c .before)) in
     absurd (solved-not-refused (first-run a .end) (first-run a .state) (sym (a .pre .2) ∙ ap solved-answer (c .before .answer .given .1)))
 
 same-length : tie.Need-same-length
@@ -68,7 +86,7 @@ returns-2 : tie.Need-returns-2
 returns-2 c =
     let cleared = c .before .before in
     let named = cleared .before .before .before in
-    let a = named .before .before .before .before .before .before in
+    let a = called (named .before .before .before) in
     let told = named .answer2 .given in
     stopped-told (a .args .s) (a .args .sheet .now) (most a) (told .0 .0) (told .0 .1 .0) (told .0 .1 .1 .0) (a .args .out .now)
     (sym (ap solved-answer (told .1)) ∙ a .pre .2) (cleared .clear .ensures ∙ all-zeros (a .args .out .now) refl)
@@ -79,7 +97,7 @@ same-length-2 c = search needs
 returns-3 : tie.Need-returns-3
 returns-3 c =
     let cleared = c .before .before in
-    let named = cleared .before .before .before .before .before in
+    let named = after-answer3 (told-to-clear (cleared .before)) in
     let a = start named in
     let told = named .answer3 .given in
     let e : told .0 .0 ≡ True = search needs in
@@ -97,8 +115,8 @@ same-length-5 c = search needs
 
 returns-4 : tie.Need-returns-4
 returns-4 c =
-    let kept = c .before .before .before .before .before .before in
-    let named = kept .before .before .before .before .before .before .before in
+    let kept = after-keep (c .before .before .before) in
+    let named = after-answer3 (told-to-keep (kept .before .before .before)) in
     let a = start named in
     let told = named .answer3 .given in
     let e : told .0 .0 ≡ False = search needs in

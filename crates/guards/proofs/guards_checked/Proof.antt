@@ -15,8 +15,23 @@ use borrow.Author.Needs.{needs}
 use Rattle.guards.proofs.guards_checked.Statement.{statement}
 use Rattle.guards.proofs.guards_checked.Tie as tie
 
+abbrev called : tie.After-slice-known2 → tie.Start
+called c = c .before .before .before
+
+abbrev else-2 : tie.After-find-arg3 → tie.Else2
+else-2 c = c .before .before .before
+
+abbrev after-find : tie.After-first → tie.After-find
+after-find c = c .before .before .before
+
+abbrev after-first : tie.After-second → tie.After-first
+after-first c = c .before .before
+
+abbrev after-clear : tie.After-clear-arg2 → tie.After-clear
+after-clear c = c .before .before .before
+
 abbrev start : tie.After-kind-at → tie.Start
-start c = c .before .before .before .before .before
+start c = called (c .before .before)
 
 abbrev tested : tie.Else2 → tie.Else1
 tested c = c .before .before .before
@@ -35,7 +50,7 @@ has-place c = omega (arith, c .before .before .shorter .ensures, c .before .shor
 
 kind-at-requires : tie.Need-kind-at-requires
 kind-at-requires c κs =
-    let r = sheet-readable (c .before .before .before .before .pre) in
+    let r = sheet-readable (called (c .before) .pre) in
     (r, r .some-nodes)
 
 returns : tie.Need-returns
@@ -60,7 +75,7 @@ returns-2 c =
 
 find-requires : tie.Need-find-requires
 find-requires c κs =
-    let passed = c .before .before .before in
+    let passed = else-2 c in
     let h = start (tested passed .before) .pre in (
       record {
         sheet = h;
@@ -87,9 +102,9 @@ same-length-3 c = search needs
 
 returns-3 : tie.Need-returns-3
 returns-3 c =
-    let first = c .before .before .before .before .before .before in
-    let done = first .before .before .before .before .before .before .before .before in
-    let passed = done .before .before .before .before in
+    let first = after-clear (c .before .before .before) in
+    let done = after-find (after-first (first .before .before .before)) in
+    let passed = else-2 (done .before) in
     let a = start (tested passed .before) in
     let found = done .find in
     told-call (a .pre) (a .args .out .now) (a .args .first .now) (a .args .second .now) (root-and (tested passed)) (has-place passed) (found .ensures)

@@ -13,8 +13,17 @@ Inv-loop b s ends kept out₀ t v at₀ i₀ out at i = Written s b ends kept t 
 abbrev μ-loop : tie.MeasureT-loop
 μ-loop b s ends kept out₀ t v at₀ i₀ out at i = length kept - i
 
+abbrev entered : tie.After-t Inv-loop μ-loop → tie.After-shared-slice-known3 Inv-loop μ-loop
+entered c = c .before .before
+
+abbrev called : tie.After-t Inv-loop μ-loop → tie.Start Inv-loop μ-loop
+called c = entered c .before .before .before
+
+abbrev in-loop : tie.After-write-rows-arg Inv-loop μ-loop → tie.In-loop Inv-loop μ-loop
+in-loop c = c .before .before .before
+
 abbrev start : tie.At-loop Inv-loop μ-loop → tie.Start Inv-loop μ-loop
-start c = c .before .before .before .before .before .before
+start c = called (c .before)
 
 -- the child at hand is one of the sheet's, and all numbers are small
 small : (c : tie.In-loop Inv-loop μ-loop)
@@ -29,7 +38,7 @@ small c =
 
 loop-holds : tie.Need-loop-holds Inv-loop μ-loop
 loop-holds c =
-    let h = c .before .before .before .before .before .pre in
+    let h = called c .pre in
     none-written (h .readable) (h .placed)
 
 mul-row : tie.Need-mul-row Inv-loop μ-loop
@@ -58,7 +67,7 @@ add-t21 c = omega (arith, small (c .before .before))
 
 write-rows-requires : tie.Need-write-rows-requires Inv-loop μ-loop
 write-rows-requires c κs =
-    let turn = c .before .before .before in
+    let turn = in-loop c in
     let h = start (turn .before) .pre in
     let w = turn .before .loop .inv in (
       ready-on (h .ready) (w .same-length),
@@ -75,7 +84,7 @@ loop-less c = omega arith
 loop-again : tie.Need-loop-again Inv-loop μ-loop
 loop-again c =
     let wrote = c .before .before in
-    let turn = wrote .before .before .before .before in
+    let turn = in-loop (wrote .before) in
     let h = start (turn .before) .pre in
     next-written (h .readable) (h .room) (turn .loop-test .taken) (turn .before .loop .inv) (wrote .write-rows .ensures .0)
     (wrote .write-rows .kept .1 .1 .1 .0)

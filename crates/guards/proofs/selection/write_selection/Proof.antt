@@ -9,15 +9,33 @@ use borrow.Author.Needs.{needs}
 use Rattle.guards.proofs.selection.write_selection.Statement.{statement}
 use Rattle.guards.proofs.selection.write_selection.Tie as tie
 
+abbrev entered : tie.After-write-rows-arg → tie.After-shared-slice-known3
+entered c = c .before .before .before
+
+abbrev called : tie.After-write-rows-arg → tie.Start
+called c = entered c .before .before .before
+
+abbrev after-write-rows : tie.After-write-row-arg → tie.After-write-rows
+after-write-rows c = c .before .before .before
+
+abbrev after-write-row : tie.After-write-kept-arg → tie.After-write-row
+after-write-row c = c .before .before .before
+
+abbrev after-write-kept : tie.After-struct-known2 → tie.After-write-kept
+after-write-kept c = c .before .before .before
+
+abbrev after-struct-known2 : tie.After-write-rows-arg2 → tie.After-struct-known2
+after-struct-known2 c = c .before .before .before
+
 -- the rows of the prefix, of the root and of the children kept are written one after the other
 abbrev start : tie.After-write-rows → tie.Start
-start c = c .before .before .before .before .before .before .before
+start c = called (c .before)
 
 abbrev prefix : tie.After-write-row → tie.After-write-rows
-prefix c = c .before .before .before .before
+prefix c = after-write-rows (c .before)
 
 abbrev root : tie.After-write-kept → tie.After-write-row
-root c = c .before .before .before .before
+root c = after-write-row (c .before)
 
 abbrev begun : tie.After-write-kept → tie.Start
 begun c = start (prefix (root c))
@@ -37,18 +55,18 @@ add-t18 c = search needs
 
 write-rows-requires : tie.Need-write-rows-requires
 write-rows-requires c κs =
-    let a = c .before .before .before .before .before .before in
+    let a = called c in
     (part-ready (a .pre .0) (a .args .out .now) (a .pre .1), record { ordered = omega arith; inside = omega arith }, omega arith)
 
 write-row-requires : tie.Need-write-row-requires
 write-row-requires c κs =
-    let wrote = c .before .before .before in
+    let wrote = after-write-rows c in
     let h = start wrote .pre in
     (part-room (h .0) (room-on (h .1) (same-1 wrote)), omega (arith, wrote .write-rows .ensures .1), h .0 .fit)
 
 write-kept-requires : tie.Need-write-kept-requires
 write-kept-requires c κs =
-    let wrote = c .before .before .before in
+    let wrote = after-write-row c in
     let a = start (prefix wrote) in
     let h = a .pre .0 in
     record {
@@ -61,17 +79,17 @@ write-kept-requires c κs =
 
 add-t18-2 : tie.Need-add-t18-2
 add-t18-2 c =
-    let h = begun (c .before .before .before .before) .pre .0 in
+    let h = begun (after-write-kept (c .before)) .pre .0 in
     omega (arith, h .rest-within, h .readable .few-nodes, h .readable .few-variables)
 
 add-t25 : tie.Need-add-t25
 add-t25 c =
-    let h = begun (c .before .before .before .before .before) .pre .0 in
+    let h = begun (after-write-kept (c .before .before)) .pre .0 in
     omega (arith, h .readable .few-nodes, h .readable .few-variables)
 
 write-rows-requires-2 : tie.Need-write-rows-requires-2
 write-rows-requires-2 c κs =
-    let wrote = c .before .before .before .before .before .before in
+    let wrote = after-write-kept (after-struct-known2 c) in
     let a = begun wrote in
     let h = a .pre .0 in
     let top = prefix (root wrote) .write-rows .ensures .1 in (
@@ -86,7 +104,7 @@ same-length c = search needs
 returns : tie.Need-returns
 returns c =
     let last = c .before .before in
-    let kept = last .before .before .before .before .before .before .before in
+    let kept = after-write-kept (after-struct-known2 (last .before)) in
     let h = begun kept .pre in
     let first = prefix (root kept) .write-rows .ensures in (
       refl,

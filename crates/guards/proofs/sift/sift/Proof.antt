@@ -29,21 +29,39 @@ Inv-loop b s ends kept₀ first₀ second₀ g₀ kept first second g =
 abbrev μ-loop : tie.MeasureT-loop
 μ-loop b s ends kept₀ first₀ second₀ g₀ kept first second g = g .left
 
+abbrev called : tie.After-slice-known Inv-loop μ-loop → tie.Start Inv-loop μ-loop
+called c = c .before .before .before
+
+abbrev entered : tie.After-children-at Inv-loop μ-loop → tie.After-slice-known Inv-loop μ-loop
+entered c = c .before .before .before
+
+abbrev then-1 : tie.After-struct-known3 Inv-loop μ-loop → tie.Then1 Inv-loop μ-loop
+then-1 c = c .before .before .before
+
+abbrev after-struct-known3 : tie.After-write-selection-arg2 Inv-loop μ-loop → tie.After-struct-known3 Inv-loop μ-loop
+after-struct-known3 c = c .before .before .before
+
+abbrev after-write-selection : tie.After-run-raw-arg Inv-loop μ-loop → tie.After-write-selection Inv-loop μ-loop
+after-write-selection c = c .before .before .before
+
+abbrev after-run-raw : tie.After-second Inv-loop μ-loop → tie.After-run-raw Inv-loop μ-loop
+after-run-raw c = c .before .before .before
+
 -- where the function begins, and a turn: a child is left, the rows of its try are written, the run is heard
 abbrev start : tie.At-loop Inv-loop μ-loop → tie.Start Inv-loop μ-loop
-start c = c .before .before .before .before .before .before .before
+start c = called (entered (c .before))
 
 abbrev head : tie.Then1 Inv-loop μ-loop → tie.At-loop Inv-loop μ-loop
 head c = c .before .before
 
 abbrev turn : tie.After-write-selection Inv-loop μ-loop → tie.Then1 Inv-loop μ-loop
-turn c = c .before .before .before .before .before .before .before
+turn c = then-1 (after-struct-known3 (c .before))
 
 abbrev wrote : tie.After-run-raw Inv-loop μ-loop → tie.After-write-selection Inv-loop μ-loop
-wrote c = c .before .before .before .before .before
+wrote c = after-write-selection (c .before .before)
 
 abbrev ran : tie.After-heard Inv-loop μ-loop → tie.After-run-raw Inv-loop μ-loop
-ran c = c .before .before .before .before .before
+ran c = after-run-raw (c .before .before)
 
 abbrev most : tie.Start Inv-loop μ-loop → ℕ
 most a = room (a .args .first .now) (a .args .second .now)
@@ -112,11 +130,11 @@ room-left : (c : tie.After-write-selection Inv-loop μ-loop)
 room-left c = ap (λ (n : ℕ). min n (length (head (turn c) .loop .second))) (c .write-selection .kept .1 .1 .1 .1 .1 .0)
 
 children-at-requires : tie.Need-children-at-requires Inv-loop μ-loop
-children-at-requires c κs = let h = c .before .before .before .before .before .pre .1 .readable in (h, h .some-nodes)
+children-at-requires c κs = let h = called (c .before .before) .pre .1 .readable in (h, h .some-nodes)
 
 loop-holds : tie.Need-loop-holds Inv-loop μ-loop
 loop-holds c =
-    let a = c .before .before .before .before .before .before in (
+    let a = called (entered c) in (
       first-turn (a .args .s) (a .args .b .now) (most a) (a .pre .0) (a .args .ends .now) (a .args .kept .now) (c .children-at .ensures .0),
       refl,
       refl,
@@ -139,27 +157,27 @@ add-t20 : tie.Need-add-t20 Inv-loop μ-loop
 add-t20 c = omega (arith, small (c .before .before))
 
 sub-kept : tie.Need-sub-kept Inv-loop μ-loop
-sub-kept c = small (c .before .before .before) .2
+sub-kept c = small (then-1 c) .2
 
 add-kept : tie.Need-add-kept Inv-loop μ-loop
-add-kept c = omega (arith, small (c .before .before .before .before))
+add-kept c = omega (arith, small (then-1 (c .before)))
 
 slice-reshare-prefix-write-selection : tie.Need-slice-reshare-prefix-write-selection Inv-loop μ-loop
-slice-reshare-prefix-write-selection c = omega (arith, small (c .before .before .before .before))
+slice-reshare-prefix-write-selection c = omega (arith, small (then-1 (c .before)))
 
 slice-aggregate-write-selection : tie.Need-slice-aggregate-write-selection Inv-loop μ-loop
 slice-aggregate-write-selection c =
-    let turn = c .before .before .before .before .before in
+    let turn = then-1 (c .before .before) in
     sym (length-take-le _ (head turn .loop .kept) (omega (arith, small turn)))
 
 write-selection-requires : tie.Need-write-selection-requires Inv-loop μ-loop
 write-selection-requires c κs =
-    let w = without (c .before .before .before .before .before .before) in
+    let w = without (then-1 (after-struct-known3 c)) in
     (w .chosen, record { holds = omega (arith, w .has-room) })
 
 run-raw-requires : tie.Need-run-raw-requires Inv-loop μ-loop
 run-raw-requires c κs =
-    let w = c .before .before .before .before in
+    let w = after-write-selection (c .before) in
     let part = w .write-selection in
     part-raw (without (turn w)) (part .result) _ (head (turn w) .loop .second) (part .ensures .0) (part .ensures .1) (room-left w)
 
