@@ -3,6 +3,10 @@ use borrow.Author.Needs.{needs}
 use Rattle.raw.proofs.expand.write_subtree.Statement.{statement}
 use Rattle.raw.proofs.expand.write_subtree.Tie as tie
 
+-- places in the code, each from a later one
+abbrev known : tie.After-slice-known → tie.After-shared-slice-known
+known c = c .before .before .before
+
 write-whole-requires : tie.Need-write-whole-requires
 write-whole-requires c κs = search needs
 
@@ -14,7 +18,7 @@ returns c = search needs
 
 write-some-requires : tie.Need-write-some-requires
 write-some-requires c κs =
-    let a = c .before .before .before .before .before .before in
+    let a = known (c .before .before) .before in
     (a .pre .0, a .pre .1 .0, c .before .if1 .left, a .pre .1 .1 (c .before .if1 .left))
 
 same-length-2 : tie.Need-same-length-2

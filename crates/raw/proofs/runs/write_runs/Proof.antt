@@ -14,23 +14,39 @@ Inv-loop b s table cuts out₀ t v at₀ j₀ out at j = Running s b table cuts 
 abbrev μ-loop : tie.MeasureT-loop
 μ-loop b s table cuts out₀ t v at₀ j₀ out at j = length cuts - j
 
+-- places in the code, each from a later one
+abbrev known : tie.After-t Inv-loop μ-loop → tie.After-shared-slice-known2 Inv-loop μ-loop
+known c = c .before .before .before
+
+abbrev start : tie.After-t Inv-loop μ-loop → tie.Start Inv-loop μ-loop
+start c = known c .before .before
+
+abbrev entry : tie.In-loop Inv-loop μ-loop → tie.Start Inv-loop μ-loop
+entry c = start (c .before .before)
+
+abbrev in-turn : tie.After-write-copy-arg Inv-loop μ-loop → tie.In-loop Inv-loop μ-loop
+in-turn c = c .before .before .before
+
+abbrev copy-asked : tie.After-slice-known2 Inv-loop μ-loop → tie.After-write-copy-arg Inv-loop μ-loop
+copy-asked c = c .before .before .before
+
 -- the run at hand
 here : (c : tie.In-loop Inv-loop μ-loop)
-    → let a = c .before .before .before .before .before .before .before in
+    → let a = entry c in
     let j = c .before .loop .j in
     Within (record { from = a .args .s .variables + getD (a .args .cuts .now) j 0; to = a .args .s .variables + getD (a .args .cuts .now) (j + 1) 0 }) (a .args .s)
 here c =
-    let a = c .before .before .before .before .before .before .before in
+    let a = entry c in
     run-within (a .args .s) (a .args .b .now) (a .pre .readable) (a .args .table .now) (a .args .cuts .now) (a .args .to .layout) (a .args .out .now)
     (a .args .to .at)
     (a .pre .room) (c .loop-test .taken) (c .before .loop .inv)
 
 small : (c : tie.In-loop Inv-loop μ-loop)
-    → let a = c .before .before .before .before .before .before .before in
+    → let a = entry c in
     let j = c .before .loop .j in
     (a .args .s .variables + getD (a .args .cuts .now) j 0 ≤ 9216) × (a .args .s .variables + getD (a .args .cuts .now) (j + 1) 0 ≤ 9216)
 small c =
-    let a = c .before .before .before .before .before .before .before in
+    let a = entry c in
     let w = here c in
     let few = a .pre .readable .few-variables in
     let some = a .pre .readable .few-nodes in
@@ -38,7 +54,7 @@ small c =
 
 loop-holds : tie.Need-loop-holds Inv-loop μ-loop
 loop-holds c =
-    let a = c .before .before .before .before .before in
+    let a = start c in
     running-none (a .args .s) (a .args .b .now) (a .pre .readable) (a .args .table .now) (a .args .cuts .now) (a .args .to .layout) (a .args .out .now)
     (a .args .to .at)
     (a .pre .climbs)
@@ -76,7 +92,7 @@ add-t24 c = omega (arith, small (c .before .before))
 write-copy-requires : tie.Need-write-copy-requires Inv-loop μ-loop
 write-copy-requires c κs =
     let turn = c .before .before .before in
-    let a = turn .before .before .before .before .before .before .before in (
+    let a = entry turn in (
       ready-on (a .pre .ready) (turn .before .loop .inv .same-length),
       here turn,
       run-room (a .args .s) (a .args .b .now) (a .pre .readable) (a .args .table .now) (a .args .cuts .now) (a .args .to .layout) (a .args .out .now)
@@ -92,8 +108,8 @@ loop-less c = omega arith
 
 loop-again : tie.Need-loop-again Inv-loop μ-loop
 loop-again c =
-    let turn = c .before .before .before .before .before .before in
-    let a = turn .before .before .before .before .before .before .before in
+    let turn = in-turn (copy-asked c) in
+    let a = entry turn in
     running-next (a .args .s) (a .args .b .now) (a .pre .readable) (a .args .table .now) (a .args .cuts .now) (a .args .to .layout) (a .args .out .now)
     (a .args .to .at)
     (a .pre .room) (turn .loop-test .taken) (turn .before .loop .inv) (c .before .before .write-copy .ensures .0)
@@ -104,7 +120,7 @@ same-length c = c .before .loop .inv .same-length
 
 returns : tie.Need-returns Inv-loop μ-loop
 returns c =
-    let a = c .before .before .before .before .before .before .before in
+    let a = start (c .before .before) in
     running-all (a .args .s) (a .args .b .now) (a .pre .readable) (a .args .table .now) (a .args .cuts .now) (a .args .to .layout) (a .args .out .now)
     (a .args .to .at)
     (c .loop-test .left) (c .before .loop .inv)

@@ -8,6 +8,16 @@ use borrow.Author.Needs.{needs}
 use Rattle.raw.proofs.settle.write_prefix.Statement.{statement}
 use Rattle.raw.proofs.settle.write_prefix.Tie as tie
 
+-- places in the code, each from a later one
+abbrev start : tie.After-write-rows-arg → tie.Start
+start c = c .before .before .before
+
+abbrev first-written : tie.After-write-rows-arg2 → tie.After-write-rows
+first-written c = c .before .before .before
+
+abbrev second-asked : tie.After-slice-known3 → tie.After-write-rows-arg2
+second-asked c = c .before .before .before
+
 add-t11 : tie.Need-add-t11
 add-t11 c = search needs
 
@@ -17,7 +27,7 @@ write-rows-requires c κs = search needs
 write-rows-requires-2 : tie.Need-write-rows-requires-2
 write-rows-requires-2 c κs =
     let first = c .before .before .before in
-    let a = first .before .before .before .before in (
+    let a = start (first .before) in (
       ready-on (a .pre .1) (first .write-rows .kept .1 .1 .1 .0),
       record { ordered = omega (arith, a .pre .2); inside = omega arith },
       omega (arith, first .write-rows .ensures .1, a .pre),
@@ -28,8 +38,8 @@ same-length c = search needs
 
 returns : tie.Need-returns
 returns c =
-    let first = c .before .before .before .before .before .before in
-    let a = first .before .before .before .before in (
+    let first = first-written (second-asked c) in
+    let a = start (first .before) in (
       subst (Laid (a .args .t) (a .args .out .now) _ 0 _)
           (prefix-without (a .args .s) (a .args .b .now) (a .pre .0) (a .args .i) (a .pre .2))
           (laid-on (first .write-rows .ensures .0) (c .before .before .write-rows2 .ensures .0)),
