@@ -12,18 +12,14 @@ use borrow.Author.Tests.{eqb-true, eqb-false, le-leb, lt-leb}
 use Rattle.sheet.specs.Format.{Format, Row}
 use Rattle.sheet.specs.Check.{member, quantifier-tests, arguments}
 use Rattle.checking.specs.Inner.Stages.{Marks, unbound}
-
-or-left-comm : (a b c : Bool) → (a || (b || c)) ≡ (b || (a || c))
-or-left-comm true true c = refl
-or-left-comm true false c = refl
-or-left-comm false b c = refl
+use Rattle.formula.proofs.Booleans.{or-swap}
 
 -- one more row at the end binds the same numbers as one more in front
 pub member-last : (rs : List Row) (r : Row) (x : ℕ) → member x (arguments (rs ++ (r ∷ []))) ≡ member x (r .argument ∷ arguments rs)
 unfolding member arguments
 member-last [] r x = refl
 member-last (s ∷ rs) r x =
-    ap (λ b. eqb (s .argument) x || b) (member-last rs r x) ∙ or-left-comm (eqb (s .argument) x) (eqb (r .argument) x) (member x (arguments rs))
+    ap (λ b. eqb (s .argument) x || b) (member-last rs r x) ∙ or-swap (eqb (s .argument) x) (eqb (r .argument) x) (member x (arguments rs))
 
 -- the tests ask nothing of the numbers bound but which they are
 pub quantifier-tests-bound : (F : Format) (i : ℕ) (bound bound′ : List ℕ) (rs : List Row)

@@ -10,6 +10,7 @@ use Rattle.formula.specs.Tree.{Op, and, or, same-op, Quantifier, Binding
 use Rattle.formula.specs.Truth.{Assignment, put, join, bind, Leads, Ignores}
 use Rattle.formula.specs.Settle.{value}
 use Rattle.formula.specs.Expand.{all-of, after, among}
+pub use Rattle.formula.proofs.Booleans.{same-op-eq}
 use Rattle.formula.proofs.Booleans.{join-comm, join-assoc, join-self, join-value, join-leads, and-parts, or-parts}
 
 -- setting another variable first or last makes no difference
@@ -46,12 +47,6 @@ bind-leads (z ∷ p) f g h ρ =
     join-leads (z .quantifier) (bind p f (put ρ (z .variable) false)) (bind p g (put ρ (z .variable) false))
     (bind p f (put ρ (z .variable) true)) (bind p g (put ρ (z .variable) true))
     (bind-leads p f g h (put ρ (z .variable) false)) (bind-leads p f g h (put ρ (z .variable) true))
-
-pub same-op-eq : (o k : Op) → same-op o k ≡ true → o ≡ k
-same-op-eq and and h = refl
-same-op-eq and or h = absurd (false≢true h)
-same-op-eq or and h = absurd (false≢true h)
-same-op-eq or or h = refl
 
 -- quantifiers of one kind go through the operator that joins their copies
 pub bind-join : (q : Quantifier) (p : Prefix) (f g : Assignment → Bool) (ρ : Assignment) → all-of q p ≡ true

@@ -8,7 +8,7 @@ use mathlib.Core.Logic.{_⊎_, inl, inr}
 use Prim.Native.Nat.{ℕ}
 use lib.Dec.{eqb}
 use borrow.Author.Tests.{eqb-true, eqb-false, eq-eqb, ne-eqb}
-use Rattle.formula.specs.Tree.{Op, and, or, dual, Quantifier}
+use Rattle.formula.specs.Tree.{Op, and, or, dual, Quantifier, same-op, exists, for-all}
 use Rattle.formula.specs.Truth.{join, unit, Leads}
 use Rattle.formula.specs.Settle.{value}
 
@@ -146,3 +146,25 @@ beq-same false false e = refl
 pub eqb-comm : (a b : ℕ) → eqb a b ≡ eqb b a
 eqb-comm a b =
     by-cases (eqb a b) (λ e. e ∙ sym (eq-eqb b a (sym (eqb-true a b e)))) (λ e. e ∙ sym (ne-eqb b a (λ p. eqb-false a b e (sym p))))
+
+-- equality of operators
+pub same-op-eq : (o k : Op) → same-op o k ≡ true → o ≡ k
+same-op-eq and and h = refl
+same-op-eq and or h = absurd (false≢true h)
+same-op-eq or and h = absurd (false≢true h)
+same-op-eq or or h = refl
+
+pub same-op-refl : (o : Op) → same-op o o ≡ true
+same-op-refl and = refl
+same-op-refl or = refl
+
+-- quantifiers are equal exactly if both or none are existential
+pub same-op-exists : (q z : Quantifier) → same-op q z ≡ Bool·beq (same-op exists q) (same-op exists z)
+same-op-exists and and = refl
+same-op-exists and or = refl
+same-op-exists or and = refl
+same-op-exists or or = refl
+
+pub is-for-all : (q : Quantifier) → same-op exists q ≡ false → for-all ≡ q
+is-for-all and e = refl
+is-for-all or e = absurd (true≢false e)

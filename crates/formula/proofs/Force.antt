@@ -7,13 +7,12 @@ use mathlib.Core.List.{List, [], _∷_, _++_}
 use Prim.Native.Nat.{ℕ, _<_}
 use native.Mathlib.Omega.{arith}
 use lib.ListN.{length, drop}
-use borrow.Author.Tests.{eq-eqb, not-true}
-use Rattle.formula.specs.Tree.{Quantifier, and, or, exists, for-all, Tree, Binding, Prefix, Formula, binds, without, distinct, closed, rows, assign}
+use borrow.Author.Tests.{eq-eqb}
+use Rattle.formula.specs.Tree.{Quantifier, and, or, exists, for-all, Tree, Binding, Prefix, Formula, without, distinct, closed, rows, assign}
 use Rattle.formula.specs.Truth.{join, truth}
 use Rattle.formula.specs.Solve.{End, ended, stopped, Fits}
 use Rattle.formula.specs.Force.{given-by, tried, owner, turn-after, wanted, Forced, neither, with-0, with-1, both, stopped-at, which}
 use Rattle.formula.specs.Force.{forced-by, judged, forced, allows, allows-some, Told, is-won, ForceRight}
-use Rattle.formula.proofs.Booleans.{and-parts}
 use Rattle.formula.proofs.Evaluation.{rows-assign}
 use Rattle.formula.proofs.Splitting.{truth-splits}
 use Rattle.formula.proofs.Closed.{closed-assigned}

@@ -6,10 +6,10 @@ use mathlib.Core.Logic.{_⊎_, inl, inr}
 use Prim.Native.Nat.{ℕ, zero, suc, _≤_, _<_}
 use native.Mathlib.Omega.{arith}
 use borrow.Author.Tests.{not-true}
-use Rattle.formula.specs.Tree.{and, or, Tree, lit, node, Forest, ∅, _▸_, _⧺_, Prefix, Formula, Literals, rows, rows-all, has, has-any, count, distinct, closed}
-use Rattle.formula.specs.Truth.{Assignment, eval, eval-all, truth, Leads}
+use Rattle.formula.specs.Tree.{and, or, Tree, lit, node, Forest, ∅, _▸_, _⧺_, Prefix, Formula, rows, rows-all, has, has-any, count, distinct, closed}
+use Rattle.formula.specs.Truth.{eval, eval-all, truth, Leads}
 use Rattle.formula.specs.Solve.{End, ended, stopped, Fits, solve}
-use Rattle.formula.specs.Guards.{is-and, guards, conjoined, Kept, judged, sift, says, clashing, clash, after-run, guarded, removed, weakened}
+use Rattle.formula.specs.Guards.{is-and, guards, conjoined, Kept, judged, sift, says, clashing, clash, after-run, guarded, removed}
 use Rattle.formula.proofs.Booleans.{join-leads, and-parts, or-parts}
 use Rattle.formula.proofs.Binding.{bind-leads}
 use Rattle.formula.proofs.Closed.{unbound}

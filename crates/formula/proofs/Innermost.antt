@@ -1,14 +1,14 @@
 -- The innermost block: its variables are in the prefix, its last row is there, and spare rows apart it is the run of equal kinds at
 -- the end of the prefix.
 -- Assumes nothing.
-use mathlib.Core.Path.{_≡_, refl, sym, _∙_, ap, ap₂}
-use mathlib.Core.Bool.{Bool, true, false, not, _&&_, _||_, cond, or-true, false≢true, true≢false}
+use mathlib.Core.Path.{_≡_, refl, sym, _∙_, ap}
+use mathlib.Core.Bool.{Bool, true, false, not, _&&_, _||_, cond, false≢true, true≢false}
 use mathlib.Core.List.{[], _∷_}
 use mathlib.Core.Option.{Option, none, some}
 use Prim.Native.Nat.{ℕ}
 use lib.Dec.{eqb}
 use borrow.Author.Tests.{eqb-true, eq-eqb, ne-eqb, not-true}
-use Rattle.formula.specs.Tree.{Quantifier, same-op, Tree, Binding, Prefix, Formula, binds, quantifier-of, distinct}
+use Rattle.formula.specs.Tree.{Tree, Binding, Prefix, Formula, binds, quantifier-of, distinct}
 use Rattle.formula.specs.Settle.{settling, may-settle}
 use Rattle.formula.specs.Expand.{all-of, after, among, occurs, occurring, later, innermost, in-last-block}
 use Rattle.formula.specs.Solve.{those, earlier, least, is-some, lowest}

@@ -2,7 +2,7 @@
 -- row behind which no existential literal of a clause is bound, the clause splits off the conjunction, and its literals of that row
 -- fall to their falsifying value.
 -- Assumes nothing.
-use mathlib.Core.Path.{_≡_, refl, sym, _∙_, ap, ap₂, subst}
+use mathlib.Core.Path.{_≡_, refl, sym, _∙_, ap, ap₂}
 use mathlib.Core.Bool.{Bool, true, false, not, _&&_, _||_, cond, Bool·beq, and-assoc, and-comm, and-true, and-false, or-true, or-false, false≢true, true≢false}
 use mathlib.Core.List.{[], _∷_}
 use mathlib.Core.Logic.{⊎-elim}
@@ -14,12 +14,12 @@ use Rattle.formula.specs.Tree.{and, or, Quantifier, same-op, exists, for
 use Rattle.formula.specs.Tree.{Formula, Literals, binds, quantifier-of, distinct, closed, of, of-sign, rows, rows-all, has, has-any}
 use Rattle.formula.specs.Tree.{some-child, some-two, keep, _⧺_}
 use Rattle.formula.specs.Truth.{Assignment, put, join, eval, eval-all, bind, truth, Leads, Ignores}
-use Rattle.formula.specs.Tidy.{is-op, equal, duplicate, same-variable, spliced, splice, decides, firsts, unwrap, combine, alone, tidy}
-use Rattle.formula.specs.Tidy.{tidy-all, is-tidy, breaks, childless, faults, faults-all, root-faults, any}
+use Rattle.formula.specs.Tidy.{is-op, equal, duplicate, same-variable, spliced, splice, decides, firsts, unwrap, combine, tidy}
+use Rattle.formula.specs.Tidy.{tidy-all, is-tidy, breaks, faults, faults-all, root-faults, any}
 use Rattle.formula.specs.Expand.{after, occurs}
 use Rattle.formula.specs.Reduce.{is-literal, is-clause, in-profile, has-existential, goes, stays, reduce-clause, reduce-all, reduce-tree, reduced}
-use Rattle.formula.proofs.Booleans.{share-join, and-parts, or-parts, or-none, or-cases}
-use Rattle.formula.proofs.Binding.{bind-ext, same-op-eq}
+use Rattle.formula.proofs.Booleans.{share-join, and-parts, or-parts, or-none, or-cases, same-op-eq}
+use Rattle.formula.proofs.Binding.{bind-ext}
 use Rattle.formula.proofs.Evaluation.{eval-all-same, put-other}
 use Rattle.formula.proofs.Forests.{keep-same, keep-every, keep-keep, some-child-keep, some-two-keep}
 use Rattle.formula.proofs.Tidy.Truth.{eval-tidy}

@@ -6,7 +6,7 @@ use borrow.Author.Tests.{not-true}
 use Rattle.formula.specs.Tree.{Op, or, Tree, lit, node, Forest, ∅, _▸_, some-child, some-two}
 use Rattle.formula.specs.Tidy.{is-op, duplicate, same-variable, alone, childless, breaks, faults, faults-all, root-faults, any, is-tidy}
 use Rattle.formula.specs.Order.{leads, insert, sort, sort-all, Rearranged, literal, operator, Reordered, nothing, inside, exchanged, again}
-use Rattle.formula.proofs.Booleans.{join-swap, eqb-comm, and-parts, or-parts, or-none}
+use Rattle.formula.proofs.Booleans.{join-swap, eqb-comm, and-parts, or-parts, or-none, or-exchange}
 use Rattle.formula.proofs.Forests.{some-child-same, some-two-less}
 use Rattle.formula.proofs.Tidy.Same.{duplicate-same, duplicate-sym, duplicate-refl}
 use Rattle.formula.proofs.Tidy.Limits.{faulty, any-++}
@@ -56,11 +56,7 @@ some-two-reordered {R} b (inside {t = t} {u = u} {ts = ts} r rs) =
     ap₂ _||_ (some-child-same (λ w. b .blind w t u r) ts ∙ some-child-reordered (R u) (blind-right b u) rs) (some-two-reordered b rs)
 some-two-reordered {R} b (exchanged t u ts) =
     ap (λ c. (c || some-child (R t) ts) || (some-child (R u) ts || some-two R ts)) (b .turns t u) ∙
-    mixed (R u t) (some-child (R t) ts) (some-child (R u) ts) (some-two R ts)
-  where
-    mixed : (a b c d : Bool) → ((a || b) || (c || d)) ≡ ((a || c) || (b || d))
-    mixed true b c d = refl
-    mixed false b c d = join-swap or b c d
+    or-exchange (R u t) (some-child (R t) ts) (some-child (R u) ts) (some-two R ts)
 some-two-reordered b (again r rs) = some-two-reordered b r ∙ some-two-reordered b rs
 
 same-variable-blind : Blind same-variable
@@ -134,11 +130,7 @@ mutual
   faulty-parts-all ∅ = refl
   faulty-parts-all (t ▸ ts) =
       any-++ (faults t) (faults-all ts) ∙ ap₂ _||_ (faulty-parts t) (faulty-parts-all ts) ∙
-      mixed (astray t) (siblings duplicate t) (astray-all ts) (siblings-all duplicate ts)
-    where
-      mixed : (a b c d : Bool) → ((a || b) || (c || d)) ≡ ((a || c) || (b || d))
-      mixed true b c d = refl
-      mixed false b c d = join-swap or b c d
+      or-exchange (astray t) (siblings duplicate t) (astray-all ts) (siblings-all duplicate ts)
 
 pub is-tidy-parts : (t : Tree) → is-tidy t ≡ (nearly-tidy t && not (siblings duplicate t))
 unfolding is-tidy root-faults any nearly-tidy siblings breaks strays

@@ -4,14 +4,13 @@ use mathlib.Core.Path.{_≡_, refl, sym, ap, _∙_}
 use mathlib.Core.Bool.{Bool, true, false, not, _&&_, _||_, cond, Bool·beq, and-false, or-assoc, or-comm, or-false, or-self}
 use mathlib.Core.List.{List}
 use Prim.Native.Nat.{ℕ, zero, suc, _+_, _-_, _≤_, _<_}
-use native.Mathlib.Nat.{add-zero, add-suc}
 use native.Mathlib.Omega.{arith}
 use lib.Dec.{eqb}
 use mir.Val.{boolByte}
 use lib.ListN.{length, getD, set, drop, replicate, length-set, length-drop}
 use lib.Seq.{drop-length, getD-set-same, getD-set-other}
 use borrow.Author.Tests.{eqb-true, eqb-false, ne-eqb}
-use Rattle.formula.specs.Tree.{and, or, Tree, lit, node, Forest, ∅, _▸_, Literals, of-sign, has, has-any, some-child, count, _⧺_}
+use Rattle.formula.specs.Tree.{and, or, Tree, lit, node, ∅, _▸_, Literals, of-sign, has, has-any, some-child, count, _⧺_}
 use Rattle.formula.specs.Settle.{is-lit, at-root}
 use Rattle.formula.proofs.Forests.{⧺-none, count-⧺}
 use Rattle.sheet.specs.Format.{Bytes}
@@ -26,6 +25,7 @@ use Rattle.subtrees.proofs.Matrix.{trees-nodes, sound-nodes}
 use Rattle.subtrees.proofs.Siblings.{subtree-root, below-row}
 use Rattle.polarity.specs.Table.{entry-of, last-entry, Unmarked, Marked, Covers, Signed}
 use Rattle.polarity.specs.Value.{NumberedTo}
+use Rattle.sheet.proofs.Forests.{behind-past}
 
 -- entry-of
 
@@ -187,11 +187,6 @@ unfolding at-root is-lit some-child
 at-root-top L (lit s v) = sym (or-false (L s v))
 at-root-top L (node o ts) = refl
 
-behind-⧺ : (l : ℕ) (ts us : Forest) → behind (l + count ts) (ts ⧺ us) ≡ behind l us
-unfolding behind count _⧺_
-behind-⧺ l ∅ us = ap (λ n. behind n us) (add-zero l)
-behind-⧺ l (t ▸ ts) us = ap (λ n. behind n (t ▸ (ts ⧺ us))) (add-suc l (count ts)) ∙ behind-⧺ l ts us
-
 behind-none : (n : ℕ) → behind n ∅ ≡ ∅
 unfolding behind
 behind-none zero = refl
@@ -222,7 +217,7 @@ module _ {s : Layout} (b : Bytes) (ok : Readable s b) where
       let us = rest (forest-in s b i) in
       ap (λ ts. some-child P (behind left ts)) (whole-row i h) ∙ first left ∙
       ap (λ ts. (eqb left 0 && P t) || some-child P ts)
-      (sym (ap (behind (left - 1 + count (kids t))) (below-row b ok i h) ∙ behind-⧺ (left - 1) (kids t) us))
+      (sym (ap (behind (left - 1 + count (kids t))) (below-row b ok i h) ∙ behind-past (kids t) us (left - 1 + count (kids t)) (left - 1) (omega arith)))
     where
       first : (left : ℕ) → some-child P (behind left (subtree-in s b i ▸ rest (forest-in s b i))) ≡
           ((eqb left 0 && P (subtree-in s b i)) || some-child P (behind (left - 1) (rest (forest-in s b i))))

@@ -1,14 +1,14 @@
 -- The value that settling puts in, by the signs of a variable's literals.
 -- Assumes nothing.
 use mathlib.Core.Path.{_≡_, refl, sym, ap, ap₂, _∙_}
-use mathlib.Core.Bool.{Bool, true, false, not, _||_, or-false, true≢false}
+use mathlib.Core.Bool.{Bool, true, false, not, _||_, or-false}
 use mathlib.Core.List.{List, [], _∷_}
 use mathlib.Core.Option.{none, some}
 use Prim.Native.Nat.{ℕ, zero, suc, _<_}
 use native.Mathlib.Omega.{arith}
 use lib.Dec.{eqb}
 use lib.ListN.{length, getD}
-use Rattle.formula.specs.Tree.{and, or, Quantifier, exists, for-all, same-op, Tree, lit, node, Forest, ∅, _▸_, of, of-sign, has, has-any}
+use Rattle.formula.specs.Tree.{and, Quantifier, exists, Tree, lit, node, Forest, ∅, _▸_, of, of-sign, has, has-any}
 use Rattle.formula.specs.Settle.{may-take, value, settling}
 use Rattle.sheet.specs.Format.{Bytes}
 use Rattle.rows.specs.Formulas.{matrix-in}
@@ -16,14 +16,9 @@ use Rattle.rows.specs.declared.Layout.{Layout}
 use Rattle.polarity.specs.Table.{entry-of, last-entry, Signed}
 use Rattle.polarity.specs.Value.{quantifier-at, sign-at, signs-of, signs-in, settling-by}
 use Rattle.polarity.specs.declared.value.Signs.{Signs}
+use Rattle.formula.proofs.Booleans.{or-exchange}
 
 -- a variable's literals are the positive and the negative ones
-
-or-swap : (a b c d : Bool) → ((a || b) || (c || d)) ≡ ((a || c) || (b || d))
-or-swap true b c d = refl
-or-swap false true true d = refl
-or-swap false true false d = refl
-or-swap false false c d = refl
 
 of-signs : (x : ℕ) (s : Bool) (v : ℕ) → of x s v ≡ (of-sign true x s v || of-sign false x s v)
 of-signs x true v = sym (or-false (eqb v x))
@@ -40,7 +35,7 @@ mutual
   has-any-signs x ∅ = refl
   has-any-signs x (t ▸ ts) =
       ap₂ _||_ (has-signs x t) (has-any-signs x ts) ∙
-      or-swap (has (of-sign true x) t) (has (of-sign false x) t) (has-any (of-sign true x) ts) (has-any (of-sign false x) ts)
+      or-exchange (has (of-sign true x) t) (has (of-sign false x) t) (has-any (of-sign true x) ts) (has-any (of-sign false x) ts)
 
 -- settling goes by the signs
 pub settling-signs : (q : Quantifier) (x : ℕ) (t : Tree) → settling q x t ≡ settling-by q (signs-of x t)
@@ -75,10 +70,6 @@ table (suc zero) zero p r = refl
 table (suc zero) (suc zero) p r = refl
 table (suc zero) (suc (suc k)) p r = absurd (omega arith)
 table (suc (suc q)) k p r = absurd (omega arith)
-
-pub is-for-all : (q : Quantifier) → same-op exists q ≡ false → for-all ≡ q
-is-for-all and e = refl
-is-for-all or e = absurd (true≢false e)
 
 -- the signs in a table
 

@@ -1,18 +1,17 @@
 -- The prefix of a readable sheet by the numbers of its rows: the row of a variable, and the rows behind it.
 -- Assumes nothing.
 use mathlib.Core.Path.{_≡_, refl, sym, ap, _∙_}
-use mathlib.Core.Bool.{Bool, true, false, _||_, cond}
+use mathlib.Core.Bool.{Bool, true, false, _||_, cond, false≢true}
 use mathlib.Core.List.{[], _∷_, _++_}
 use Prim.Native.Nat.{ℕ, zero, suc, _+_, _≤_, _<_}
 use native.Mathlib.Omega.{arith}
 use lib.Dec.{eqb, ltb, leb, leb·suc-suc}
 use lib.ListN.{length, getD, take, drop, List·getD-map}
 use lib.Seq.{getD-take, drop-cons, drop-length}
-use borrow.Author.Tests.{eqb-true, lt-ltb, le-leb, lt-leb}
-use Rattle.formula.specs.Tree.{Quantifier, same-op, exists, for-all, Binding, Prefix, binds, quantifier-of, without}
-use Rattle.formula.specs.Expand.{all-of, in-last-block}
-use Rattle.formula.proofs.Booleans.{and-parts}
-use Rattle.formula.proofs.Binding.{same-op-eq}
+use borrow.Author.Tests.{eqb-true, lt-ltb, le-leb, lt-leb, eq-eqb, ne-eqb}
+use Rattle.formula.specs.Tree.{Quantifier, same-op, exists, for-all, Binding, Prefix, binds, quantifier-of, without, distinct}
+use Rattle.formula.specs.Expand.{all-of, in-last-block, after}
+use Rattle.formula.proofs.Booleans.{and-parts, same-op-eq}
 use Rattle.sheet.specs.Format.{Bytes, Row, row}
 use Rattle.sheet.specs.Sheet.{binding}
 use Rattle.rows.specs.Layouts.{rows-in}
@@ -20,6 +19,7 @@ use Rattle.rows.specs.Formulas.{prefix-in, Readable}
 use Rattle.rows.specs.declared.Layout.{Layout}
 use Rattle.rows.proofs.Formulas.{length-prefix}
 use Rattle.prefixes.specs.Places.{place, binding-at, binding-in, block-start}
+use Rattle.formula.proofs.Prefixes.{binds-first, binds-later, distinct-parts}
 
 -- place
 
@@ -64,6 +64,35 @@ variable-place x (z ∷ p) h = go (eqb (z .variable) x) refl h (variable-place x
         → (getD (z ∷ p) (cond e 0 (suc (place x p))) (binding (row 0 0))) .variable ≡ x
     go true e h more = eqb-true (z .variable) x e
     go false e h more = more (omega arith)
+
+-- a row's number is bound
+pub binds-row : (p : Prefix) (i : ℕ) → i < length p → binds p ((binding-at p i) .variable) ≡ true
+unfolding binding-at
+binds-row [] i h = absurd (omega arith)
+binds-row (z ∷ p) zero h = binds-first z p
+binds-row (z ∷ p) (suc i) h = binds-later z p ((binding-at p i) .variable) (binds-row p i (omega arith))
+
+-- the row of a row's number is that row
+pub place-row : (p : Prefix) (i : ℕ) → distinct p ≡ true → i < length p → place ((binding-at p i) .variable) p ≡ i
+unfolding place binding-at
+place-row [] i d h = absurd (omega arith)
+place-row (z ∷ p) zero d h = ap (λ (e : Bool). cond e 0 (suc (place (z .variable) p))) (eq-eqb (z .variable) (z .variable) refl)
+place-row (z ∷ p) (suc i) d h =
+    let parts = distinct-parts z p d in
+    let x = (binding-at p i) .variable in
+    let other : eqb (z .variable) x ≡ false
+    = ne-eqb (z .variable) x (λ e. false≢true (sym (parts .0) ∙ ap (binds p) e ∙ binds-row p i (omega arith))) in
+    ap (λ (e : Bool). cond e 0 (suc (place x p))) other ∙ ap suc (place-row p i (parts .1) (omega arith))
+
+-- the rows after x are those behind its row
+pub after-place : (x : ℕ) (p : Prefix) → after x p ≡ drop (suc (place x p)) p
+unfolding after place
+after-place x [] = refl
+after-place x (z ∷ p) = by (eqb (z .variable) x) (after-place x p)
+  where
+    by : (e : Bool) → after x p ≡ drop (suc (place x p)) p → cond e p (after x p) ≡ drop (cond e 0 (suc (place x p))) p
+    by true h = refl
+    by false h = h
 
 pub without-place : (x : ℕ) (p : Prefix) → without x p ≡ take (place x p) p ++ drop (suc (place x p)) p
 unfolding without place

@@ -1,21 +1,20 @@
 -- The turns of the walks over the prefix.
 -- Assumes nothing.
-use mathlib.Core.Path.{_≡_, refl, sym, ap, ap₂, _∙_}
+use mathlib.Core.Path.{_≡_, sym, ap, ap₂, _∙_}
 use mathlib.Core.Bool.{Bool, true, false, not, _&&_, cond, Bool·beq}
-use Prim.Native.Nat.{ℕ, suc, _+_, _-_, _≤_, _<_}
+use Prim.Native.Nat.{ℕ, suc, _+_, _≤_, _<_}
 use native.Mathlib.Omega.{arith}
 use lib.Dec.{eqb}
 use lib.ListN.{drop}
 use borrow.Author.Tests.{eq-eqb, ne-eqb}
-use Rattle.formula.specs.Tree.{and, or, Quantifier, same-op, exists}
+use Rattle.formula.specs.Tree.{or, Quantifier, same-op, exists}
 use Rattle.formula.specs.Expand.{all-of}
-use Rattle.formula.proofs.Binding.{same-op-eq}
 use Rattle.sheet.specs.Format.{Bytes}
 use Rattle.rows.specs.Formulas.{prefix-in, Readable}
 use Rattle.rows.specs.declared.Layout.{Layout}
-use Rattle.rows.proofs.Formulas.{length-prefix}
 use Rattle.prefixes.specs.Places.{place, binding-in, block-start}
 use Rattle.prefixes.proofs.Places.{prefix-row, no-rows, block-here, block-from}
+use Rattle.formula.proofs.Booleans.{same-op-eq, same-op-exists}
 
 -- looking for x from row i on
 pub record Finding (s : Layout) (b : Bytes) (x i : ℕ) : Type 0 where
@@ -46,13 +45,6 @@ module _ {s : Layout} (b : Bytes) (ok : Readable s b) where
   unfolding place
   find-none x i h f = omega (arith, f .within, f .same, ap (place x) (no-rows b ok i (omega (arith, f .within))))
 
--- two quantifiers are equal exactly if both or none are existential
-both : (q z : Quantifier) → same-op q z ≡ Bool·beq (same-op exists q) (same-op exists z)
-both and and = refl
-both and or = refl
-both or and = refl
-both or or = refl
-
 -- from row i on all rows are of one kind, existential or not
 pub record Block (s : Layout) (b : Bytes) (exist : Bool) (i : ℕ) : Type 0 where
   pub inside : i < s .variables
@@ -77,7 +69,7 @@ module _ {s : Layout} (b : Bytes) (ok : Readable s b) {exist : Bool} where
     at-next = rw next at k
 
     compared : {e : Bool} → Bool·beq own exist ≡ e → same-op q ((binding-in s b (suc j)) .quantifier) ≡ e
-    compared h = both q ((binding-in s b (suc j)) .quantifier) ∙ ap₂ Bool·beq (sym is) (sym (at-next .kind)) ∙ h
+    compared h = same-op-exists q ((binding-in s b (suc j)) .quantifier) ∙ ap₂ Bool·beq (sym is) (sym (at-next .kind)) ∙ h
 
     behind : all-of q (drop (suc j) (prefix-in s b)) ≡
         (same-op q ((binding-in s b (suc j)) .quantifier) && all-of q (drop (suc (suc j)) (prefix-in s b)))

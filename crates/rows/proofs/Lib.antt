@@ -7,4 +7,5 @@ mod CopyFront
 pub mod Sealing
 pub mod Layouts
 pub mod Formulas
+pub mod Sealed
 pub mod Lengths

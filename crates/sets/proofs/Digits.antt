@@ -1,7 +1,7 @@
 -- The digits of a word: set, counted, and the lowest that is set.
 -- Assumes nothing.
 use mathlib.Core.Path.{_≡_, refl, sym, _∙_, ap}
-use mathlib.Core.Bool.{Bool, true, false, not, _&&_, _||_, true≢false}
+use mathlib.Core.Bool.{Bool, true, false, not, _&&_, _||_, true≢false, or-comm}
 use Prim.Native.Nat.{ℕ, zero, suc, _+_, _*_, _/_, _%_, _^_, _-_, min, max, _<_}
 use native.Mathlib.Omega.{arith}
 use native.Mathlib.Nat.{pow-suc}
@@ -81,16 +81,10 @@ digit-power (suc k) (suc j) = digit-next (2 ^ suc k) j ∙ ap (λ (n : ℕ). dig
 pub digit-set : (w k j : ℕ) → k < 64 → digit (bitOr w ((1 * 2 ^ k) % 18446744073709551616)) j ≡ (eqb j k || digit w j)
 digit-set w k j h =
     ap (λ (n : ℕ). digit (bitOr w n) j) (small k h) ∙ digit-or w (2 ^ k) j ∙ ap (λ (m : Bool). digit w j || m) (digit-power k j) ∙
-    turned (digit w j) (eqb j k)
+    or-comm (digit w j) (eqb j k)
   where
     small : (k : ℕ) → k < 64 → (1 * 2 ^ k) % 18446744073709551616 ≡ 2 ^ k
     small k h = let l = pow-lt {i = k} {j = 64} h in omega arith
-
-    turned : (a b : Bool) → (a || b) ≡ (b || a)
-    turned true true = refl
-    turned true false = refl
-    turned false true = refl
-    turned false false = refl
 
 pub digit-and : (a b k : ℕ) → digit (bitAnd a b) k ≡ (digit a k && digit b k)
 unfolding digit

@@ -13,10 +13,10 @@ use lib.Seq.{take-append-seam}
 use borrow.Author.Tests.{not-false, leb-true}
 use Rattle.formula.specs.Tree.{Prefix, Formula, of, rows, binds, without}
 use Rattle.formula.specs.Truth.{truth}
-use Rattle.formula.specs.Tidy.{is-tidy, verdict}
+use Rattle.formula.specs.Tidy.{is-tidy}
 use Rattle.formula.specs.Settle.{may-settle, settled}
 use Rattle.formula.specs.Expand.{innermost, raw, raw-rows, expanded}
-use Rattle.formula.specs.Outer.{one-block-out, dependents, copies-of, too-few, outer-rows, outer-expanded}
+use Rattle.formula.specs.Outer.{one-block-out, dependents, outer-rows, outer-expanded}
 use Rattle.formula.specs.Solve.{is-some, fits-raw}
 use Rattle.formula.proofs.Booleans.{and-parts}
 use Rattle.formula.proofs.Closed.{length-without}

@@ -1,8 +1,9 @@
--- A property of every element of a list, kept by ++, take and drop.
+-- A property of every element of a list: kept by ++, take and drop, and had by each element.
 -- Assumes nothing.
 use mathlib.Core.List.{List, [], _∷_, _++_}
-use Prim.Native.Nat.{ℕ, zero, suc}
-use lib.ListN.{take, drop}
+use Prim.Native.Nat.{ℕ, zero, suc, _<_}
+use native.Mathlib.Omega.{arith}
+use lib.ListN.{length, getD, take, drop}
 use Rattle.sheet.specs.Format.{Every}
 
 module _ {A : Type 0} (P : A → Type 0) where
@@ -19,6 +20,11 @@ module _ {A : Type 0} (P : A → Type 0) where
   every-drop zero xs h = h
   every-drop (suc n) [] h = tt
   every-drop (suc n) (x ∷ xs) h = every-drop n xs (h .1)
+
+pub every-at : {A : Type 0} (P : A → Type 0) (xs : List A) (i : ℕ) (d : A) → Every P xs → i < length xs → P (getD xs i d)
+every-at P [] i d h l = absurd (omega arith)
+every-at P (x ∷ xs) zero d h l = h .0
+every-at P (x ∷ xs) (suc i) d h l = every-at P xs i d (h .1) (omega arith)
 
 pub every-map : {A : Type 0} {P Q : A → Type 0} → ((x : A) → P x → Q x) → (xs : List A) → Every P xs → Every Q xs
 every-map f [] h = tt

@@ -3,7 +3,7 @@
 use mathlib.Core.Path.{_≡_, refl, ap, _∙_}
 use Prim.Native.Nat.{ℕ, zero, suc, _+_, _-_, _≤_}
 use native.Mathlib.Omega.{arith}
-use Rattle.formula.specs.Tree.{Tree, Forest, ∅, _▸_, count, _⧺_}
+use Rattle.formula.specs.Tree.{Forest, ∅, _▸_, count, _⧺_}
 use Rattle.formula.proofs.Forests.{⧺-none}
 use Rattle.sheet.specs.Sheet.{front, behind}
 

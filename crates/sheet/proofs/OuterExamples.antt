@@ -2,7 +2,6 @@
 -- less, and what the output holds.
 -- Assumes nothing.
 use mathlib.Core.Path.{_≡_, refl}
-use mathlib.Core.List.{[], _∷_}
 use lib.ListN.{replicate}
 use Rattle.formula.specs.Tree.{binds, quantifier-of, without, rows, has, replace, count, _⧺_, some-child, some-two, keep}
 use Rattle.formula.specs.Tidy.{is-op, is-empty, opposite, equal, same-variable, same-tree, duplicate, spliced, splice, decides, firsts}
@@ -12,7 +11,7 @@ use Rattle.formula.specs.Solve.{those}
 use Rattle.formula.specs.Outer.{universal-then-existential, one-block-out, existentials, block, within, touches, some-row, touched, grown}
 use Rattle.formula.specs.Outer.{stage, depends, dependents, unused, copies-of, too-few, renamed, outer-copying, raw-outer, outer-expanded}
 use Rattle.formula.specs.Outer.{outer-rows, lowest-of}
-use Rattle.sheet.specs.Format.{Bytes, narrow, sheet-length, fits, number, digits, variables, nodes, kind-bytes, argument-bytes, zip-rows, all-rows, prefix-rows, node-rows, children}
+use Rattle.sheet.specs.Format.{narrow, sheet-length, fits, number, digits, variables, nodes, kind-bytes, argument-bytes, zip-rows, all-rows, prefix-rows, node-rows, children}
 use Rattle.sheet.specs.Sheet.{binding, front, behind, grow, trees, root, formula, binding-row, tree-rows, formula-rows, row-kinds, row-arguments, sheet}
 use Rattle.sheet.specs.Check.{refused, accepted, answer, size-tests, member, quantifier-tests, node-tests, tree-test, arguments, check-tests}
 use Rattle.sheet.specs.Operations.{padded, output-after, write, tidy-and-bound-tests}

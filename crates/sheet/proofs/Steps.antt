@@ -11,7 +11,7 @@ use lib.Dec.{ltb}
 use lib.ListN.{length, getD, take, replicate, length-append}
 use lib.Seq.{take-append-seam, take-length}
 use borrow.Author.Tests.{le-ltb}
-use Rattle.formula.specs.Tidy.{is-tidy, first-fault}
+use Rattle.formula.specs.Tidy.{is-tidy}
 use Rattle.formula.specs.Settle.{may-settle, settled}
 use Rattle.formula.specs.Expand.{innermost, expanded}
 use Rattle.formula.specs.Solve.{is-some}

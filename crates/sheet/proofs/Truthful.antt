@@ -1,9 +1,9 @@
 -- Every operation's answers are truthful: a law for each definition of `Truthful`, which the proof of the entry point cites.
 -- Assumes nothing.
 use mathlib.Core.Path.{_≡_, refl, sym, _∙_, ap, subst, subst₂}
-use mathlib.Core.Bool.{Bool, true, false, not}
+use mathlib.Core.Bool.{Bool, true, false}
 use mathlib.Core.List.{List, _++_}
-use Prim.Native.Nat.{ℕ, _+_, _-_, min}
+use Prim.Native.Nat.{ℕ, _-_, min}
 use native.Mathlib.Omega.{arith}
 use lib.ListN.{length, take, drop, replicate, length-append, length-replicate}
 use lib.Seq.{take-append-seam, drop-append-seam}
@@ -18,7 +18,7 @@ use Rattle.sheet.specs.Check.{Answer, accepted, Test, passes, check-test
 use Rattle.sheet.specs.Operations.{Written, padded, write, tidy-call, tidy-and-bound-tests, settle-tests, settle-call, quote-tests}
 use Rattle.sheet.specs.Operations.{expand-tests, expand-call, execute-tests, execute-call, reduce-call, Solving, solve-call}
 use Rattle.sheet.specs.Operations.{trial-call}
-use Rattle.sheet.specs.Qdimacs.{qdimacs, qdimacs-call}
+use Rattle.sheet.specs.Qdimacs.{qdimacs-call}
 use Rattle.sheet.specs.Outer.{outer-tests, outer-call}
 use Rattle.sheet.specs.Order.{sort-call}
 use Rattle.sheet.specs.Guards.{Guards, Guarding, guards-call, Starts}
@@ -32,7 +32,7 @@ use Rattle.sheet.specs.Truthful.{truth-of, SheetOf, TruthfulSheet, Truth
 use Rattle.sheet.proofs.Tests.{passed-∷, passed-++, answer-passes, accepted-passes}
 use Rattle.sheet.proofs.Limits.{narrow-sound, wide-sound}
 use Rattle.sheet.proofs.RoundTrip.{formula-sheet, passes-sheet}
-use Rattle.sheet.proofs.Calls.{front-written, perform-stepped, demand-3}
+use Rattle.sheet.proofs.Calls.{perform-stepped, demand-3}
 use Rattle.sheet.specs.Results.{Good}
 use Rattle.sheet.proofs.Steps.{untidy-held, steps-taken}
 use Rattle.sheet.proofs.Tidying.{tidy-right}

@@ -1,19 +1,18 @@
 -- Rows in preorder and the forest that is read off them: what stands at a row, below it and beside it.
 -- Assumes nothing.
 use mathlib.Core.Path.{_≡_, refl, sym, ap, _∙_}
-use mathlib.Core.Bool.{_||_, or-assoc}
 use mathlib.Core.List.{List, [], _∷_, _++_, append-nil, append-assoc}
 use Prim.Native.Nat.{ℕ, zero, suc, _+_, _≤_, _<_}
 use native.Mathlib.Nat.{add-zero, add-assoc}
 use native.Mathlib.Omega.{arith}
 use lib.ListN.{length, getD, drop, length-append, length-drop}
 use lib.Seq.{drop-at, drop-cons, drop-drop}
-use Rattle.formula.specs.Tree.{Tree, lit, node, Forest, ∅, _▸_, Literals, rows, rows-all, has, has-any, count, _⧺_}
+use Rattle.formula.specs.Tree.{Tree, lit, node, Forest, ∅, _▸_, rows, rows-all, count, _⧺_}
 use Rattle.formula.specs.Tidy.{faults, faults-all}
 use Rattle.formula.proofs.Forests.{⧺-none}
 pub use Rattle.formula.proofs.Forests.{all-⧺, has-⧺}
 use Rattle.sheet.specs.Format.{Row, row}
-use Rattle.sheet.specs.Sheet.{literal-kind, operator-kind, front, trees, root, tree-rows, forest-rows}
+use Rattle.sheet.specs.Sheet.{trees, root, tree-rows, forest-rows}
 use Rattle.sheet.proofs.Preorder.{trees-forest, forest-rows-⧺, length-tree-rows, length-forest-rows}
 use Rattle.subtrees.specs.Ends.{subtree-ends, forest-ends}
 use Rattle.subtrees.specs.Subtrees.{top, kids}

@@ -19,7 +19,6 @@ use Rattle.rows.proofs.Formulas.{node-row, length-nodes, rows-nodes}
 use Rattle.subtrees.specs.Ends.{Indexed}
 use Rattle.subtrees.specs.Subtrees.{top, kids, forest-in, subtree-in, siblings-in, Beside}
 use Rattle.subtrees.proofs.Forest.{rest, stepped-at, some-row, siblings, end-within}
-use Rattle.subtrees.proofs.Table.{children-top}
 use Rattle.subtrees.proofs.Matrix.{sound-nodes, end-of}
 
 -- the first of `left` subtrees side by side from row `at` on, and those from its end on

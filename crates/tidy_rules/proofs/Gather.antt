@@ -38,6 +38,7 @@ use Rattle.tidy_rules.proofs.Mixes.{mixes-behind}
 use Rattle.tidy_rules.proofs.Grouped.{decides-⧺, decides-before, firsts-⧺, decisive-firsts, new-firsts, single, firsts-single}
 use Rattle.tidy_rules.proofs.Judge.{first-of, no-members, as-many}
 use Rattle.tidy_rules.proofs.Join.{advanced}
+use Rattle.sheet.proofs.Forests.{front-past, behind-past}
 
 -- tables that are as long
 pub tables-as : {H L M : List ℕ} {H₀ L₀ M₀ : List ℕ} {n : ℕ} → length H ≡ length H₀ → length L ≡ length L₀ → length M ≡ length M₀
@@ -94,24 +95,6 @@ owing-tree {o} {ts} {us} {passed} {rest} {left = suc left} t e l w = subst (λ m
         }
 
 -- one of the parent's own kind: its children take its place
-
-front-past : (ts us : Forest) (n m : ℕ) → n ≡ count ts + m → front n (ts ⧺ us) ≡ ts ⧺ front m us
-unfolding front count _⧺_
-front-past ∅ us n m e = ap (λ k. front k us) same
-  where
-    same : n ≡ m
-    same = omega (arith, e)
-front-past (t ▸ ts) us zero m e = absurd (omega (arith, e))
-front-past (t ▸ ts) us (suc n) m e = ap (λ vs. t ▸ vs) (front-past ts us n m (omega (arith, e)))
-
-behind-past : (ts us : Forest) (n m : ℕ) → n ≡ count ts + m → behind n (ts ⧺ us) ≡ behind m us
-unfolding behind count _⧺_
-behind-past ∅ us n m e = ap (λ k. behind k us) same
-  where
-    same : n ≡ m
-    same = omega (arith, e)
-behind-past (t ▸ ts) us zero m e = absurd (omega (arith, e))
-behind-past (t ▸ ts) us (suc n) m e = behind-past ts us n m (omega (arith, e))
 
 flat-⧺ : (o : Op) (ts us : Forest) → some-child (is-op o) ts ≡ false → Flat o us → Flat o (ts ⧺ us)
 unfolding Flat some-child is-op _⧺_

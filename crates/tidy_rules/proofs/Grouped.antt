@@ -8,7 +8,7 @@ use lib.Dec.{eqb}
 use borrow.Author.Tests.{not-false}
 use Rattle.formula.specs.Tree.{Op, dual, Tree, lit, node, Forest, ∅, _▸_, _⧺_, some-child, some-two, keep}
 use Rattle.formula.specs.Tidy.{is-empty, opposite, same-tree, same-variable, decides, firsts}
-use Rattle.formula.proofs.Booleans.{cond-cases, and-parts, or-parts, or-none, or-cases, eqb-comm}
+use Rattle.formula.proofs.Booleans.{cond-cases, and-parts, or-parts, or-none, or-cases, eqb-comm, or-swap}
 use Rattle.formula.proofs.Forests.{some-child-less, some-child-⧺, some-child-same, keep-same, keep-⧺, keep-keep, some-child-or, some-two-⧺, keep-every}
 use Rattle.formula.proofs.Tidy.Children.{firsts-all}
 use Rattle.formula.proofs.Tidy.Same.{same-tree-same}
@@ -65,11 +65,6 @@ firsts-⧺ (t ▸ ts) us =
     both false true = refl
     both false false = refl
 
-swap : (a b c : Bool) → (a || (b || c)) ≡ (b || (a || c))
-swap true true c = refl
-swap true false c = refl
-swap false b c = refl
-
 twice : (a b : Bool) → (a || b) ≡ (a || (a || b))
 twice true b = refl
 twice false b = refl
@@ -85,7 +80,7 @@ some-child-firsts-is P (t ▸ ts) = dropped (firsts same-tree ts) ∙ ap (λ b. 
     dropped (u ▸ us) =
         let rest = dropped us in
         cond-cases (λ ws. (P t || some-child P ws) ≡ (P t || (P u || some-child P us))) (not (same-tree t u))
-        (λ _. swap (P t) (P u) _ ∙ ap (λ b. P u || b) rest ∙ swap (P u) (P t) _)
+        (λ _. or-swap (P t) (P u) _ ∙ ap (λ b. P u || b) rest ∙ or-swap (P u) (P t) _)
         (λ e. rest ∙ twice (P t) _ ∙ ap (λ w. P t || (P w || some-child P us)) (same-tree-same t u (not-false (same-tree t u) e)))
 
 pub decisive-firsts : (o : Op) (ts us : Forest) → some-child (decisive o (firsts same-tree ts)) us ≡ some-child (decisive o ts) us

@@ -9,7 +9,7 @@ use lib.ListN.{length, take, drop, replicate}
 use lib.Seq.{length-take-le}
 use Rattle.formula.specs.Tree.{Op, and, or, Tree, lit, node, Forest, ∅, _▸_, Formula, rows, count}
 use Rattle.formula.specs.Tidy.{tidy, tidy-all, tidied}
-use Rattle.formula.proofs.Forests.{count-⧺}
+use Rattle.formula.proofs.Tidy.Children.{count-⧺}
 use Rattle.sheet.specs.Format.{Bytes, Format, Row, row, digits, header, children}
 use Rattle.sheet.specs.Sheet.{literal-kind, operator-kind, binding-row, trees, tree-rows, forest-rows, formula-rows, row-kinds, row-arguments, sheet}
 use Rattle.sheet.specs.Operations.{padded}

@@ -2,17 +2,17 @@
 -- several relevant children, a child that held one would split the set in two sides that nothing links.
 -- Assumes nothing.
 use mathlib.Core.Path.{_≡_, refl, sym, _∙_, ap, ap₂}
-use mathlib.Core.Bool.{Bool, true, false, not, _&&_, _||_, cond, or-false, false≢true, true≢false}
+use mathlib.Core.Bool.{Bool, true, false, not, _&&_, _||_, cond, false≢true, true≢false}
 use mathlib.Core.Logic.{⊎-elim}
 use Prim.Native.Nat.{ℕ, zero, suc, _≤_}
 use native.Mathlib.Omega.{arith}
 use lib.Dec.{eqb}
-use borrow.Author.Tests.{eqb-true, eqb-false, eq-eqb, ne-eqb, not-true}
+use borrow.Author.Tests.{eqb-false, eq-eqb, ne-eqb, not-true}
 use Rattle.formula.specs.Tree.{Op, Tree, lit, node, Forest, ∅, _▸_, _⧺_, Literals, of, has, has-any, count, keep}
 use Rattle.formula.specs.Expand.{relevant, one-relevant}
 use Rattle.formula.specs.Outer.{within, within-below, touches}
-use Rattle.formula.proofs.Booleans.{and-parts, or-parts, or-cases, or-later}
-use Rattle.formula.proofs.Expand.{keep-none, one-first, one-later, one-counts, no-child}
+use Rattle.formula.proofs.Booleans.{and-parts, or-parts, or-cases, or-later, or-swap}
+use Rattle.formula.proofs.Expand.{keep-none, one-first, one-later, one-counts}
 
 -- the literals of a set of variables
 abbrev pub members : (ℕ → Bool) → Literals
@@ -61,12 +61,7 @@ again (a ▸ us) c bs = ap (λ (vs : Forest). a ▸ vs) (again us c bs)
 has-between : (A : Literals) (us : Forest) (c : Tree) (bs : Forest) → has-any A (us ⧺ (c ▸ bs)) ≡ (has A c || has-any A (us ⧺ bs))
 unfolding has _⧺_
 has-between A ∅ c bs = refl
-has-between A (a ▸ us) c bs = ap (λ (m : Bool). has A a || m) (has-between A us c bs) ∙ swap (has A a) (has A c) (has-any A (us ⧺ bs))
-  where
-    swap : (l m n : Bool) → (l || (m || n)) ≡ (m || (l || n))
-    swap true true n = refl
-    swap true false n = refl
-    swap false m n = refl
+has-between A (a ▸ us) c bs = ap (λ (m : Bool). has A a || m) (has-between A us c bs) ∙ or-swap (has A a) (has A c) (has-any A (us ⧺ bs))
 
 count-between : (P : Tree → Bool) (us : Forest) (c : Tree) (bs : Forest) → P c ≡ true
     → count (keep P (us ⧺ (c ▸ bs))) ≡ suc (count (keep P (us ⧺ bs)))

@@ -1,17 +1,17 @@
 -- The depending variables: the stages grow until nothing is added, and no further than touching leads from x.
 -- Assumes nothing.
 use mathlib.Core.Path.{_≡_, refl, sym, _∙_, ap, ap₂}
-use mathlib.Core.Bool.{Bool, true, false, not, _&&_, _||_, cond, or-false, false≢true, true≢false}
+use mathlib.Core.Bool.{Bool, true, false, not, _&&_, _||_, cond, false≢true, true≢false}
 use mathlib.Core.List.{[], _∷_}
 use mathlib.Core.Logic.{_⊎_, inl, inr, ⊎-elim}
-use Prim.Native.Nat.{ℕ, zero, suc, _+_, _≤_}
+use Prim.Native.Nat.{ℕ, zero, suc, _≤_}
 use native.Mathlib.Omega.{arith}
 use lib.Dec.{eqb}
 use lib.ListN.{length}
-use borrow.Author.Tests.{eqb-true, eq-eqb, ne-eqb}
-use Rattle.formula.specs.Tree.{Tree, Binding, Prefix, Literals, of, has, binds}
+use borrow.Author.Tests.{eqb-true, eq-eqb}
+use Rattle.formula.specs.Tree.{Tree, Prefix, of, has, binds}
 use Rattle.formula.specs.Outer.{within, touches, some-row, touched, grown, stage, chosen-by}
-use Rattle.formula.proofs.Booleans.{and-parts, or-parts, or-cases, or-later}
+use Rattle.formula.proofs.Booleans.{and-parts, or-cases, or-later}
 use Rattle.formula.specs.Truth.{Leads}
 use Rattle.formula.proofs.Outer.Apart.{members, Linked, apart}
 use Rattle.formula.proofs.Prefixes.{some-here, some-found, some-leads}

@@ -1,7 +1,7 @@
 -- The copies' new numbers: unused, no number twice; renaming to them and back.
 -- Assumes nothing.
 use mathlib.Core.Path.{_≡_, refl, sym, _∙_, ap, ap₂}
-use mathlib.Core.Bool.{Bool, true, false, not, _&&_, _||_, cond, true≢false, false≢true}
+use mathlib.Core.Bool.{Bool, true, false, not, _&&_, _||_, cond, true≢false, false≢true, and-false}
 use mathlib.Core.List.{List, [], _∷_, map}
 use mathlib.Core.Logic.{⊎-elim}
 use Prim.Native.Nat.{ℕ, zero, suc, _+_, _≤_, _<_}
@@ -214,10 +214,6 @@ those-binds D (z ∷ p) v = by (eqb (z .variable) v) refl (D (z .variable)) refl
         ap (λ (m : Bool). m || binds (rows-of (those D p)) v) e ∙ sym (ap D (sym (eqb-true (z .variable) v e)) ∙ k)
     by true e false k rest =
         let none : D v ≡ false = ap D (sym (eqb-true (z .variable) v e)) ∙ k in
-        rest ∙ ap (λ (m : Bool). binds p v && m) none ∙ never (binds p v) ∙ sym none
-      where
-        never : (b : Bool) → (b && false) ≡ false
-        never true = refl
-        never false = refl
+        rest ∙ ap (λ (m : Bool). binds p v && m) none ∙ and-false (binds p v) ∙ sym none
     by false e true k rest = ap (λ (m : Bool). m || binds (rows-of (those D p)) v) e ∙ rest
     by false e false k rest = rest

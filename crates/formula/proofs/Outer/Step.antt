@@ -1,26 +1,26 @@
 -- The step one block out on a proper formula: it keeps the truth and the formula proper, takes x away and adds the copies.
 -- Assumes nothing.
 use mathlib.Core.Path.{_≡_, refl, sym, _∙_, ap, ap₂}
-use mathlib.Core.Bool.{Bool, true, false, not, _&&_, _||_, cond, Bool·beq, true≢false, false≢true}
+use mathlib.Core.Bool.{Bool, true, false, not, _&&_, _||_, cond, Bool·beq, true≢false, and-false}
 use mathlib.Core.List.{List, [], _∷_, _++_}
 use mathlib.Core.Logic.{⊎-elim}
-use Prim.Native.Nat.{ℕ, zero, suc, _+_, _-_, _≤_}
+use Prim.Native.Nat.{ℕ, suc, _+_, _≤_}
 use native.Mathlib.Omega.{arith}
-use lib.Dec.{eqb, ltb}
-use lib.ListN.{length, take, length-append, length-map}
+use lib.Dec.{eqb}
+use lib.ListN.{length, length-append, length-map}
 use lib.Seq.{length-take-le}
-use borrow.Author.Tests.{eqb-true, eq-eqb, ne-eqb, not-true, not-false, ltb-false}
-use Rattle.formula.specs.Tree.{Op, and, or, same-op, exists, for-all, Tree, lit, Binding, Prefix, Formula, Literals, of, rows, has}
+use borrow.Author.Tests.{ne-eqb, not-true, not-false, ltb-false}
+use Rattle.formula.specs.Tree.{and, same-op, exists, for-all, Tree, lit, Prefix, Formula, Literals, of, rows, has}
 use Rattle.formula.specs.Tree.{constant, assigned, binds, quantifier-of, without, distinct, closed}
-use Rattle.formula.specs.Truth.{Assignment, put, join, eval, truth}
+use Rattle.formula.specs.Truth.{Assignment, put, eval, truth}
 use Rattle.formula.specs.Tidy.{tidied}
 use Rattle.formula.specs.Solve.{those}
-use Rattle.formula.specs.Expand.{all-of, after, among, occurs, occurring, later, Copying, raw-tree, raw-rows, expand-tree, growth}
+use Rattle.formula.specs.Expand.{all-of, after, occurs, occurring, later, raw-tree, raw-rows, expand-tree, growth}
 use Rattle.formula.specs.Outer.{universal-then-existential, one-block-out, existentials, block, within, depends, dependents, unused}
 use Rattle.formula.specs.Outer.{copies-of, too-few, renamed, chosen-by, renaming, outer-copying, existential, raw-outer}
 use Rattle.formula.specs.Outer.{outer-expanded, outer-rows}
-use Rattle.formula.proofs.Booleans.{and-parts, or-parts, or-cases, or-later, cond-cases, join-self}
-use Rattle.formula.proofs.Binding.{same-op-eq, bind-ext}
+use Rattle.formula.proofs.Booleans.{and-parts, or-parts, or-cases, or-later, cond-cases, join-self, same-op-eq}
+use Rattle.formula.proofs.Binding.{bind-ext}
 use Rattle.formula.proofs.Evaluation.{eval-same, eval-assigned, eval-constant, put-other, rows-assigned, has-cover, has-constant}
 use Rattle.formula.proofs.Expand.{Values, eval-expand, rows-expand}
 use Rattle.formula.proofs.Closed.{unbound, length-without, binds-without, unbound-without, distinct-without, has-expand}
@@ -82,11 +82,7 @@ module _ (highest x : ℕ) (f : Formula) where
     where
       by : (m : Bool) → D v ≡ m → (binds B v && m) ≡ m
       by true e = ap (λ (b : Bool). b && true) (depends-in v e)
-      by false e = none (binds B v)
-        where
-          none : (b : Bool) → (b && false) ≡ false
-          none true = refl
-          none false = refl
+      by false e = and-false (binds B v)
 
   pub copies-new : (v : ℕ) → binds (rows-of ns) v ≡ true → binds p v ≡ false
   unfolding copies-of

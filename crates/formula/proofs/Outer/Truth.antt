@@ -1,15 +1,14 @@
 -- The step one block out keeps the truth: from the values at x = 0 and at x = 1 to those of the two copies, block by block.
 -- Assumes nothing.
 use mathlib.Core.Path.{_≡_, refl, sym, _∙_, ap, ap₂, subst}
-use mathlib.Core.Bool.{Bool, true, false, not, _&&_, _||_, cond, or-false, true≢false, false≢true}
+use mathlib.Core.Bool.{Bool, true, false, _&&_, _||_, cond, or-false, true≢false, false≢true}
 use mathlib.Core.List.{List, [], _∷_, _++_}
-use mathlib.Core.Logic.{⊎-elim}
 use Prim.Native.Nat.{ℕ, _≤_}
 use lib.Dec.{eqb}
 use lib.ListN.{length}
-use borrow.Author.Tests.{eqb-true, eq-eqb, ne-eqb, not-true, not-false}
-use Rattle.formula.specs.Tree.{Op, and, or, same-op, exists, for-all, Tree, Binding, Prefix, Literals, of, has, binds, quantifier-of, without, distinct}
-use Rattle.formula.specs.Truth.{Assignment, put, join, eval, bind, Leads, Ignores}
+use borrow.Author.Tests.{eqb-true, ne-eqb, not-false}
+use Rattle.formula.specs.Tree.{Op, and, or, same-op, exists, for-all, Tree, Prefix, Literals, of, has, binds, quantifier-of, without, distinct}
+use Rattle.formula.specs.Truth.{Assignment, put, join, eval, bind, Ignores}
 use Rattle.formula.specs.Expand.{all-of, after, among, occurs}
 use Rattle.formula.specs.Outer.{universal-then-existential, existentials, within, renamed, chosen-by}
 use Rattle.formula.proofs.Booleans.{and-parts, or-parts, or-none, or-later, join-swap}

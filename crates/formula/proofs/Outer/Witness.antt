@@ -1,17 +1,16 @@
 -- Existential rows: a true prefix gives an assignment that differs at its variables only, and such an assignment makes it true.
 -- Assumes nothing.
 use mathlib.Core.Path.{_≡_, refl, sym, _∙_, ap, fun-ext}
-use mathlib.Core.Bool.{Bool, true, false, _&&_, _||_, cond, true≢false}
+use mathlib.Core.Bool.{Bool, true, false, _||_, cond, true≢false}
 use mathlib.Core.List.{[], _∷_}
 use mathlib.Core.Logic.{⊎-elim}
 use Prim.Native.Nat.{ℕ}
 use lib.Dec.{eqb}
 use borrow.Author.Tests.{eqb-true}
-use Rattle.formula.specs.Tree.{Op, or, same-op, exists, Binding, Prefix, binds}
+use Rattle.formula.specs.Tree.{Op, same-op, exists, Prefix, binds}
 use Rattle.formula.specs.Truth.{Assignment, put, join, bind}
 use Rattle.formula.specs.Expand.{all-of}
-use Rattle.formula.proofs.Booleans.{and-parts, or-cases, or-later, or-none, eqb-comm}
-use Rattle.formula.proofs.Binding.{same-op-eq}
+use Rattle.formula.proofs.Booleans.{and-parts, or-cases, or-later, or-none, eqb-comm, same-op-eq}
 
 -- assignments that agree outside the variables of a prefix
 abbrev pub Agree : Prefix → Assignment → Assignment → Type 0

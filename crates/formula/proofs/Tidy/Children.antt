@@ -1,10 +1,10 @@
 -- What taking firsts and splicing do to children.
 -- Assumes nothing.
 use mathlib.Core.Path.{_≡_, refl, sym, _∙_, ap}
-use mathlib.Core.Bool.{Bool, true, false, not, _||_}
+use mathlib.Core.Bool.{Bool, false, not}
 use Rattle.formula.specs.Tree.{Op, and, or, same-op, Tree, lit, node, Forest, ∅, _▸_, _⧺_, some-child, some-two, keep}
 use Rattle.formula.specs.Tidy.{is-op, spliced, splice, firsts}
-use Rattle.formula.proofs.Booleans.{cond-cases, or-parts, or-none}
+use Rattle.formula.proofs.Booleans.{cond-cases, or-parts, or-none, same-op-eq}
 use Rattle.formula.proofs.Forests.{some-child-⧺, ⧺-assoc, some-child-keep, some-two-keep, kept, keep-all}
 pub use Rattle.formula.proofs.Forests.{count-⧺, keep-same, some-child-same, some-child-⧺, some-two-or, some-two-⧺, ⧺-assoc, ⧺-none}
 
@@ -39,12 +39,6 @@ firsts-all R (t ▸ ts) p =
 
 -- splicing: a child of the operator's own kind is tested by its children
 
-pub same-kind : (o k : Op) → same-op o k ≡ true → k ≡ o
-same-kind and and e = refl
-same-kind and or e = cc
-same-kind or and e = cc
-same-kind or or e = refl
-
 module _ (o : Op) (P Q : Tree → Bool) (own : (ts : Forest) → P (node o ts) ≡ false → some-child Q ts ≡ false)
     (other : (t : Tree) → is-op o t ≡ false → P t ≡ false → Q t ≡ false) where
   some-child-spliced : (t : Tree) (us : Forest) → P t ≡ false → some-child Q us ≡ false → some-child Q (spliced o t us) ≡ false
@@ -52,7 +46,7 @@ module _ (o : Op) (P Q : Tree → Bool) (own : (ts : Forest) → P (node o ts) �
   some-child-spliced (lit s v) us p q = or-none (other (lit s v) refl p) q
   some-child-spliced (node k ts) us p q =
       cond-cases (λ ws. some-child Q ws ≡ false) (same-op o k)
-      (λ e. some-child-⧺ Q ts us ∙ or-none (own ts (rw (same-kind o k e) at p)) q) (λ e. or-none (other (node k ts) e p) q)
+      (λ e. some-child-⧺ Q ts us ∙ or-none (own ts (rw (sym (same-op-eq o k e)) at p)) q) (λ e. or-none (other (node k ts) e p) q)
 
   pub some-child-splice : (ts : Forest) → some-child P ts ≡ false → some-child Q (splice o ts) ≡ false
   unfolding splice some-child

@@ -3,9 +3,9 @@
 use mathlib.Core.Path.{_≡_, refl, sym, _∙_, ap}
 use mathlib.Core.Bool.{Bool, false, not, _||_}
 use Prim.Native.Nat.{suc, _+_, _≤_}
-use native.Mathlib.Nat.{le-refl, zero-add, add-assoc, add-le-add}
+use native.Mathlib.Nat.{le-refl, add-le-add}
 use native.Mathlib.Omega.{arith}
-use Rattle.formula.specs.Tree.{Op, and, or, Tree, lit, node, Forest, ∅, _▸_, _⧺_, some-child, keep}
+use Rattle.formula.specs.Tree.{Op, and, or, Tree, lit, node, Forest, ∅, _▸_, some-child, keep}
 use Rattle.formula.specs.Tree.{Literals, rows, rows-all, has, has-any}
 use Rattle.formula.specs.Tidy.{equal, duplicate, spliced, splice, decides, firsts, unwrap, combine, tidy, tidy-all}
 use Rattle.formula.proofs.Booleans.{cond-cases, or-parts, or-none}

@@ -1,19 +1,14 @@
 -- Equality of trees, and the two rules that drop a repeated child as one.
 -- Assumes nothing.
 use mathlib.Core.Path.{_≡_, refl, sym, _∙_, ap, ap₂}
-use mathlib.Core.Bool.{Bool, true, false, not, _&&_, _||_, cond, Bool·beq, or-false}
+use mathlib.Core.Bool.{Bool, true, false, not, _&&_, _||_, cond, or-false}
 use mathlib.Core.Logic.{_↔_}
 use lib.Dec.{eqb}
 use borrow.Author.Tests.{eqb-true, eq-eqb}
 use Rattle.formula.specs.Tree.{Op, and, or, same-op, Tree, lit, node, Forest, ∅, _▸_, keep}
 use Rattle.formula.specs.Tidy.{equal, same-tree, same-trees, duplicate, firsts}
-use Rattle.formula.proofs.Booleans.{and-parts, beq-refl, beq-same}
+use Rattle.formula.proofs.Booleans.{and-parts, beq-refl, beq-same, same-op-refl, same-op-eq}
 use Rattle.formula.proofs.Forests.{keep-every, keep-keep, keep-swap}
-use Rattle.formula.proofs.Tidy.Children.{same-kind}
-
-same-op-refl : (o : Op) → same-op o o ≡ true
-same-op-refl and = refl
-same-op-refl or = refl
 
 -- equal, same-tree, duplicate: equality
 
@@ -36,7 +31,7 @@ mutual
   same-tree-same (node o ts) (lit s v) e = cc
   same-tree-same (node o ts) (node k us) e =
       let (kind, children) = and-parts (same-op o k) _ e in
-      ap₂ node (sym (same-kind o k kind)) (same-trees-same ts us children)
+      ap₂ node (same-op-eq o k kind) (same-trees-same ts us children)
 
   pub same-trees-same : (ts us : Forest) → same-trees ts us ≡ true → ts ≡ us
   same-trees-same ∅ ∅ e = refl

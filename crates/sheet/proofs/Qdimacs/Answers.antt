@@ -1,23 +1,23 @@
 -- The reader's answers: in which order it refuses, and that a refusal alters nothing; what an accepted call leaves in the output.
 -- Assumes nothing.
 use mathlib.Core.Path.{_≡_, refl, _∙_, ap, subst}
-use mathlib.Core.Bool.{Bool, true, false, not, _||_, cond}
+use mathlib.Core.Bool.{Bool, true, false, not, cond}
 use mathlib.Core.List.{List, [], _∷_, _++_, flatMap}
-use Prim.Native.Nat.{ℕ, _+_, _-_, _≤_, _<_}
+use Prim.Native.Nat.{ℕ, _-_, _≤_, _<_}
 use native.Mathlib.Omega.{arith}
-use lib.Dec.{eqb, ltb}
-use lib.ListN.{length, take, drop, replicate, length-append, length-replicate}
+use lib.Dec.{ltb}
+use lib.ListN.{length, replicate, length-append, length-replicate}
 use lib.Seq.{take-append-seam, drop-append-seam}
 use borrow.Author.Tests.{ltb-false, lt-ltb, le-ltb, not-false}
 use Rattle.formula.specs.Tree.{distinct, rows}
 use Rattle.formula.proofs.Booleans.{and-parts, or-parts}
 use Rattle.sheet.specs.Format.{Bytes, Format, sheet-length, Every}
-use Rattle.sheet.specs.Sheet.{formula, sheet}
-use Rattle.sheet.specs.Check.{Answer, refused, accepted, answer, passes, check}
+use Rattle.sheet.specs.Sheet.{sheet}
+use Rattle.sheet.specs.Check.{Answer, refused, accepted, answer, passes}
 use Rattle.sheet.specs.Operations.{padded, output-after, write}
 use Rattle.sheet.specs.Limits.{Sound, Within}
 use Rattle.sheet.specs.Qdimacs.{all, Token, is-end, Header, text-header, tokens-below, pieces, ended-lists, open-list, is-nil}
-use Rattle.sheet.specs.Qdimacs.{in-order, well-listed, bound, clauses, numbers-of, matrix-of, said, qdimacs, above-count, said-tests}
+use Rattle.sheet.specs.Qdimacs.{in-order, well-listed, bound, numbers-of, matrix-of, said, qdimacs, above-count, said-tests}
 use Rattle.sheet.specs.Qdimacs.{qdimacs-tests, qdimacs-call}
 use Rattle.sheet.proofs.Tests.{passed-∷, accepted-passes}
 use Rattle.sheet.proofs.Limits.{numbered-by}

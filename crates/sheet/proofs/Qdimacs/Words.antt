@@ -2,7 +2,7 @@
 -- nothing.
 -- Assumes nothing.
 use mathlib.Core.Path.{_≡_, refl, sym, _∙_, ap, ap₂, subst}
-use mathlib.Core.Bool.{Bool, true, false, not, _&&_, _||_, cond}
+use mathlib.Core.Bool.{Bool, true, false, not, _&&_, cond}
 use mathlib.Core.List.{List, [], _∷_, _++_, map, flatMap}
 use Prim.Native.Nat.{ℕ, zero, suc, _-_, _≤_, _<_}
 use native.Mathlib.Omega.{arith}
@@ -14,7 +14,7 @@ use Rattle.sheet.specs.Format.{Bytes, Format}
 use Rattle.sheet.specs.Sheet.{sheet}
 use Rattle.sheet.specs.Operations.{write}
 use Rattle.sheet.specs.Qdimacs.{split, is-nil, nonempty, all, line-end, blank, lines, words, digit, unsigned, number-from, negative}
-use Rattle.sheet.specs.Qdimacs.{magnitude, is-word, Token, plain, minus, other, token, is-comment, from-header, Header, header-of}
+use Rattle.sheet.specs.Qdimacs.{magnitude, is-word, Token, plain, minus, other, token, from-header, Header, header-of}
 use Rattle.sheet.specs.Qdimacs.{text-header, words-below, tokens-below, said, qdimacs, said-tests, qdimacs-tests, qdimacs-call}
 use Rattle.sheet.proofs.Qdimacs.Lists.{split-++, split-separator, split-uncut, split-piece, split-either, nonempty-++, nonempty-flatMap}
 use Rattle.sheet.specs.Texts.{Uncut, separator, separated, Line, is-skipped, header-words, TextWords}

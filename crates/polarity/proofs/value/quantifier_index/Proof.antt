@@ -3,8 +3,7 @@ use borrow.Author.Needs.{needs}
 use mathlib.Core.Path.{sym, _∙_}
 use native.Mathlib.Omega.{arith}
 use Rattle.formula.specs.Tree.{exists}
-use Rattle.formula.proofs.Binding.{same-op-eq}
-use Rattle.polarity.proofs.Settling.{is-for-all}
+use Rattle.formula.proofs.Booleans.{same-op-eq, is-for-all}
 use Rattle.polarity.proofs.value.quantifier_index.Statement.{statement}
 use Rattle.polarity.proofs.value.quantifier_index.Tie as tie
 
