@@ -5,6 +5,10 @@ use borrow.Author.Needs.{needs}
 use Rattle.tidy_rules.proofs.dead.join_at.Statement.{statement}
 use Rattle.tidy_rules.proofs.dead.join_at.Tie as tie
 
+-- places in the code, each from a later one
+abbrev dead : tie.After-b → tie.Else1
+dead c = c .before .before .before
+
 kind-at-requires : tie.Need-kind-at-requires
 kind-at-requires c κs = search needs
 
@@ -25,7 +29,7 @@ same-length-2 c = search needs
 
 returns-2 : tie.Need-returns-2
 returns-2 c =
-    let f = c .before .before .before .before in
+    let f = dead (c .before) in
     inl (sym (f .before .kind-at .ensures) ∙ f .if1 .left, c .before .before .set-row .ensures .0, refl)
 
 pub join-at-spec : {M : Type 1} → statement M

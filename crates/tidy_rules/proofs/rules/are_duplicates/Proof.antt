@@ -7,6 +7,10 @@ use borrow.Author.Needs.{needs}
 use Rattle.tidy_rules.proofs.rules.are_duplicates.Statement.{statement}
 use Rattle.tidy_rules.proofs.rules.are_duplicates.Tie as tie
 
+-- places in the code, each from a later one
+abbrev hashed : tie.After-row-of2 → tie.After-hash-of2
+hashed c = c .before .before .before
+
 hash-of-requires : tie.Need-hash-of-requires
 hash-of-requires c κs = search needs
 
@@ -25,7 +29,7 @@ row-of-requires-2 : tie.Need-row-of-requires-2
 row-of-requires-2 c κs = search needs
 
 abbrev start : tie.After-row-of2 → tie.Start
-start r = r .before .before .before .before .before .before
+start r = hashed r .before .before .before
 
 same-at-requires : tie.Need-same-at-requires
 same-at-requires c κs =

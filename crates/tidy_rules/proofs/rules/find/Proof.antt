@@ -19,8 +19,12 @@ Inv-loop b s links members x link₀ link = Seek links members link₀ (Test (ro
 abbrev μ-loop : tie.MeasureT-loop
 μ-loop b s links members x link₀ link = entry-of link
 
+-- places in the code, each from a later one
+abbrev known : tie.At-loop Inv-loop μ-loop → tie.After-shared-slice-known Inv-loop μ-loop
+known c = c .before .before .before
+
 abbrev start-of : tie.At-loop Inv-loop μ-loop → tie.Start Inv-loop μ-loop
-start-of l = l .before .before .before .before
+start-of l = known l .before
 
 abbrev at-loop : tie.After-link Inv-loop μ-loop → tie.At-loop Inv-loop μ-loop
 at-loop c = c .before .before

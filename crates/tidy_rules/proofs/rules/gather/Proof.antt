@@ -25,14 +25,42 @@ Inv-loop b₀ w heads₀ links₀ members₀ known s at₀ run₀ n₀ hash₀ l
 abbrev μ-loop : tie.MeasureT-loop
 μ-loop b₀ w heads₀ links₀ members₀ known s at₀ run₀ n₀ hash₀ left₀ b heads links members at run n hash left = total (w .sheet) - at
 
+-- places in the code, each from a later one
+abbrev known : tie.After-shared-slice-known Inv-loop μ-loop → tie.After-slice-known2 Inv-loop μ-loop
+known c = c .before .before .before
+
+abbrev entered : tie.At-loop Inv-loop μ-loop → tie.After-shared-slice-known Inv-loop μ-loop
+entered c = c .before .before .before
+
+abbrev read : tie.After-splice-at Inv-loop μ-loop → tie.After-shared-slice-known2 Inv-loop μ-loop
+read c = c .before .before .before
+
+abbrev spliced : tie.After-extent-at-arg Inv-loop μ-loop → tie.After-splice-at Inv-loop μ-loop
+spliced c = c .before .before .before
+
+abbrev measured : tie.After-judge-arg3 Inv-loop μ-loop → tie.After-extent-at Inv-loop μ-loop
+measured c = c .before .before .before
+
+abbrev extent-of : tie.After-judge Inv-loop μ-loop → tie.After-extent-at Inv-loop μ-loop
+extent-of c = measured (c .before .before)
+
+abbrev links-back : tie.After-slice-known9 Inv-loop μ-loop → tie.After-links Inv-loop μ-loop
+links-back c = c .before .before .before
+
+abbrev heads-back : tie.After-links Inv-loop μ-loop → tie.After-slice-known6 Inv-loop μ-loop
+heads-back c = c .before .before .before
+
+abbrev joining : tie.After-slice-known10 Inv-loop μ-loop → tie.After-join-at-arg Inv-loop μ-loop
+joining c = c .before .before .before
+
 abbrev start-of : tie.At-loop Inv-loop μ-loop → tie.Start Inv-loop μ-loop
-start-of i = i .before .before .before .before .before .before .before .before
+start-of i = known (entered i) .before .before
 
 abbrev test-of : tie.After-splice-at Inv-loop μ-loop → tie.In-loop Inv-loop μ-loop
-test-of p = p .before .before .before .before
+test-of p = read p .before
 
 abbrev spliced-of : tie.After-judge Inv-loop μ-loop → tie.After-splice-at Inv-loop μ-loop
-spliced-of j = j .before .before .before .before .before .before .before .before .before
+spliced-of j = spliced (extent-of j .before)
 
 room : (i : tie.At-loop Inv-loop μ-loop) → Room (start-of i .args .w .sheet) (length (i .loop .b))
 room i = room-as (i .loop .inv .3) (start-of i .pre .room)
@@ -100,12 +128,12 @@ extent-at-requires c κs =
 
 add-next : tie.Need-add-next Inv-loop μ-loop
 add-next c =
-    let p = c .before .before .before .before in
+    let p = spliced (c .before) in
     omega (arith, c .extent-at .ensures .1, turn-there p .row-within, start-of (test-of p .before) .pre .tables .countable)
 
 judge-requires : tie.Need-judge-requires Inv-loop μ-loop
 judge-requires c κs =
-    let p = c .before .before .before .before .before .before .before .before in
+    let p = spliced (measured (c .before) .before) in
     let l = test-of p in
     let v = l .before .loop .inv in
     let a = start-of (l .before) in
@@ -123,7 +151,7 @@ enum-told : tie.Need-enum-told Inv-loop μ-loop
 enum-told c = search needs
 
 abbrev judged : tie.After-slice-known9 Inv-loop μ-loop → tie.After-judge Inv-loop μ-loop
-judged k = k .before .before .before .before .before .before .before .before
+judged k = heads-back (links-back k) .before .before
 
 -- a child that decides
 abbrev decided : tie.After-enum-told Inv-loop μ-loop → tie.After-judge Inv-loop μ-loop
@@ -137,7 +165,7 @@ hop-requires c κs =
     let a = start-of (l .before) in (
       room-as (j .judge .kept .0 ∙ p .splice-at .kept .0 ∙ l .before .loop .inv .3) (a .pre .room),
       gather-owed (faced p) (a .pre .there) (known-is p) (fit l) (j .judge .ensures .0)
-          (j .before .before .before .before .before .extent-at .ensures .0),
+          (extent-of j .extent-at .ensures .0),
     )
 
 abbrev hopped : tie.After-hop Inv-loop μ-loop → tie.After-enum-told Inv-loop μ-loop
@@ -170,7 +198,7 @@ returns c =
     let j = decided e in
     let p = spliced-of j in (
       gather-found (faced p) (known-is p) (fit (test-of p)) (j .judge .ensures .0) (e .enum-told .given .1)
-          (j .before .before .before .before .before .extent-at .ensures .0) (c .hop .ensures),
+          (extent-of j .extent-at .ensures .0) (c .hop .ensures),
       leaves-decided,
     )
 
@@ -198,7 +226,7 @@ join-at-requires c κs =
     let l = test-of p in
     let a = start-of (l .before) in
     let t = turn-there p in
-    let s = j .before .before .before .before .before .extent-at .ensures .0 in (
+    let s = extent-of j .extent-at .ensures .0 in (
       room-as (j .judge .kept .0 ∙ p .splice-at .kept .0 ∙ l .before .loop .inv .3) (a .pre .room),
       a .pre .counted,
       face-ordered (faced p) (a .pre .there),
@@ -208,9 +236,9 @@ join-at-requires c κs =
 
 loop-less : tie.Need-loop-less Inv-loop μ-loop
 loop-less c =
-    let j = undecided (counted (c .before .before .before .before)) in
+    let j = undecided (counted (joining c .before)) in
     let t = turn-there (spliced-of j) in
-    omega (arith, t .some-rows, t .inside, j .before .before .before .before .before .extent-at .ensures .0)
+    omega (arith, t .some-rows, t .inside, extent-of j .extent-at .ensures .0)
 
 loop-again : tie.Need-loop-again Inv-loop μ-loop
 loop-again c =
@@ -221,7 +249,7 @@ loop-again c =
     let p = spliced-of j in
     let l = test-of p in
     let v = l .before .loop .inv in
-    let s = j .before .before .before .before .before .extent-at .ensures .0 in
+    let s = extent-of j .extent-at .ensures .0 in
     let told = m .count .given .1 in
     let g = j .judge .ensures in (
       gather-more (faced p) (known-is p) (fit l) (g .0) told s (d .join-at .ensures),

@@ -8,6 +8,10 @@ use borrow.Author.Needs.{needs}
 use Rattle.tidy_rules.proofs.rules.hash_with.Statement.{statement}
 use Rattle.tidy_rules.proofs.rules.hash_with.Tie as tie
 
+-- places in the code, each from a later one
+abbrev known : tie.After-hash-of → tie.After-shared-slice-known
+known c = c .before .before .before
+
 member-requires : tie.Need-member-requires
 member-requires c κs = search needs
 
@@ -20,7 +24,7 @@ mixed-requires c κs = search needs
 returns : tie.Need-returns
 returns c =
     let got = c .before in
-    let a = got .before .before .before .before in (
+    let a = known got .before in (
       c .mixed .ensures .0 ∙ ap (mix (a .args .h)) (got .hash-of .ensures .0 ∙ ap hash-of (got .before .member .ensures .0)) ∙
           mixes-one (a .args .members .now) (a .args .h) (a .args .n) (a .args .count) (a .pre .1) (omega (arith, got .before .before .if1 .taken, a .pre .2)),
       c .mixed .ensures .1,

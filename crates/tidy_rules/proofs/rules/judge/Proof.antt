@@ -12,12 +12,28 @@ use borrow.Author.Needs.{needs}
 use Rattle.tidy_rules.proofs.rules.judge.Statement.{statement}
 use Rattle.tidy_rules.proofs.rules.judge.Tie as tie
 
+-- places in the code, each from a later one
+abbrev known : tie.After-slice-known4 → tie.After-slice-known
+known c = c .before .before .before
+
+abbrev start : tie.After-kind-at-arg → tie.Start
+start c = known (c .before) .before
+
+abbrev literal : tie.After-judge-literal-arg3 → tie.Then2
+literal c = c .before .before .before
+
+abbrev links-back : tie.After-slice-known8 → tie.After-links
+links-back c = c .before .before .before
+
+abbrev heads-back : tie.After-links → tie.After-slice-known5
+heads-back c = c .before .before .before
+
 abbrev start-of : tie.After-kind-at → tie.Start
-start-of c = c .before .before .before .before .before .before
+start-of c = start (c .before)
 
 kind-at-requires : tie.Need-kind-at-requires
 kind-at-requires c κs =
-    let a = c .before .before .before .before .before in
+    let a = start c in
     (a .pre .room, omega (arith, stands-within (a .pre .behind .standing .stands), length-rows-in (a .args .b .now) (a .pre .room)))
 
 same-length : tie.Need-same-length
@@ -34,7 +50,7 @@ returns c =
 
 judge-literal-requires : tie.Need-judge-literal-requires
 judge-literal-requires c κs =
-    let t = c .before .before .before .before in
+    let t = literal (c .before) in
     let k = t .before .before in
     let a = start-of k in
     let g = a .pre .behind .standing in
@@ -61,7 +77,7 @@ same-length-5 c = search needs
 
 returns-2 : tie.Need-returns-2
 returns-2 c =
-    let l = c .before .before .before .before .before .before .before .before in
+    let l = heads-back (links-back c) .before .before in
     ((λ o _. l .judge-literal .ensures .0 o), l .judge-literal .ensures .1)
 
 judge-operator-requires : tie.Need-judge-operator-requires

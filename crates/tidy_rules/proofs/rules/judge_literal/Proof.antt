@@ -19,11 +19,36 @@ use borrow.Author.Needs.{needs}
 use Rattle.tidy_rules.proofs.rules.judge_literal.Statement.{statement}
 use Rattle.tidy_rules.proofs.rules.judge_literal.Tie as tie
 
+-- places in the code, each from a later one
+abbrev known : tie.After-slice-known4 → tie.After-slice-known
+known c = c .before .before .before
+
+abbrev start : tie.After-argument-at-arg → tie.Start
+start c = known (c .before) .before
+
+abbrev argument-read : tie.After-from-byte → tie.After-argument-at-arg
+argument-read c = c .before .before .before
+
+abbrev bucketed : tie.After-first → tie.After-first-arg
+bucketed c = c .before .before .before
+
+abbrev searching : tie.After-find → tie.After-find-arg
+searching c = c .before .before .before
+
+abbrev adding : tie.After-member-of → tie.After-add-arg
+adding c = c .before .before .before
+
+abbrev links-back : tie.After-slice-known7 → tie.After-links
+links-back c = c .before .before .before
+
+abbrev member-read : tie.After-row-of → tie.After-known-told
+member-read c = c .before .before .before
+
 abbrev start-of : tie.After-literal-hash → tie.Start
-start-of c = c .before .before .before .before .before .before .before .before .before
+start-of c = start (argument-read (c .before))
 
 abbrev hashed : tie.After-find → tie.After-literal-hash
-hashed c = c .before .before .before .before .before .before .before .before
+hashed c = bucketed (searching c .before) .before
 
 inside : (a : tie.Start) → a .args .c .at < total (a .args .s)
 inside a = omega (arith, stands-within (a .pre .0 .behind .standing .stands), length-rows-in (a .args .b .now) (a .pre .0 .room))
@@ -37,9 +62,9 @@ hash-is g =
     g .literal-hash .ensures .0 ∙ ap (λ s. literal-mix s (g .before .before .before .argument-at .result)) (g .before .from-byte .ensures .0)
 
 start-is : (f : tie.After-find)
-    → f .before .before .before .before .first .result ≡ last (start-of (hashed f) .args .members .now) (bucket (hashed f .literal-hash .result)) (start-of (hashed f) .args .c .before)
+    → searching f .before .first .result ≡ last (start-of (hashed f) .args .members .now) (bucket (hashed f .literal-hash .result)) (start-of (hashed f) .args .c .before)
 start-is f =
-    let k = f .before .before .before .before in
+    let k = searching f .before in
     k .first .ensures ∙
     ap (λ j. last (start-of (hashed f) .args .members .now) j (start-of (hashed f) .args .c .before)) (k .before .bucket-of .ensures .0)
 
@@ -48,7 +73,7 @@ abbrev unfound-by : tie.After-enum-told → tie.After-find
 unfound-by e = e .before .before
 
 abbrev added-by : tie.After-member-of → tie.After-enum-told
-added-by m = m .before .before .before .before
+added-by m = adding m .before
 
 -- one is
 abbrev found-by : tie.After-i → tie.After-find
@@ -63,7 +88,7 @@ found-there m =
     found (bucket (hashed f .literal-hash .result)) (f .find .ensures) (start-of (hashed f) .pre .0 .behind .linked) (start-is f) (m .i .given .1)
 
 abbrev member-by : tie.After-row-of → tie.After-i
-member-by r = r .before .before .before .before
+member-by r = member-read r .before
 
 row-is : (r : tie.After-row-of)
     → r .row-of .result ≡ row-of (getD (start-of (hashed (found-by (member-by r))) .args .members .now) (member-by r .i .given .0 .0) 0)
@@ -78,7 +103,7 @@ kind-is k =
     k .kind-at .ensures ∙ ap (λ p. (at-row (rows-of (start-of (hashed (found-by (member-by r))))) p) .kind) (row-is r)
 
 argument-at-requires : tie.Need-argument-at-requires
-argument-at-requires c κs = (c .before .before .before .before .before .pre .0 .room, inside (c .before .before .before .before .before))
+argument-at-requires c κs = (start c .pre .0 .room, inside (start c))
 
 sub-from-byte : tie.Need-sub-from-byte
 sub-from-byte c = search needs
@@ -96,12 +121,14 @@ first-requires : tie.Need-first-requires
 first-requires c κs =
     let a = start-of (c .before .before .before) in
     let k = c .bucket-of in
-    (omega (arith, k .ensures .1, a .pre .0 .tables .all-heads), omega (arith, inside a, a .pre .0 .tables .members-fit, a .pre .0 .behind .few), a .pre .0 .behind .linked .heads (k .result) (k .ensures .1))
+    let t = a .pre .0 .tables in
+    let behind = a .pre .0 .behind in
+    (omega (arith, k .ensures .1, t .all-heads), omega (arith, inside a, t .members-fit, behind .few), behind .linked .heads (k .result) (k .ensures .1))
 
 find-requires : tie.Need-find-requires
 find-requires c κs =
     let f = c .before .before .before in
-    let a = start-of (f .before .before .before .before) in (
+    let a = start-of (bucketed f .before) in (
       a .pre .0 .room,
       record {
         heads = _;
@@ -143,7 +170,7 @@ add-requires c κs =
     )
 
 abbrev add-by : tie.After-slice-known7 → tie.After-add
-add-by c = c .before .before .before .before .before .before
+add-by c = links-back c .before .before .before
 
 add-t36 : tie.Need-add-t36
 add-t36 c =

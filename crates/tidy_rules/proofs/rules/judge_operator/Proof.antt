@@ -19,14 +19,33 @@ use borrow.Author.Needs.{needs}
 use Rattle.tidy_rules.proofs.rules.judge_operator.Statement.{statement}
 use Rattle.tidy_rules.proofs.rules.judge_operator.Tie as tie
 
+-- places in the code, each from a later one
+abbrev known : tie.After-slice-known4 → tie.After-slice-known
+known c = c .before .before .before
+
+abbrev start : tie.After-decides-at-arg → tie.Start
+start c = known (c .before) .before
+
+abbrev bucketed : tie.After-first → tie.After-first-arg
+bucketed c = c .before .before .before
+
+abbrev searching : tie.After-find-duplicate → tie.After-find-duplicate-arg
+searching c = c .before .before .before
+
+abbrev adding : tie.After-add → tie.After-add-arg
+adding c = c .before .before .before
+
+abbrev links-back : tie.After-slice-known7 → tie.After-links
+links-back c = c .before .before .before
+
 abbrev start-of : tie.Else1 → tie.Start
-start-of t = t .before .before .before .before .before .before .before
+start-of t = start (t .before .before)
 
 abbrev undecided : tie.After-member-of → tie.Else1
 undecided m = m .before .before
 
 abbrev sought : tie.After-find-duplicate → tie.After-member-of
-sought f = f .before .before .before .before .before .before .before .before
+sought f = bucketed (searching f .before) .before
 
 inside : (a : tie.Start) → a .args .c .at < total (a .args .s)
 inside a = omega (arith, stands-within (a .pre .0 .behind .standing .stands), length-rows-in (a .args .b .now) (a .pre .0 .room))
@@ -56,15 +75,15 @@ own m =
 start-is : (f : tie.After-find-duplicate) →
     let m = sought f in
     let a = start-of (undecided m) in
-    f .before .before .before .before .first .result ≡ last (a .args .members .now) (bucket (m .member-of .result)) (a .args .c .before)
+    searching f .before .first .result ≡ last (a .args .members .now) (bucket (m .member-of .result)) (a .args .c .before)
 start-is f =
-    let k = f .before .before .before .before in
+    let k = searching f .before in
     let a = start-of (undecided (sought f)) in
     k .first .ensures ∙ ap (λ j. last (a .args .members .now) j (a .args .c .before)) (k .before .bucket-of .ensures .0)
 
 decides-at-requires : tie.Need-decides-at-requires
 decides-at-requires c κs =
-    let a = c .before .before .before .before .before in
+    let a = start c in
     (a .pre .0 .room, inside a, a .pre .1)
 
 same-length : tie.Need-same-length
@@ -93,12 +112,14 @@ first-requires : tie.Need-first-requires
 first-requires c κs =
     let a = start-of (undecided (c .before .before .before)) in
     let k = c .bucket-of in
-    (omega (arith, k .ensures .1, a .pre .0 .tables .all-heads), omega (arith, inside a, a .pre .0 .tables .members-fit, a .pre .0 .behind .few), a .pre .0 .behind .linked .heads (k .result) (k .ensures .1))
+    let t = a .pre .0 .tables in
+    let behind = a .pre .0 .behind in
+    (omega (arith, k .ensures .1, t .all-heads), omega (arith, inside a, t .members-fit, behind .few), behind .linked .heads (k .result) (k .ensures .1))
 
 find-duplicate-requires : tie.Need-find-duplicate-requires
 find-duplicate-requires c κs =
     let f = c .before .before .before in
-    let m = f .before .before .before .before in
+    let m = bucketed f .before in
     let a = start-of (undecided m) in (
       a .pre .0 .room,
       record {
@@ -145,10 +166,10 @@ add-requires c κs =
     )
 
 abbrev add-by : tie.After-slice-known7 → tie.After-add
-add-by c = c .before .before .before .before .before .before
+add-by c = links-back c .before .before .before
 
 abbrev added-by : tie.After-add → tie.After-enum-told2
-added-by d = d .before .before .before .before
+added-by d = adding d .before
 
 add-t34 : tie.Need-add-t34
 add-t34 c =
@@ -200,7 +221,12 @@ set-row-requires c κs =
     let a = start-of (undecided (sought (found-by (v .before .before)))) in
     let g = a .pre .0 .behind .standing in
     let r = stands-row (g .stands) in
-    (a .pre .0 .room, inside a, omega (arith, v .argument-at .ensures .0, ap (λ (q : Row). q .argument) r, operator-size (g .segment) (above a (g .segment) (g .stands)), stands-within (g .stands), length-rows-in (a .args .b .now) (a .pre .0 .room), a .pre .0 .counted))
+    let size = operator-size (g .segment) (above a (g .segment) (g .stands)) in
+    let rows = length-rows-in (a .args .b .now) (a .pre .0 .room) in (
+      a .pre .0 .room,
+      inside a,
+      omega (arith, v .argument-at .ensures .0, ap (λ (q : Row). q .argument) r, size, stands-within (g .stands), rows, a .pre .0 .counted),
+    )
 
 same-length-6 : tie.Need-same-length-6
 same-length-6 c = search needs

@@ -10,7 +10,9 @@ kind-at-requires : tie.Need-kind-at-requires
 kind-at-requires c κs = search needs
 
 returns : tie.Need-returns
-returns c = literal-test-operator (at-row (rows-in (c .before .before .before .args .s) (c .before .before .before .args .b .now)) (c .before .before .before .args .r)) _ (c .before .kind-at .ensures) (c .if1 .taken)
+returns c =
+    let a = c .before .before .before .args in
+    literal-test-operator (at-row (rows-in (a .s) (a .b .now)) (a .r)) _ (c .before .kind-at .ensures) (c .if1 .taken)
 
 argument-at-requires : tie.Need-argument-at-requires
 argument-at-requires c κs = search needs

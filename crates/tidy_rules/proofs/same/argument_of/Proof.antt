@@ -12,6 +12,10 @@ use Rattle.tidy_rules.proofs.Entered.{argument-literal, argument-operat
 use Rattle.tidy_rules.proofs.same.argument_of.Statement.{statement}
 use Rattle.tidy_rules.proofs.same.argument_of.Tie as tie
 
+-- places in the code, each from a later one
+abbrev known : tie.Else1 → tie.After-shared-slice-known
+known c = c .before .before .before
+
 argument-at-requires : tie.Need-argument-at-requires
 argument-at-requires c κs =
     let a = c .before in
@@ -25,10 +29,11 @@ kind-at-requires c κs =
 returns : tie.Need-returns
 returns c =
     λ before x after h.
-    argument-literal x _ (rw (c .before .kind-at .ensures ∙ ap (λ (r : Row). r .kind) (stands-row h)) at (c .if1 .taken)) (c .before .before .argument-at .ensures .0 ∙ ap (λ (r : Row). r .argument) (stands-row h))
+    argument-literal x _ (rw (c .before .kind-at .ensures ∙ ap (λ (r : Row). r .kind) (stands-row h)) at (c .if1 .taken))
+    (c .before .before .argument-at .ensures .0 ∙ ap (λ (r : Row). r .argument) (stands-row h))
 
 abbrev start-of : tie.Else1 → tie.Start
-start-of c = c .before .before .before .before
+start-of c = known c .before
 
 children : (c : tie.Else1)
     → Region (rows-in (start-of c .args .s) (start-of c .args .b .now)) (start-of c .args .r + 1)
@@ -53,7 +58,7 @@ add-count-live-2 : tie.Need-add-count-live-2
 add-count-live-2 c = omega (arith, children-within c)
 
 count-live-requires : tie.Need-count-live-requires
-count-live-requires c κs = (c .before .before .before .before .pre .0, children c)
+count-live-requires c κs = (start-of c .pre .0, children c)
 
 returns-2 : tie.Need-returns-2
 returns-2 c =

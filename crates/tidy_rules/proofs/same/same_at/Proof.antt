@@ -15,6 +15,16 @@ Inv-loop b s p q to end i₀ j₀ i j = Compare (rows-in s b) p q i to j end
 abbrev μ-loop : tie.MeasureT-loop
 μ-loop b s p q to end i₀ j₀ i j = to - i
 
+-- places in the code, each from a later one
+abbrev measured : tie.In-loop Inv-loop μ-loop → tie.After-extent-at Inv-loop μ-loop
+measured c = c .before .before .before
+
+abbrev start : tie.In-loop Inv-loop μ-loop → tie.Start Inv-loop μ-loop
+start c = measured c .before .before
+
+abbrev turn : tie.Else2 Inv-loop μ-loop → tie.In-loop Inv-loop μ-loop
+turn c = c .before .before .before
+
 extent-at-requires : tie.Need-extent-at-requires Inv-loop μ-loop
 extent-at-requires c κs =
     let a = c .before in
@@ -42,14 +52,14 @@ returns : tie.Need-returns Inv-loop μ-loop
 returns c =
     let l = c .before in
     let v = l .before .loop .inv in
-    let a = l .before .before .before .before .before in
+    let a = start l in
     compare-short v (l .loop-test .taken) (c .if1 .taken)
 
 row-same-requires : tie.Need-row-same-requires Inv-loop μ-loop
 row-same-requires c κs =
     let l = c .before in
     let v = l .before .loop .inv in
-    let a = l .before .before .before .before .before in
+    let a = start l in
     let d = compare-standing v (a .pre .1) (a .pre .2) (l .loop-test .taken) (c .if1 .left) in
     (a .pre .0, d .0, d .1)
 
@@ -63,7 +73,7 @@ add-first-live : tie.Need-add-first-live Inv-loop μ-loop
 add-first-live c =
     let l = c .before .before .before in
     let v = l .before .loop .inv in
-    let a = l .before .before .before .before .before in
+    let a = start l in
     let g = compare-left v (a .pre .1) (a .pre .2) (l .loop-test .taken) in
     omega (arith, laid-within (g .laid), length-rows-in (a .args .b .now) (a .pre .0))
 
@@ -71,29 +81,29 @@ first-live-requires : tie.Need-first-live-requires Inv-loop μ-loop
 first-live-requires c κs =
     let l = c .before .before .before in
     let v = l .before .loop .inv in
-    let a = l .before .before .before .before .before in
+    let a = start l in
     (a .pre .0, compare-left v (a .pre .1) (a .pre .2) (l .loop-test .taken))
 
 add-first-live-2 : tie.Need-add-first-live-2 Inv-loop μ-loop
 add-first-live-2 c =
-    let l = c .before .before .before .before in
+    let l = turn (c .before) in
     let v = l .before .loop .inv in
-    let a = l .before .before .before .before .before in
+    let a = start l in
     let g = compare-right v (a .pre .1) (a .pre .2) (c .before .before .before .if1 .left) in
     omega (arith, laid-within (g .laid), length-rows-in (a .args .b .now) (a .pre .0))
 
 first-live-requires-2 : tie.Need-first-live-requires-2 Inv-loop μ-loop
 first-live-requires-2 c κs =
-    let l = c .before .before .before .before in
+    let l = turn (c .before) in
     let v = l .before .loop .inv in
-    let a = l .before .before .before .before .before in
+    let a = start l in
     (a .pre .0, compare-right v (a .pre .1) (a .pre .2) (c .before .before .before .if1 .left))
 
 loop-less : tie.Need-loop-less Inv-loop μ-loop
 loop-less c =
-    let l = c .before .before .before .before .before in
+    let l = turn (c .before .before) in
     let v = l .before .loop .inv in
-    let a = l .before .before .before .before .before in
+    let a = start l in
     let w = finds-within (c .before .first-live .ensures) (compare-left v (a .pre .1) (a .pre .2) (l .loop-test .taken)) in
     omega (arith, w .0, w .1, l .loop-test .taken)
 

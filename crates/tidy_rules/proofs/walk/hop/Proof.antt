@@ -13,6 +13,10 @@ Inv-loop b s from owed at₀ left₀ at left = Hop (rows-in s b) from at (total 
 abbrev μ-loop : tie.MeasureT-loop
 μ-loop b s from owed at₀ left₀ at left = total s - at
 
+-- places in the code, each from a later one
+abbrev start : tie.In-loop Inv-loop μ-loop → tie.Start Inv-loop μ-loop
+start c = c .before .before .before
+
 loop-holds : tie.Need-loop-holds Inv-loop μ-loop
 loop-holds c = hop-none
 
@@ -27,19 +31,19 @@ sub-left c = ⊎-elim (λ d. omega (arith, d .1)) (λ d. omega (arith, d .1)) (c
 
 extent-at-requires : tie.Need-extent-at-requires Inv-loop μ-loop
 extent-at-requires c κs =
-    let a = c .before .before .before .before in
+    let a = start (c .before) in
     let t = hop-turn (a .args .b .now) (a .pre .0) (c .before .before .loop .inv) (a .pre .1) (c .before .loop-test .taken) in
     (a .pre .0, t .row-within)
 
 add-at : tie.Need-add-at Inv-loop μ-loop
 add-at c =
-    let a = c .before .before .before .before .before in
+    let a = start (c .before .before) in
     let t = hop-turn (a .args .b .now) (a .pre .0) (c .before .before .before .loop .inv) (a .pre .1) (c .before .before .loop-test .taken) in
     omega (arith, c .extent-at .ensures .1, t .end-within)
 
 loop-less : tie.Need-loop-less Inv-loop μ-loop
 loop-less c =
-    let a = c .before .before .before .before .before in
+    let a = start (c .before .before) in
     let t = hop-turn (a .args .b .now) (a .pre .0) (c .before .before .before .loop .inv) (a .pre .1) (c .before .before .loop-test .taken) in
     omega (arith, t .some-rows, t .inside, c .extent-at .ensures .0)
 
