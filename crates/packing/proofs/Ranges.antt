@@ -26,7 +26,8 @@ use Rattle.sheet.specs.Format as sheet
 use Rattle.sheet.specs.Format.{Bytes, narrow, wide, sheet-length, fits, variables, nodes}
 use Rattle.sheet.specs.Sheet.{formula, sheet as sheet-of}
 use Rattle.sheet.specs.Check.{Answer, refused, accepted, IsKnown, known, Known, Test, test, answer, passes, Sizes, check-tests, check}
-use Rattle.sheet.specs.Operations.{padded, write, tidy-tests, tidy-call, settle-tests, settle-call, expand-tests, expand-call, execute-tests, execute-call, reduce-tests, reduce-call, solved, solving, solve-call, trial-call, tidy-and-bound-tests, quote-tests, quote-call}
+use Rattle.sheet.specs.Operations.{padded, write, tidy-tests, tidy-call, settle-tests, settle-call, expand-tests, expand-call}
+use Rattle.sheet.specs.Operations.{execute-tests, execute-call, reduce-tests, reduce-call, solved, solving, solve-call, trial-call, tidy-and-bound-tests, quote-tests, quote-call}
 use Rattle.sheet.specs.Refusals.{too-many-to-try}
 use Rattle.sheet.specs.Qdimacs.{qdimacs, said-tests, qdimacs-tests, qdimacs-call}
 use Rattle.sheet.specs.Conversion.{carried, to-wide-tests, to-wide-call, to-narrow-tests, to-narrow-call}
@@ -46,9 +47,11 @@ use Rattle.sheet.proofs.Force.{within-given}
 use Rattle.sheet.proofs.Guards.{guards-right, guards-initial}
 use Rattle.sheet.proofs.Verdicts.{trial-right}
 use Rattle.sheet.proofs.Calls.{front-written}
-use Rattle.sheet.proofs.Known.{refused-known, check-known, check-alone, tidy-known, tidy-place, settle-known, settle-place, expand-known, expand-place, execute-known, execute-place, reduce-known, reduce-place, sort-known, sort-place}
+use Rattle.sheet.proofs.Known.{refused-known, check-known, check-alone, tidy-known, tidy-place, settle-known, settle-place, expand-known, expand-place}
+use Rattle.sheet.proofs.Known.{execute-known, execute-place, reduce-known, reduce-place, sort-known, sort-place}
 use Rattle.sheet.specs.Check.{last-place}
-use Rattle.sheet.proofs.Known.{places-to, PlacesTo, trial-known, quote-known, quote-place, force-known, force-place, guards-known, guards-place, refused-place, check-place, to-wide-known, to-narrow-known, qdimacs-known}
+use Rattle.sheet.proofs.Known.{places-to, PlacesTo, trial-known, quote-known, quote-place, force-known, force-place, guards-known, guards-place}
+use Rattle.sheet.proofs.Known.{refused-place, check-place, to-wide-known, to-narrow-known, qdimacs-known}
 use Rattle.sheet.proofs.Truthful.{tidy-truthful, settle-truthful, expand-truthful, execute-truthful, reduce-truthful, sort-truthful, qdimacs-truthful, to-wide-truthful, to-narrow-truthful}
 use Rattle.rows.specs.Formats.{format-of}
 use Rattle.rows.specs.declared.Format.{Format}

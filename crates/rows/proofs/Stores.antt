@@ -7,7 +7,8 @@ use native.Mathlib.Nat.{mul-zero, mul-suc, add-mul, one-mul, add-assoc}
 use native.Mathlib.Numerals.{add-one}
 use native.Mathlib.Omega.{arith}
 use lib.ListN.{length, getD, take, drop, set, length-append, length-drop, length-set}
-use lib.Seq.{length-take-le, drop-cons, take-suc, set-at, take-at, drop-at, take-add, drop-drop, drop-append-add, take-all, paste, paste-zero, paste-suc, take-set-le, drop-set-lt, take-set-lt, drop-set-add}
+use lib.Seq.{length-take-le, drop-cons, take-suc, set-at, take-at, drop-at, take-add, drop-drop, drop-append-add}
+use lib.Seq.{take-all, paste, paste-zero, paste-suc, take-set-le, drop-set-lt, take-set-lt, drop-set-add}
 use Rattle.sheet.specs.Format.{Bytes, row, number, digits, zip-rows}
 use Rattle.sheet.proofs.Numbers.{length-digits, number-digits}
 use Rattle.rows.proofs.Flat.{rows-in, Room}

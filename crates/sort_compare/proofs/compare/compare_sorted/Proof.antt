@@ -23,7 +23,9 @@ same-length-2 c = search needs
 
 returns : tie.Need-returns
 returns c =
-    c .compare-rows .ensures ∙ ap₂ compare-rows (c .before .before .before .before .before .before .before .before .before .sort-rows .ensures .0) (c .before .before .before .before .before .sort-rows2 .ensures .0) ∙ rows-of-trees _ _
+    let second = c .before .before .before .before .before in
+    let first = c .before .before .before .before .before .before .before .before .before in
+    c .compare-rows .ensures ∙ ap₂ compare-rows (first .sort-rows .ensures .0) (second .sort-rows2 .ensures .0) ∙ rows-of-trees _ _
 
 pub compare-sorted-spec : {M : Type 1} → statement M
 compare-sorted-spec =

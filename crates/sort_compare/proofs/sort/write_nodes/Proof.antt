@@ -66,7 +66,8 @@ set-row-requires c κs =
     let a = start k in (
       room-kept (a .args .at .now) (a .pre .0) (a .pre .1) (a .pre .2) (a .args .out .now) (a .pre .3) (head .loop .inv),
       omega (arith, k .before .before .loop-test .taken, a .pre .2),
-      argument-fits (a .args .at .now) (a .pre .0) (a .pre .1) (a .pre .2) (a .args .out .now) (a .pre .3) (λ i. (a-bytes k i)) (k .before .before .loop-test .taken) (c .before .before .argument-at .ensures .0),
+      argument-fits (a .args .at .now) (a .pre .0) (a .pre .1) (a .pre .2) (a .args .out .now) (a .pre .3) (λ i. (a-bytes k i))
+          (k .before .before .loop-test .taken) (c .before .before .argument-at .ensures .0),
     )
 
 add-r : tie.Need-add-r Inv-loop μ-loop
@@ -81,8 +82,8 @@ loop-again c =
     let k = d .before .before .before .before .before .before in
     let head = k .before .before .before in
     let a = start k in
-    wrote-row (a .args .at .now) (a .pre .0) (a .pre .1) (a .pre .2) (a .args .out .now) (a .pre .3) (k .before .before .loop-test .taken) (head .loop .inv) (d .before .before .before .before .before .kind-at .ensures)
-    (d .before .before .before .argument-at .ensures .0) (d .set-row .ensures .0) (d .set-row .kept .0)
+    wrote-row (a .args .at .now) (a .pre .0) (a .pre .1) (a .pre .2) (a .args .out .now) (a .pre .3) (k .before .before .loop-test .taken) (head .loop .inv)
+    (d .before .before .before .before .before .kind-at .ensures) (d .before .before .before .argument-at .ensures .0) (d .set-row .ensures .0) (d .set-row .kept .0)
 
 same-length : tie.Need-same-length Inv-loop μ-loop
 same-length c = c .before .loop .inv .same-length

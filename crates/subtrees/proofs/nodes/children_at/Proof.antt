@@ -16,8 +16,11 @@ children-at-requires c κs = search needs
 
 returns : tie.Need-returns
 returns c =
-    let a = c .before .before .before in
-    (c .children-at .ensures .0 ∙ ap children (row-top (a .args .b .now) (a .pre .0) (a .args .i) (a .pre .1)) ∙ children-top (subtree-in (a .args .s) (a .args .b .now) (a .args .i)), c .children-at .ensures .1)
+    let a = c .before .before .before in (
+      c .children-at .ensures .0 ∙ ap children (row-top (a .args .b .now) (a .pre .0) (a .args .i) (a .pre .1)) ∙
+          children-top (subtree-in (a .args .s) (a .args .b .now) (a .args .i)),
+      c .children-at .ensures .1,
+    )
 
 pub children-at-spec : {M : Type 1} → statement M
 children-at-spec = tie.close (tie.spec add-children-at children-at-requires returns)

@@ -38,8 +38,9 @@ set-row-requires c κs =
     let fits = argument-fits (a .args .b .now) (a .pre .0 .room) bytes (a .args .at) (omega (arith, within, counted)) in (
       a .pre .0 .room,
       omega (arith, within, counted, a .pre .2),
-      put-fits (g .segment) _ (λ e. c .before .before .before .if1 .left (c .before .before .before .before .kind-at .ensures ∙ ap (λ (r : Row). r .kind) (stands-row h) ∙ e)) h (rw (stands-row h) at fits)
-          (omega (arith, counted, a .pre .0 .counted)) (c .before .argument-told .ensures _ _ _ h (g .told)),
+      put-fits (g .segment) _
+          (λ e. c .before .before .before .if1 .left (c .before .before .before .before .kind-at .ensures ∙ ap (λ (r : Row). r .kind) (stands-row h) ∙ e))
+          h (rw (stands-row h) at fits) (omega (arith, counted, a .pre .0 .counted)) (c .before .argument-told .ensures _ _ _ h (g .told)),
     )
 
 add-result : tie.Need-add-result
