@@ -44,7 +44,8 @@ loop-again c =
     let a = c .before .before .before .before .before .before .before .before .before .before in
     let x = c .before .before .before .before .literal-at .result in (
       rw (stored .store .ensures)
-          (mark-turn (a .args .b .now) (a .pre .0) (omega arith) (c .before .before .before .before .before .if1 .taken) (c .before .before .before .before .literal-at .ensures .0) (head .loop .inv .0)),
+          (mark-turn (a .args .b .now) (a .pre .0) (omega arith) (c .before .before .before .before .before .if1 .taken)
+          (c .before .before .before .before .literal-at .ensures .0) (head .loop .inv .0)),
       rw (stored .store .ensures) (kept-turn (a .args .ranges .now) (head .loop .ranges) x (head .loop .i) (head .loop .inv .1)),
       omega arith,
     )
