@@ -3,20 +3,19 @@
 use mathlib.Core.Path.{_≡_, refl, sym, ap, ap₂, _∙_, subst}
 use mathlib.Core.Bool.{Bool, true, false}
 use mathlib.Core.List.{List, [], _++_, map, append-assoc, append-nil}
-use Prim.Native.Nat.{ℕ, _+_, _*_, _-_, _≤_}
+use Prim.Native.Nat.{ℕ, _+_, _-_, _≤_}
 use native.Mathlib.Omega.{arith}
-use lib.ListN.{length, take, drop, replicate}
+use lib.ListN.{length, take, drop}
 use lib.Seq.{length-take-le}
 use Rattle.formula.specs.Tree.{Op, and, or, Tree, lit, node, Forest, ∅, _▸_, Formula, rows, count}
 use Rattle.formula.specs.Tidy.{tidy, tidy-all, tidied}
-use Rattle.formula.proofs.Tidy.Children.{count-⧺}
-use Rattle.sheet.specs.Format.{Bytes, Format, Row, row, digits, header, children}
-use Rattle.sheet.specs.Sheet.{literal-kind, operator-kind, binding-row, trees, tree-rows, forest-rows, formula-rows, row-kinds, row-arguments, sheet}
+use Rattle.formula.proofs.Forests.{count-⧺}
+use Rattle.sheet.specs.Format.{Bytes, Row, row, children}
+use Rattle.sheet.specs.Sheet.{literal-kind, operator-kind, binding-row, trees, tree-rows, forest-rows, formula-rows, sheet}
 use Rattle.sheet.specs.Operations.{padded}
 use Rattle.sheet.proofs.Preorder.{trees-tree, trees-forest}
-use Rattle.sheet.proofs.Parts.{sheet-length-rows}
-use Rattle.sheet.proofs.RoundTrip.{length-formula-rows, length-sheet}
-use Rattle.rows.specs.Layouts.{format-in, width, total, rows-in, Room, sealed}
+use Rattle.sheet.proofs.RoundTrip.{length-formula-rows}
+use Rattle.rows.specs.Layouts.{format-in, total, rows-in, Room, sealed}
 use Rattle.rows.specs.Formulas.{node-rows-in, formula-in}
 use Rattle.rows.specs.declared.Layout.{Layout}
 use Rattle.rows.proofs.Layouts.{length-rows-in}
@@ -25,6 +24,7 @@ use Rattle.tidying.specs.Limits.{Raw}
 use Rattle.tidying.specs.Inner.Operators.{Preorder, Tidies}
 use Rattle.tidying.specs.Inner.Packed.{Packs}
 use Rattle.tidying.specs.Inner.Tables.{Leaves}
+use Rattle.rows.proofs.Sealed.{front-sealed}
 
 -- the rows of a tree are nodes with their children behind them
 
@@ -52,10 +52,6 @@ mutual
   preorder-forest ∅ rs h = h
   preorder-forest (t ▸ ts) rs h =
       subst Preorder (sym (append-assoc (tree-rows t) (forest-rows ts) rs)) (preorder-tree t (forest-rows ts ++ rs) (preorder-forest ts rs h))
-
--- a sheet's bytes and zeros behind them
-abbrev laid-out : ℕ → ℕ → ℕ → List Row → ℕ → Bytes
-laid-out w v n rs zeros = digits w v ++ digits w n ++ row-kinds rs ++ row-arguments w rs ++ replicate zeros 0
 
 module _ {s : Layout} (b : Bytes) (raw : Raw s b) where
   abbrev g : Formula
@@ -109,27 +105,10 @@ module _ {s : Layout} (b : Bytes) (raw : Raw s b) where
     nodes-left : m - s .variables ≡ rows ((tidied g) .matrix)
     nodes-left = omega (arith, rows-left)
 
-    -- the sheet's format
-    abbrev F : Format
-    F = format-in s
-
-    sheet-end : 2 * width s + m + width s * m ≡ length (sheet F (tidied g))
+    sealed-is : sealed s m b′ ≡ padded (length b) (sheet (format-in s) (tidied g))
     unfolding tidied formula-in
-    sheet-end =
-        sym
-        (length-sheet F (tidied g) ∙ sheet-length-rows F (length (g .prefix)) (rows ((tidied g) .matrix)) ∙
-        ap (λ k. header F + (k + rows ((tidied g) .matrix) + F .width * (k + rows ((tidied g) .matrix)))) length-prefix ∙
-        ap (λ k. header F + (k + F .width * k)) (sym rows-left) ∙ regroup (F .width))
-      where
-        regroup : (w : ℕ) → 2 * w + (m + w * m) ≡ 2 * w + m + w * m
-        regroup w = omega arith
-
-    sealed-is : sealed s m b′ ≡ padded (length b) (sheet F (tidied g))
-    unfolding sealed padded sheet tidied formula-in
     sealed-is =
-        ap (λ len. laid-out (width s) (s .variables) (m - s .variables) (take m (rows-in s b′)) (len - (2 * width s + m + width s * m))) same ∙
-        ap₂ (λ rs k. laid-out (width s) (s .variables) (m - s .variables) rs (length b - k)) left sheet-end ∙
-        ap₂ (λ v n. laid-out (width s) v n (formula-rows (tidied g)) (length b - length (sheet F (tidied g)))) (sym length-prefix) nodes-left
+        front-sealed s b′ (tidied g) left length-prefix rows-left ∙ ap (λ len. padded len (sheet (format-in s) (tidied g))) same
 
     pub leaves : {b₂ : Bytes} → b₂ ≡ sealed s m b′
         → Leaves s b b₂ (record { format = s .format; variables = s .variables; nodes = m - s .variables })
