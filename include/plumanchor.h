@@ -21,7 +21,7 @@
 #define PLUMANCHOR_LOW(answer) ((unsigned)((answer) >> 16 & 0xffff))
 #define PLUMANCHOR_HIGH(answer) ((uint32_t)((answer) >> 32))
 
-/* Refusal numbers of documents 01 and 02. */
+/* Refusal numbers: 1 to 25 of documents 01 and 02; 26 and 27 are ours. */
 #define PLUMANCHOR_TOO_SHORT 1        /* shorter than the two sizes */
 #define PLUMANCHOR_SIZE_OUTSIDE 2     /* a size outside its limits */
 #define PLUMANCHOR_WRONG_LENGTH 3     /* wrong length */
@@ -47,6 +47,8 @@
 #define PLUMANCHOR_ROOT_NOT_AND 23    /* the root is not AND */
 #define PLUMANCHOR_NOT_NARROW 24      /* outside the limits of a narrow sheet */
 #define PLUMANCHOR_WRONG_COUNTS 25    /* counts that don't add up */
+#define PLUMANCHOR_NOT_A_STRATEGY 26  /* not a strategy over the sheet's prefix */
+#define PLUMANCHOR_READS_BEYOND 27    /* a function that reads what it may not */
 
 /* Check. Accepted: V in LOW, N in HIGH. */
 uint64_t plumanchor_check(const uint8_t *sheet, size_t length);

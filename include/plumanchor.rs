@@ -1,7 +1,7 @@
 //! The entry points, as include/plumanchor.h declares them: one set for each
 //! format.
 
-/// Refusal numbers of documents 01 and 02.
+/// Refusal numbers: 1 to 25 of documents 01 and 02; 26 and 27 are ours.
 #[allow(dead_code)] // No caller needs all of them.
 pub mod refusals {
     /// Shorter than the two sizes.
@@ -78,6 +78,12 @@ pub mod refusals {
 
     /// Counts that don't add up.
     pub const WRONG_COUNTS: u8 = 25;
+
+    /// Not a strategy over the sheet's prefix.
+    pub const NOT_A_STRATEGY: u8 = 26;
+
+    /// A function that reads what it may not.
+    pub const READS_BEYOND: u8 = 27;
 }
 
 type Bytes = *const u8;

@@ -66,6 +66,8 @@ impl Refusal {
             refusals::ROOT_NOT_AND => "the root is not AND",
             refusals::NOT_NARROW => "a size or a variable's number is above the narrow limits",
             refusals::WRONG_COUNTS => "settled, expanded and variables left don't add up to the starting count",
+            refusals::NOT_A_STRATEGY => "the second sheet is no strategy of that side over the first sheet's prefix",
+            refusals::READS_BEYOND => "the function of the pair in the row reads what it may not",
             _ => "see documents 01 and 02",
         }
     }

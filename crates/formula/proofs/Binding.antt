@@ -101,7 +101,7 @@ bind-settle (z ∷ p) f x s ρ h d better = by (eqb (z .variable) x) refl h (λ 
 -- Functions that ignore a variable: its quantifier may go, wherever it stands.
 
 -- of two values set for one variable the later one counts
-put-again : (ρ : Assignment) (x : ℕ) (a b : Bool) → put (put ρ x a) x b ≡ put ρ x b
+pub put-again : (ρ : Assignment) (x : ℕ) (a b : Bool) → put (put ρ x a) x b ≡ put ρ x b
 put-again ρ x a b = fun-ext (λ v. at v (eqb v x))
   where
     at : (v : ℕ) (m : Bool) → cond m b (cond m a (ρ v)) ≡ cond m b (ρ v)

@@ -87,7 +87,7 @@ unbound-assigned x b p s v h = by (eqb v x) refl
 
 -- the raw tree: literals U don't occur before, M not after
 
-has-any-keep : (U : Literals) (P : Tree → Bool) (ts : Forest) → has-any U ts ≡ false → has-any U (keep P ts) ≡ false
+pub has-any-keep : (U : Literals) (P : Tree → Bool) (ts : Forest) → has-any U ts ≡ false → has-any U (keep P ts) ≡ false
 unfolding has keep
 has-any-keep U P ∅ h = refl
 has-any-keep U P (t ▸ ts) h =

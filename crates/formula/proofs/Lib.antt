@@ -25,3 +25,4 @@ pub mod Ordering
 pub mod Sorting
 pub mod SortedTidy
 pub mod Order
+pub mod Strategy

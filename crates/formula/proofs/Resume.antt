@@ -126,11 +126,11 @@ pub record Keeps (fits : Fits) (I : Formula → Type 0) : Type 0 where
       → I (expanded x f)
 
 module _ (fits : Fits) (I : Formula → Type 0) (keeps : Keeps fits I) where
-  Kept : Step → Type 0
+  unfoldable pub Kept : Step → Type 0
   Kept (halt e) = Unit {0}
   Kept (next u) = I (u .formula)
 
-  step-keeps : (s : State) → Proper (s .formula) → I (s .formula) → Kept (step fits s)
+  pub step-keeps : (s : State) → Proper (s .formula) → I (s .formula) → Kept (step fits s)
   unfolding step step-by undecided-step settle-step expand-step is-some Kept
   step-keeps s p i = by (verdict ((s .formula) .matrix))
     where

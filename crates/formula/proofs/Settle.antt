@@ -82,7 +82,7 @@ take-leads x s ρ t h =
     (or-cases (not (has (of-sign (not s) x) t)) (at-root (of-sign s x) t) h)
 
 -- the value that is put in is the table's value of some sign that may be taken
-taken-sign : (q : Quantifier) (x : ℕ) (t : Tree) (b : Bool) → settling q x t ≡ some b
+pub taken-sign : (q : Quantifier) (x : ℕ) (t : Tree) (b : Bool) → settling q x t ≡ some b
     → (s : Bool) × (value q s ≡ b) × ((ρ : Assignment) → Leads (eval t (put ρ x (not s))) (eval t (put ρ x s)))
 unfolding settling value
 taken-sign q x t b h = by (has (of x) t) (may-take true x t) (may-take false x t) refl refl refl h

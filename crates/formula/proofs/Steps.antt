@@ -105,14 +105,14 @@ fits-raw-formula fits x f h =
 
 -- decided
 
-bind-constant : (p : Prefix) (b : Bool) (ρ : Assignment) → bind p (λ _. b) ρ ≡ b
+pub bind-constant : (p : Prefix) (b : Bool) (ρ : Assignment) → bind p (λ _. b) ρ ≡ b
 unfolding bind
 bind-constant [] b ρ = refl
 bind-constant (z ∷ p) b ρ =
     ap₂ (join (z .quantifier)) (bind-constant p b (put ρ (z .variable) false)) (bind-constant p b (put ρ (z .variable) true)) ∙
     join-self (z .quantifier) b
 
-eval-verdict : (t : Tree) (v : Bool) → verdict t ≡ some v → (ρ : Assignment) → eval t ρ ≡ v
+pub eval-verdict : (t : Tree) (v : Bool) → verdict t ≡ some v → (ρ : Assignment) → eval t ρ ≡ v
 unfolding eval verdict
 eval-verdict (lit s x) v h ρ = let z : _≡_ {A = Bool} true false = cc in absurd (true≢false z)
 eval-verdict (node and ∅) v h ρ = cc

@@ -1,2 +1,4 @@
 -- Definitions that no entry point cites.
 pub mod Clauses
+pub mod Pairs
+pub mod Function

@@ -14,6 +14,10 @@ pub mod Guards
 pub mod Trace
 pub mod Resume
 pub mod Order
+-- strategies
+pub mod Strategy
+pub mod Claim
+pub mod StrategyMatrix
 -- what is relied on
 pub mod Right
 -- how code goes about it

@@ -1,4 +1,4 @@
-// The numbers of refusals, as the documents give them.
+// The numbers of refusals, as the documents give them; 26 and 27 are ours.
 // Shorter than the two sizes.
 pub const TOO_SHORT: usize = 1;
 
@@ -73,3 +73,9 @@ pub const NOT_NARROW: usize = 24;
 
 // Counts that don't add up.
 pub const WRONG_COUNTS: usize = 25;
+
+// Not a strategy over the sheet's prefix.
+pub const NOT_A_STRATEGY: usize = 26;
+
+// A function that reads what it may not.
+pub const READS_BEYOND: usize = 27;

@@ -1,8 +1,9 @@
 -- Every refusal has one of documents 01 and 02's numbers, 1 to 25, and its place is a row of the largest sheet, or the one behind the last.
 -- Assumes nothing.
-use mathlib.Core.Path.{_≡_, refl, sym, _∙_, ap, ap₂}
+use mathlib.Core.Path.{_≡_, refl, sym, _∙_, ap, ap₂, subst}
 use mathlib.Core.Bool.{Bool, true, false, not, _&&_, cond, true≢false}
 use mathlib.Core.List.{List, [], _∷_, _++_, append-nil, append-assoc}
+use mathlib.Core.Logic.{_⊎_, inl, inr}
 use Prim.Native.Nat.{ℕ, zero, suc, _+_, _≤_}
 use native.Mathlib.Omega.{arith}
 use lib.Dec.{leb, ltb}
@@ -28,6 +29,7 @@ use Rattle.sheet.specs.Guards.{guards-tests}
 use Rattle.sheet.specs.Conversion.{to-wide-tests, to-narrow-tests}
 use Rattle.sheet.specs.Resume.{named, resume-tests}
 use Rattle.sheet.specs.Order.{sort-tests}
+use Rattle.sheet.specs.Strategy.{response-tests}
 use Rattle.sheet.specs.Check.{IsKnown, is-known, known, Known}
 use Rattle.sheet.specs.Check.{last-place}
 
@@ -116,6 +118,10 @@ module _ (F : Format) (b : Bytes) where
   unfolding outer-tests known
   outer-known x len =
       known-++ (check-tests F b ++ tidy-and-bound-tests F b x) _ (bound-known x) refl
+
+  pub response-known : (x len : ℕ) → Known (response-tests F b x len)
+  unfolding response-tests known
+  response-known x len = known-++ (check-tests F b ++ tidy-and-bound-tests F b x) _ (bound-known x) refl
 
   pub reduce-known : (len : ℕ) → Known (reduce-tests F b len)
   unfolding reduce-tests known
@@ -234,6 +240,9 @@ failed (t ∷ ts) h = by (t .fails) h (failed ts)
 same-place : {A : Type 0} {a : Answer A} {n m i j : ℕ} → a ≡ refused n i → a ≡ refused m j → i ≡ j
 same-place e h = cc
 
+same-number : {A : Type 0} {a : Answer A} {n m i j : ℕ} → a ≡ refused n i → a ≡ refused m j → n ≡ m
+same-number e h = cc
+
 -- what refuses the sizes refuses the sheet
 size-first : (F : Format) (b : Bytes) {n i : ℕ} → _≡_ {A = Answer ℕ} (answer (size-tests F b) 0) (refused n i)
     → _≡_ {A = Answer ℕ} (answer (check-tests F b) 0) (refused n i)
@@ -271,6 +280,20 @@ check-place F b us a {n} {i} own e = by (passes (check-tests F b)) refl
 pub check-alone : {A : Type 0} (F : Format) (b : Bytes) (a : A) {n i : ℕ} → answer (check-tests F b) a ≡ refused n i → i ≤ last-place F
 unfolding places-to
 check-alone F b a e = check-place F b [] a (λ p. refl) (ap (λ ts. answer ts a) (append-nil (check-tests F b)) ∙ e)
+
+-- a refusal is Check's, or one of the tests behind it
+pub check-or-own : {A : Type 0} (F : Format) (b : Bytes) (us : List Test) (a : A) {n i : ℕ} → answer (check-tests F b ++ us) a ≡ refused n i
+    → (IsKnown n × (i ≤ last-place F)) ⊎ ((passes (check-tests F b) ≡ true) × (answer us a ≡ refused n i))
+check-or-own F b us a {n} {i} e = by (passes (check-tests F b)) refl
+  where
+    by : (m : Bool) → passes (check-tests F b) ≡ m
+        → (IsKnown n × (i ≤ last-place F)) ⊎ ((passes (check-tests F b) ≡ true) × (answer us a ≡ refused n i))
+    by true p = inr (p, sym (answer-++ (check-tests F b) us a p) ∙ e)
+    by false p =
+        let first = failed (check-tests F b) p in
+        let whole = sym (refused-first {A = ℕ} (check-tests F b) us 0 a (sym (first .1 .1))) in
+        let known = refused-known (check-tests F b) 0 (check-known F b) (first .1 .1) in
+        inl (subst IsKnown (same-number whole e) known, omega (arith, check-refused F b (first .1 .1), same-place e whole))
 
 -- the other operations' places: 9 names a row, the others 0
 module _ (F : Format) (b : Bytes) {A : Type 0} (a : A) where
@@ -322,6 +345,10 @@ module _ (F : Format) (b : Bytes) {A : Type 0} (a : A) where
   pub outer-place : (x len : ℕ) {n i : ℕ} → answer (outer-tests F b x len) a ≡ refused n i → i ≤ last-place F
   unfolding outer-tests places-to
   outer-place x len e = behind-bound x _ (rw zero-place) e
+
+  pub response-place : (x len : ℕ) {n i : ℕ} → answer (response-tests F b x len) a ≡ refused n i → i ≤ last-place F
+  unfolding response-tests places-to
+  response-place x len e = behind-bound x _ (rw zero-place) e
 
   pub reduce-place : (len : ℕ) {n i : ℕ} → answer (reduce-tests F b len) a ≡ refused n i → i ≤ last-place F
   unfolding reduce-tests places-to

@@ -21,7 +21,7 @@ use Rattle.sheet.specs.Format.{Format, sheet-length, fits}
 use Rattle.sheet.specs.Limits.{Within}
 use Rattle.sheet.proofs.Limits.{within-step}
 
-sheet-length-least : (F : Format) {v v′ n n′ : ℕ} → v ≤ v′ → n ≤ n′ → sheet-length F v n ≤ sheet-length F v′ n′
+pub sheet-length-least : (F : Format) {v v′ n n′ : ℕ} → v ≤ v′ → n ≤ n′ → sheet-length F v n ≤ sheet-length F v′ n′
 unfolding sheet-length
 sheet-length-least F {v} {v′} {n} {n′} h k = omega (arith, mul-le-mul-left (1 + F .width) (both v v′ n n′ h k))
   where

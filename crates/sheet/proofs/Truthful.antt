@@ -8,7 +8,7 @@ use native.Mathlib.Omega.{arith}
 use lib.ListN.{length, take, drop, replicate, length-append, length-replicate}
 use lib.Seq.{take-append-seam, drop-append-seam}
 use borrow.Author.Tests.{not-false}
-use Rattle.formula.specs.Tree.{Formula}
+use Rattle.formula.specs.Tree.{Quantifier, Formula}
 use Rattle.formula.specs.Truth.{truth}
 use Rattle.formula.specs.Tidy.{is-tidy}
 use Rattle.formula.specs.Trial.{Tried}
@@ -28,7 +28,9 @@ use Rattle.sheet.specs.Resume.{named, widened, with-counts, resume-call}
 use Rattle.sheet.specs.Calls.{Call, settle, expand, execute, outer, perform, held}
 use Rattle.sheet.specs.Steps.{Step, calls, Listed, steps-call}
 use Rattle.sheet.specs.Limits.{Sound, Within}
+use Rattle.sheet.specs.Strategy.{response-call, StrategyAnswer, Winning, strategy-call, solve-part, Claiming, claim-call}
 use Rattle.sheet.specs.Truthful.{truth-of, SheetOf, TruthfulSheet, TruthfulText, TruthfulSteps, TruthfulTrial, Holds, TruthfulSolve, TruthfulGuards, TruthfulForce}
+use Rattle.sheet.specs.Truthful.{TruthfulResponse, TruthfulStrategy, TruthfulClaim}
 use Rattle.sheet.proofs.Tests.{passed-∷, passed-++, answer-passes, accepted-passes}
 use Rattle.sheet.proofs.Limits.{narrow-sound, wide-sound}
 use Rattle.sheet.proofs.RoundTrip.{formula-sheet, passes-sheet}
@@ -43,6 +45,9 @@ use Rattle.sheet.proofs.Verdicts.{solve-ended, solve-stopped, trial-rig
 use Rattle.sheet.proofs.Conversion.{to-wide-converted, to-narrow-converted}
 use Rattle.sheet.proofs.Guards.{guards-right, guards-initial}
 use Rattle.sheet.proofs.Force.{force-right}
+use Rattle.sheet.proofs.Strategy.Response.{response-right}
+use Rattle.sheet.proofs.Strategy.Winning.{strategy-solves, strategy-sheet}
+use Rattle.sheet.proofs.Strategy.Claim.{claims-right}
 use Rattle.sheet.proofs.Resume.{widened-sheet, answer-stopped, resume-taken, resume-ended}
 
 -- sheets written
@@ -181,6 +186,34 @@ module _ (F : Format) (sound : Sound F) where
     where
       starts : {a : Guards} → (guards-call F b out first second) .answer ≡ a → Starts a ((solve-call F b first second) .answer)
       starts h = subst (λ (a : Guards). Starts a ((solve-call F b first second) .answer)) h (guards-initial F b out first second)
+
+  -- strategies
+
+  pub response-truthful : (b : Bytes) (x : ℕ) (out : Bytes) {w : Written} → w ≡ response-call F b x out → TruthfulResponse F b x w
+  response-truthful b x out e = subst (TruthfulResponse F b x) (sym e) (record { on-accepted = response-right F b x out sound })
+
+  pub strategy-truthful : (b first second out : Bytes) {w : Winning} → w ≡ strategy-call F b first second out → TruthfulStrategy F b w
+  unfolding solve-part
+  strategy-truthful b first second out e =
+      subst (TruthfulStrategy F b) (sym e)
+      (record {
+        on-written =
+            λ v settles expands n h. (
+              solve-ended F b first second v settles expands (solves h) .0,
+              strategy-sheet F b first second out sound v settles expands n h .1,
+            );
+        on-too-long = λ v settles expands n h. solve-ended F b first second v settles expands (solves h) .0;
+        on-stopped =
+            λ x settles expands h.
+            let s = solve-stopped F b first second x settles expands (solves h) in
+            padded-holds (s .0) (length first) (s .1 .within) (s .1 .same-truth) (strategy-solves F b first second out .1 ∙ s .1 .in-first);
+      })
+    where
+      solves : {a : StrategyAnswer} → (strategy-call F b first second out) .answer ≡ a → (solve-call F b first second) .answer ≡ solve-part a
+      solves h = sym (strategy-solves F b first second out .0) ∙ ap solve-part h
+
+  pub claim-truthful : (b : Bytes) (q : Quantifier) (s out : Bytes) {w : Claiming} → w ≡ claim-call F b q s out → TruthfulClaim F b q s w
+  claim-truthful b q s out e = subst (TruthfulClaim F b q s) (sym e) (record { on-written = claims-right F b q s out sound })
 
 pub to-wide-truthful : (b out : Bytes) {w : Written} → w ≡ to-wide-call b out → TruthfulSheet wide (truth-of narrow b) w
 to-wide-truthful b out =

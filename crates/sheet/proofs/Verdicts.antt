@@ -2,7 +2,7 @@
 -- Assumes nothing.
 use mathlib.Core.Path.{_≡_, refl, sym, _∙_, ap, subst, subst₂}
 use mathlib.Core.List.{_++_}
-use mathlib.Core.Bool.{Bool}
+use mathlib.Core.Bool.{Bool, true}
 use Prim.Native.Nat.{ℕ, _≤_, _^_}
 use native.Mathlib.Omega.{arith}
 use lib.ListN.{length}
@@ -16,7 +16,7 @@ use Rattle.formula.proofs.Solve.{solve-right}
 use Rattle.formula.proofs.Trial.{trial-verdict, trial-leaves}
 use Rattle.sheet.specs.Format.{Bytes, Format, sheet-length, fits, variables}
 use Rattle.sheet.specs.Sheet.{formula, sheet}
-use Rattle.sheet.specs.Check.{Answer, refused, accepted, answer, check-tests}
+use Rattle.sheet.specs.Check.{Answer, refused, accepted, answer, passes, check-tests}
 use Rattle.sheet.specs.Operations.{padded, tidy-tests, Solved, is-refused, is-stopped, is-ended, solved, solving, solve-call, trial-call}
 use Rattle.sheet.specs.Trace.{room}
 use Rattle.sheet.specs.Reliance.{Reached}
@@ -101,6 +101,19 @@ module _ (F : Format) (b first second : Bytes) where
                       );
                 };
           }
+
+  -- A verdict is that of the run, of a sheet that passed.
+  pub run-ended : (v : Bool) (settles expands : ℕ) → (solve-call F b first second) .answer ≡ is-ended v settles expands
+      → (passes (check-tests F b) ≡ true) × ((solve (fits F (room first second)) (formula F b)) .end ≡ ended v)
+  unfolding solve-call solving tidy-tests reached
+  run-ended v settles expands h = by (answer (tidy-tests F b (room first second)) reached) refl h
+    where
+      by : (a : Answer Run) → answer (tidy-tests F b (room first second)) reached ≡ a
+          → (solving F first second a) .answer ≡ is-ended v settles expands → (passes (check-tests F b) ≡ true) × (reached .end ≡ ended v)
+      by (refused n i) e k = let z : _≡_ {A = ℕ} 0 1 = cc in absurd (omega arith)
+      by (accepted r) e k =
+          let passed = accepted-passes (tidy-tests F b (room first second)) reached r e in
+          (passed-++ (check-tests F b) _ (passed .0) .0, ap (λ (u : Run). u .end) (passed .1) ∙ ended-by (r .end) (r .state) v k .0)
 
   -- A call that isn't refused reached a formula.
   pub solve-reaches : ((n i : ℕ) → (solve-call F b first second) .answer ≡ is-refused n i → ⊥)

@@ -17,6 +17,8 @@ pub mod Conversion
 pub mod Trace
 pub mod Resume
 pub mod Order
+-- Strategy 1
+pub mod Strategy
 -- what is relied on
 pub mod Limits
 pub mod Reliance

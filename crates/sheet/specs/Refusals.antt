@@ -1,4 +1,4 @@
--- The numbers of refusals ("What each operation turns away"; N1 and the later requests).
+-- The numbers of refusals ("What each operation turns away"; N1 and the later requests; 26 and 27 are ours).
 -- Assumes nothing.
 use Prim.Native.Nat.{ℕ}
 
@@ -101,3 +101,11 @@ not-narrow = 24
 -- counts that don't add up
 abbrev pub wrong-counts : ℕ
 wrong-counts = 25
+
+-- not a strategy over the sheet's prefix
+abbrev pub not-a-strategy : ℕ
+not-a-strategy = 26
+
+-- a function that reads what it may not
+abbrev pub reads-beyond : ℕ
+reads-beyond = 27

@@ -122,3 +122,70 @@ abbrev pub crossed-expanded : Bytes
 crossed-expanded =
     4 ∷ 0 ∷ 15 ∷ 0 ∷ 1 ∷ 1 ∷ 1 ∷ 1 ∷ 5 ∷ 6 ∷ 4 ∷ 3 ∷ 6 ∷ 3 ∷ 4 ∷ 3 ∷ 6 ∷ 4 ∷ 3 ∷ 6 ∷ 3 ∷ 4 ∷ 4 ∷ 5 ∷ 0 ∷ 3 ∷ 0 ∷ 2 ∷ 0 ∷ 4 ∷ 0 ∷ 6 ∷ 0
     ∷ 2 ∷ 0 ∷ 3 ∷ 0 ∷ 5 ∷ 0 ∷ 2 ∷ 0 ∷ 3 ∷ 0 ∷ 5 ∷ 0 ∷ 3 ∷ 0 ∷ 2 ∷ 0 ∷ 4 ∷ 0 ∷ 2 ∷ 0 ∷ 2 ∷ 0 ∷ 4 ∷ 0 ∷ 2 ∷ 0 ∷ 4 ∷ 0 ∷ []
+
+-- Strategy 1
+
+-- "for all feed, exists lift, for all jam, exists stop: lift equals feed, stop equals feed xor jam"
+abbrev pub press : Bytes
+press =
+    4 ∷ 0 ∷ 23 ∷ 0 ∷ 2 ∷ 1 ∷ 2 ∷ 1 ∷ 5 ∷ 6 ∷ 4 ∷ 3 ∷ 6 ∷ 3 ∷ 4 ∷ 6 ∷ 3 ∷ 3 ∷ 4 ∷ 6 ∷ 3 ∷ 4 ∷ 3 ∷ 6 ∷ 4 ∷ 3 ∷ 3 ∷ 6 ∷ 4 ∷
+    4 ∷ 4 ∷ 1 ∷ 0 ∷ 2 ∷ 0 ∷ 3 ∷ 0 ∷ 4 ∷ 0 ∷ 6 ∷ 0 ∷ 2 ∷ 0 ∷ 1 ∷ 0 ∷ 2 ∷ 0 ∷ 2 ∷ 0 ∷ 1 ∷ 0 ∷ 2 ∷ 0 ∷ 3 ∷ 0 ∷ 1 ∷ 0 ∷ 3 ∷ 0 ∷
+    4 ∷ 0 ∷ 3 ∷ 0 ∷ 1 ∷ 0 ∷ 3 ∷ 0 ∷ 4 ∷ 0 ∷ 3 ∷ 0 ∷ 1 ∷ 0 ∷ 3 ∷ 0 ∷ 4 ∷ 0 ∷ 3 ∷ 0 ∷ 1 ∷ 0 ∷ 3 ∷ 0 ∷ 4 ∷ 0 ∷ []
+
+-- stop's function is feed xor jam, and lift's is feed
+abbrev pub press-strategy : Bytes
+press-strategy =
+    4 ∷ 0 ∷ 13 ∷ 0 ∷ 2 ∷ 1 ∷ 2 ∷ 1 ∷ 6 ∷ 5 ∷ 3 ∷ 5 ∷ 6 ∷ 3 ∷ 3 ∷ 6 ∷ 4 ∷ 4 ∷ 5 ∷ 3 ∷ 3 ∷ 1 ∷ 0 ∷ 2 ∷ 0 ∷ 3 ∷ 0 ∷ 4 ∷ 0 ∷
+    2 ∷ 0 ∷ 2 ∷ 0 ∷ 4 ∷ 0 ∷ 2 ∷ 0 ∷ 2 ∷ 0 ∷ 1 ∷ 0 ∷ 3 ∷ 0 ∷ 2 ∷ 0 ∷ 1 ∷ 0 ∷ 3 ∷ 0 ∷ 2 ∷ 0 ∷ 2 ∷ 0 ∷ 1 ∷ 0 ∷ []
+
+-- stop's function as a sheet of its own
+abbrev pub stop-alone : Bytes
+stop-alone =
+    3 ∷ 0 ∷ 7 ∷ 0 ∷ 2 ∷ 1 ∷ 2 ∷ 5 ∷ 6 ∷ 3 ∷ 3 ∷ 6 ∷ 4 ∷ 4 ∷ 1 ∷ 0 ∷ 2 ∷ 0 ∷ 3 ∷ 0 ∷ 2 ∷ 0 ∷ 2 ∷ 0 ∷ 1 ∷ 0 ∷ 3 ∷ 0 ∷ 2 ∷ 0 ∷
+    1 ∷ 0 ∷ 3 ∷ 0 ∷ []
+
+-- lift reads jam, which is behind it
+abbrev pub lift-reads-jam : Bytes
+lift-reads-jam =
+    4 ∷ 0 ∷ 13 ∷ 0 ∷ 2 ∷ 1 ∷ 2 ∷ 1 ∷ 6 ∷ 5 ∷ 3 ∷ 5 ∷ 6 ∷ 3 ∷ 3 ∷ 6 ∷ 4 ∷ 4 ∷ 5 ∷ 3 ∷ 3 ∷ 1 ∷ 0 ∷ 2 ∷ 0 ∷ 3 ∷ 0 ∷ 4 ∷ 0 ∷
+    2 ∷ 0 ∷ 2 ∷ 0 ∷ 4 ∷ 0 ∷ 2 ∷ 0 ∷ 2 ∷ 0 ∷ 1 ∷ 0 ∷ 3 ∷ 0 ∷ 2 ∷ 0 ∷ 1 ∷ 0 ∷ 3 ∷ 0 ∷ 2 ∷ 0 ∷ 2 ∷ 0 ∷ 3 ∷ 0 ∷ []
+
+-- stop reads itself
+abbrev pub stop-reads-stop : Bytes
+stop-reads-stop =
+    4 ∷ 0 ∷ 7 ∷ 0 ∷ 2 ∷ 1 ∷ 2 ∷ 1 ∷ 6 ∷ 5 ∷ 3 ∷ 3 ∷ 5 ∷ 3 ∷ 3 ∷ 1 ∷ 0 ∷ 2 ∷ 0 ∷ 3 ∷ 0 ∷ 4 ∷ 0 ∷ 2 ∷ 0 ∷ 2 ∷ 0 ∷ 4 ∷ 0 ∷ 4 ∷
+    0 ∷ 2 ∷ 0 ∷ 2 ∷ 0 ∷ 1 ∷ 0 ∷ []
+
+-- both at once
+abbrev pub both-read : Bytes
+both-read =
+    4 ∷ 0 ∷ 7 ∷ 0 ∷ 2 ∷ 1 ∷ 2 ∷ 1 ∷ 6 ∷ 5 ∷ 3 ∷ 3 ∷ 5 ∷ 3 ∷ 3 ∷ 1 ∷ 0 ∷ 2 ∷ 0 ∷ 3 ∷ 0 ∷ 4 ∷ 0 ∷ 2 ∷ 0 ∷ 2 ∷ 0 ∷ 4 ∷ 0 ∷ 4 ∷
+    0 ∷ 2 ∷ 0 ∷ 2 ∷ 0 ∷ 3 ∷ 0 ∷ []
+
+-- no pair of lift
+abbrev pub lift-left-out : Bytes
+lift-left-out =
+    4 ∷ 0 ∷ 10 ∷ 0 ∷ 2 ∷ 1 ∷ 2 ∷ 1 ∷ 6 ∷ 5 ∷ 3 ∷ 5 ∷ 6 ∷ 3 ∷ 3 ∷ 6 ∷ 4 ∷ 4 ∷ 1 ∷ 0 ∷ 2 ∷ 0 ∷ 3 ∷ 0 ∷ 4 ∷ 0 ∷ 1 ∷ 0 ∷ 2 ∷
+    0 ∷ 4 ∷ 0 ∷ 2 ∷ 0 ∷ 2 ∷ 0 ∷ 1 ∷ 0 ∷ 3 ∷ 0 ∷ 2 ∷ 0 ∷ 1 ∷ 0 ∷ 3 ∷ 0 ∷ []
+
+-- for all 1, exists 2: both equal
+abbrev pub equal-sheet : Bytes
+equal-sheet = 2 ∷ 0 ∷ 7 ∷ 0 ∷ 2 ∷ 1 ∷ 6 ∷ 5 ∷ 3 ∷ 3 ∷ 5 ∷ 4 ∷ 4 ∷ 1 ∷ 0 ∷ 2 ∷ 0 ∷ 2 ∷ 0 ∷ 2 ∷ 0 ∷ 1 ∷ 0 ∷ 2 ∷ 0 ∷ 2 ∷ 0 ∷ 1 ∷ 0 ∷ 2 ∷ 0 ∷ []
+
+-- 2 plays 1
+abbrev pub equal-strategy : Bytes
+equal-strategy = 2 ∷ 0 ∷ 4 ∷ 0 ∷ 2 ∷ 1 ∷ 6 ∷ 5 ∷ 3 ∷ 3 ∷ 1 ∷ 0 ∷ 2 ∷ 0 ∷ 1 ∷ 0 ∷ 2 ∷ 0 ∷ 2 ∷ 0 ∷ 1 ∷ 0 ∷ []
+
+-- the claim of that
+abbrev pub equal-claim : Bytes
+equal-claim =
+    2 ∷ 0 ∷ 14 ∷ 0 ∷ 2 ∷ 2 ∷ 6 ∷ 6 ∷ 5 ∷ 3 ∷ 3 ∷ 5 ∷ 4 ∷ 4 ∷ 5 ∷ 3 ∷ 4 ∷ 5 ∷ 4 ∷ 3 ∷ 1 ∷ 0 ∷ 2 ∷ 0 ∷ 3 ∷ 0 ∷ 2 ∷ 0 ∷ 2 ∷
+    0 ∷ 1 ∷ 0 ∷ 2 ∷ 0 ∷ 2 ∷ 0 ∷ 1 ∷ 0 ∷ 2 ∷ 0 ∷ 2 ∷ 0 ∷ 2 ∷ 0 ∷ 1 ∷ 0 ∷ 2 ∷ 0 ∷ 2 ∷ 0 ∷ 1 ∷ 0 ∷ []
+
+-- exists 1, for all 2: 1 and 2
+abbrev pub unit-first : Bytes
+unit-first = 2 ∷ 0 ∷ 3 ∷ 0 ∷ 1 ∷ 2 ∷ 5 ∷ 3 ∷ 3 ∷ 1 ∷ 0 ∷ 2 ∷ 0 ∷ 2 ∷ 0 ∷ 1 ∷ 0 ∷ 2 ∷ 0 ∷ []
+
+-- 1 plays 1
+abbrev pub always-one : Bytes
+always-one = 1 ∷ 0 ∷ 1 ∷ 0 ∷ 2 ∷ 5 ∷ 2 ∷ 0 ∷ 0 ∷ 0 ∷ []

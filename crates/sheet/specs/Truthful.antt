@@ -5,9 +5,11 @@ use mathlib.Core.Path.{_≡_}
 use mathlib.Core.Bool.{Bool, true, false}
 use Prim.Native.Nat.{ℕ, _-_}
 use lib.ListN.{length, take, drop, replicate}
+use Rattle.formula.specs.Tree.{Quantifier}
 use Rattle.formula.specs.Truth.{truth}
 use Rattle.formula.specs.Force.{Told, turn-after, ForceRight}
 use Rattle.formula.specs.Trial.{Tried}
+use Rattle.formula.specs.Strategy.{winner}
 use Rattle.sheet.specs.Format.{Bytes, Format}
 use Rattle.sheet.specs.Sheet.{formula}
 use Rattle.sheet.specs.Check.{Answer, accepted, passes, check-tests}
@@ -16,6 +18,7 @@ use Rattle.sheet.specs.Steps.{Listed}
 use Rattle.sheet.specs.Guards.{guards-stopped, guards-true, guards-kept, Guarding, Clashing}
 use Rattle.sheet.specs.Force.{values-of, Panel, Forcing}
 use Rattle.sheet.specs.Qdimacs.{qdimacs}
+use Rattle.sheet.specs.Strategy.{Responds, strategy-stopped, strategy-written, strategy-too-long, Winning, StrategySheet, claim-written, Claiming, Claims}
 
 -- the truth of a sheet's formula
 abbrev pub truth-of : Format → Bytes → Bool
@@ -63,3 +66,19 @@ pub record TruthfulGuards (F : Format) (b : Bytes) (g : Guarding) : Type 0 where
 pub record TruthfulForce (F : Format) (b vs : Bytes) (w : Forcing) : Type 0 where
   pub whose-turn : (a : Panel) → w .answer ≡ accepted a → a .turn ≡ turn-after (values-of vs) (formula F b)
   pub which-wins : (a : Panel) → w .answer ≡ accepted a → Told (a .outcome) → ForceRight (values-of vs) (formula F b) (a .outcome)
+
+-- Response: what is written is a function of x that is as good as any
+pub record TruthfulResponse (F : Format) (b : Bytes) (x : ℕ) (w : Written) : Type 0 where
+  pub on-accepted : (n : ℕ) → w .answer ≡ accepted n → Responds F b x (take n (w .output))
+
+-- Strategy: a verdict is the truth of the sheet given, and what is written beside it is a strategy with which that side wins; where the run
+-- stops, the first buffer holds a sheet of the same truth
+pub record TruthfulStrategy (F : Format) (b : Bytes) (w : Winning) : Type 0 where
+  pub on-written : (v : Bool) (settles expands n : ℕ) → w .answer ≡ strategy-written v settles expands n
+      → (v ≡ truth-of F b) × StrategySheet F (winner v) b (take n (w .output))
+  pub on-too-long : (v : Bool) (settles expands n : ℕ) → w .answer ≡ strategy-too-long v settles expands n → v ≡ truth-of F b
+  pub on-stopped : (x settles expands : ℕ) → w .answer ≡ strategy-stopped x settles expands → Holds F (truth-of F b) (w .first)
+
+-- Claim: what is written has the truth that the side wants exactly if the strategy's sheet wins
+pub record TruthfulClaim (F : Format) (b : Bytes) (q : Quantifier) (s : Bytes) (w : Claiming) : Type 0 where
+  pub on-written : (n : ℕ) → w .answer ≡ claim-written n → Claims F b q s (take n (w .output))
