@@ -26,3 +26,5 @@ pub mod Sorting
 pub mod SortedTidy
 pub mod Order
 pub mod Strategy
+pub mod Certificates
+pub mod Clausal

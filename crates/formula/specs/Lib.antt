@@ -18,6 +18,9 @@ pub mod Order
 pub mod Strategy
 pub mod Claim
 pub mod StrategyMatrix
+-- certificates of search solvers, and clauses for them
+pub mod Certificates
+pub mod Clausal
 -- what is relied on
 pub mod Right
 -- how code goes about it
