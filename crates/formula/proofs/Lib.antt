@@ -28,3 +28,5 @@ pub mod Order
 pub mod Strategy
 pub mod Certificates
 pub mod Clausal
+pub mod Decide
+pub mod Join

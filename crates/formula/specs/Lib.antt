@@ -21,6 +21,9 @@ pub mod StrategyMatrix
 -- certificates of search solvers, and clauses for them
 pub mod Certificates
 pub mod Clausal
+-- the search beside Solve, and its work spread
+pub mod Decide
+pub mod Join
 -- what is relied on
 pub mod Right
 -- how code goes about it
