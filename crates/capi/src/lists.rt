@@ -5,35 +5,9 @@ use step_list::numbers::follow_numbers;
 ghost use mathlib.Core.Path.{_≡_};
 ghost use Rattle.sheet.specs.Format.{narrow, wide};
 ghost use Rattle.sheet.specs.Truthful.{truth-of};
-ghost use Rattle.rows.specs.Formats.{format-of};
 ghost use Rattle.packing.specs.Told.{ToldSheet};
 ghost use Rattle.step_list.specs.Numbers.{numbers-call};
 ghost use Rattle.capi.specs.Returned.{steps-left, packed-listing};
-
-fn steps(
-    sheet: &[u8],
-    f: Format,
-    operations: &[u8],
-    variables: &[usize],
-    numbers: &mut [usize],
-    values: &mut [usize],
-    first: &mut [u8],
-    second: &mut [u8],
-) -> u64
-    ensures { λ r. ⌜ steps-left r numbers values first second ≡ packed-listing (numbers-call (format-of f) sheet operations variables numbers values first second) ⌝ }
-    ensures { λ r. ⌜ ToldSheet (format-of f) (truth-of (format-of f) (now (sheet .entry))) r (now (first .exit)) ⌝ }
-{
-    pack_written(follow_numbers(
-        sheet,
-        f,
-        operations,
-        variables,
-        numbers,
-        values,
-        first,
-        second,
-    ))
-}
 
 #[no_mangle]
 pub extern "C" fn plumanchor_steps(
@@ -48,7 +22,7 @@ pub extern "C" fn plumanchor_steps(
     ensures { λ r. ⌜ steps-left r numbers values first second ≡ packed-listing (numbers-call narrow sheet operations variables numbers values first second) ⌝ }
     ensures { λ r. ⌜ ToldSheet narrow (truth-of narrow (now (sheet .entry))) r (now (first .exit)) ⌝ }
 {
-    steps(
+    pack_written(follow_numbers(
         sheet,
         Format::Narrow,
         operations,
@@ -57,7 +31,7 @@ pub extern "C" fn plumanchor_steps(
         values,
         first,
         second,
-    )
+    ))
 }
 
 #[no_mangle]
@@ -73,7 +47,7 @@ pub extern "C" fn plumanchor_steps_wide(
     ensures { λ r. ⌜ steps-left r numbers values first second ≡ packed-listing (numbers-call wide sheet operations variables numbers values first second) ⌝ }
     ensures { λ r. ⌜ ToldSheet wide (truth-of wide (now (sheet .entry))) r (now (first .exit)) ⌝ }
 {
-    steps(
+    pack_written(follow_numbers(
         sheet,
         Format::Wide,
         operations,
@@ -82,5 +56,5 @@ pub extern "C" fn plumanchor_steps_wide(
         values,
         first,
         second,
-    )
+    ))
 }

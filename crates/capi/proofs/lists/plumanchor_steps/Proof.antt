@@ -1,9 +1,10 @@
--- `capi::lists::steps` packs what `follow_numbers` answers.
+-- `capi::lists::plumanchor_steps` packs what `follow_numbers` answers.
 -- Assumes nothing.
 use Rattle.capi.proofs.Telling.{listing-joined, steps-told}
 use borrow.Author.Needs.{needs}
-use Rattle.capi.proofs.lists.steps.Statement.{statement}
-use Rattle.capi.proofs.lists.steps.Tie as tie
+use Rattle.rows.specs.declared.Format.the-variants.{Narrow}
+use Rattle.capi.proofs.lists.plumanchor_steps.Statement.{statement}
+use Rattle.capi.proofs.lists.plumanchor_steps.Tie as tie
 
 follow-numbers-requires : tie.Need-follow-numbers-requires
 follow-numbers-requires c κs = search needs
@@ -33,7 +34,7 @@ returns : tie.Need-returns
 returns c =
     let g = called c in
     let a = start g .args in
-    steps-told (a .f) (a .sheet .now) _ (a .first .now) (a .second .now) (a .numbers .now) (a .values .now) (listing-joined (c .pack-written .ensures) (g .follow-numbers .ensures .0))
+    steps-told Narrow (a .sheet .now) _ (a .first .now) (a .second .now) (a .numbers .now) (a .values .now) (listing-joined (c .pack-written .ensures) (g .follow-numbers .ensures .0))
 
-pub steps-spec : {M : Type 1} → statement M
-steps-spec = tie.close (tie.spec follow-numbers-requires pack-written-requires same-length same-length-2 same-length-3 same-length-4 returns)
+pub plumanchor-steps-spec : {M : Type 1} → statement M
+plumanchor-steps-spec = tie.close (tie.spec follow-numbers-requires pack-written-requires same-length same-length-2 same-length-3 same-length-4 returns)
