@@ -43,7 +43,7 @@ loop-less c = omega arith
 loop-again : tie.Need-loop-again Inv-loop μ-loop
 loop-again c =
     let head = c .before .before .before in
-    let a = c .before .before .before .before in
+    let a = head .before in
     let inside = c .before .before .loop-test .taken in
     both-next (a .args .first .now) (a .args .second .now) (head .loop .i) (omega (arith, inside, head .loop .inv .same-length, a .pre .1)) (a .pre .1) refl
     (head .loop .inv)

@@ -15,6 +15,13 @@ Inv-loop set i₀ i = (i ≤ length set) × NoneBelow (holds set) i
 abbrev μ-loop : tie.MeasureT-loop
 μ-loop set i₀ i = length set - i
 
+-- places in the code, each from a later one
+abbrev start : tie.After-shared-slice-known Inv-loop μ-loop → tie.Start Inv-loop μ-loop
+start c = c .before .before .before
+
+abbrev at-loop : tie.Then1 Inv-loop μ-loop → tie.At-loop Inv-loop μ-loop
+at-loop c = c .before .before .before
+
 loop-holds : tie.Need-loop-holds Inv-loop μ-loop
 loop-holds c = (omega arith, λ v h. absurd (omega arith))
 
@@ -34,20 +41,20 @@ shared-slice-read-result : tie.Need-shared-slice-read-result Inv-loop μ-loop
 shared-slice-read-result c = omega arith
 
 cast-result : tie.Need-cast-result Inv-loop μ-loop
-cast-result c = omega (arith, trailing-le 64 (getD (c .before .before .before .before .before .args .set .now) (c .before .before .before .before .loop .i) 0))
+cast-result c = omega (arith, trailing-le 64 (getD (start (c .before .before) .args .set .now) (at-loop (c .before) .loop .i) 0))
 
 add-result : tie.Need-add-result Inv-loop μ-loop
 add-result c =
     omega (
       arith,
-      trailing-le 64 (getD (c .before .before .before .before .before .args .set .now) (c .before .before .before .before .loop .i) 0),
-      c .before .before .before .before .before .pre,
+      trailing-le 64 (getD (start (c .before .before) .args .set .now) (at-loop (c .before) .loop .i) 0),
+      start (c .before .before) .pre,
     )
 
 returns : tie.Need-returns Inv-loop μ-loop
 returns c =
-    let l = c .before .before .before .before .loop in
-    let set = c .before .before .before .before .before .args .set .now in
+    let l = at-loop (c .before) .loop in
+    let set = start (c .before .before) .args .set .now in
     first-found (holds set) (length set) (l .i) (holds-at set (l .i)) (c .before .before .before .loop-test .taken) (l .inv .1)
     (omega (arith, c .shared-slice-known2 .given (l .i))) (c .before .if1 .taken)
 
@@ -60,7 +67,7 @@ loop-less c = omega arith
 loop-again : tie.Need-loop-again Inv-loop μ-loop
 loop-again c =
     let l = c .before .before .before .loop in
-    let set = c .before .before .before .before .args .set .now in
+    let set = start (c .before) .args .set .now in
     (omega arith, none-next (holds set) (l .i) (l .i + 1) (holds-at set (l .i)) refl (l .inv .1) (c .if1 .left))
 
 mul-result-3 : tie.Need-mul-result-3 Inv-loop μ-loop

@@ -18,17 +18,27 @@ Inv-loop first second taken i₀ i = (i ≤ length first) × NoneBelow (left-in 
 abbrev μ-loop : tie.MeasureT-loop
 μ-loop first second taken i₀ i = length first - i
 
+-- places in the code, each from a later one
+abbrev start : tie.After-shared-slice-known Inv-loop μ-loop → tie.Start Inv-loop μ-loop
+start c = c .before .before .before
+
+abbrev at-loop : tie.After-shared-slice-known2 Inv-loop μ-loop → tie.At-loop Inv-loop μ-loop
+at-loop c = c .before .before .before
+
+abbrev turn : tie.After-shared-slice-known3 Inv-loop μ-loop → tie.In-loop Inv-loop μ-loop
+turn c = c .before .before .before
+
 -- the word at hand
 abbrev word : tie.After-shared-slice-known3 Inv-loop μ-loop → ℕ
 word c =
-    let head = c .before .before .before .before in
+    let head = at-loop (c .before) in
     let a = head .before .args in
     bitAnd (bitAnd (getD (a .first .now) (head .loop .i) 0) (getD (a .second .now) (head .loop .i) 0))
     (18446744073709551615 - getD (a .taken .now) (head .loop .i) 0)
 
 small : (c : tie.After-shared-slice-known3 Inv-loop μ-loop) → word c < 2 ^ 64
 small c =
-    let head = c .before .before .before .before in
+    let head = at-loop (c .before) in
     let a = head .before .args in
     let w = getD (a .first .now) (head .loop .i) 0 in
     let u = getD (a .second .now) (head .loop .i) 0 in
@@ -40,10 +50,10 @@ small c =
     )
 
 tells : (c : tie.After-shared-slice-known3 Inv-loop μ-loop) →
-    let head = c .before .before .before .before in
+    let head = at-loop (c .before) in
     let a = head .before .args in Tells (left-in (a .first .now) (a .second .now) (a .taken .now)) (head .loop .i) (word c)
 tells c =
-    let head = c .before .before .before .before in
+    let head = at-loop (c .before) in
     let a = head .before .args in
     tells-left (a .first .now) (a .second .now) (a .taken .now) (head .loop .i)
     (omega (arith, c .shared-slice-known3 .given (head .loop .i)))
@@ -76,14 +86,14 @@ cast-result : tie.Need-cast-result Inv-loop μ-loop
 cast-result c = omega (arith, trailing-le 64 (word (c .before)))
 
 add-result : tie.Need-add-result Inv-loop μ-loop
-add-result c = omega (arith, trailing-le 64 (word (c .before)), c .before .before .before .before .before .before .pre .0)
+add-result c = omega (arith, trailing-le 64 (word (c .before)), start (c .before .before .before) .pre .0)
 
 returns : tie.Need-returns Inv-loop μ-loop
 returns c =
-    let head = c .before .before .before .before .before in
+    let head = at-loop (c .before .before) in
     let a = head .before .args in
     first-found (left-in (a .first .now) (a .second .now) (a .taken .now)) (length (a .first .now)) (head .loop .i) (tells (c .before))
-    (c .before .before .before .before .loop-test .taken) (head .loop .inv .1) (small (c .before)) (c .if1 .taken)
+    (turn (c .before) .loop-test .taken) (head .loop .inv .1) (small (c .before)) (c .if1 .taken)
 
 add-i : tie.Need-add-i Inv-loop μ-loop
 add-i c = omega arith
@@ -93,7 +103,7 @@ loop-less c = omega arith
 
 loop-again : tie.Need-loop-again Inv-loop μ-loop
 loop-again c =
-    let head = c .before .before .before .before .before in
+    let head = at-loop (c .before .before) in
     let a = head .before .args in
     (omega arith, none-next (left-in (a .first .now) (a .second .now) (a .taken .now)) (head .loop .i) (head .loop .i + 1) (tells (c .before)) refl (head .loop .inv .1) (c .if1 .left))
 
