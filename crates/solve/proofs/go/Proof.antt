@@ -16,8 +16,18 @@ Inv-loop first₀ second₀ room s₀ ends₀ first second s ends =
 abbrev μ-loop : tie.MeasureT-loop
 μ-loop first₀ second₀ room s₀ ends₀ first second s ends = s .sheet .variables
 
+-- places in the code, each from a later one
+abbrev at-loop : tie.After-ends Inv-loop μ-loop → tie.At-loop Inv-loop μ-loop
+at-loop c = c .before .before .before
+
+abbrev buffers-back : tie.After-second Inv-loop μ-loop → tie.After-take-step Inv-loop μ-loop
+buffers-back c = c .before .before .before
+
+abbrev step-taken : tie.After-ends2 Inv-loop μ-loop → tie.After-take-step Inv-loop μ-loop
+step-taken c = buffers-back (c .before .before)
+
 abbrev turn : tie.After-take-step Inv-loop μ-loop → tie.At-loop Inv-loop μ-loop
-turn c = c .before .before .before .before
+turn c = at-loop (c .before)
 
 abbrev start : tie.After-take-step Inv-loop μ-loop → tie.Start Inv-loop μ-loop
 start c = turn c .before .before .before
@@ -57,17 +67,17 @@ enum-known-t c = search needs
 
 same-length : tie.Need-same-length Inv-loop μ-loop
 same-length c =
-    let t = c .before .before .before .before .before .before .before .before in
+    let t = step-taken (c .before .before .before) in
     t .take-step .kept .0 ∙ turn t .loop .inv .0 .same-length
 
 same-length-2 : tie.Need-same-length-2 Inv-loop μ-loop
 same-length-2 c =
-    let t = c .before .before .before .before .before .before .before .before in
+    let t = step-taken (c .before .before .before) in
     t .take-step .kept .1 .0 ∙ turn t .loop .inv .1
 
 returns : tie.Need-returns Inv-loop μ-loop
 returns c =
-    let t = c .before .before .before .before .before .before .before .before in
+    let t = step-taken (c .before .before .before) in
     turn-ended (turn t .loop .inv .0) (c .before .t .given .0 .0) (stepped t _ (c .before .t .given .1))
 
 enum-known-t-2 : tie.Need-enum-known-t-2 Inv-loop μ-loop
@@ -75,17 +85,17 @@ enum-known-t-2 c = search needs
 
 same-length-3 : tie.Need-same-length-3 Inv-loop μ-loop
 same-length-3 c =
-    let t = c .before .before .before .before .before .before .before .before in
+    let t = step-taken (c .before .before .before) in
     t .take-step .kept .0 ∙ turn t .loop .inv .0 .same-length
 
 same-length-4 : tie.Need-same-length-4 Inv-loop μ-loop
 same-length-4 c =
-    let t = c .before .before .before .before .before .before .before .before in
+    let t = step-taken (c .before .before .before) in
     t .take-step .kept .1 .0 ∙ turn t .loop .inv .1
 
 returns-2 : tie.Need-returns-2 Inv-loop μ-loop
 returns-2 c =
-    let t = c .before .before .before .before .before .before .before .before in
+    let t = step-taken (c .before .before .before) in
     turn-stopped (turn t .loop .inv .0) (c .before .t2 .given .0 .0) (stepped t _ (c .before .t2 .given .1))
 
 enum-known-t-3 : tie.Need-enum-known-t-3 Inv-loop μ-loop
@@ -93,12 +103,12 @@ enum-known-t-3 c = search needs
 
 loop-less : tie.Need-loop-less Inv-loop μ-loop
 loop-less c =
-    let t = c .before .before .before .before .before .before .before .before in
+    let t = step-taken (c .before .before .before) in
     omega (arith, stepped t _ (c .before .t3 .given .1) .2)
 
 loop-again : tie.Need-loop-again Inv-loop μ-loop
 loop-again c =
-    let t = c .before .before .before .before .before .before .before .before in
+    let t = step-taken (c .before .before .before) in
     let u = turn t .loop .inv in
     (turn-next (u .0) (turn t .loop .second) (stepped t _ (c .before .t3 .given .1)) (t .take-step .kept .0), t .take-step .kept .1 .0 ∙ u .1, t .take-step .kept .1 .1 .1 .1 .0 ∙ u .2)
 

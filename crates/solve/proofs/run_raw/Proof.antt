@@ -6,6 +6,13 @@ use Rattle.solve.proofs.Answering.{start-held, start-few, start-call}
 use Rattle.solve.proofs.run_raw.Statement.{statement}
 use Rattle.solve.proofs.run_raw.Tie as tie
 
+-- places in the code, each from a later one
+abbrev raw-tidied : tie.After-run-arg → tie.After-tidy-in-place
+raw-tidied c = c .before .before .before
+
+abbrev run-done : tie.After-second → tie.After-run
+run-done c = c .before .before .before
+
 shorter-requires : tie.Need-shorter-requires
 shorter-requires c κs = search needs
 
@@ -21,7 +28,7 @@ start c = c .before .before .before
 
 run-requires : tie.Need-run-requires
 run-requires c κs =
-    let tidied = c .before .before .before .before in
+    let tidied = raw-tidied (c .before) in
     let e = tidied .tidy-in-place .ensures in
     let most = room tidied .shorter .ensures in
     let r = start (room tidied) .pre in
@@ -40,8 +47,8 @@ same-length-2 c = search needs
 
 returns : tie.Need-returns
 returns c =
-    let ran = c .before .before .before .before in
-    let tidied = ran .before .before .before .before .before in
+    let ran = run-done (c .before) in
+    let tidied = raw-tidied (ran .before .before) in
     let e = tidied .tidy-in-place .ensures in
     ran .run .ensures ∙
     start-call (start (room tidied) .pre) (room tidied .shorter .ensures) (e .0) (e .1 .0) (tidied .tidy-in-place .kept .0)

@@ -11,6 +11,16 @@ use Rattle.solve.proofs.Answering.{unchecked-call}
 use Rattle.solve.proofs.solve.Statement.{statement}
 use Rattle.solve.proofs.solve.Tie as tie
 
+-- places in the code, each from a later one
+abbrev entry : tie.After-slice-known2 → tie.Start
+entry c = c .before .before .before
+
+abbrev check-told : tie.After-solve-checked-arg2 → tie.After-c2
+check-told c = c .before .before .before
+
+abbrev answered : tie.After-second → tie.After-solve-checked
+answered c = c .before .before .before
+
 check-requires : tie.Need-check-requires
 check-requires c κs = search needs
 
@@ -21,7 +31,7 @@ enum-known-c-2 : tie.Need-enum-known-c-2
 enum-known-c-2 c = search needs
 
 abbrev start : tie.After-check → tie.Start
-start c = c .before .before .before .before
+start c = entry (c .before)
 
 checked : (c : tie.After-c2) → let a = start (c .before .before) .args in Sheet (a .f) (a .sheet .now) (c .c2 .given .0 .0)
 checked c = sheet-checked (c .c2 .given .1) (c .before .before .check .ensures)
@@ -46,8 +56,8 @@ same-length-2 c = search needs
 
 returns-2 : tie.Need-returns-2
 returns-2 c =
-    let solved = c .before .before .before .before in
-    let told = solved .before .before .before .before in
+    let solved = answered (c .before) in
+    let told = check-told (solved .before) in
     let a = start (told .before .before) .args in
     let e = solved .solve-checked .ensures ∙
     ap (λ f. solve-call (format-of f) (a .sheet .now) (a .first .now) (a .second .now)) (sheet-format (checked told)) in

@@ -9,11 +9,21 @@ use Rattle.solve.proofs.Answering.{short-call, raw-ready, solved-call}
 use Rattle.solve.proofs.solve_checked.Statement.{statement}
 use Rattle.solve.proofs.solve_checked.Tie as tie
 
+-- places in the code, each from a later one
+abbrev entry : tie.After-slice-known2 → tie.Start
+entry c = c .before .before .before
+
+abbrev front-copied : tie.After-run-raw-arg → tie.After-copy-front
+front-copied c = c .before .before .before
+
+abbrev run-done : tie.After-second → tie.After-run-raw
+run-done c = c .before .before .before
+
 shorter-requires : tie.Need-shorter-requires
 shorter-requires c κs = search needs
 
 abbrev start : tie.After-shorter → tie.Start
-start c = c .before .before .before .before
+start c = entry (c .before)
 
 returns : tie.Need-returns
 returns c =
@@ -32,7 +42,7 @@ has-room c = omega (arith, c .before .before .before .shorter .ensures, c .befor
 
 run-raw-requires : tie.Need-run-raw-requires
 run-raw-requires c κs =
-    let copied = c .before .before .before .before in
+    let copied = front-copied (c .before) in
     let a = before copied in
     raw-ready (a .pre) (a .args .first .now) (a .args .second .now) (has-room copied) (copied .copy-front .ensures)
 
@@ -44,8 +54,8 @@ same-length-2 c = search needs
 
 returns-2 : tie.Need-returns-2
 returns-2 c =
-    let ran = c .before .before .before .before in
-    let copied = ran .before .before .before .before .before in
+    let ran = run-done (c .before) in
+    let copied = front-copied (ran .before .before) in
     let a = before copied in
     ran .run-raw .ensures ∙ solved-call (a .pre) (a .args .first .now) (a .args .second .now) (has-room copied) (copied .copy-front .ensures)
 

@@ -25,6 +25,25 @@ use Rattle.solve.proofs.Arriving.{raw-small, expand-stops, expand-named
 use Rattle.solve.proofs.step.expand_step.Statement.{statement}
 use Rattle.solve.proofs.step.expand_step.Tie as tie
 
+-- places in the code, each from a later one
+abbrev entry : tie.After-shared-slice-known → tie.Start
+entry c = c .before .before .before
+
+abbrev entered : tie.After-ranges → tie.After-shared-slice-known
+entered c = c .before .before .before
+
+abbrev occurrences-filled : tie.After-choose-expand-arg → tie.After-fill-occurrences
+occurrences-filled c = c .before .before .before
+
+abbrev draft-made : tie.After-cuts → tie.After-draft
+draft-made c = c .before .before .before
+
+abbrev length-found : tie.After-expand-into-arg2 → tie.After-sheet-length
+length-found c = c .before .before .before
+
+abbrev wrote-expanded : tie.After-bring-arg → tie.After-expand-into
+wrote-expanded c = c .before .before .before
+
 slice-aggregate-fill-occurrences : tie.Need-slice-aggregate-fill-occurrences
 slice-aggregate-fill-occurrences c = search needs
 
@@ -42,14 +61,14 @@ slice-aggregate-choose-expand-2 c = search needs
 
 -- the tables are filled, then a variable is chosen
 abbrev start : tie.After-fill-occurrences → tie.Start
-start c = c .before .before .before .before .before .before .before .before
+start c = entry (entered (c .before .before))
 
 abbrev tables : tie.After-choose-expand → tie.After-fill-occurrences
-tables c = c .before .before .before .before .before .before
+tables c = occurrences-filled (c .before .before .before)
 
 choose-expand-requires : tie.Need-choose-expand-requires
 choose-expand-requires c κs =
-    let filled = c .before .before .before .before .before in
+    let filled = occurrences-filled (c .before .before) in
     let p = start filled .pre in
     (p .3, bound (p .0 .held), filled .fill-occurrences .ensures, some-left (p .0) (p .1), p .2)
 
@@ -140,7 +159,7 @@ survey-draft-requires c κs =
     ((_, drafted d), omega (arith, begin (fitting d) .pre .3 .readable .few-nodes))
 
 abbrev draft : tie.After-survey-draft → tie.After-draft
-draft c = c .before .before .before .before
+draft c = draft-made (c .before)
 
 surveyed : (c : tie.After-survey-draft)
     → let d = fitting (draft c) in
@@ -202,7 +221,7 @@ expand-into-requires c κs =
     (omega (arith, need .sheet-length .ensures, part-length need))
 
 abbrev need : tie.After-expand-into → tie.After-sheet-length
-need c = c .before .before .before .before
+need c = length-found (c .before)
 
 -- the expanded sheet stands at the front of the second buffer
 in-second : (c : tie.After-expand-into)
@@ -219,7 +238,7 @@ in-second c =
 
 bring-requires : tie.Need-bring-requires
 bring-requires c κs =
-    let grown = c .before .before .before .before in
+    let grown = wrote-expanded (c .before) in
     let v = survey (need grown) in
     let k = pick (fitting (draft v)) in
     let a = base (need grown) in
@@ -239,7 +258,7 @@ bring-requires c κs =
 add-t30 : tie.Need-add-t30
 add-t30 c =
     let brought = c .before .before .before in
-    let grown = brought .before .before .before .before .before in
+    let grown = wrote-expanded (brought .before .before) in
     record { fits = omega (arith, base (need grown) .pre .0 .few) }
 
 same-length-2 : tie.Need-same-length-2
@@ -251,7 +270,7 @@ same-length-3 c = search needs
 returns-2 : tie.Need-returns-2
 returns-2 c =
     let brought = c .before .before .before in
-    let grown = brought .before .before .before .before .before in
+    let grown = wrote-expanded (brought .before .before) in
     let d = fitting (draft (survey (need grown))) in
     let a = base (need grown) in
     let p = a .pre in

@@ -7,15 +7,28 @@ use Rattle.solve.proofs.Holding.{readable, numbered-to, bound}
 use Rattle.solve.proofs.step.open_step.Statement.{statement}
 use Rattle.solve.proofs.step.open_step.Tie as tie
 
+-- places in the code, each from a later one
+abbrev entry : tie.After-slice-known3 → tie.Start
+entry c = c .before .before .before
+
+abbrev entered : tie.After-most-variables → tie.After-slice-known3
+entered c = c .before .before .before
+
+abbrev settling-chosen : tie.After-fill-ends-arg → tie.After-choose-settle
+settling-chosen c = c .before .before .before
+
+abbrev ends-filled : tie.After-expand-step-arg → tie.After-fill-ends
+ends-filled c = c .before .before .before
+
 abbrev start : tie.After-choose-settle → tie.Start
-start c = c .before .before .before .before .before .before .before
+start c = entry (entered (c .before))
 
 most-variables-requires : tie.Need-most-variables-requires
 most-variables-requires c κs = search needs
 
 choose-settle-requires : tie.Need-choose-settle-requires
 choose-settle-requires c κs =
-    let r = c .before .before .before .before .before .before .pre .0 in
+    let r = entry (entered c) .pre .0 in
     (readable (r .held), bound (r .held), rw (c .most-variables .ensures) (numbered-to (r .held)))
 
 enum-known-c : tie.Need-enum-known-c
@@ -33,13 +46,13 @@ enum-told c = search needs
 
 fill-ends-requires : tie.Need-fill-ends-requires
 fill-ends-requires c κs =
-    let a = start (c .before .before .before .before) in
+    let a = start (settling-chosen (c .before)) in
     let ok = readable (a .pre .0 .held) in
     (ok, omega (arith, ok .few-nodes, a .pre .2))
 
 expand-step-requires : tie.Need-expand-step-requires
 expand-step-requires c κs =
-    let filled = c .before .before .before .before .before in
+    let filled = ends-filled (c .before .before) in
     let told = filled .before .before .before in
     let chosen = told .before .before in
     let a = start chosen in (

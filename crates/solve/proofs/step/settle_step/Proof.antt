@@ -16,17 +16,24 @@ use borrow.Author.Needs.{needs}
 use Rattle.solve.proofs.step.settle_step.Statement.{statement}
 use Rattle.solve.proofs.step.settle_step.Tie as tie
 
+-- places in the code, each from a later one
+abbrev entry : tie.After-t → tie.Start
+entry c = c .before .before .before
+
+abbrev wrote-settled : tie.After-bring-arg → tie.After-settle-into
+wrote-settled c = c .before .before .before
+
 sub-sheet-length : tie.Need-sub-sheet-length
 sub-sheet-length c = search needs
 
 sheet-length-requires : tie.Need-sheet-length-requires
 sheet-length-requires c κs =
-    let few = few-rows (c .before .before .before .before .pre .0) in
+    let few = few-rows (entry (c .before) .pre .0) in
     (omega (arith, few .0), few .1)
 
 -- the raw sheet's length is known, and it has its place in the second buffer
 abbrev start : tie.After-sheet-length → tie.Start
-start c = c .before .before .before .before .before
+start c = entry (c .before .before)
 
 enough : (c : tie.After-sheet-length) → c .sheet-length .result ≤ length (start c .args .second .now)
 enough c = let p = start c .pre in omega (arith, c .sheet-length .ensures, settle-room (p .0) (p .1) (p .2), p .0 .second-room)
@@ -63,7 +70,7 @@ in-second c =
 
 bring-requires : tie.Need-bring-requires
 bring-requires c κs =
-    let settled = c .before .before .before .before in
+    let settled = wrote-settled (c .before) in
     let a = start (need settled) in
     let p = a .pre in
     let few = few-rows (p .0) in
@@ -89,7 +96,7 @@ same-length-2 c = search needs
 returns : tie.Need-returns
 returns c =
     let brought = c .before .before .before in
-    let settled = brought .before .before .before .before .before in
+    let settled = wrote-settled (brought .before .before) in
     let a = start (need settled) in
     let p = a .pre in
     let less = settled .settle-into .ensures .1 .1 .0 in

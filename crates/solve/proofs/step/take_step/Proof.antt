@@ -7,9 +7,13 @@ use Rattle.solve.proofs.Arriving.{decided-end}
 use Rattle.solve.proofs.step.take_step.Statement.{statement}
 use Rattle.solve.proofs.step.take_step.Tie as tie
 
+-- places in the code, each from a later one
+abbrev start : tie.After-slice-known3 → tie.Start
+start c = c .before .before .before
+
 decide-requires : tie.Need-decide-requires
 decide-requires c κs =
-    readable (c .before .before .before .before .pre .0 .held)
+    readable (start (c .before) .pre .0 .held)
 
 enum-known-d : tie.Need-enum-known-d
 enum-known-d c = search needs
@@ -21,7 +25,7 @@ open-step-requires : tie.Need-open-step-requires
 open-step-requires c κs =
     let told = c .before .before .before in
     let decided = told .before .before in
-    let a = decided .before .before .before .before .before in
+    let a = start (decided .before .before) in
     (a .pre .0, sym (decided .decide .ensures) ∙ ap decision-of (told .enum-told .given .1), a .pre .1)
 
 same-length : tie.Need-same-length
@@ -31,7 +35,7 @@ returns : tie.Need-returns
 returns c =
     let told = c .before in
     let decided = told .before .before in
-    (decided-end (decided .before .before .before .before .before .pre .0) (sym (decided .decide .ensures) ∙ ap decision-of (told .d .given .1)), refl, refl)
+    (decided-end (start (decided .before .before) .pre .0) (sym (decided .decide .ensures) ∙ ap decision-of (told .d .given .1)), refl, refl)
 
 same-length-2 : tie.Need-same-length-2
 same-length-2 c = search needs
