@@ -14,6 +14,10 @@ use Rattle.checking.proofs.Whole.{sizes-refuse, prefix-refuses, nodes-r
 use Rattle.checking.proofs.check.Statement.{statement}
 use Rattle.checking.proofs.check.Tie as tie
 
+-- places in the code, each from a later one
+abbrev known : tie.After-c → tie.After-shared-slice-known
+known c = c .before .before .before
+
 enum-known-c : tie.Need-enum-known-c
 enum-known-c c = search needs
 
@@ -32,7 +36,7 @@ returns c =
 
 -- the sizes read, and the layout that they make
 abbrev start : tie.After-c → tie.Start
-start c = c .before .before .before .before
+start c = known c .before
 
 abbrev layout : tie.After-c → Layout
 layout c = c .c .given .0 .0

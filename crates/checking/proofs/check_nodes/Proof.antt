@@ -20,6 +20,10 @@ Inv-loop sheet s bound end r₀ r = Noded (rows-in s sheet) (bound-in s sheet) (
 abbrev μ-loop : tie.MeasureT-loop
 μ-loop sheet s bound end r₀ r = end - r
 
+-- places in the code, each from a later one
+abbrev entry : tie.At-loop Inv-loop μ-loop → tie.Start Inv-loop μ-loop
+entry c = c .before .before .before
+
 add-end : tie.Need-add-end Inv-loop μ-loop
 add-end c = omega arith
 
@@ -31,7 +35,7 @@ loop-holds : tie.Need-loop-holds Inv-loop μ-loop
 loop-holds c = nodes-none _ _ _ _ (omega (arith, all (c .before .before)))
 
 kind-at-requires : tie.Need-kind-at-requires Inv-loop μ-loop
-kind-at-requires c κs = (c .before .before .before .before .pre .0 .room, c .loop-test .taken)
+kind-at-requires c κs = (entry (c .before) .pre .0 .room, c .loop-test .taken)
 
 is-node-requires : tie.Need-is-node-requires Inv-loop μ-loop
 is-node-requires c κs = tt
@@ -39,16 +43,16 @@ is-node-requires c κs = tt
 is-unbound-requires : tie.Need-is-unbound-requires Inv-loop μ-loop
 is-unbound-requires c κs =
     let turn = c .before .before in
-    let start = turn .before .before .before .before in
+    let start = entry (turn .before) in
     (start .pre .0 .room, turn .loop-test .taken, start .pre .1 .entries)
 
 more : (c : tie.In-loop Inv-loop μ-loop)
-    → let a = c .before .before .before .before .args in
+    → let a = entry (c .before) .args in
     c .before .loop .r < length (rows-in (a .s) (a .sheet .now))
-more c = omega (arith, all (c .before .before .before .before))
+more c = omega (arith, all (entry (c .before)))
 
 kind-here : (c : tie.After-is-node Inv-loop μ-loop)
-    → let a = c .before .before .before .before .before .before .args in
+    → let a = entry (c .before .before .before) .args in
     node ((getD (rows-in (a .s) (a .sheet .now)) (c .before .before .before .loop .r) (row 0 0)) .kind) ≡ c .is-node .result
 kind-here c = sym (c .is-node .ensures ∙ ap node (c .before .kind-at .ensures))
 
@@ -64,7 +68,7 @@ unfolding node-rows-in
 returns-2 c =
     let u = c .before .before in
     let turn = u .before .before .before in
-    let start = turn .before .before .before .before in
+    let start = entry (turn .before) in
     ap (checked-as _) (node-unbound _ _ _ _ (more turn) (turn .before .loop .inv) (kind-here (u .before) ∙ not-false _ (c .before .if1 .left))
     (start .args .bound .now) (start .pre .1) (sym (u .is-unbound .ensures) ∙ c .if2 .taken))
 
@@ -78,13 +82,13 @@ loop-again : tie.Need-loop-again Inv-loop μ-loop
 loop-again c =
     let u = c .before .before in
     let turn = u .before .before .before in
-    let start = turn .before .before .before .before in
+    let start = entry (turn .before) in
     node-turn _ _ _ _ (more turn) (turn .before .loop .inv) (kind-here (u .before) ∙ not-false _ (c .before .if1 .left))
     (start .args .bound .now) (start .pre .1) (sym (u .is-unbound .ensures) ∙ c .if2 .left)
 
 returns-3 : tie.Need-returns-3 Inv-loop μ-loop
 unfolding node-rows-in
-returns-3 c = ap (checked-as _) (nodes-all _ _ _ _ (omega (arith, all (c .before .before .before .before))) (c .before .loop .inv))
+returns-3 c = ap (checked-as _) (nodes-all _ _ _ _ (omega (arith, all (entry (c .before)))) (c .before .loop .inv))
 
 pub check-nodes-spec : {M : Type 1} → statement M
 check-nodes-spec =

@@ -22,6 +22,16 @@ Inv-loop sheet s bound₀ most v r₀ bound r = Prefixed (format-in s) (rows-in 
 abbrev μ-loop : tie.MeasureT-loop
 μ-loop sheet s bound₀ most v r₀ bound r = v - r
 
+-- places in the code, each from a later one
+abbrev in-turn : tie.After-argument-at Inv-loop μ-loop → tie.In-loop Inv-loop μ-loop
+in-turn c = c .before .before .before
+
+abbrev numbered : tie.After-is-bound Inv-loop μ-loop → tie.After-argument-at Inv-loop μ-loop
+numbered c = c .before .before .before
+
+abbrev judged : tie.Else1 Inv-loop μ-loop → tie.After-is-misnumbered Inv-loop μ-loop
+judged c = c .before .before .before
+
 abbrev start : tie.At-loop Inv-loop μ-loop → tie.Start Inv-loop μ-loop
 start c = c .before .before .before
 
@@ -50,7 +60,7 @@ is-misnumbered-requires : tie.Need-is-misnumbered-requires Inv-loop μ-loop
 is-misnumbered-requires c κs = tt
 
 is-bound-requires : tie.Need-is-bound-requires Inv-loop μ-loop
-is-bound-requires c κs = c .before .before .before .before .before .before .loop .inv .marked .entries
+is-bound-requires c κs = in-turn (c .before .before) .before .loop .inv .marked .entries
 
 -- the row of a turn, and the three tests on it
 abbrev here : tie.In-loop Inv-loop μ-loop → Row
@@ -62,22 +72,22 @@ kind-here : (c : tie.After-is-quantifier Inv-loop μ-loop) → quantifier (here 
 kind-here c = sym (c .is-quantifier .ensures ∙ ap quantifier (c .before .kind-at .ensures))
 
 number-here : (c : tie.After-is-misnumbered Inv-loop μ-loop)
-    → let turn = c .before .before .before .before in
+    → let turn = in-turn (c .before) in
     misnumbered ((format-in (start (turn .before) .args .s)) .most-variables) (here turn .argument) ≡ c .is-misnumbered .result
 number-here c =
-    let most = c .before .before .before .before .before .before in
+    let most = in-turn (c .before) .before .before in
     sym (c .is-misnumbered .ensures ∙ ap₂ misnumbered (most .most-variables .ensures) (c .before .argument-at .ensures .0))
 
 twice-here : (c : tie.After-is-bound Inv-loop μ-loop)
-    → getD (c .before .before .before .before .before .before .before .loop .bound)
-    (here (c .before .before .before .before .before .before) .argument) false ≡ c .is-bound .result
+    → getD (in-turn (numbered c) .before .loop .bound)
+    (here (in-turn (numbered c)) .argument) false ≡ c .is-bound .result
 twice-here c =
     let read = c .before .before .before in
-    sym (c .is-bound .ensures ∙ ap (λ x. getD (read .before .before .before .before .loop .bound) x false) (read .argument-at .ensures .0))
+    sym (c .is-bound .ensures ∙ ap (λ x. getD (in-turn read .before .loop .bound) x false) (read .argument-at .ensures .0))
 
 returns : tie.Need-returns Inv-loop μ-loop
 returns c =
-    let q = c .before .before .before .before .before in
+    let q = numbered (c .before) .before in
     let turn = q .before .before in (
       ap (checked-as _) (prefix-kind _ _ _ _ (enough (start (turn .before))) (turn .loop-test .taken) (turn .before .loop .inv)
           (kind-here q ∙ not-true _ (c .if1 .taken))),
@@ -86,7 +96,7 @@ returns c =
 
 returns-2 : tie.Need-returns-2 Inv-loop μ-loop
 returns-2 c =
-    let m = c .before .before .before .before in
+    let m = judged (c .before) in
     let q = m .before .before in
     let turn = q .before .before in (
       ap (checked-as _) (prefix-number _ _ _ _ (enough (start (turn .before))) (turn .loop-test .taken) (turn .before .loop .inv)
@@ -108,8 +118,8 @@ returns-3 c =
 
 element-write-bound : tie.Need-element-write-bound Inv-loop μ-loop
 element-write-bound c =
-    let m = c .before .before .before .before .before in
-    let turn = m .before .before .before .before in
+    let m = judged (c .before .before) in
+    let turn = in-turn (m .before) in
     numbered-low _ _ (rw (turn .before .before .most-variables .ensures) (limits (start (turn .before) .args .s .format) .few-variables))
     (sym (m .is-misnumbered .ensures) ∙ c .before .if2 .left)
 

@@ -10,6 +10,10 @@ use Rattle.checking.proofs.Sizes.{SizesRead, too-short, size-outside, w
 use Rattle.checking.proofs.check_sizes.Statement.{statement}
 use Rattle.checking.proofs.check_sizes.Tie as tie
 
+-- places in the code, each from a later one
+abbrev opened : tie.After-nodes-at → tie.After-header
+opened c = c .before .before .before
+
 header-requires : tie.Need-header-requires
 header-requires c κs = search needs
 
@@ -31,10 +35,10 @@ sheet-length-requires : tie.Need-sheet-length-requires
 sheet-length-requires c κs = search needs
 
 abbrev file : tie.After-nodes-at → Format
-file c = c .before .before .before .before .before .args .f
+file c = opened c .before .before .args .f
 
 read : (c : tie.After-nodes-at)
-    → SizesRead (format-of (file c)) (c .before .before .before .before .before .args .sheet .now)
+    → SizesRead (format-of (file c)) (opened c .before .before .args .sheet .now)
     (c .before .variables-at .result) (c .nodes-at .result)
 read c =
     record {

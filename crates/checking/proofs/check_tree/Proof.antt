@@ -12,6 +12,10 @@ use Rattle.checking.proofs.Debt.{tree-owed, tree-early, tree-whole}
 use Rattle.checking.proofs.check_tree.Statement.{statement}
 use Rattle.checking.proofs.check_tree.Tie as tie
 
+-- places in the code, each from a later one
+abbrev walked : tie.After-struct-known3 → tie.After-walk
+walked c = c .before .before .before
+
 add-end : tie.Need-add-end
 add-end c = search needs
 
@@ -33,13 +37,13 @@ returns c =
 returns-2 : tie.Need-returns-2
 unfolding node-rows-in
 returns-2 c =
-    let w = c .before .before .before .before in
+    let w = walked (c .before) in
     ap (checked-as _) (tree-early _ _ _ _ (end (w .before .before .before)) (w .walk .result) (w .walk .ensures) (c .before .before .if1 .left) (c .if2 .taken))
 
 returns-3 : tie.Need-returns-3
 unfolding node-rows-in
 returns-3 c =
-    let w = c .before .before .before .before in
+    let w = walked (c .before) in
     ap (checked-as _) (tree-whole _ _ _ _ (end (w .before .before .before)) (w .walk .result) (w .walk .ensures) (c .before .before .if1 .left) (c .if2 .left))
 
 pub check-tree-spec : {M : Type 1} → statement M

@@ -10,6 +10,10 @@ use Rattle.checking.proofs.Bound.{unbound-operator, unbound-literal}
 use Rattle.checking.proofs.is_unbound.Statement.{statement}
 use Rattle.checking.proofs.is_unbound.Tie as tie
 
+-- places in the code, each from a later one
+abbrev kind-read : tie.After-is-bound → tie.After-kind-at
+kind-read c = c .before .before .before
+
 kind-at-requires : tie.Need-kind-at-requires
 kind-at-requires c κs = search needs
 
@@ -26,7 +30,7 @@ is-bound-requires c κs = search needs
 
 returns-2 : tie.Need-returns-2
 returns-2 c =
-    let a = c .before .before .before .before .before .args in
+    let a = kind-read c .before .before .args in
     ap not (c .is-bound .ensures ∙ ap (λ x. getD (a .bound .now) x false) (c .before .argument-at .ensures .0)) ∙
     sym (unbound-literal (a .bound .now) (getD (rows-in (a .s) (a .sheet .now)) (a .r) (row 0 0)) (omega arith))
 

@@ -15,6 +15,10 @@ Inv-loop sheet s from end owed₀ row₀ owed row = Walking (rows-in s sheet) fr
 abbrev μ-loop : tie.MeasureT-loop
 μ-loop sheet s from end owed₀ row₀ owed row = end - row
 
+-- places in the code, each from a later one
+abbrev entry : tie.At-loop Inv-loop μ-loop → tie.Start Inv-loop μ-loop
+entry c = c .before .before .before
+
 add-end : tie.Need-add-end Inv-loop μ-loop
 add-end c = omega arith
 
@@ -31,7 +35,7 @@ sub-owed : tie.Need-sub-owed Inv-loop μ-loop
 sub-owed c = omega (arith, c .if1 .left)
 
 children-at-requires : tie.Need-children-at-requires Inv-loop μ-loop
-children-at-requires c κs = (c .before .before .before .before .before .pre .0 .room, c .before .loop-test .taken)
+children-at-requires c κs = (entry (c .before .before) .pre .0 .room, c .before .loop-test .taken)
 
 -- every row adds less than 2^32, and there are less than 2^16
 add-owed : tie.Need-add-owed Inv-loop μ-loop
@@ -47,11 +51,11 @@ loop-again : tie.Need-loop-again Inv-loop μ-loop
 loop-again c =
     let turn = c .before .before in
     let more = turn .loop-test .taken in
-    walk-turn _ _ (omega (arith, all (turn .before .before .before .before))) (c .before .if1 .left) (c .children-at .ensures .0)
+    walk-turn _ _ (omega (arith, all (entry (turn .before)))) (c .before .if1 .left) (c .children-at .ensures .0)
     (c .children-at .ensures .1) (turn .before .loop .inv)
 
 returns-2 : tie.Need-returns-2 Inv-loop μ-loop
-returns-2 c = walk-out _ _ (omega (arith, all (c .before .before .before .before))) (c .before .loop .inv)
+returns-2 c = walk-out _ _ (omega (arith, all (entry (c .before)))) (c .before .loop .inv)
 
 pub walk-spec : {M : Type 1} → statement M
 walk-spec =
