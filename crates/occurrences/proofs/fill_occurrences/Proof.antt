@@ -4,6 +4,16 @@ use Rattle.occurrences.proofs.TableTurns.{occurrences-filled}
 use Rattle.occurrences.proofs.fill_occurrences.Statement.{statement}
 use Rattle.occurrences.proofs.fill_occurrences.Tie as tie
 
+-- places in the code, each from a later one
+abbrev start : tie.After-slice-known2 → tie.Start
+start c = c .before .before .before
+
+abbrev rows-linked : tie.After-next → tie.After-link
+rows-linked c = c .before .before .before
+
+abbrev marking-done : tie.After-slice-known5 → tie.After-mark
+marking-done c = c .before .before
+
 link-requires : tie.Need-link-requires
 link-requires c κs = search needs
 
@@ -18,8 +28,8 @@ same-length-2 c = search needs
 
 returns : tie.Need-returns
 returns c =
-    let a = c .before .before .before .before .before .before .before .before .before .before .before .before .before .before in
-    let linked = c .before .before .before .before .before .before .before .before .link .ensures in
+    let a = start (rows-linked (marking-done c .before .before .before) .before .before .before) in
+    let linked = rows-linked (marking-done c .before .before .before) .link .ensures in
     let marked = c .before .before .mark .ensures in
     occurrences-filled (a .args .b .now) (a .pre .0) (linked .0) (linked .1) (marked .0) (marked .1)
 

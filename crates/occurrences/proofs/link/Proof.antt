@@ -15,6 +15,22 @@ Inv-loop b s ranges₀ next₀ i₀ ranges next i =
 abbrev μ-loop : tie.MeasureT-loop
 μ-loop b s ranges₀ next₀ i₀ ranges next i = i
 
+-- places in the code, each from a later one
+abbrev entry : tie.After-slice-known2 Inv-loop μ-loop → tie.Start Inv-loop μ-loop
+entry c = c .before .before .before
+
+abbrev filled : tie.After-slice-known3 Inv-loop μ-loop → tie.After-fill Inv-loop μ-loop
+filled c = c .before .before
+
+abbrev start : tie.At-loop Inv-loop μ-loop → tie.Start Inv-loop μ-loop
+start c = entry (filled (c .before) .before .before .before)
+
+abbrev looked : tie.After-ranges2 Inv-loop μ-loop → tie.After-look Inv-loop μ-loop
+looked c = c .before .before .before
+
+abbrev literal-read : tie.After-look Inv-loop μ-loop → tie.After-literal-at Inv-loop μ-loop
+literal-read c = c .before .before
+
 cast-fill : tie.Need-cast-fill Inv-loop μ-loop
 cast-fill c = omega arith
 
@@ -23,7 +39,7 @@ fill-requires c κs = tt
 
 loop-holds : tie.Need-loop-holds Inv-loop μ-loop
 loop-holds c =
-    let a = c .before .before .before .before .before .before .before .before in (
+    let a = entry (filled c .before .before .before) in (
       first-none-left (a .args .b .now) (a .pre .0) (a .args .ranges .now) (c .before .before .fill .ensures) (a .pre .1),
       next-none-left (a .args .b .now) (a .pre .0) (a .pre .2),
       omega arith,
@@ -34,7 +50,7 @@ sub-i : tie.Need-sub-i Inv-loop μ-loop
 sub-i c = omega arith
 
 literal-at-requires : tie.Need-literal-at-requires Inv-loop μ-loop
-literal-at-requires c κs = (c .before .before .before .before .before .before .before .before .before .before .pre .0, omega (arith, c .before .loop .inv .2))
+literal-at-requires c κs = (start (c .before) .pre .0, omega (arith, c .before .loop .inv .2))
 
 mul-look : tie.Need-mul-look Inv-loop μ-loop
 mul-look c = omega arith
@@ -62,20 +78,20 @@ loop-less c = omega arith
 
 loop-again : tie.Need-loop-again Inv-loop μ-loop
 loop-again c =
-    let head = c .before .before .before .before .before .before .before .before in
-    let a = c .before .before .before .before .before .before .before .before .before .before .before .before .before .before .before .before .before in
+    let head = literal-read (looked (c .before)) .before .before in
+    let a = start head in
     let inside : head .loop .i - 1 < a .args .s .nodes = omega (arith, head .loop .inv .2) in
-    let variable = c .before .before .before .before .before .before .literal-at .ensures .0 in (
+    let variable = literal-read (looked (c .before)) .literal-at .ensures .0 in (
       rw (c .before .before .store .ensures)
           (first-turn (a .args .b .now) (a .pre .0) (omega arith) inside variable (head .loop .inv .0)),
-      next-turn (a .args .b .now) (a .pre .0) (omega arith) inside variable (head .loop .inv .0) (c .before .before .before .before .look .ensures)
+      next-turn (a .args .b .now) (a .pre .0) (omega arith) inside variable (head .loop .inv .0) (looked (c .before) .look .ensures)
           (head .loop .inv .1),
       omega (arith, head .loop .inv .2),
       length-set (head .loop .next) _ _ ∙ head .loop .inv .3,
     )
 
 same-length : tie.Need-same-length Inv-loop μ-loop
-same-length c = c .before .loop .inv .0 .holds ∙ sym (c .before .before .before .before .before .before .before .before .before .before .pre .1)
+same-length c = c .before .loop .inv .0 .holds ∙ sym (start (c .before) .pre .1)
 
 same-length-2 : tie.Need-same-length-2 Inv-loop μ-loop
 same-length-2 c = c .before .loop .inv .3

@@ -7,6 +7,10 @@ use Rattle.occurrences.proofs.TableTurns.{variable-literal, variable-op
 use Rattle.occurrences.proofs.literal_at.Statement.{statement}
 use Rattle.occurrences.proofs.literal_at.Tie as tie
 
+-- places in the code, each from a later one
+abbrev start : tie.Then1 → tie.Start
+start c = c .before .before .before
+
 kind-at-requires : tie.Need-kind-at-requires
 kind-at-requires c κs = search needs
 
@@ -15,7 +19,7 @@ argument-at-requires c κs = search needs
 
 returns : tie.Need-returns
 returns c =
-    let a = c .before .before .before .before .args in
+    let a = start (c .before) .args in
     let kind = c .before .before .kind-at .ensures in (
       c .argument-at .ensures .0 ∙ variable-literal (subtree-in (a .s) (a .b .now) (a .i)) (omega arith),
       c .argument-at .ensures .1,

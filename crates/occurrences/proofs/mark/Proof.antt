@@ -13,11 +13,18 @@ Inv-loop b s ranges₀ i₀ ranges i = Lasts s b i ranges × FirstsKept ranges�
 abbrev μ-loop : tie.MeasureT-loop
 μ-loop b s ranges₀ i₀ ranges i = s .nodes - i
 
+-- places in the code, each from a later one
+abbrev start : tie.At-loop Inv-loop μ-loop → tie.Start Inv-loop μ-loop
+start c = c .before .before .before
+
+abbrev literal-read : tie.After-ranges Inv-loop μ-loop → tie.After-literal-at Inv-loop μ-loop
+literal-read c = c .before .before .before
+
 loop-holds : tie.Need-loop-holds Inv-loop μ-loop
 loop-holds c = let a = c .before .before in (mark-none (a .args .b .now) (a .pre .0) (a .pre .1), λ x. refl, omega arith)
 
 literal-at-requires : tie.Need-literal-at-requires Inv-loop μ-loop
-literal-at-requires c κs = let a = c .before .before .before .before .before in (a .pre .0, c .if1 .taken)
+literal-at-requires c κs = let a = start (c .before .before) in (a .pre .0, c .if1 .taken)
 
 mul-store : tie.Need-mul-store Inv-loop μ-loop
 mul-store c = omega arith
@@ -40,22 +47,22 @@ loop-less c = omega arith
 loop-again : tie.Need-loop-again Inv-loop μ-loop
 loop-again c =
     let stored = c .before .before in
-    let head = c .before .before .before .before .before .before .before in
-    let a = c .before .before .before .before .before .before .before .before .before .before in
-    let x = c .before .before .before .before .literal-at .result in (
+    let head = literal-read (c .before) .before .before .before in
+    let a = start head in
+    let x = stored .before .before .literal-at .result in (
       rw (stored .store .ensures)
-          (mark-turn (a .args .b .now) (a .pre .0) (omega arith) (c .before .before .before .before .before .if1 .taken)
-          (c .before .before .before .before .literal-at .ensures .0) (head .loop .inv .0)),
+          (mark-turn (a .args .b .now) (a .pre .0) (omega arith) (stored .before .before .before .if1 .taken)
+          (stored .before .before .literal-at .ensures .0) (head .loop .inv .0)),
       rw (stored .store .ensures) (kept-turn (a .args .ranges .now) (head .loop .ranges) x (head .loop .i) (head .loop .inv .1)),
       omega arith,
     )
 
 same-length : tie.Need-same-length Inv-loop μ-loop
-same-length c = c .before .before .loop .inv .0 .holds ∙ sym (c .before .before .before .before .before .pre .1)
+same-length c = c .before .before .loop .inv .0 .holds ∙ sym (start (c .before .before) .pre .1)
 
 returns : tie.Need-returns Inv-loop μ-loop
 returns c =
-    let all : c .before .before .loop .i ≡ c .before .before .before .before .before .args .s .nodes = omega (arith, c .before .before .loop .inv .2) in
+    let all : c .before .before .loop .i ≡ start (c .before .before) .args .s .nodes = omega (arith, c .before .before .loop .inv .2) in
     (rw all at (c .before .before .loop .inv .0), c .before .before .loop .inv .1)
 
 pub mark-spec : {M : Type 1} → statement M
