@@ -67,6 +67,12 @@ false-leads e h = absurd (false≢true (sym e ∙ h))
 pub leads-eq : {a b : Bool} → a ≡ b → Leads a b
 leads-eq e h = sym e ∙ h
 
+-- the order is antisymmetric
+pub leads-both : (a b : Bool) → Leads a b → Leads b a → a ≡ b
+leads-both true b h k = sym (h refl)
+leads-both false true h k = k refl
+leads-both false false h k = refl
+
 pub join-leads : (o : Op) (a b c d : Bool) → Leads a b → Leads c d → Leads (join o a c) (join o b d)
 join-leads and true b c d h k e = rw (h refl, k e)
 join-leads and false b c d h k e = absurd (false≢true e)

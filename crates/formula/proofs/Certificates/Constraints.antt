@@ -10,7 +10,7 @@ use borrow.Author.Tests.{eqb-true, eq-eqb}
 use Rattle.formula.specs.Tree.{Op, and, or, Tree, lit, node, Forest, ∅, _▸_}
 use Rattle.formula.specs.Truth.{Assignment, join, unit, eval, eval-all, Ignores}
 use Rattle.formula.specs.Certificates.{Literal, negated, same-literal, Constraint, some-literal, holds, leave-out, needed, settles, settles-each, resolvent}
-use Rattle.formula.proofs.Booleans.{and-parts, or-parts, or-none, or-cases, or-later}
+use Rattle.formula.proofs.Booleans.{and-parts, or-parts, or-none, or-cases, or-later, beq-same}
 use Rattle.formula.proofs.Certificates.Core.{Settles}
 
 -- what a literal says, and what a constraint says: OR of its literals in a clause, AND in a cube
@@ -32,16 +32,10 @@ unit-parts or a b h = or-parts a b h
 
 -- equal literals
 
-beq-eq : (a b : Bool) → Bool·beq a b ≡ true → a ≡ b
-beq-eq true true h = refl
-beq-eq true false h = absurd (false≢true h)
-beq-eq false true h = absurd (false≢true h)
-beq-eq false false h = refl
-
 pub same-literal-eq : (l k : Literal) → same-literal l k ≡ true → l ≡ k
 same-literal-eq l k h =
     let parts = and-parts (Bool·beq (l .sign) (k .sign)) (eqb (l .variable) (k .variable)) h in
-    ap₂ (λ (s : Bool) (v : ℕ). record { sign = s; variable = v }) (beq-eq (l .sign) (k .sign) (parts .0))
+    ap₂ (λ (s : Bool) (v : ℕ). record { sign = s; variable = v }) (beq-same (l .sign) (k .sign) (parts .0))
     (eqb-true (l .variable) (k .variable) (parts .1))
 
 -- literals of one variable are equal or opposite

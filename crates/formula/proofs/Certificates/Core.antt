@@ -1,7 +1,7 @@
 -- The core of certificates, over functions of the assignment: a constraint that settles the matrix may be joined to it with any value put
 -- in for a variable of the other quantifier, if it depends on no variable of its own quantifier behind that one.
 -- Assumes nothing.
-use mathlib.Core.Path.{_≡_, refl, sym, _∙_, ap, ap₂, subst, fun-ext}
+use mathlib.Core.Path.{_≡_, refl, sym, _∙_, ap, ap₂, subst}
 use mathlib.Core.Bool.{Bool, true, false, not, _&&_, _||_, cond, and-true, and-false, or-true, or-false, false≢true, true≢false}
 use mathlib.Core.List.{[], _∷_}
 use Prim.Native.Nat.{ℕ}
@@ -11,7 +11,8 @@ use Rattle.formula.specs.Tree.{Op, and, or, dual, Quantifier, Binding, P
 use Rattle.formula.specs.Truth.{Assignment, put, join, unit, bind, Ignores}
 use Rattle.formula.specs.Expand.{after}
 use Rattle.formula.proofs.Booleans.{join-share, join-self, join-comm, join-assoc, and-parts}
-use Rattle.formula.proofs.Binding.{bind-ext, bind-put, ignores-put}
+use Rattle.formula.proofs.Binding.{bind-ext, bind-put, ignores-put, put-again}
+use Rattle.formula.proofs.Prefixes.{binds-first, binds-later, after-binds}
 
 -- where the constraint has its side's unit, a clause false and a cube true, so has the matrix
 abbrev pub Settles : Op → (Assignment → Bool) → (Assignment → Bool) → Type 0
@@ -84,18 +85,10 @@ later-rows : (z : Binding) (p : Prefix) → distinct (z ∷ p) ≡ true → dist
 unfolding distinct
 later-rows z p d = and-parts (not (binds p (z .variable))) (distinct p) d .1
 
-first-bound : (z : Binding) (p : Prefix) → binds (z ∷ p) (z .variable) ≡ true
-unfolding binds
-first-bound z p = ap (λ (m : Bool). m || binds p (z .variable)) (eq-eqb (z .variable) (z .variable) refl)
-
 first-quantifier : (z : Binding) (p : Prefix) → quantifier-of (z ∷ p) (z .variable) ≡ z .quantifier
 unfolding quantifier-of
 first-quantifier z p =
     ap (λ (m : Bool). cond m (z .quantifier) (quantifier-of p (z .variable))) (eq-eqb (z .variable) (z .variable) refl)
-
-later-bound : (z : Binding) (p : Prefix) (v : ℕ) → binds p v ≡ true → binds (z ∷ p) v ≡ true
-unfolding binds
-later-bound z p v b = ap (_||_ (eqb (z .variable) v)) b ∙ or-true (eqb (z .variable) v)
 
 later-quantifier : (z : Binding) (p : Prefix) (v : ℕ) → distinct (z ∷ p) ≡ true → binds p v ≡ true
     → quantifier-of (z ∷ p) v ≡ quantifier-of p v
@@ -103,16 +96,6 @@ unfolding quantifier-of
 later-quantifier z p v d b =
     ap (λ (m : Bool). cond m (z .quantifier) (quantifier-of p v))
     (ne-eqb (z .variable) v (λ e. false≢true (sym (fresh-row z p d) ∙ ap (binds p) e ∙ b)))
-
-behind-bound : (x v : ℕ) (p : Prefix) → binds (after x p) v ≡ true → binds p v ≡ true
-unfolding binds after
-behind-bound x v [] h = h
-behind-bound x v (z ∷ p) h = by (eqb (z .variable) x) h (behind-bound x v p)
-  where
-    by : (m : Bool) → binds (cond m p (after x p)) v ≡ true → (binds (after x p) v ≡ true → binds p v ≡ true)
-        → (eqb (z .variable) v || binds p v) ≡ true
-    by true k more = ap (_||_ (eqb (z .variable) v)) k ∙ or-true (eqb (z .variable) v)
-    by false k more = ap (_||_ (eqb (z .variable) v)) (more k) ∙ or-true (eqb (z .variable) v)
 
 -- the function ignores the variables that a prefix binds by the quantifier q
 abbrev pub IgnoresOwn : Quantifier → Prefix → Prefix → (Assignment → Bool) → Type 0
@@ -139,11 +122,11 @@ bind-aside o (z ∷ p) m c d i ρ =
     ρ₁ = put ρ (z .variable) true
 
     below : IgnoresOwn o p p c
-    below v b q = i v (later-bound z p v b) (later-quantifier z p v d b ∙ q)
+    below v b q = i v (binds-later z p v b) (later-quantifier z p v d b ∙ q)
 
     own : z .quantifier ≡ o → (b : Bool) → bind p c (put ρ (z .variable) b) ≡ bind p c ρ
     own q b =
-        bind-ignored p c (z .variable) b ρ (fresh-row z p d) (i (z .variable) (first-bound z p) (first-quantifier z p ∙ q))
+        bind-ignored p c (z .variable) b ρ (fresh-row z p d) (i (z .variable) (binds-first z p) (first-quantifier z p ∙ q))
 
     by : (s q : Op) → (q ≡ s → (b : Bool) → bind p c (put ρ (z .variable) b) ≡ bind p c ρ)
         → join q (join (dual s) (bind p m ρ₀) (bind p c ρ₀)) (join (dual s) (bind p m ρ₁) (bind p c ρ₁)) ≡
@@ -154,13 +137,6 @@ bind-aside o (z ∷ p) m c d i ρ =
     by or or same = shared or (bind p m ρ₀) (bind p m ρ₁) (same refl false) (same refl true)
 
 -- the value put in for the first row: both copies are joined with what the constraint says at that value alone
-put-again : (ρ : Assignment) (x : ℕ) (a b : Bool) → put (put ρ x a) x b ≡ put ρ x b
-put-again ρ x a b = fun-ext (λ v. at v (eqb v x))
-  where
-    at : (v : ℕ) (m : Bool) → cond m b (cond m a (ρ v)) ≡ cond m b (ρ v)
-    at v true = refl
-    at v false = refl
-
 module _ (o : Op) (b : Bool) (m c : Assignment → Bool) (s : Settles o c m) where
   joined-first : (z : Binding) (p : Prefix) → distinct (z ∷ p) ≡ true → z .quantifier ≡ dual o → IgnoresOwn o p p c → (ρ : Assignment)
       → bind (z ∷ p) (λ σ. join (dual o) (m σ) (c (put σ (z .variable) b))) ρ ≡ bind (z ∷ p) m ρ
@@ -214,5 +190,5 @@ module _ (o : Op) (b : Bool) (m c : Assignment → Bool) (s : Settles o c m) whe
           (joined-first z p d r (λ v f g. j v f (later-quantifier z p v d f ∙ g)) ρ)
       by false e k r j more =
           let below : (σ : Assignment) → bind p both σ ≡ bind p m σ
-          = more k r (λ v f g. j v f (later-quantifier z p v d (behind-bound x v p f) ∙ g)) in
+          = more k r (λ v f g. j v f (later-quantifier z p v d (after-binds x v p f) ∙ g)) in
           ap₂ (join (z .quantifier)) (below (put ρ (z .variable) false)) (below (put ρ (z .variable) true))

@@ -8,12 +8,11 @@ use native.Mathlib.Omega.{arith}
 use lib.Dec.{eqb}
 use lib.ListN.{length, getD, length-take}
 use borrow.Author.Tests.{eq-eqb, ne-eqb, not-true, not-false, ltb-false}
-use Rattle.formula.specs.Tree.{and, exists, Prefix, Formula, Literals, has, binds, distinct, closed}
+use Rattle.formula.specs.Tree.{and, Prefix, Formula, Literals, has, binds, distinct, closed}
 use Rattle.formula.specs.Truth.{Assignment, put, join, eval, eval-all, bind, truth, Leads}
-use Rattle.formula.specs.Expand.{all-of}
 use Rattle.formula.specs.Outer.{unused}
 use Rattle.formula.specs.Clausal.{conjuncts, named-all, clauses, fresh-names, too-few-names, clausal}
-use Rattle.formula.proofs.Booleans.{and-parts, or-parts, eqb-comm}
+use Rattle.formula.proofs.Booleans.{and-parts, or-parts, eqb-comm, leads-both}
 use Rattle.formula.proofs.Binding.{bind-ext}
 use Rattle.formula.proofs.Evaluation.{eval-same, has-cover}
 use Rattle.formula.proofs.Closed.{unbound}
@@ -23,6 +22,7 @@ use Rattle.formula.proofs.Prefixes.{binds-++, distinct-++}
 use Rattle.formula.proofs.Clausal.Names.{has-conjuncts, has-clauses}
 use Rattle.formula.proofs.Clausal.Sound.{clausal-sound}
 use Rattle.formula.proofs.Clausal.Complete.{named-values-all, length-named-all, clausal-complete}
+use Rattle.formula.proofs.Outer.Truth.{all-existential}
 
 bind-++ : (p q : Prefix) (f : Assignment → Bool) (ρ : Assignment) → bind (p ++ q) f ρ ≡ bind p (λ σ. bind q f σ) ρ
 unfolding bind
@@ -30,17 +30,7 @@ bind-++ [] q f ρ = refl
 bind-++ (z ∷ p) q f ρ =
     ap₂ (join (z .quantifier)) (bind-++ p q f (put ρ (z .variable) false)) (bind-++ p q f (put ρ (z .variable) true))
 
-both-ways : (a b : Bool) → Leads a b → Leads b a → a ≡ b
-both-ways true b h k = sym (h refl)
-both-ways false true h k = k refl
-both-ways false false h k = refl
-
 -- rows of names
-
-all-exist : (ns : List ℕ) → all-of exists (rows-of ns) ≡ true
-unfolding all-of
-all-exist [] = refl
-all-exist (n ∷ ns) = all-exist ns
 
 binds-getD : (ns : List ℕ) (k : ℕ) → k < length ns → binds (rows-of ns) (getD ns k 0) ≡ true
 unfolding binds
@@ -129,11 +119,11 @@ module _ (highest : ℕ) (f : Formula) where
 
     matrix-true : (σ : Assignment) → bind (rows-of ns) (eval-all (clauses fresh 0 (conjuncts (f .matrix))) and) σ ≡ eval (f .matrix) σ
     unfolding new fresh
-    matrix-true σ = both-ways _ _ from-clauses to-clauses
+    matrix-true σ = leads-both _ _ from-clauses to-clauses
       where
         from-clauses : Leads (bind (rows-of ns) (eval-all (clauses fresh 0 (conjuncts (f .matrix))) and) σ) (eval (f .matrix) σ)
         from-clauses h =
-            let w = witness (rows-of ns) (eval-all (clauses fresh 0 (conjuncts (f .matrix))) and) σ (all-exist ns) h in
+            let w = witness (rows-of ns) (eval-all (clauses fresh 0 (conjuncts (f .matrix))) and) σ (all-existential ns) h in
             eval-same new σ (w .0) (λ s v n. sym (w .1 v n)) (f .matrix) none-new ∙ clausal-sound fresh (w .0) (f .matrix) (w .2)
 
         bs : List Bool
@@ -146,7 +136,7 @@ module _ (highest : ℕ) (f : Formula) where
 
         to-clauses : Leads (eval (f .matrix) σ) (bind (rows-of ns) (eval-all (clauses fresh 0 (conjuncts (f .matrix))) and) σ)
         to-clauses h =
-            intro (rows-of ns) (eval-all (clauses fresh 0 (conjuncts (f .matrix))) and) σ (given-values ns bs σ) (all-exist ns)
+            intro (rows-of ns) (eval-all (clauses fresh 0 (conjuncts (f .matrix))) and) σ (given-values ns bs σ) (all-existential ns)
             (given-others ns bs σ)
             (clausal-complete fresh (given-values ns bs σ) σ new (λ s v n. given-others ns bs σ v n) (f .matrix) none-new have h)
 

@@ -23,7 +23,7 @@ use Rattle.formula.proofs.Prefixes.{binds-++, all-of-++, among-++, amon
 
 -- rows put together
 
-all-existential : (ns : List ℕ) → all-of exists (rows-of ns) ≡ true
+pub all-existential : (ns : List ℕ) → all-of exists (rows-of ns) ≡ true
 unfolding all-of
 all-existential [] = refl
 all-existential (n ∷ ns) = all-existential ns

@@ -1,7 +1,7 @@
 -- The claim has the wanted truth exactly if the pairs win, for pairs that cover exactly the side's variables and are in order.
 -- Assumes nothing.
 use mathlib.Core.Path.{_≡_, refl, sym, _∙_, ap, ap₂, fun-ext}
-use mathlib.Core.Bool.{Bool, true, false, not, _&&_, _||_, cond, Bool·beq, or-true, false≢true}
+use mathlib.Core.Bool.{Bool, true, false, not, _&&_, _||_, cond, Bool·beq, or-true}
 use mathlib.Core.List.{[], _∷_}
 use mathlib.Core.Logic.{_↔_}
 use Prim.Native.Nat.{ℕ, suc, _+_, _*_}
@@ -17,7 +17,7 @@ use Rattle.formula.specs.Force.{wanted}
 use Rattle.formula.specs.Strategy.{Pair, Pairs, play, owns, before, Wins, winner, solve-strategy, sets, once, reads, beyond, in-order, WellFormed}
 use Rattle.formula.specs.StrategyMatrix.{pair-trees, strategy-matrix}
 use Rattle.formula.specs.Claim.{negated, negated-all, broken, all-rows, claim}
-use Rattle.formula.proofs.Booleans.{join-unit, join-zero, and-parts, or-parts, eqb-comm}
+use Rattle.formula.proofs.Booleans.{join-unit, join-zero, and-parts, or-parts, eqb-comm, beq-same, beq-refl}
 use Rattle.formula.proofs.Binding.{bind-ext}
 use Rattle.formula.proofs.Evaluation.{eval-same, put-other, has-cover}
 use Rattle.formula.proofs.Closed.{unbound}
@@ -85,16 +85,6 @@ unfoldable pub keeps : Pairs → Assignment → Bool
 keeps [] ρ = true
 keeps (c ∷ g) ρ = Bool·beq (ρ (c .variable)) (eval (c .function) ρ) && keeps g ρ
 
-beq-eq : (a b : Bool) → Bool·beq a b ≡ true → a ≡ b
-beq-eq true true h = refl
-beq-eq true false h = absurd (false≢true h)
-beq-eq false true h = absurd (false≢true h)
-beq-eq false false h = refl
-
-beq-own : (a : Bool) → Bool·beq a a ≡ true
-beq-own true = refl
-beq-own false = refl
-
 -- such an assignment is what the pairs make of it
 play-keeps : (g : Pairs) (ρ : Assignment) → keeps g ρ ≡ true → play g ρ ≡ ρ
 unfolding play keeps
@@ -102,7 +92,7 @@ play-keeps [] ρ h = refl
 play-keeps (c ∷ g) ρ h =
     let parts = and-parts (Bool·beq (ρ (c .variable)) (eval (c .function) ρ)) (keeps g ρ) h in
     ap (λ (σ : Assignment). put σ (c .variable) (eval (c .function) σ)) (play-keeps g ρ (parts .1)) ∙
-    put-same ρ (c .variable) (eval (c .function) ρ) (beq-eq (ρ (c .variable)) (eval (c .function) ρ) (parts .0))
+    put-same ρ (c .variable) (eval (c .function) ρ) (beq-same (ρ (c .variable)) (eval (c .function) ρ) (parts .0))
 
 -- what the claim says of pairs: nothing where the assignment keeps to them, and else the wanted value
 
@@ -248,7 +238,7 @@ keeps-play q p (c ∷ g) n owned o ρ =
     ap₂ _&&_
     (ap₂ Bool·beq (put-own σ x b)
     (eval-same (of x) (put σ x b) σ (put-other x b σ) (c .function) (has-unread q p c g o (λ u. eqb u x) (only own unset))) ∙
-    beq-own b)
+    beq-refl b)
     (keeps-put q p x b own g (head-reads q p c g o .1) unset σ ∙
     keeps-play q p g (parts .1) (λ v k. owned v (ap (λ (m : Bool). eqb x v || m) k ∙ or-true (eqb x v))) (head-reads q p c g o .1) ρ)
   where

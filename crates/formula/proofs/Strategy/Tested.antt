@@ -10,7 +10,7 @@ use borrow.Author.Tests.{eqb-true, eq-eqb}
 use Rattle.formula.specs.Tree.{Quantifier, same-op, Prefix, binds, distinct}
 use Rattle.formula.specs.Strategy.{Pairs, owns, sets, once, owned-all, set-all, is-covering, in-order, WellFormed}
 use Rattle.formula.specs.Inner.Pairs.{in-levels, is-well-formed}
-use Rattle.formula.proofs.Booleans.{and-parts}
+use Rattle.formula.proofs.Booleans.{and-parts, leads-both}
 use Rattle.formula.proofs.Prefixes.{distinct-parts}
 use Rattle.formula.proofs.Strategy.Rows.{owns-other, owns-own, owns-none, owns-unbound}
 use Rattle.formula.proofs.Strategy.Levels.{in-order-levels}
@@ -68,11 +68,6 @@ owns-set q g (z ∷ p) d h = ap₂ _&&_ (here (same-op q (z .quantifier)) refl) 
         (true≢false (sym k ∙ owns-unbound q p x (ap (binds p) (sym (eqb-true (z .variable) x e)) ∙ distinct-parts z p d .0)))
     later x k false e = h x (owns-other q z p x e ∙ k)
 
-same-tests : (a b : Bool) → (a ≡ true → b ≡ true) → (b ≡ true → a ≡ true) → a ≡ b
-same-tests true b h k = sym (h refl)
-same-tests false true h k = k refl
-same-tests false false h k = refl
-
 module _ (q : Quantifier) (p : Prefix) (g : Pairs) (d : distinct p ≡ true) where
   -- exactly the side's variables have a pair, each of them one
   pub covering-tested : (is-covering q p g ≡ true) ↔ (((x : ℕ) → sets g x ≡ owns q p x) × (once g ≡ true))
@@ -81,7 +76,7 @@ module _ (q : Quantifier) (p : Prefix) (g : Pairs) (d : distinct p ≡ true) whe
     λ h. (
         let owned = and-parts (owned-all q p g) (set-all q g p && once g) h in
         let all = and-parts (set-all q g p) (once g) (owned .1) in
-        ((λ x. same-tests (sets g x) (owns q p x) (owned-sets q p g (owned .0) x) (set-owns q g p (all .0) x)), all .1)),
+        ((λ x. leads-both (sets g x) (owns q p x) (owned-sets q p g (owned .0) x) (set-owns q g p (all .0) x)), all .1)),
     λ w. ap₂ _&&_ (sets-owned q p g (λ x k. sym (w .0 x) ∙ k)) (ap₂ _&&_ (owns-set q g p d (λ x k. w .0 x ∙ k)) (w .1)),
   )
 
