@@ -1,4 +1,3 @@
-pub mod Lists
 pub mod Forests
 pub mod Every
 pub mod Numbers

@@ -2,7 +2,7 @@
 -- Assumes nothing.
 use mathlib.Core.Path.{_≡_, refl, sym, _∙_, ap, ap₂, subst}
 use mathlib.Core.Bool.{Bool, true, false, not, _&&_, _||_, cond, false≢true}
-use mathlib.Core.List.{List, [], _∷_, _++_, append-assoc, append-nil, map, flatten, flatMap}
+use mathlib.Core.List.{List, [], _∷_, _++_, append-assoc, append-nil, map, flatten, flatMap, map-append}
 use mathlib.Core.Logic.{⊎-elim}
 use Prim.Native.Nat.{ℕ, zero, suc, _+_, _/_, _%_, _≤_, _<_}
 use native.Mathlib.Omega.{arith}
@@ -30,7 +30,6 @@ use Rattle.sheet.proofs.Qdimacs.Joined.{joined, clauses-all, clauses-bi
 use Rattle.sheet.proofs.Qdimacs.Answers.{accepts}
 use Rattle.sheet.specs.Operations.{holds}
 use Rattle.sheet.proofs.Qdimacs.Accepted.{whole-unquantified, named-++, named-lists}
-use Rattle.sheet.proofs.Lists.{map-++}
 
 -- decimal
 
@@ -174,8 +173,8 @@ tokens-joined : (wss : List (List Bytes)) → map token (flatMap (λ ws. ws ++ z
 unfolding flatMap token is-word unsigned is-nil all magnitude number-from
 tokens-joined [] = refl
 tokens-joined (ws ∷ wss) =
-    map-++ token (ws ++ zero-word ∷ []) (flatMap (λ us. us ++ zero-word ∷ []) wss) ∙
-    ap₂ (λ (k l : List Token). k ++ l) (map-++ token ws (zero-word ∷ []) ∙ ap (λ (t : Token). map token ws ++ t ∷ []) zero-token) (tokens-joined wss)
+    map-append token (ws ++ zero-word ∷ []) (flatMap (λ us. us ++ zero-word ∷ []) wss) ∙
+    ap₂ (λ (k l : List Token). k ++ l) (map-append token ws (zero-word ∷ []) ∙ ap (λ (t : Token). map token ws ++ t ∷ []) zero-token) (tokens-joined wss)
   where
     zero-token : token zero-word ≡ plain 0
     zero-token = refl
@@ -434,7 +433,7 @@ module _ (F : Format) (p : Prefix) (ts : Forest) (w : Within F (record { prefix 
       lists-words (map row-words p ++ clauses-words ts)
       (every-++ (Every IsWord) (map row-words p) (clauses-words ts) (rows-are-words p) (said-clauses .their-words))) ∙
       tokens-joined (map row-words p ++ clauses-words ts) ∙
-      ap joined (map-++ (map token) (map row-words p) (clauses-words ts) ∙ ap (λ (r : List (List Token)). r ++ cs) (tokens-rows p))
+      ap joined (map-append (map token) (map row-words p) (clauses-words ts) ∙ ap (λ (r : List (List Token)). r ++ cs) (tokens-rows p))
 
   lists-read : lists (tokens-below text) ≡ ls
   lists-read = ap lists body-read ∙ lists-joined ls uncut
