@@ -2,7 +2,7 @@
 -- Assumes nothing.
 use mathlib.Core.Path.{_≡_, refl, sym, ap, ap₂, _∙_}
 use mathlib.Core.Bool.{Bool, true, false}
-use mathlib.Core.List.{List, [], _∷_, _++_, append-assoc, map}
+use mathlib.Core.List.{List, [], _∷_, _++_, append-assoc, map, map-append}
 use Prim.Native.Nat.{ℕ, suc, _+_, _-_, _^_, _≤_, _<_}
 use native.Mathlib.Omega.{arith}
 use lib.Dec.{leb}
@@ -33,7 +33,6 @@ use Rattle.rows.proofs.Limits.{limits}
 use Rattle.prefixes.specs.Places.{place}
 use Rattle.prefixes.proofs.Places.{binds-place}
 use Rattle.substitution.specs.Output.{Laid}
-use Rattle.substitution.proofs.Changed.{map-append}
 use Rattle.raw.specs.Formulas.{copying-by, chosen-by, Raw}
 use Rattle.raw.specs.Expansions.{raw-matrix}
 use Rattle.raw.specs.declared.expand.Expansion.{Expansion}

@@ -12,16 +12,26 @@ use Rattle.outer.proofs.Telling.{outer-told}
 use Rattle.outer.proofs.outer.Statement.{statement}
 use Rattle.outer.proofs.outer.Tie as tie
 
+-- places in the code, each from a later one
+abbrev entry : tie.After-tables → tie.Start
+entry c = c .before .before .before
+
+abbrev plan-made : tie.After-cuts2 → tie.After-plan-outer
+plan-made c = c .before .before
+
+abbrev plan-told : tie.After-cuts3 → tie.After-p2
+plan-told c = c .before .before .before
+
 abbrev start : tie.After-plan-outer → tie.Start
-start c = c .before .before .before .before .before
+start c = entry (c .before .before)
 
 -- what is written is planned
 planned : (c : tie.After-p2)
-    → let k = c .before .before .before .before in
+    → let k = plan-made (c .before .before) in
     let a = start k .args in
     OuterPlans (a .f) (a .sheet .now) (a .x) (k .plan-outer .last .1 .1 .1 .0) (k .plan-outer .last .1 .1 .1 .1 .0) (Copies (c .p2 .given .0 .0))
 planned c =
-    let plan = c .before .before .before .before in
+    let plan = plan-made (c .before .before) in
     let a = start plan .args in
     subst (OuterPlans (a .f) (a .sheet .now) (a .x) _ _) (c .p2 .given .1) (plan .plan-outer .ensures)
 
@@ -47,12 +57,12 @@ slice-aggregate-outer-planned-2 : tie.Need-slice-aggregate-outer-planned-2
 slice-aggregate-outer-planned-2 c = search needs
 
 outer-planned-requires : tie.Need-outer-planned-requires
-outer-planned-requires c κs = planned (c .before .before .before .before) .2
+outer-planned-requires c κs = planned (plan-told (c .before)) .2
 
 returns : tie.Need-returns
 returns c =
     let told = c .before in
-    let plan = told .before .before .before .before in
+    let plan = plan-made (told .before .before) in
     let a = start plan .args in
     outer-told (a .f) (a .sheet .now) (a .x) (a .out .now)
     (refused-plan (format-of (a .f)) (a .sheet .now) (a .x) (a .out .now)
@@ -64,8 +74,8 @@ same-length c = search needs
 returns-2 : tie.Need-returns-2
 returns-2 c =
     let carried = c .before .before in
-    let told = carried .before .before .before .before .before in
-    let a = start (told .before .before .before .before) .args in
+    let told = plan-told (carried .before .before) in
+    let a = start (plan-made (told .before .before)) .args in
     let is = planned told in
     outer-told (a .f) (a .sheet .now) (a .x) (a .out .now)
     (carried .outer-planned .ensures ∙ ap₂ (λ (g : Format) (y : ℕ). outer-written (format-of g) (a .sheet .now) y (a .out .now)) (is .0) (is .1))

@@ -7,21 +7,31 @@ use Rattle.outer.proofs.Sheets.{few-raw, writes, raw-written, sheet-wri
 use Rattle.outer.proofs.outer_into.Statement.{statement}
 use Rattle.outer.proofs.outer_into.Tie as tie
 
+-- places in the code, each from a later one
+abbrev entry : tie.After-shared-slice-known3 → tie.Start
+entry c = c .before .before .before
+
+abbrev entered : tie.After-write-outer-arg → tie.After-slice-known
+entered c = c .before .before .before
+
+abbrev wrote-outer : tie.After-tidy-in-place-arg → tie.After-write-outer
+wrote-outer c = c .before .before .before
+
 -- the raw sheet is written, then tidied
 abbrev start : tie.After-write-outer → tie.Start
-start c = c .before .before .before .before .before .before .before .before .before
+start c = entry (entered (c .before .before) .before)
 
 abbrev raw : tie.After-tidy-in-place → tie.After-write-outer
-raw c = c .before .before .before .before
+raw c = wrote-outer (c .before)
 
 slice-aggregate-write-outer : tie.Need-slice-aggregate-write-outer
 slice-aggregate-write-outer c =
-    let a = c .before .before .before .before .before .before .before in
+    let a = entry (entered c .before) in
     sym (length-take-le (a .args .w .survey .cuts) (a .args .cuts .now) (a .pre .planned .surveyed .few-cuts))
 
 write-outer-requires : tie.Need-write-outer-requires
 write-outer-requires c κs =
-    let a = c .before .before .before .before .before .before .before .before in
+    let a = entry (entered (c .before) .before) in
     writes (a .pre) (a .args .out .now) refl
 
 tidy-in-place-requires : tie.Need-tidy-in-place-requires

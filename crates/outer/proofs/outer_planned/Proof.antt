@@ -5,11 +5,18 @@ use Rattle.outer.proofs.Sheets.{few-raw, no-room, fitting, copied-call}
 use Rattle.outer.proofs.outer_planned.Statement.{statement}
 use Rattle.outer.proofs.outer_planned.Tie as tie
 
+-- places in the code, each from a later one
+abbrev entry : tie.After-shared-slice-known3 → tie.Start
+entry c = c .before .before .before
+
+abbrev entered : tie.After-fits2 → tie.After-slice-known
+entered c = c .before .before .before
+
 abbrev start : tie.After-fits2 → tie.Start
-start c = c .before .before .before .before .before .before .before
+start c = entry (entered c .before)
 
 fits-requires : tie.Need-fits-requires
-fits-requires c κs = few-raw (c .before .before .before .before .before .before .pre)
+fits-requires c κs = few-raw (entry (c .before .before .before) .pre)
 
 returns : tie.Need-returns
 returns c =

@@ -9,6 +9,10 @@ use borrow.Author.Needs.{needs}
 use Rattle.outer.proofs.chain.is_chosen.Statement.{statement}
 use Rattle.outer.proofs.chain.is_chosen.Tie as tie
 
+-- places in the code, each from a later one
+abbrev start : tie.After-literal-at → tie.Start
+start c = c .before .before .before
+
 literal-at-requires : tie.Need-literal-at-requires
 literal-at-requires c κs = search needs
 
@@ -17,7 +21,7 @@ entry-requires c κs = search needs
 
 returns : tie.Need-returns
 returns c =
-    let a = c .before .before .before .before in
+    let a = start (c .before) in
     let v = c .before .literal-at .ensures .0 in
     let t = a .args .table .now in
     ap (λ e. not (eqb e (c .before .literal-at .result))) (c .entry .ensures) ∙ ap (λ n. not (eqb (entry t n) n)) v ∙

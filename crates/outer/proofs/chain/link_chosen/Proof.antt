@@ -15,6 +15,13 @@ Inv-loop b s table next₀ none r₀ i₀ next r i = Linking (chosen table) s b 
 abbrev μ-loop : tie.MeasureT-loop
 μ-loop b s table next₀ none r₀ i₀ next r i = i
 
+-- places in the code, each from a later one
+abbrev start : tie.After-slice-known Inv-loop μ-loop → tie.Start Inv-loop μ-loop
+start c = c .before .before .before
+
+abbrev turn : tie.After-with-row Inv-loop μ-loop → tie.In-loop Inv-loop μ-loop
+turn c = c .before .before .before
+
 loop-holds : tie.Need-loop-holds Inv-loop μ-loop
 loop-holds c =
     let a = c .before .before .before in
@@ -25,11 +32,11 @@ sub-i c = omega arith
 
 cast-next : tie.Need-cast-next Inv-loop μ-loop
 cast-next c =
-    omega (arith, c .before .before .loop .inv .0 .within, c .before .before .before .before .before .before .pre .0 .few-nodes)
+    omega (arith, c .before .before .loop .inv .0 .within, start (c .before .before .before) .pre .0 .few-nodes)
 
 mul-next : tie.Need-mul-next Inv-loop μ-loop
 mul-next c =
-    omega (arith, c .before .before .loop .inv .1, c .before .before .before .before .before .before .pre .0 .few-nodes)
+    omega (arith, c .before .before .loop .inv .1, start (c .before .before .before) .pre .0 .few-nodes)
 
 slice-write-next : tie.Need-slice-write-next Inv-loop μ-loop
 slice-write-next c =
@@ -37,7 +44,7 @@ slice-write-next c =
 
 is-chosen-requires : tie.Need-is-chosen-requires Inv-loop μ-loop
 is-chosen-requires c κs =
-    (c .before .before .before .before .before .before .pre .0, omega (arith, c .before .before .loop .inv .1), c .before .before .before .before .before .before .pre .1)
+    (start (c .before .before .before) .pre .0, omega (arith, c .before .before .loop .inv .1), start (c .before .before .before) .pre .1)
 
 with-row-requires : tie.Need-with-row-requires Inv-loop μ-loop
 with-row-requires c κs = tt
@@ -47,8 +54,8 @@ loop-less c = omega arith
 
 loop-again : tie.Need-loop-again Inv-loop μ-loop
 loop-again c =
-    let a = c .before .before .before .before .before .before .before .before in
-    let l = c .before .before .before .before .loop in
+    let a = start (turn c .before .before) in
+    let l = turn c .before .loop in
     let inside : l .i - 1 < a .args .s .nodes = omega (arith, l .inv .1) in (
       subst (Linking (chosen (a .args .table .now)) (a .args .s) (a .args .b .now) (l .i - 1) _) (sym (c .with-row .ensures))
           (linking-turn (chosen (a .args .table .now)) (a .args .b .now) (a .pre .0) (omega arith) inside (l .inv .0) (c .before .is-chosen .ensures)),
@@ -62,7 +69,7 @@ same-length c =
 
 returns : tie.Need-returns Inv-loop μ-loop
 returns c =
-    let a = c .before .before .before .before .before in
+    let a = start (c .before .before) in
     let l = c .before .loop in
     let all : l .i ≡ 0 = omega arith in
     linked-all (chosen (a .args .table .now)) (a .args .b .now) (a .pre .0) (rw all at (l .inv .0))

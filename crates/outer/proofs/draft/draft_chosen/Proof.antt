@@ -11,15 +11,25 @@ use Rattle.outer.proofs.Drafting.{part-absent, chain-here, part-present
 use Rattle.outer.proofs.draft.draft_chosen.Statement.{statement}
 use Rattle.outer.proofs.draft.draft_chosen.Tie as tie
 
+-- places in the code, each from a later one
+abbrev entry : tie.After-shared-slice-known3 → tie.Start
+entry c = c .before .before .before
+
+abbrev entered : tie.After-link-chosen → tie.After-slice-known
+entered c = c .before .before .before
+
+abbrev chosen-linked : tie.After-struct-known → tie.After-link-chosen
+chosen-linked c = c .before .before .before
+
 -- the literals are linked
 abbrev start : tie.After-link-chosen → tie.Start
-start c = c .before .before .before .before .before .before .before
+start c = entry (entered c .before)
 
 abbrev L : tie.After-link-chosen → Literals
 L c = chosen (start c .args .table .now)
 
 abbrev linked : tie.Joined1 → tie.After-link-chosen
-linked c = c .before .before .before .before .before
+linked c = chosen-linked (c .before .before)
 
 -- the relevant subtree, if there is one
 part-is : (c : tie.Joined1)
@@ -39,7 +49,7 @@ link-chosen-requires c κs = search needs
 
 relevant-subtree-requires : tie.Need-relevant-subtree-requires
 relevant-subtree-requires c κs =
-    let k = c .before .before .before .before .before .before in
+    let k = chosen-linked (c .before .before .before) in
     let a = start k in
     record {
       indexed = a .pre .0;

@@ -6,6 +6,10 @@ use borrow.Author.Needs.{needs}
 use Rattle.outer.proofs.plan.find_dependents.Statement.{statement}
 use Rattle.outer.proofs.plan.find_dependents.Tie as tie
 
+-- places in the code, each from a later one
+abbrev one-block : tie.After-fill-dependents-arg → tie.Else1
+one-block c = c .before .before .before
+
 slice-aggregate-fill-occurrences : tie.Need-slice-aggregate-fill-occurrences
 slice-aggregate-fill-occurrences c = search needs
 
@@ -40,7 +44,7 @@ same-length c = search needs
 returns-2 : tie.Need-returns-2
 returns-2 c =
     let fill = c .before .before in
-    let out = fill .before .before .before .before in
+    let out = one-block (fill .before) in
     let test = out .before .one-block-out in
     (sym (not-false (test .result) (out .if1 .left)) ∙ test .ensures, λ h. fill .fill-dependents .ensures)
 

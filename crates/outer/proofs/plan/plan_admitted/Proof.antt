@@ -14,8 +14,27 @@ use Rattle.outer.proofs.Deciding.{Counted, located, second-size, distin
 use Rattle.outer.proofs.plan.plan_admitted.Statement.{statement}
 use Rattle.outer.proofs.plan.plan_admitted.Tie as tie
 
+-- places in the code, each from a later one
+abbrev entry : tie.After-slice-known → tie.Start
+entry c = c .before .before .before
+
+abbrev entered : tie.After-find-dependents → tie.After-slice-known2
+entered c = c .before .before .before
+
+abbrev few-enough : tie.After-set5 → tie.Else2
+few-enough c = c .before .before .before
+
+abbrev tables-filled : tie.After-struct-known2 → tie.After-fill-tables
+tables-filled c = c .before .before .before
+
+abbrev tables-back : tie.After-draft-chosen → tie.After-tables2
+tables-back c = c .before .before .before
+
+abbrev chosen-drafted : tie.After-survey-draft-arg → tie.After-draft-chosen
+chosen-drafted c = c .before .before .before
+
 abbrev start : tie.After-find-dependents → tie.Start
-start c = c .before .before .before .before .before .before .before
+start c = entry (entered c .before)
 
 -- the variable is one block out
 abbrev out : tie.Else1 → tie.After-find-dependents
@@ -54,18 +73,18 @@ abbrev begin : tie.Else2 → tie.Start
 begin c = start (out (one-out (numbered c)))
 
 abbrev enough : tie.After-fill-tables → tie.Else2
-enough c = c .before .before .before .before .before
+enough c = few-enough (c .before .before)
 
 -- the expansion is drafted
 abbrev filled : tie.After-draft-chosen → tie.After-fill-tables
-filled c = c .before .before .before .before .before .before .before
+filled c = tables-filled (tables-back c .before)
 
 slice-aggregate-find-dependents : tie.Need-slice-aggregate-find-dependents
 slice-aggregate-find-dependents c = search needs
 
 find-dependents-requires : tie.Need-find-dependents-requires
 find-dependents-requires c κs =
-    let a = c .before .before .before .before .before .before in
+    let a = entry (c .before .before .before) in
     (a .pre .0 .indexed, located (a .args .t) (a .pre .0), search needs)
 
 returns : tie.Need-returns
@@ -105,7 +124,7 @@ slice-aggregate-fill-tables c = search needs
 
 fill-tables-requires : tie.Need-fill-tables-requires
 fill-tables-requires c κs =
-    let e = c .before .before .before .before in
+    let e = few-enough (c .before) in
     let a = begin e in
     let d = a .pre .0 in
     let k = counted (numbered e) in
@@ -129,7 +148,7 @@ sub-draft-chosen c =
 
 part-draft-chosen-start : tie.Need-part-draft-chosen-start
 part-draft-chosen-start c =
-    let k = c .before .before .before .before in
+    let k = tables-filled (c .before) in
     omega (arith, begin (enough k) .pre .1, k .fill-tables .kept .1 .1 .1 .1 .1 .0)
 
 part-draft-chosen-end : tie.Need-part-draft-chosen-end
@@ -140,7 +159,7 @@ slice-aggregate-draft-chosen c = search needs
 
 draft-chosen-requires : tie.Need-draft-chosen-requires
 draft-chosen-requires c κs =
-    let k = c .before .before .before .before .before .before in
+    let k = tables-filled (c .before .before .before) in
     let a = begin (enough k) in (
       a .pre .0 .indexed,
       second-size (a .args .t .variable) _ _ (k .fill-tables .ensures),
@@ -165,7 +184,7 @@ same-length-2 c = search needs
 returns-3 : tie.Need-returns-3
 returns-3 c =
     let surveyed = c .before .before in
-    let drafted = surveyed .before .before .before .before in
+    let drafted = chosen-drafted (surveyed .before) in
     let fill = filled drafted in
     let e = enough fill in
     let a = begin e in

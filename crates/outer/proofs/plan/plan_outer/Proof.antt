@@ -9,8 +9,18 @@ use Rattle.outer.proofs.Deciding.{refused-before}
 use Rattle.outer.proofs.plan.plan_outer.Statement.{statement}
 use Rattle.outer.proofs.plan.plan_outer.Tie as tie
 
+-- places in the code, each from a later one
+abbrev entry : tie.After-slice-known2 → tie.Start
+entry c = c .before .before .before
+
+abbrev admission-told : tie.After-plan-admitted-arg → tie.After-a2
+admission-told c = c .before .before .before
+
+abbrev planned : tie.After-cuts → tie.After-plan-admitted
+planned c = c .before .before .before
+
 abbrev start : tie.After-admit → tie.Start
-start c = c .before .before .before .before .before
+start c = entry (c .before .before)
 
 -- tests 1 to 10 admit the variable
 admitted : (c : tie.After-a2)
@@ -38,7 +48,7 @@ slice-aggregate-plan-admitted c = search needs
 
 plan-admitted-requires : tie.Need-plan-admitted-requires
 plan-admitted-requires c κs =
-    let told = c .before .before .before .before in
+    let told = admission-told (c .before) in
     let a = start (told .before .before .before) in
     (admitted told .2, a .pre .0, a .pre .1)
 
@@ -57,8 +67,8 @@ same-length-2 c = search needs
 
 returns-2 : tie.Need-returns-2
 returns-2 c =
-    let plan = c .before .before .before .before in
-    let told = plan .before .before .before .before .before in
+    let plan = planned (c .before) in
+    let told = admission-told (plan .before .before) in
     let b = start (told .before .before .before) .args .sheet .now in
     let is = admitted told in
     let r = plan .plan-admitted in

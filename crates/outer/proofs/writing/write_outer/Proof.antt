@@ -13,16 +13,29 @@ use Rattle.outer.proofs.Written.{written-by}
 use Rattle.outer.proofs.writing.write_outer.Statement.{statement}
 use Rattle.outer.proofs.writing.write_outer.Tie as tie
 
+-- places in the code, each from a later one
+abbrev entry : tie.After-shared-slice-known3 → tie.Start
+entry c = c .before .before .before
+
+abbrev entered : tie.After-write-prefix → tie.After-slice-known
+entered c = c .before .before .before
+
+abbrev prefix-written : tie.After-write-all-copied-arg → tie.After-write-prefix
+prefix-written c = c .before .before .before
+
+abbrev copied-written : tie.After-write-matrix-arg → tie.After-write-all-copied
+copied-written c = c .before .before .before
+
 -- the prefix is written, then the rows of the copies
 abbrev start : tie.After-write-prefix → tie.Start
-start c = c .before .before .before .before .before .before .before
+start c = entry (entered c .before)
 
 abbrev closing : tie.After-write-all-copied → tie.After-write-prefix
-closing c = c .before .before .before .before .before
+closing c = prefix-written (c .before .before)
 
 write-prefix-requires : tie.Need-write-prefix-requires
 write-prefix-requires c κs =
-    let a = c .before .before .before .before .before .before in
+    let a = entry (c .before .before .before) in
     (a .pre .copyable .readable, ready-raw (a .pre .copyable), a .pre .in-prefix, omega (arith, a .pre .variables-are))
 
 sub-write-all-copied : tie.Need-sub-write-all-copied
@@ -36,7 +49,7 @@ part-write-all-copied-end c = search needs
 
 write-all-copied-requires : tie.Need-write-all-copied-requires
 write-all-copied-requires c κs =
-    let front = c .before .before .before .before in
+    let front = prefix-written (c .before) in
     let a = start front in
     let copies = ap (λ t. length (rows-from t (prefix-in (a .args .s) (a .args .b .now)))) (rest-of 1025 (a .args .tables .now)) in (
       a .pre .copyable .readable,
@@ -56,7 +69,7 @@ same-length c = search needs
 returns : tie.Need-returns
 returns c =
     let matrix = c .before .before in
-    let closed = matrix .before .before .before .before in
+    let closed = copied-written (matrix .before) in
     let front = closing closed in
     let a = start front in
     let copies = ap (λ t. length (rows-from t (prefix-in (a .args .s) (a .args .b .now)))) (rest-of 1025 (a .args .tables .now)) in
