@@ -11,6 +11,10 @@ use borrow.Author.Needs.{needs}
 use Rattle.tidying.proofs.tidy_checked.Statement.{statement}
 use Rattle.tidying.proofs.tidy_checked.Tie as tie
 
+-- places in the code, each from a later one
+abbrev asked : tie.After-tidy-into → tie.After-slice-known
+asked c = c .before .before .before
+
 returns : tie.Need-returns
 returns c =
     let a = c .before .before .before in
@@ -20,7 +24,7 @@ tidy-into-requires : tie.Need-tidy-into-requires
 tidy-into-requires c κs = search needs
 
 abbrev start : tie.After-tidy-into → tie.Start
-start c = c .before .before .before .before .before
+start c = asked c .before .before
 
 sheet-length-requires : tie.Need-sheet-length-requires
 sheet-length-requires c κs =

@@ -4,11 +4,18 @@ use borrow.Author.Needs.{needs}
 use Rattle.tidying.proofs.tidy_into.Statement.{statement}
 use Rattle.tidying.proofs.tidy_into.Tie as tie
 
+-- places in the code, each from a later one
+abbrev known : tie.After-copy-front → tie.After-slice-known
+known c = c .before .before
+
+abbrev copied : tie.After-tidy-in-place-arg → tie.After-copy-front
+copied c = c .before .before .before
+
 copy-front-requires : tie.Need-copy-front-requires
 copy-front-requires c κs = search needs
 
 abbrev start : tie.After-copy-front → tie.Start
-start c = c .before .before .before .before
+start c = known c .before .before
 
 tidy-in-place-requires : tie.Need-tidy-in-place-requires
 tidy-in-place-requires c κs =
@@ -22,7 +29,7 @@ same-length c = search needs
 returns : tie.Need-returns
 returns c =
     let tidied = c .before .before in
-    let copied = tidied .before .before .before .before in
+    let copied = copied (tidied .before) in
     let a = start copied in
     let e = copied .copy-front .ensures in
     let t = tidied .tidy-in-place .ensures in (

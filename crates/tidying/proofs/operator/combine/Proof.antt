@@ -7,19 +7,47 @@ use borrow.Author.Needs.{needs}
 use Rattle.tidying.proofs.operator.combine.Statement.{statement}
 use Rattle.tidying.proofs.operator.combine.Tie as tie
 
+-- places in the code, each from a later one
+abbrev known : tie.After-slice-known4 → tie.After-slice-known
+known c = c .before .before .before
+
+abbrev told : tie.After-kind-at-arg → tie.After-slice-known4
+told c = c .before .before .before
+
+abbrev asking : tie.After-gather-arg4 → tie.After-gather-arg
+asking c = c .before .before .before
+
+abbrev heads-back : tie.After-heads → tie.After-gather
+heads-back c = c .before .before .before
+
+abbrev links-back : tie.After-slice-known8 → tie.After-heads
+links-back c = c .before .before .before
+
+abbrev hollowing : tie.After-hollow → tie.After-known-told
+hollowing c = c .before .before .before
+
+abbrev hollowed : tie.After-known → tie.After-hollow
+hollowed c = c .before .before .before
+
+abbrev concluding : tie.After-conclude-arg3 → tie.After-known-told2
+concluding c = c .before .before .before
+
+abbrev concluded : tie.After-known2 → tie.After-conclude
+concluded c = c .before .before .before
+
 -- what has been read of the row, and the arguments
 abbrev argued-of : tie.After-gather → tie.After-argument-at
-argued-of g = g .before .before .before .before .before .before
+argued-of g = asking (g .before .before) .before
 
 abbrev test-of : tie.After-argument-at → tie.Else1
 test-of c = c .before .before
 
 abbrev start-of : tie.Else1 → tie.Start
-start-of c = c .before .before .before .before .before .before .before .before .before
+start-of c = known (told (c .before .before)) .before
 
 -- the children gathered, seen from the two arms
 abbrev gathered : tie.After-slice-known9 → tie.After-gather
-gathered k = k .before .before .before .before .before .before .before .before
+gathered k = heads-back (links-back (k .before .before))
 
 abbrev decided-by : tie.After-end → tie.After-gather
 decided-by c = gathered (c .before .before)
@@ -44,7 +72,7 @@ argument-at-requires c κs = search needs
 
 gather-requires : tie.Need-gather-requires
 gather-requires c κs =
-    let argued = c .before .before .before .before .before in
+    let argued = asking (c .before) .before in
     let test = test-of argued in
     let a = start-of test in
     record {
@@ -82,7 +110,7 @@ enum-known-end-2 c = search needs
 
 conclude-requires : tie.Need-conclude-requires
 conclude-requires c κs =
-    let told = c .before .before .before .before in
+    let told = concluding c .before in
     let g = left-by told in
     let argued = argued-of g in
     let test = test-of argued in
@@ -122,8 +150,8 @@ same-length-6 c = search needs
 
 returns-2 : tie.Need-returns-2
 returns-2 c =
-    let h = c .before .before .before .before in
-    let told = h .before .before .before .before in
+    let h = hollowed (c .before) in
+    let told = hollowing h .before in
     let g = decided-by told in
     let argued = argued-of g in
     let test = test-of argued in
@@ -148,8 +176,8 @@ same-length-11 c = search needs
 
 returns-3 : tie.Need-returns-3
 returns-3 c =
-    let h = c .before .before .before .before in
-    let told = h .before .before .before .before .before in
+    let h = concluded (c .before) in
+    let told = concluding (h .before) .before in
     let g = left-by told in
     let argued = argued-of g in
     let test = test-of argued in

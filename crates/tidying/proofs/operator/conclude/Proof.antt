@@ -9,12 +9,34 @@ use borrow.Author.Needs.{needs}
 use Rattle.tidying.proofs.operator.conclude.Statement.{statement}
 use Rattle.tidying.proofs.operator.conclude.Tie as tie
 
+-- places in the code, each from a later one
+abbrev known : tie.After-s → tie.After-slice-known
+known c = c .before .before .before
+
+abbrev start : tie.After-s → tie.Start
+start c = known c .before
+
+abbrev one-asked : tie.After-set-row-arg2 → tie.Else1
+one-asked c = c .before .before
+
+abbrev one-written : tie.After-slice-known6 → tie.After-set-row-arg2
+one-written c = c .before .before .before
+
+abbrev only-written : tie.After-b2 → tie.After-row-of
+only-written c = c .before .before .before
+
+abbrev emptied : tie.After-known → tie.After-hollow
+emptied c = c .before .before .before
+
+abbrev hollowing : tie.After-hollow → tie.Then1
+hollowing c = c .before .before .before
+
 -- the arguments, seen from the branches of a lone child and of more
 abbrev start-of : tie.Then2 → tie.Start
-start-of c = c .before .before .before .before .before .before
+start-of c = start (c .before .before)
 
 abbrev many-of : tie.After-slice-known6 → tie.Start
-many-of c = c .before .before .before .before .before .before .before .before .before .before
+many-of c = start (one-asked (one-written c) .before)
 
 hollow-requires : tie.Need-hollow-requires
 hollow-requires c κs = search needs
@@ -27,9 +49,9 @@ same-length-2 c = search needs
 
 returns : tie.Need-returns
 returns c =
-    let h = c .before .before .before .before .hollow .ensures in
-    let test = c .before .before .before .before .before .before .before in
-    let a = test .before .before .before .before .before in
+    let h = emptied (c .before) .hollow .ensures in
+    let test = hollowing (emptied (c .before)) in
+    let a = start (test .before) in
     (concludes-none (a .pre .there .members-fit) (test .if1 .taken) (h .0), h .1)
 
 member-requires : tie.Need-member-requires
@@ -65,7 +87,7 @@ same-length-3 c = search needs
 
 returns-2 : tie.Need-returns-2
 returns-2 c =
-    let got = c .before .before .before .before in
+    let got = only-written (c .before) in
     let test = got .before .before in
     (concludes-one (start-of test .pre .there .members-fit) (test .if2 .taken) (row-is got) (c .before .before .set-row .ensures .0), λ j l. refl)
 

@@ -9,6 +9,13 @@ use borrow.Author.Needs.{needs}
 use Rattle.tidying.proofs.operator.hollow.Statement.{statement}
 use Rattle.tidying.proofs.operator.hollow.Tie as tie
 
+-- places in the code, each from a later one
+abbrev known : tie.After-set-row → tie.After-slice-known
+known c = c .before .before .before
+
+abbrev written : tie.After-from-byte → tie.After-set-row
+written c = c .before .before .before
+
 sub-set-row : tie.Need-sub-set-row
 sub-set-row c = search needs
 
@@ -43,10 +50,10 @@ sub-set-row-3 : tie.Need-sub-set-row-3
 sub-set-row-3 c = search needs
 
 abbrev first-of : tie.After-known-of → tie.After-set-row
-first-of k = k .before .before .before .before
+first-of k = written (k .before)
 
 abbrev start-of : tie.After-set-row → tie.Start
-start-of w = w .before .before .before .before
+start-of w = known w .before
 
 -- the table's entry is that of an operator without children
 entry-is : (k : tie.After-known-of) →

@@ -20,12 +20,34 @@ Inv-loop b₀ s heads₀ links₀ members₀ known₀ r₀ b heads links members
 abbrev μ-loop : tie.MeasureT-loop
 μ-loop b₀ s heads₀ links₀ members₀ known₀ r₀ b heads links members known r = r
 
+-- places in the code, each from a later one
+abbrev known : tie.After-slice-known4 Inv-loop μ-loop → tie.After-slice-known Inv-loop μ-loop
+known c = c .before .before .before
+
+abbrev start : tie.After-struct-known Inv-loop μ-loop → tie.Start Inv-loop μ-loop
+start c = known (c .before .before) .before
+
+abbrev turned : tie.Then1 Inv-loop μ-loop → tie.After-struct-known Inv-loop μ-loop
+turned c = c .before .before .before
+
+abbrev asking : tie.After-combine-arg4 Inv-loop μ-loop → tie.After-combine-arg Inv-loop μ-loop
+asking c = c .before .before .before
+
+abbrev heads-back : tie.After-heads Inv-loop μ-loop → tie.After-combine Inv-loop μ-loop
+heads-back c = c .before .before .before
+
+abbrev links-back : tie.After-slice-known8 Inv-loop μ-loop → tie.After-heads Inv-loop μ-loop
+links-back c = c .before .before .before
+
+abbrev known-back : tie.After-known Inv-loop μ-loop → tie.After-slice-known8 Inv-loop μ-loop
+known-back c = c .before .before .before
+
 add-r : tie.Need-add-r Inv-loop μ-loop
 add-r c = search needs
 
 loop-holds : tie.Need-loop-holds Inv-loop μ-loop
 loop-holds c =
-    let a = c .before .before .before .before .before .before in
+    let a = start c in
     (omega arith, omega arith, back-none _ _ _ (length-rows-in (a .args .b .now) (a .pre .0 .room)), refl, refl, refl, refl, refl)
 
 sub-r : tie.Need-sub-r Inv-loop μ-loop
@@ -33,9 +55,9 @@ sub-r c = omega arith
 
 combine-requires : tie.Need-combine-requires Inv-loop μ-loop
 combine-requires c κs =
-    let l = c .before .before .before .before .before in
+    let l = asking (c .before) .before in
     let i = l .before .before .loop .inv in
-    let a = l .before .before .before .before .before .before .before .before .before in
+    let a = start (turned l) in
     let counted = length-rows-in (a .args .b .now) (a .pre .0 .room) in
     let rows = rows-in (a .args .s) (a .args .b .now) in (
       in-place-as (i .3) (i .7) (a .pre .0),
@@ -48,10 +70,10 @@ loop-less c = omega arith
 
 loop-again : tie.Need-loop-again Inv-loop μ-loop
 loop-again c =
-    let combined = c .before .before .before .before .before .before .before .before .before .before in
-    let l = combined .before .before .before .before .before .before in
+    let combined = heads-back (links-back (known-back (c .before))) in
+    let l = asking (combined .before .before) .before in
     let i = l .before .before .loop .inv in
-    let a = l .before .before .before .before .before .before .before .before .before in
+    let a = start (turned l) in
     let counted = length-rows-in (a .args .b .now) (a .pre .0 .room) in
     let rows = rows-in (a .args .s) (a .args .b .now) in
     let kept = combined .combine .kept in (

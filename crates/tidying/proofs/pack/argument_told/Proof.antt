@@ -7,6 +7,10 @@ use borrow.Author.Needs.{needs}
 use Rattle.tidying.proofs.pack.argument_told.Statement.{statement}
 use Rattle.tidying.proofs.pack.argument_told.Tie as tie
 
+-- places in the code, each from a later one
+abbrev start : tie.After-kind-at → tie.Start
+start c = c .before .before .before
+
 kind-at-requires : tie.Need-kind-at-requires
 kind-at-requires c κs = search needs
 
@@ -16,7 +20,7 @@ argument-at-requires c κs = search needs
 returns : tie.Need-returns
 returns c =
     let test = c .before in
-    let a = test .before .before .before .before in
+    let a = start (test .before) in
     told-literal (rows-in (a .args .s) (a .args .b .now)) (test .before .kind-at .ensures) (a .args .known .now) (test .if1 .taken) (c .argument-at .ensures .0)
 
 mul-large : tie.Need-mul-large
@@ -35,7 +39,7 @@ returns-2 : tie.Need-returns-2
 returns-2 c =
     let read = c .before in
     let test = read .before .before in
-    let a = test .before .before .before .before in
+    let a = start (test .before) in
     told-operator (rows-in (a .args .s) (a .args .b .now)) (test .before .kind-at .ensures) (a .args .known .now) (test .if1 .left)
     (c .children-of .ensures ∙ ap children-of (read .large .ensures .0))
 

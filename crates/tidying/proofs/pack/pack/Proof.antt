@@ -18,6 +18,13 @@ Inv-loop b₀ s known at₀ to₀ b at to = Pack (rows-in s b₀) (rows-in s b) 
 abbrev μ-loop : tie.MeasureT-loop
 μ-loop b₀ s known at₀ to₀ b at to = total s - at
 
+-- places in the code, each from a later one
+abbrev start : tie.At-loop Inv-loop μ-loop → tie.Start Inv-loop μ-loop
+start c = c .before .before .before
+
+abbrev put : tie.After-b Inv-loop μ-loop → tie.After-stride-at Inv-loop μ-loop
+put c = c .before .before .before
+
 loop-holds : tie.Need-loop-holds Inv-loop μ-loop
 loop-holds c = (pack-none (c .before .before .pre .1), refl)
 
@@ -26,7 +33,7 @@ add-if1 c = search needs
 
 -- the rows at a turn are as many as at first
 counted : (c : tie.Then1 Inv-loop μ-loop)
-    → total (c .before .before .before .before .before .args .s) ≤ length (rows-in (c .before .before .before .before .before .args .s) (c .before .before .loop .b))
+    → total (start (c .before .before) .args .s) ≤ length (rows-in (start (c .before .before) .args .s) (c .before .before .loop .b))
 counted c =
     let l = c .before .before in
     omega (arith, length-rows-in (l .loop .b) (room-as (l .loop .inv .1) (l .before .before .before .pre .0 .room)))
@@ -49,12 +56,12 @@ put-live-requires c κs =
 
 add-at : tie.Need-add-at Inv-loop μ-loop
 add-at c =
-    let stepped = c .before .before .before .before in
+    let stepped = put (c .before) in
     omega (arith, stepped .before .before .if1 .taken, stepped .stride-at .ensures .1)
 
 loop-less : tie.Need-loop-less Inv-loop μ-loop
 loop-less c =
-    let stepped = c .before .before .before .before in
+    let stepped = put (c .before) in
     let t = stepped .before .before in
     let l = t .before .before in
     let safe = pack-safe (l .loop .inv .0) (t .if1 .taken) (counted t) (l .before .before .before .pre .1) in

@@ -10,16 +10,38 @@ use borrow.Author.Needs.{needs}
 use Rattle.tidying.proofs.tables.tidy_by.Statement.{statement}
 use Rattle.tidying.proofs.tables.tidy_by.Tie as tie
 
+-- places in the code, each from a later one
+abbrev known : tie.After-slice-known4 → tie.After-slice-known
+known c = c .before .before .before
+
+abbrev asking : tie.After-tidy-each-arg3 → tie.After-slice-known4
+asking c = c .before .before .before
+
+abbrev start : tie.After-tidy-each-arg5 → tie.Start
+start c = known (asking (c .before .before)) .before
+
+abbrev links-back : tie.After-links → tie.After-tidy-each
+links-back c = c .before .before .before
+
+abbrev known-back : tie.After-slice-known7 → tie.After-links
+known-back c = c .before .before .before
+
+abbrev packing : tie.After-pack-arg → tie.After-slice-known7
+packing c = c .before .before .before
+
+abbrev seal-asked : tie.After-seal → tie.After-slice-known9
+seal-asked c = c .before .before
+
 -- the rows tidied, and the arguments
 abbrev tidied-of : tie.After-pack → tie.After-tidy-each
-tidied-of c = c .before .before .before .before .before .before .before .before .before .before .before
+tidied-of c = links-back (known-back (packing (c .before .before)))
 
 abbrev start-of : tie.After-tidy-each → tie.Start
-start-of c = c .before .before .before .before .before .before .before .before .before .before
+start-of c = start (c .before)
 
 tidy-each-requires : tie.Need-tidy-each-requires
 tidy-each-requires c κs =
-    let a = c .before .before .before .before .before .before .before .before .before in (
+    let a = start c in (
       record { room = a .pre .0 .room; counted = rows-fit (a .args .s .format) (a .pre .0 .few-rows); known-fit = a .pre .3 },
       record { all-heads = search needs; links-fit = a .pre .1; members-fit = a .pre .2; countable = omega (arith, a .pre .0 .few-rows) },
       raw-preorder (a .args .b .now) (a .pre .0),
@@ -27,7 +49,7 @@ tidy-each-requires c κs =
 
 pack-requires : tie.Need-pack-requires
 pack-requires c κs =
-    let tidied = c .before .before .before .before .before .before .before .before .before .before in
+    let tidied = links-back (known-back (packing (c .before))) in
     let a = start-of tidied in
     let k = tidied .tidy-each .kept in
     let t = tidied .tidy-each .ensures in (
@@ -55,7 +77,7 @@ seal-requires c κs =
     (room-as (same packed) (start-of (tidied-of packed) .pre .0 .room), packed .pack .ensures .0, quantifiers packed)
 
 sub-t24 : tie.Need-sub-t24
-sub-t24 c = quantifiers (c .before .before .before .before .before .before .before)
+sub-t24 c = quantifiers (seal-asked (c .before .before .before) .before .before)
 
 same-length : tie.Need-same-length
 same-length c = search needs
@@ -72,7 +94,7 @@ same-length-4 c = search needs
 returns : tie.Need-returns
 returns c =
     let sealed = c .before .before .before in
-    let packed = sealed .before .before .before .before in
+    let packed = seal-asked sealed .before .before in
     let tidied = tidied-of packed in
     let a = start-of tidied in
     let p = packed .pack .ensures in
