@@ -1,34 +1,24 @@
 -- The walk over the rows after that of x: none so far is in the way.
 -- Assumes nothing.
 use mathlib.Core.Path.{_≡_, refl, sym, ap, ap₂, _∙_}
-use mathlib.Core.Bool.{Bool, true, false, not, _&&_, _||_, cond, Bool·beq}
-use mathlib.Core.List.{[], _∷_}
+use mathlib.Core.Bool.{Bool, true, false, not, _&&_, cond, Bool·beq}
+use mathlib.Core.List.{_∷_}
 use Prim.Native.Nat.{ℕ, suc, _+_, _≤_, _<_}
 use native.Mathlib.Numerals.{add-one}
 use native.Mathlib.Omega.{arith}
-use lib.Dec.{eqb}
 use lib.ListN.{length, drop}
 use borrow.Author.Tests.{lt-ltb}
-use Rattle.formula.specs.Tree.{and, or, Quantifier, same-op, exists, Binding, Prefix, quantifier-of}
+use Rattle.formula.specs.Tree.{and, Quantifier, same-op, exists, Binding, Prefix, quantifier-of}
 use Rattle.formula.specs.Expand.{all-of, after, among, occurs, occurring, later, innermost}
 use Rattle.sheet.specs.Format.{Bytes}
 use Rattle.rows.specs.Formulas.{prefix-in, matrix-in, formula-in, Readable}
 use Rattle.rows.specs.declared.Layout.{Layout}
 use Rattle.rows.proofs.Formulas.{length-prefix}
 use Rattle.prefixes.specs.Places.{place, binding-at, binding-in}
-use Rattle.prefixes.proofs.Places.{binds-place, quantifier-of-place, prefix-row, no-rows}
+use Rattle.prefixes.proofs.Places.{binds-place, quantifier-of-place, prefix-row, no-rows, after-place}
 use Rattle.elimination.specs.Steps.{Named}
 use Rattle.expand.specs.Inner.Block.{in-the-way}
-
--- the rows after x are those behind its row
-after-place : (x : ℕ) (p : Prefix) → after x p ≡ drop (suc (place x p)) p
-unfolding after place
-after-place x [] = refl
-after-place x (z ∷ p) = by (eqb (z .variable) x) (after-place x p)
-  where
-    by : (e : Bool) → after x p ≡ drop (suc (place x p)) p → cond e p (after x p) ≡ drop (cond e 0 (suc (place x p))) p
-    by true h = refl
-    by false h = h
+use Rattle.formula.proofs.Booleans.{same-op-exists}
 
 -- one row more
 all-of-row : (q : Quantifier) (P : ℕ → Bool) (z : Binding) (p : Prefix)
@@ -97,19 +87,13 @@ module _ {s : Layout} (b : Bytes) (ok : Readable s b) where
 
 -- in-the-way
 
-both : (q z : Quantifier) → same-op q z ≡ Bool·beq (same-op exists q) (same-op exists z)
-both and and = refl
-both and or = refl
-both or and = refl
-both or or = refl
-
 module _ (s : Layout) (b : Bytes) (i j : ℕ) {m n : Bool} (of-i : m ≡ same-op exists ((binding-in s b i) .quantifier))
     (of-j : n ≡ same-op exists ((binding-in s b j) .quantifier)) where
   compared : {e : Bool} → Bool·beq m n ≡ e
       → in-the-way s b i j ≡ (not e && occurs (matrix-in s b) ((binding-in s b j) .variable))
   compared h =
       ap (λ (e : Bool). not e && occurs (matrix-in s b) ((binding-in s b j) .variable))
-      (both ((binding-in s b i) .quantifier) ((binding-in s b j) .quantifier) ∙ ap₂ Bool·beq (sym of-i) (sym of-j) ∙ h)
+      (same-op-exists ((binding-in s b i) .quantifier) ((binding-in s b j) .quantifier) ∙ ap₂ Bool·beq (sym of-i) (sym of-j) ∙ h)
 
   pub same-kind : Bool·beq m n ≡ true → false ≡ in-the-way s b i j
   same-kind h = sym (compared h)

@@ -11,6 +11,13 @@ use Rattle.expand.proofs.Deciding.{refused-execution, above-ceiling, wi
 use Rattle.expand.proofs.execute.Statement.{statement}
 use Rattle.expand.proofs.execute.Tie as tie
 
+-- places in the code, each from a later one
+abbrev entry : tie.After-cuts → tie.Start
+entry c = c .before .before .before
+
+abbrev plan-told : tie.Else1 → tie.After-p2
+plan-told c = c .before .before .before
+
 slice-aggregate-plan-expand : tie.Need-slice-aggregate-plan-expand
 slice-aggregate-plan-expand c = search needs
 
@@ -24,7 +31,7 @@ enum-known-p-2 : tie.Need-enum-known-p-2
 enum-known-p-2 c = search needs
 
 abbrev start : tie.After-plan-expand → tie.Start
-start c = c .before .before .before .before
+start c = entry (c .before)
 
 abbrev plan : tie.After-p2 → tie.After-plan-expand
 plan c = c .before .before .before
@@ -49,7 +56,7 @@ slice-aggregate-expand-planned : tie.Need-slice-aggregate-expand-planned
 slice-aggregate-expand-planned c = search needs
 
 expand-planned-requires : tie.Need-expand-planned-requires
-expand-planned-requires c κs = planned (c .before .before .before .before .before) .1
+expand-planned-requires c κs = planned (plan-told (c .before .before)) .1
 
 returns-2 : tie.Need-returns-2
 returns-2 c =

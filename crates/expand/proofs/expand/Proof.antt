@@ -12,6 +12,13 @@ use Rattle.expand.proofs.Deciding.{refused-quote, refused-call}
 use Rattle.expand.proofs.expand.Statement.{statement}
 use Rattle.expand.proofs.expand.Tie as tie
 
+-- places in the code, each from a later one
+abbrev entry : tie.After-cuts → tie.Start
+entry c = c .before .before .before
+
+abbrev plan-told : tie.After-expand-planned-arg → tie.After-p2
+plan-told c = c .before .before .before
+
 slice-aggregate-plan-expand : tie.Need-slice-aggregate-plan-expand
 slice-aggregate-plan-expand c = search needs
 
@@ -28,7 +35,7 @@ slice-aggregate-expand-planned : tie.Need-slice-aggregate-expand-planned
 slice-aggregate-expand-planned c = search needs
 
 abbrev start : tie.After-plan-expand → tie.Start
-start c = c .before .before .before .before
+start c = entry (c .before)
 
 abbrev plan : tie.After-p2 → tie.After-plan-expand
 plan c = c .before .before .before
@@ -59,7 +66,7 @@ same-length c = search needs
 returns-2 : tie.Need-returns-2
 returns-2 c =
     let carried = c .before .before in
-    let told = carried .before .before .before .before in
+    let told = plan-told (carried .before) in
     let a = start (plan told) .args in
     let e = carried .expand-planned .ensures ∙ ap (λ f. expand-call (format-of f) (a .sheet .now) (a .x) (a .out .now)) (planned told .0) in
     (e, expand-truthful (format-of (a .f)) (sound (a .f)) (a .sheet .now) (a .x) (a .out .now) e)

@@ -11,6 +11,10 @@ use Rattle.expand.proofs.Deciding.{no-room, expands, expanded-call}
 use Rattle.expand.proofs.expand_planned.Statement.{statement}
 use Rattle.expand.proofs.expand_planned.Tie as tie
 
+-- places in the code, each from a later one
+abbrev entry : tie.After-slice-known → tie.Start
+entry c = c .before .before .before
+
 sub-fits : tie.Need-sub-fits
 sub-fits c = search needs
 
@@ -23,11 +27,11 @@ few-sizes c =
 
 fits-requires : tie.Need-fits-requires
 fits-requires c κs =
-    let few = few-sizes (c .before .before .before .before) in
+    let few = few-sizes (entry (c .before)) in
     (omega (arith, few .0), omega (arith, few .1))
 
 abbrev start : tie.After-fits2 → tie.Start
-start c = c .before .before .before .before .before
+start c = entry (c .before .before)
 
 returns : tie.Need-returns
 returns c =

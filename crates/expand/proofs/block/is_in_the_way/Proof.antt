@@ -9,6 +9,10 @@ use Rattle.expand.proofs.Innermost.{same-kind, other-kind}
 use Rattle.expand.proofs.block.is_in_the_way.Statement.{statement}
 use Rattle.expand.proofs.block.is_in_the_way.Tie as tie
 
+-- places in the code, each from a later one
+abbrev start : tie.After-is-existential → tie.Start
+start c = c .before .before .before
+
 is-existential-requires : tie.Need-is-existential-requires
 is-existential-requires c κs = search needs
 
@@ -18,7 +22,7 @@ is-existential-requires-2 c κs = search needs
 returns : tie.Need-returns
 returns c =
     let kinds = c .before in
-    let a = kinds .before .before .before .before in
+    let a = start (kinds .before) in
     same-kind (a .args .s) (a .args .b .now) (a .args .i) (a .args .j) (kinds .before .is-existential .ensures) (kinds .is-existential2 .ensures)
     (c .if1 .taken)
 
@@ -27,14 +31,14 @@ bound-at-requires c κs = search needs
 
 occurs-requires : tie.Need-occurs-requires
 occurs-requires c κs =
-    let a = c .before .before .before .before .before .before in
+    let a = start (c .before .before .before) in
     (a .pre .2 .holds, omega (arith, c .bound-at .ensures .0, a .pre .1 .few-numbers (a .args .j) (a .pre .4)))
 
 returns-2 : tie.Need-returns-2
 returns-2 c =
     let named = c .before in
     let kinds = named .before .before in
-    let a = kinds .before .before .before .before in
+    let a = start (kinds .before) in
     let x = named .bound-at .ensures .0 in
     other-kind (a .args .s) (a .args .b .now) (a .args .i) (a .args .j) (kinds .before .is-existential .ensures) (kinds .is-existential2 .ensures)
     (named .before .if1 .left)

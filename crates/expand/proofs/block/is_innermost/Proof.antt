@@ -11,6 +11,10 @@ Inv-loop b s ranges i v j₀ j = Clear s b i j
 abbrev μ-loop : tie.MeasureT-loop
 μ-loop b s ranges i v j₀ j = v - j
 
+-- places in the code, each from a later one
+abbrev start : tie.At-loop Inv-loop μ-loop → tie.Start Inv-loop μ-loop
+start c = c .before .before .before
+
 add-j : tie.Need-add-j Inv-loop μ-loop
 add-j c = omega (arith, c .before .before .pre .3 .inside)
 
@@ -21,7 +25,7 @@ loop-holds c =
 
 is-in-the-way-requires : tie.Need-is-in-the-way-requires Inv-loop μ-loop
 is-in-the-way-requires c κs =
-    let a = c .before .before .before .before in
+    let a = start (c .before) in
     (a .pre .0, a .pre .1, a .pre .2, a .pre .3 .inside, omega arith)
 
 returns : tie.Need-returns Inv-loop μ-loop

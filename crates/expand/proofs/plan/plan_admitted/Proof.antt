@@ -13,6 +13,13 @@ use Rattle.expand.proofs.Deciding.{not-innermost, priced, planned}
 use Rattle.expand.proofs.plan.plan_admitted.Statement.{statement}
 use Rattle.expand.proofs.plan.plan_admitted.Tie as tie
 
+-- places in the code, each from a later one
+abbrev entry : tie.After-slice-known → tie.Start
+entry c = c .before .before .before
+
+abbrev price-found : tie.After-next2 → tie.After-find-price
+price-found c = c .before .before
+
 slice-aggregate-find-price : tie.Need-slice-aggregate-find-price
 slice-aggregate-find-price c = search needs
 
@@ -21,11 +28,11 @@ slice-aggregate-find-price-2 c = search needs
 
 -- the variable is priced
 abbrev start : tie.After-find-price → tie.Start
-start c = c .before .before .before .before .before .before
+start c = entry (c .before .before .before)
 
 find-price-requires : tie.Need-find-price-requires
 find-price-requires c κs =
-    let d = c .before .before .before .before .before .pre .0 in (
+    let d = entry (c .before .before) .pre .0 in (
       (d .indexed, sheet-bound (d .sheet), d .named),
       (search needs, omega (arith, d .indexed .readable .few-nodes)),
     )
@@ -38,7 +45,7 @@ enum-known-p c = search needs
 
 -- it is inside the innermost block
 abbrev found : tie.After-p → tie.After-find-price
-found c = c .before .before .before .before
+found c = price-found (c .before .before)
 
 inside : (c : tie.After-p)
     → let a = start (found c) .args in
@@ -78,7 +85,7 @@ survey-draft-requires c κs =
 
 returns : tie.Need-returns
 returns c =
-    let priced = c .before .before .before .before in
+    let priced = price-found (c .before .before) in
     let a = start priced in
     not-innermost (a .pre .0) (subst (Prices (a .args .s) (a .args .sheet .now) (a .args .z) _ _) (c .enum-told .given .1) (priced .find-price .ensures))
 

@@ -9,6 +9,13 @@ use Rattle.expand.proofs.Deciding.{refused-before}
 use Rattle.expand.proofs.plan.plan_expand.Statement.{statement}
 use Rattle.expand.proofs.plan.plan_expand.Tie as tie
 
+-- places in the code, each from a later one
+abbrev entry : tie.After-ends → tie.Start
+entry c = c .before .before .before
+
+abbrev admission-told : tie.After-plan-admitted-arg → tie.After-a2
+admission-told c = c .before .before .before
+
 slice-aggregate-admit : tie.Need-slice-aggregate-admit
 slice-aggregate-admit c = search needs
 
@@ -25,7 +32,7 @@ slice-aggregate-plan-admitted : tie.Need-slice-aggregate-plan-admitted
 slice-aggregate-plan-admitted c = search needs
 
 abbrev start : tie.After-admit → tie.Start
-start c = c .before .before .before .before
+start c = entry (c .before)
 
 -- tests 1 to 10 admit the variable
 abbrev told : tie.After-a2 → tie.After-admit
@@ -57,7 +64,7 @@ same-length c = search needs
 returns-2 : tie.Need-returns-2
 returns-2 c =
     let planned = c .before .before in
-    let found = planned .before .before .before .before in
+    let found = admission-told (planned .before) in
     let a = start (told found) .args in
     let is = admitted found in
     subst₂ (λ f y. ExpandPlans f (a .sheet .now) y (planned .plan-admitted .last .1 .1 .1 .1 .0) (planned .plan-admitted .result)) (is .0) (is .1)

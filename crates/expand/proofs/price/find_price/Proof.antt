@@ -5,6 +5,13 @@ use borrow.Author.Tests.{not-true, not-false}
 use Rattle.expand.proofs.price.find_price.Statement.{statement}
 use Rattle.expand.proofs.price.find_price.Tie as tie
 
+-- places in the code, each from a later one
+abbrev occurrences-filled : tie.After-next → tie.After-fill-occurrences
+occurrences-filled c = c .before .before .before
+
+abbrev innermost-judged : tie.Else1 → tie.After-is-innermost
+innermost-judged c = c .before
+
 fill-occurrences-requires : tie.Need-fill-occurrences-requires
 fill-occurrences-requires c κs = search needs
 
@@ -34,7 +41,7 @@ returns-2 c =
     let inside = c .before .before .before in (
       sym (inside .before .is-innermost .ensures) ∙ not-false _ (inside .if1 .left),
       c .price-row .ensures,
-      inside .before .before .before .before .before .before .before .fill-occurrences .ensures,
+      occurrences-filled (innermost-judged inside .before .before .before) .fill-occurrences .ensures,
     )
 
 pub find-price-spec : {M : Type 1} → statement M

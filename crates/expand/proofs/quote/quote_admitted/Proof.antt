@@ -9,6 +9,13 @@ use Rattle.expand.proofs.Deciding.{not-innermost, refused-quote-call, c
 use Rattle.expand.proofs.quote.quote_admitted.Statement.{statement}
 use Rattle.expand.proofs.quote.quote_admitted.Tie as tie
 
+-- places in the code, each from a later one
+abbrev entry : tie.After-ranges → tie.Start
+entry c = c .before .before .before
+
+abbrev priced : tie.After-next2 → tie.After-find-price
+priced c = c .before .before
+
 slice-aggregate-find-price : tie.Need-slice-aggregate-find-price
 slice-aggregate-find-price c = search needs
 
@@ -17,11 +24,11 @@ slice-aggregate-find-price-2 c = search needs
 
 -- the variable is priced
 abbrev start : tie.After-find-price → tie.Start
-start c = c .before .before .before .before .before
+start c = entry (c .before .before)
 
 find-price-requires : tie.Need-find-price-requires
 find-price-requires c κs =
-    let a = c .before .before .before .before in
+    let a = entry (c .before) in
     let d = a .pre in (
       (d .indexed, sheet-bound (d .sheet), d .named),
       (search needs, omega (arith, d .indexed .readable .few-nodes)),
@@ -35,7 +42,7 @@ enum-known-p c = search needs
 
 returns : tie.Need-returns
 returns c =
-    let found = c .before .before .before .before in
+    let found = priced (c .before .before) in
     let a = start found in
     refused-quote-call (format-in (a .args .s)) (a .args .sheet .now) (a .args .z .variable)
     (not-innermost (a .pre)
@@ -44,7 +51,7 @@ returns c =
 returns-2 : tie.Need-returns-2
 returns-2 c =
     let told = c .before in
-    let found = told .before .before .before .before in
+    let found = priced (told .before .before) in
     let a = start found in
     let inside = subst (Prices (a .args .s) (a .args .sheet .now) (a .args .z) _ _) (told .p .given .1) (found .find-price .ensures) in
     counted (a .pre) (inside .1) (inside .0)
