@@ -11,6 +11,10 @@ use Rattle.elimination.specs.Admission.{admission-tests, Admits}
 use Rattle.elimination.proofs.admission.admit.Statement.{statement}
 use Rattle.elimination.proofs.admission.admit.Tie as tie
 
+-- places in the code, each from a later one
+abbrev entry : tie.After-check → tie.Start
+entry c = c .before .before .before
+
 check-requires : tie.Need-check-requires
 check-requires c κs = search needs
 
@@ -21,7 +25,7 @@ enum-known-c-2 : tie.Need-enum-known-c-2
 enum-known-c-2 c = search needs
 
 abbrev start : tie.After-c2 → tie.Start
-start c = c .before .before .before .before .before
+start c = entry (c .before .before)
 
 checked : (c : tie.After-c2) → Sheet (start c .args .f) (start c .args .sheet .now) (c .c2 .given .0 .0)
 checked c = sheet-checked (c .c2 .given .1) (c .before .before .check .ensures)

@@ -7,6 +7,13 @@ use Rattle.elimination.proofs.Admitting.{not-tidy, not-bound, admitted}
 use Rattle.elimination.proofs.admission.admit_checked.Statement.{statement}
 use Rattle.elimination.proofs.admission.admit_checked.Tie as tie
 
+-- places in the code, each from a later one
+abbrev start : tie.After-fill-ends-arg → tie.Start
+start c = c .before .before .before
+
+abbrev ends-filled : tie.After-first-fault-arg → tie.After-fill-ends
+ends-filled c = c .before .before .before
+
 fill-ends-requires : tie.Need-fill-ends-requires
 fill-ends-requires c κs =
     let a = c .before .before .before in
@@ -25,7 +32,7 @@ same-length c = search needs
 returns : tie.Need-returns
 returns c =
     let fault = c .before .before .before in
-    let a = fault .before .before .before .before .before .before .before .before in
+    let a = start (ends-filled (fault .before) .before) in
     not-tidy (a .pre .0) (a .args .x) (fault .first-fault .ensures) (c .before .if1 .taken)
 
 find-variable-requires : tie.Need-find-variable-requires
@@ -38,7 +45,7 @@ returns-2 : tie.Need-returns-2
 returns-2 c =
     let found = c .before .before in
     let fault = found .before .before .before in
-    let a = fault .before .before .before .before .before .before .before .before in
+    let a = start (ends-filled (fault .before) .before) in
     not-bound (a .pre .0) (a .args .x) (fault .first-fault .ensures) (found .before .if1 .left) (found .find-variable .ensures)
     (c .if2 .taken)
 
@@ -49,11 +56,11 @@ returns-3 : tie.Need-returns-3
 returns-3 c =
     let found = c .before .before in
     let fault = found .before .before .before in
-    let a = fault .before .before .before .before .before .before .before .before in (
+    let a = start (ends-filled (fault .before) .before) in (
       refl,
       refl,
       admitted (a .pre .0) (a .args .x) (fault .first-fault .ensures) (found .before .if1 .left) (found .find-variable .ensures)
-          (c .if2 .left) (fault .before .before .before .before .fill-ends .ensures .0),
+          (c .if2 .left) (ends-filled (fault .before) .fill-ends .ensures .0),
     )
 
 pub admit-checked-spec : {M : Type 1} → statement M

@@ -5,6 +5,10 @@ use native.Mathlib.Omega.{arith}
 use Rattle.elimination.proofs.expanding.draft.Statement.{statement}
 use Rattle.elimination.proofs.expanding.draft.Tie as tie
 
+-- places in the code, each from a later one
+abbrev start : tie.After-struct-known → tie.Start
+start c = c .before .before .before
+
 mul-t6 : tie.Need-mul-t6
 mul-t6 c = search needs
 
@@ -15,7 +19,7 @@ shared-slice-read-t9 : tie.Need-shared-slice-read-t9
 shared-slice-read-t9 c = search needs
 
 cast-t10 : tie.Need-cast-t10
-cast-t10 c = omega (arith, c .shared-slice-known3 .given (2 * c .before .before .before .before .args .c .variable))
+cast-t10 c = omega (arith, c .shared-slice-known3 .given (2 * start (c .before) .args .c .variable))
 
 sub-t11 : tie.Need-sub-t11
 sub-t11 c = search needs

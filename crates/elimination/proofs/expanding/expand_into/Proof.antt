@@ -6,6 +6,16 @@ use Rattle.elimination.proofs.Copies.{expandable, occurs, found, raw-wr
 use Rattle.elimination.proofs.expanding.expand_into.Statement.{statement}
 use Rattle.elimination.proofs.expanding.expand_into.Tie as tie
 
+-- places in the code, each from a later one
+abbrev entry : tie.After-slice-known → tie.Start
+entry c = c .before .before .before
+
+abbrev tables-filled : tie.After-write-raw-arg → tie.After-fill-both
+tables-filled c = c .before .before .before
+
+abbrev wrote-raw : tie.After-tidy-in-place-arg → tie.After-write-raw
+wrote-raw c = c .before .before .before
+
 slice-aggregate-fill-both : tie.Need-slice-aggregate-fill-both
 slice-aggregate-fill-both c = search needs
 
@@ -17,18 +27,18 @@ slice-aggregate-write-raw c = search needs
 
 slice-aggregate-write-raw-2 : tie.Need-slice-aggregate-write-raw-2
 slice-aggregate-write-raw-2 c =
-    let a = c .before .before .before .before .before .before .before .before in
+    let a = entry (tables-filled c .before .before) in
     sym (length-take-le (a .args .w .cuts) (a .args .cuts .now) (a .pre .prepared .few-cuts))
 
 abbrev start : tie.After-fill-both → tie.Start
-start c = c .before .before .before .before .before
+start c = entry (c .before .before)
 
 abbrev filled : tie.After-write-raw → tie.After-fill-both
-filled c = c .before .before .before .before .before
+filled c = tables-filled (c .before .before)
 
 write-raw-requires : tie.Need-write-raw-requires
 write-raw-requires c κs =
-    let tables = c .before .before .before .before in
+    let tables = tables-filled (c .before) in
     let a = start tables in
     let is = tables .fill-both .ensures in
     (expandable (a .pre) is (a .args .out .now) refl, occurs (a .pre) is, found (a .pre) is)
@@ -46,7 +56,7 @@ same-length c = search needs
 returns : tie.Need-returns
 returns c =
     let tidied = c .before .before in
-    let wrote = tidied .before .before .before .before in
+    let wrote = wrote-raw (tidied .before) in
     let tables = filled wrote in
     let a = start tables in
     let is = tables .fill-both .ensures in

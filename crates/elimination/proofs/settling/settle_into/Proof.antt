@@ -17,6 +17,16 @@ use Rattle.elimination.proofs.RawSheets.{raw-room, prefix-without, put-
 use Rattle.elimination.proofs.settling.settle_into.Statement.{statement}
 use Rattle.elimination.proofs.settling.settle_into.Tie as tie
 
+-- places in the code, each from a later one
+abbrev entry : tie.After-entries-for → tie.Start
+entry c = c .before .before .before
+
+abbrev table-filled : tie.After-changes2 → tie.After-fill
+table-filled c = c .before .before .before
+
+abbrev wrote-settled : tie.After-slice-known3 → tie.After-write-settled
+wrote-settled c = c .before .before .before
+
 -- the lent part has so many entries
 entries : {n : ℕ} → n ≤ 1025 → length (take n (replicate {A = ℕ} 1025 0)) ≡ n
 entries {n} h =
@@ -40,14 +50,14 @@ fill-requires c κs =
 
 -- the table is filled, and the raw sheet is written
 abbrev start : tie.After-fill → tie.Start
-start c = c .before .before .before .before .before .before
+start c = entry (c .before .before .before)
 
 abbrev filled : tie.After-write-settled → tie.After-fill
-filled c = c .before .before .before .before .before
+filled c = table-filled (c .before .before)
 
 write-settled-requires : tie.Need-write-settled-requires
 write-settled-requires c κs =
-    let a = start (c .before .before .before .before) in
+    let a = start (table-filled (c .before)) in
     let st = a .pre .from in
     (st .readable, a .pre .named .inside, raw-room st (a .args .s .nodes) (a .pre .room))
 
@@ -57,7 +67,7 @@ sub-t18 c = search needs
 tidy-in-place-requires : tie.Need-tidy-in-place-requires
 unfolding settled-raw formula-in
 tidy-in-place-requires c κs =
-    let wrote = c .before .before .before .before .before in
+    let wrote = wrote-settled (c .before .before) in
     let a = start (filled wrote) in
     let st = a .pre .from in
     written-raw st (a .pre .named) (settled-raw (a .args .p .row) _ (formula-in (a .args .s) (a .args .b .now))) (prefix-without st (a .pre .named))
@@ -71,7 +81,7 @@ unfolding settled-raw formula-in tidied settled
 returns c =
     let tidied-it = c .before .before in
     let e = tidied-it .tidy-in-place .ensures in
-    let wrote = tidied-it .before .before .before .before .before .before in
+    let wrote = wrote-settled (tidied-it .before .before .before) in
     let same = wrote .write-settled .kept .1 .1 .1 .1 .0 in
     let table = filled wrote in
     let a = start table in

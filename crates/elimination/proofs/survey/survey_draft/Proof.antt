@@ -4,11 +4,15 @@ use Rattle.elimination.proofs.Surveying.{ended, surveyed-whole, sited, 
 use Rattle.elimination.proofs.survey.survey_draft.Statement.{statement}
 use Rattle.elimination.proofs.survey.survey_draft.Tie as tie
 
+-- places in the code, each from a later one
+abbrev entry : tie.After-shared-slice-known3 → tie.Start
+entry c = c .before .before .before
+
 abbrev start : tie.After-outline → tie.Start
-start c = c .before .before .before .before .before
+start c = entry (c .before .before)
 
 outline-requires : tie.Need-outline-requires
-outline-requires c κs = ended (c .before .before .before .before .pre .0 .1)
+outline-requires c κs = ended (entry (c .before) .pre .0 .1)
 
 returns : tie.Need-returns
 returns c = λ L k. surveyed-whole k (c .before .outline .ensures) (c .if1 .taken)
