@@ -10,9 +10,10 @@ use borrow.Author.Tests.{eqb-true, eq-eqb, not-true, lt-ltb, le-ltb, ltb-true, l
 use Rattle.formula.specs.Tree.{same-op, exists, for-all, Tree, lit, node, Forest, ∅, _▸_, Binding, Prefix, binds, quantifier-of, distinct, of, has, has-any, some-child}
 use Rattle.formula.specs.Expand.{after, occurs}
 use Rattle.formula.specs.Reduce.{is-literal, has-existential, goes}
-use Rattle.formula.proofs.Booleans.{and-parts, or-parts}
+use Rattle.formula.proofs.Booleans.{and-parts}
 use Rattle.prefixes.specs.Places.{place}
 use Rattle.reduce.specs.Inner.Places.{existential, behind}
+use Rattle.formula.proofs.Prefixes.{after-unbound, distinct-after}
 
 -- the row behind the last existential literal of a clause
 unfoldable pub last : Prefix → Forest → ℕ
@@ -32,17 +33,6 @@ existential-row z p v = by (eqb (z .variable) v)
 unbound-existential : (p : Prefix) (v : ℕ) → binds p v ≡ false → existential p v ≡ false
 unfolding existential
 unbound-existential p v e = ap (λ (m : Bool). m && same-op exists (quantifier-of p v)) e
-
-after-unbound : (x v : ℕ) (p : Prefix) → binds p v ≡ false → binds (after x p) v ≡ false
-unfolding binds after
-after-unbound x v [] h = refl
-after-unbound x v (z ∷ p) h =
-    let parts = or-parts (eqb (z .variable) v) (binds p v) h in
-    by (eqb (z .variable) x) (parts .1) (after-unbound x v p (parts .1))
-  where
-    by : (m : Bool) → binds p v ≡ false → binds (after x p) v ≡ false → binds (cond m p (after x p)) v ≡ false
-    by true e rest = e
-    by false e rest = rest
 
 -- v is existential and stands after x
 after-place : (p : Prefix) (x v : ℕ) → distinct p ≡ true → binds p x ≡ true → existential (after x p) v ≡ ltb (suc (place x p)) (behind p v)
@@ -150,17 +140,6 @@ exists-last p x d b (lit s v ▸ ts) =
         by true e d f = sym (lt-ltb a (max m n) (omega (arith, ltb-true a m e)))
         by false e true f = sym (lt-ltb a (max m n) (omega (arith, ltb-true a n f)))
         by false e false f = sym (le-ltb a (max m n) (omega (arith, ltb-false a m e, ltb-false a n f)))
-
-distinct-after : (x : ℕ) (p : Prefix) → distinct p ≡ true → distinct (after x p) ≡ true
-unfolding distinct after
-distinct-after x [] d = refl
-distinct-after x (z ∷ p) d =
-    let parts = and-parts (not (binds p (z .variable))) (distinct p) d in
-    by (eqb (z .variable) x) (parts .1) (distinct-after x p (parts .1))
-  where
-    by : (m : Bool) → distinct p ≡ true → distinct (after x p) ≡ true → distinct (cond m p (after x p)) ≡ true
-    by true e rest = e
-    by false e rest = rest
 
 -- a bound universal literal goes exactly if no existential one of the clause is behind it
 pub goes-place : (p : Prefix) → distinct p ≡ true → (c : Tree) (ts : Forest) → ((x : ℕ) → occurs c x ≡ has-any (of x) ts)

@@ -1,23 +1,23 @@
 -- The table of places: filled from the last row of the prefix to the first, and what is read from it.
 -- Assumes nothing.
 use mathlib.Core.Path.{_≡_, refl, sym, ap, _∙_}
-use mathlib.Core.Bool.{Bool, true, false, not, _&&_, _||_, cond, or-true, false≢true}
-use mathlib.Core.List.{List, [], _∷_}
-use Prim.Native.Nat.{ℕ, zero, suc, _+_, _≤_, _<_}
+use mathlib.Core.Bool.{Bool, true, false, not, _&&_, _||_, cond, false≢true}
+use mathlib.Core.List.{List, _∷_}
+use Prim.Native.Nat.{ℕ, suc, _+_, _≤_, _<_}
 use native.Mathlib.Nat.{zero-add}
 use native.Mathlib.Omega.{arith}
 use lib.Dec.{eqb, ltb, leb}
 use lib.ListN.{length, getD, set, drop, length-set}
 use lib.Seq.{getD-set-same, getD-set-other}
-use borrow.Author.Tests.{eqb-true, eqb-false, eq-eqb, ltb-true, le-leb, lt-leb, ltb-false}
+use borrow.Author.Tests.{eqb-true, eqb-false, ltb-true, le-leb, lt-leb, ltb-false}
 use Rattle.formula.specs.Tree.{and, or, Quantifier, same-op, exists, for-all, Binding, Prefix, binds, quantifier-of}
 use Rattle.sheet.specs.Format.{Bytes, row}
 use Rattle.rows.specs.Layouts.{rows-in}
 use Rattle.rows.specs.Formulas.{prefix-in}
 use Rattle.rows.specs.declared.Layout.{Layout}
 use Rattle.rows.proofs.Formulas.{length-prefix}
-use Rattle.prefixes.specs.Places.{place, binding-at, binding-in}
-use Rattle.prefixes.proofs.Places.{binds-place, quantifier-of-place, prefix-row, no-rows}
+use Rattle.prefixes.specs.Places.{place, binding-in}
+use Rattle.prefixes.proofs.Places.{binds-place, quantifier-of-place, prefix-row, no-rows, binds-row}
 use Rattle.reduce.specs.Inner.Places.{Numbered, Placed, variable-of, Bound, existential, behind}
 use Rattle.reduce.specs.Inner.Clauses.{goes-row}
 
@@ -27,18 +27,10 @@ pub record Filling (s : Layout) (b : Bytes) (places : List ℕ) (i : ℕ) : Type
   pub size : length places ≡ 1025
   pub so-far : (x : ℕ) → binds (drop i (prefix-in s b)) x ≡ true → getD places x 0 ≡ i + place x (drop i (prefix-in s b))
 
-binds-at : (p : Prefix) (i : ℕ) → i < length p → binds p ((binding-at p i) .variable) ≡ true
-unfolding binds binding-at
-binds-at [] i h = absurd (omega arith)
-binds-at (z ∷ p) zero h = ap (λ (m : Bool). m || binds p (z .variable)) (eq-eqb (z .variable) (z .variable) refl)
-binds-at (z ∷ p) (suc i) h =
-    let v = (binding-at p i) .variable in
-    ap (λ (m : Bool). eqb (z .variable) v || m) (binds-at p i (omega arith)) ∙ or-true (eqb (z .variable) v)
-
 module _ {s : Layout} (b : Bytes) (n : Numbered s b) where
   pub few-here : (i : ℕ) {x : ℕ} → i < s .variables → x ≡ (binding-in s b i) .variable → x ≤ 1024
   few-here i h e =
-      omega (arith, e, n .few-numbers _ (binds-at (prefix-in s b) i (omega (arith, length-prefix b (n .readable)))))
+      omega (arith, e, n .few-numbers _ (binds-row (prefix-in s b) i (omega (arith, length-prefix b (n .readable)))))
 
   pub filling-none : {places : List ℕ} → length places ≡ 1025 → Filling s b places (s .variables)
   unfolding binds

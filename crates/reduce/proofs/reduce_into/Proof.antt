@@ -6,6 +6,16 @@ use Rattle.reduce.proofs.Deciding.{sheet-numbered, sheet-clausal, copie
 use Rattle.reduce.proofs.reduce_into.Statement.{statement}
 use Rattle.reduce.proofs.reduce_into.Tie as tie
 
+-- places in the code, each from a later one
+abbrev entry : tie.After-places → tie.Start
+entry c = c .before .before .before
+
+abbrev front-copied : tie.After-places3 → tie.After-copy-front
+front-copied c = c .before .before .before
+
+abbrev blanked : tie.After-tidy-in-place-arg → tie.After-blank-clauses
+blanked c = c .before .before .before
+
 slice-aggregate-fill-places : tie.Need-slice-aggregate-fill-places
 slice-aggregate-fill-places c = search needs
 
@@ -22,17 +32,17 @@ abbrev places-of : tie.After-copy-front → tie.After-fill-places
 places-of c = c .before .before .before
 
 abbrev start : tie.After-copy-front → tie.Start
-start c = places-of c .before .before .before .before
+start c = entry (places-of c .before)
 
 blank-clauses-requires : tie.Need-blank-clauses-requires
 blank-clauses-requires c κs =
-    let copy = c .before .before .before .before in
+    let copy = front-copied (c .before) in
     let a = start copy in
     let same = copied (a .args .out .now) (a .pre) (copy .copy-front .ensures) in
     (sheet-clausal (a .pre) (places-of copy .fill-places .ensures), same .0, same .1)
 
 abbrev copy-of : tie.After-blank-clauses → tie.After-copy-front
-copy-of c = c .before .before .before .before .before
+copy-of c = front-copied (c .before .before)
 
 same-room : (c : tie.After-blank-clauses) → length (c .blank-clauses .last .1 .1 .1 .0) ≡ length (start (copy-of c) .args .out .now)
 same-room c = c .blank-clauses .kept .1 .1 .1 .0 ∙ copy-of c .copy-front .kept .1 .0
@@ -52,7 +62,7 @@ same-length c = search needs
 returns : tie.Need-returns
 returns c =
     let tidy = c .before .before .before in
-    let blank = tidy .before .before .before .before in
+    let blank = blanked (tidy .before) in
     let a = start (copy-of blank) in
     let t = tidy .tidy-in-place .ensures in (
       reduced-output (a .args .out .now) (a .pre) _ (same-room blank) (blank .blank-clauses .ensures) (t .0),

@@ -11,12 +11,19 @@ Inv-loop b s places from to out₀ last r₀ out r = Blanking s b out₀ out fro
 abbrev μ-loop : tie.MeasureT-loop
 μ-loop b s places from to out₀ last r₀ out r = to - r
 
+-- places in the code, each from a later one
+abbrev start : tie.After-slice-known Inv-loop μ-loop → tie.Start Inv-loop μ-loop
+start c = c .before .before .before
+
+abbrev in-turn : tie.After-out Inv-loop μ-loop → tie.In-loop Inv-loop μ-loop
+in-turn c = c .before .before .before
+
 last-existential-requires : tie.Need-last-existential-requires Inv-loop μ-loop
 last-existential-requires c κs = (c .before .before .before .pre .0, c .before .before .before .pre .1)
 
 loop-holds : tie.Need-loop-holds Inv-loop μ-loop
 loop-holds c =
-    let a = c .before .before .before .before in
+    let a = start (c .before) in
     blank-none (a .args .b .now) (a .args .out .now) (a .pre .0 .numbered .readable .room) (a .pre .2 .room) (a .pre .1) (a .pre .2 .same)
     (c .last-existential .ensures)
 
@@ -24,7 +31,7 @@ blank-literal-requires : tie.Need-blank-literal-requires Inv-loop μ-loop
 blank-literal-requires c κs =
     let turn = c .before in
     let head = turn .before in
-    let a = head .before .before .before .before .before in
+    let a = start (head .before .before) in
     let l = head .loop .inv in (
       a .pre .0,
       a .pre .1 .are-bound (head .loop .r) (l .start) (turn .loop-test .taken),
@@ -36,7 +43,7 @@ blank-literal-requires c κs =
     )
 
 add-r : tie.Need-add-r Inv-loop μ-loop
-add-r c = omega (arith, c .before .before .before .before .before .before .before .before .before .before .pre .1 .inside, c .before .before .before .before .loop-test .taken)
+add-r c = omega (arith, start (in-turn (c .before) .before .before .before) .pre .1 .inside, in-turn (c .before) .loop-test .taken)
 
 loop-less : tie.Need-loop-less Inv-loop μ-loop
 loop-less c = omega arith
@@ -46,7 +53,7 @@ loop-again c =
     let call = c .before .before in
     let turn = call .before .before in
     let head = turn .before in
-    let a = head .before .before .before .before .before in
+    let a = start (head .before .before) in
     blank-literal-on (a .args .b .now) (a .args .out .now) (a .pre .0 .numbered .readable .room) (a .pre .2 .room) (a .pre .1) (a .pre .2 .same)
     (turn .loop-test .taken) (head .loop .inv) (omega arith) (call .blank-literal .ensures) (call .blank-literal .kept .1 .1 .1 .1 .1 .0)
 
@@ -55,7 +62,7 @@ same-length c = c .before .loop .inv .same-length
 
 returns : tie.Need-returns Inv-loop μ-loop
 returns c =
-    let a = c .before .before .before .before .before .before in
+    let a = start (c .before .before .before) in
     blank-all-literals (a .args .b .now) (a .args .out .now) (a .pre .0 .numbered .readable .room) (a .pre .2 .room) (a .pre .1) (a .pre .2 .same)
     (c .loop-test .left) (c .before .loop .inv)
 

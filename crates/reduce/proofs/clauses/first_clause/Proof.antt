@@ -9,6 +9,10 @@ use borrow.Author.Tests.{eq-eqb, ne-eqb}
 use Rattle.reduce.proofs.clauses.first_clause.Statement.{statement}
 use Rattle.reduce.proofs.clauses.first_clause.Tie as tie
 
+-- places in the code, each from a later one
+abbrev start : tie.Then1 → tie.Start
+start c = c .before .before .before
+
 kind-at-requires : tie.Need-kind-at-requires
 kind-at-requires c κs = search needs
 
@@ -17,7 +21,7 @@ add-result c = search needs
 
 returns : tie.Need-returns
 returns c =
-    let a = c .before .before .before .before in
+    let a = start (c .before) in
     let kind = c .before .before .kind-at .ensures in
     ap (λ (m : Bool). a .args .s .variables + cond m 1 0) (sym (ap (λ (k : ℕ). eqb k 5) (sym kind) ∙ eq-eqb _ 5 (c .before .if1 .taken)))
 

@@ -11,6 +11,10 @@ Inv-loop b s places from to last₀ r₀ last r = Lasting s b from to last r
 abbrev μ-loop : tie.MeasureT-loop
 μ-loop b s places from to last₀ r₀ last r = to - r
 
+-- places in the code, each from a later one
+abbrev start : tie.At-loop Inv-loop μ-loop → tie.Start Inv-loop μ-loop
+start c = c .before .before .before
+
 loop-holds : tie.Need-loop-holds Inv-loop μ-loop
 loop-holds c =
     let a = c .before .before in
@@ -18,14 +22,14 @@ loop-holds c =
 
 behind-at-requires : tie.Need-behind-at-requires Inv-loop μ-loop
 behind-at-requires c κs =
-    let a = c .before .before .before .before in
+    let a = start (c .before) in
     (a .pre .0, a .pre .1 .are-bound (c .before .loop .r) (c .before .loop .inv .start) (c .loop-test .taken))
 
 later-requires : tie.Need-later-requires Inv-loop μ-loop
 later-requires c κs = tt
 
 add-r : tie.Need-add-r Inv-loop μ-loop
-add-r c = omega (arith, c .before .before .before .before .before .before .pre .1 .inside, c .before .before .loop-test .taken)
+add-r c = omega (arith, start (c .before .before .before) .pre .1 .inside, c .before .before .loop-test .taken)
 
 loop-less : tie.Need-loop-less Inv-loop μ-loop
 loop-less c = omega arith
@@ -39,7 +43,7 @@ loop-again c =
 
 returns : tie.Need-returns Inv-loop μ-loop
 returns c =
-    let a = c .before .before .before .before in
+    let a = start (c .before) in
     last-all (a .args .b .now) (a .pre .0 .numbered .readable .room) (a .pre .1) (c .loop-test .left) (c .before .loop .inv)
 
 pub last-existential-spec : {M : Type 1} → statement M

@@ -11,6 +11,10 @@ Inv-loop b s places₀ i₀ places i = Filling s b places i
 abbrev μ-loop : tie.MeasureT-loop
 μ-loop b s places₀ i₀ places i = i
 
+-- places in the code, each from a later one
+abbrev start : tie.At-loop Inv-loop μ-loop → tie.Start Inv-loop μ-loop
+start c = c .before .before .before
+
 loop-holds : tie.Need-loop-holds Inv-loop μ-loop
 loop-holds c = filling-none _ (c .before .before .pre .0) (c .before .before .pre .1)
 
@@ -18,10 +22,10 @@ sub-i : tie.Need-sub-i Inv-loop μ-loop
 sub-i c = omega arith
 
 cast-places : tie.Need-cast-places Inv-loop μ-loop
-cast-places c = omega (arith, c .before .before .before .before .pre .0 .readable .few-variables, c .before .loop .inv .within)
+cast-places c = omega (arith, start (c .before) .pre .0 .readable .few-variables, c .before .loop .inv .within)
 
 bound-at-requires : tie.Need-bound-at-requires Inv-loop μ-loop
-bound-at-requires c κs = (c .before .before .before .before .pre .0 .readable, omega (arith, c .before .loop .inv .within))
+bound-at-requires c κs = (start (c .before) .pre .0 .readable, omega (arith, c .before .loop .inv .within))
 
 mul-places : tie.Need-mul-places Inv-loop μ-loop
 mul-places c = omega arith
@@ -46,11 +50,11 @@ loop-again c =
     filling-row (a .args .b .now) (a .pre .0) (omega arith) (c .bound-at .ensures .0) (head .loop .inv)
 
 same-length : tie.Need-same-length Inv-loop μ-loop
-same-length c = c .before .loop .inv .size ∙ sym (c .before .before .before .before .pre .1)
+same-length c = c .before .loop .inv .size ∙ sym (start (c .before) .pre .1)
 
 returns : tie.Need-returns Inv-loop μ-loop
 returns c =
-    let a = c .before .before .before .before in
+    let a = start (c .before) in
     filling-all (a .args .b .now) (a .pre .0) (c .loop-test .left) (c .before .loop .inv)
 
 pub fill-places-spec : {M : Type 1} → statement M

@@ -7,6 +7,10 @@ use Rattle.reduce.proofs.Deciding.{fault-most, not-tidy, not-clauses, n
 use Rattle.reduce.proofs.plan.plan_checked.Statement.{statement}
 use Rattle.reduce.proofs.plan.plan_checked.Tie as tie
 
+-- places in the code, each from a later one
+abbrev entry : tie.After-fill-ends → tie.Start
+entry c = c .before .before .before
+
 slice-aggregate-fill-ends : tie.Need-slice-aggregate-fill-ends
 slice-aggregate-fill-ends c = search needs
 
@@ -23,7 +27,7 @@ first-fault-requires : tie.Need-first-fault-requires
 first-fault-requires c κs = search needs
 
 abbrev start : tie.After-first-fault → tie.Start
-start c = c .before .before .before .before .before .before
+start c = entry (c .before .before .before)
 
 add-place : tie.Need-add-place
 add-place c =
