@@ -11,6 +11,10 @@ Inv-loop b s i₀ exists i = Block s b exists i
 abbrev μ-loop : tie.MeasureT-loop
 μ-loop b s i₀ exists i = i
 
+-- places in the code, each from a later one
+abbrev start : tie.After-is-existential Inv-loop μ-loop → tie.Start Inv-loop μ-loop
+start c = c .before .before .before
+
 sub-i : tie.Need-sub-i Inv-loop μ-loop
 sub-i c = omega arith
 
@@ -28,13 +32,13 @@ sub-is-existential c = omega arith
 is-existential-requires-2 : tie.Need-is-existential-requires-2 Inv-loop μ-loop
 is-existential-requires-2 c κs =
     let head = c .before in
-    let a = head .before .before .before .before in
+    let a = start (head .before) in
     (a .pre .0, omega (arith, head .loop .inv .inside))
 
 returns : tie.Need-returns Inv-loop μ-loop
 returns c =
     let head = c .before .before .before in
-    let a = head .before .before .before .before in
+    let a = start (head .before) in
     other-kind (a .args .b .now) (a .pre .0) (omega arith) (head .loop .inv) (c .before .is-existential2 .ensures)
     (not-true _ (c .if1 .taken))
 
@@ -47,14 +51,14 @@ loop-less c = omega arith
 loop-again : tie.Need-loop-again Inv-loop μ-loop
 loop-again c =
     let head = c .before .before .before in
-    let a = head .before .before .before .before in
+    let a = start (head .before) in
     one-more (a .args .b .now) (a .pre .0) (omega arith) (head .loop .inv) (c .before .is-existential2 .ensures)
     (not-false _ (c .if1 .left))
 
 returns-2 : tie.Need-returns-2 Inv-loop μ-loop
 returns-2 c =
     let head = c .before in
-    let a = head .before .before .before .before in
+    let a = start (head .before) in
     at-first (a .args .b .now) (a .pre .0) (c .loop-test .left) (head .loop .inv)
 
 pub block-start-spec : {M : Type 1} → statement M
