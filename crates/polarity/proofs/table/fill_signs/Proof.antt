@@ -15,17 +15,24 @@ Inv-loop b s signs₀ n left₀ i₀ signs left i =
 abbrev μ-loop : tie.MeasureT-loop
 μ-loop b s signs₀ n left₀ i₀ signs left i = n - i
 
+-- places in the code, each from a later one
+abbrev entry : tie.After-mark-row-arg Inv-loop μ-loop → tie.Start Inv-loop μ-loop
+entry c = c .before .before .before
+
+abbrev row-marked : tie.At-loop Inv-loop μ-loop → tie.After-mark-row Inv-loop μ-loop
+row-marked c = c .before .before .before
+
 mark-row-requires : tie.Need-mark-row-requires Inv-loop μ-loop
 mark-row-requires c κs =
     let a = c .before .before .before in
     (a .pre .0, a .pre .0 .some-nodes)
 
 abbrev start : tie.At-loop Inv-loop μ-loop → tie.Start Inv-loop μ-loop
-start c = c .before .before .before .before .before .before .before
+start c = entry (row-marked c .before)
 
 loop-holds : tie.Need-loop-holds Inv-loop μ-loop
 loop-holds c =
-    let a = c .before .before .before .before .before .before in
+    let a = entry (c .before .before .before) in
     (a .pre .0 .some-nodes, omega arith, marking-start (λ u p x. refl))
 
 mark-row-requires-2 : tie.Need-mark-row-requires-2 Inv-loop μ-loop

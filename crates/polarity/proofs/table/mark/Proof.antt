@@ -9,6 +9,10 @@ use Rattle.polarity.proofs.Marks.{mark-past, mark-both}
 use Rattle.polarity.proofs.table.mark.Statement.{statement}
 use Rattle.polarity.proofs.table.mark.Tie as tie
 
+-- places in the code, each from a later one
+abbrev start : tie.Else1 → tie.Start
+start c = c .before .before .before
+
 entry-requires : tie.Need-entry-requires
 entry-requires c κs = search needs
 
@@ -34,7 +38,7 @@ entry-requires-3 c κs = search needs
 slice-write-signs-2 : tie.Need-slice-write-signs-2
 slice-write-signs-2 c =
     let first = c .before in
-    omega (arith, held (first .before), c .entry3 .ensures .1, length-set (first .before .before .before .before .args .signs .now) (first .entry2 .result) true)
+    omega (arith, held (first .before), c .entry3 .ensures .1, length-set (start (first .before) .args .signs .now) (first .entry2 .result) true)
 
 same-length : tie.Need-same-length
 same-length c = search needs
@@ -42,7 +46,7 @@ same-length c = search needs
 returns-2 : tie.Need-returns-2
 returns-2 c =
     let first = c .before in
-    let a = first .before .before .before .before .args in
+    let a = start (first .before) .args in
     mark-both (a .signs .now) (a .unit) (a .positive) (a .x) (held (first .before)) (first .entry2 .ensures .0) (c .entry3 .ensures .0)
 
 pub mark-spec : {M : Type 1} → statement M

@@ -7,6 +7,13 @@ use Rattle.polarity.proofs.Settling.{by-absent, by-positive, by-negativ
 use Rattle.polarity.proofs.value.settling_by.Statement.{statement}
 use Rattle.polarity.proofs.value.settling_by.Tie as tie
 
+-- places in the code, each from a later one
+abbrev occurring : tie.Then2 → tie.Else1
+occurring c = c .before .before .before
+
+abbrev positive-passed : tie.Then3 → tie.Else2
+positive-passed c = c .before .before .before
+
 returns : tie.Need-returns
 returns c =
     let a = c .before .before .args in
@@ -17,7 +24,7 @@ table-value-requires c κs = search needs
 
 returns-2 : tie.Need-returns-2
 returns-2 c =
-    let absent = c .before .before .before .before in
+    let absent = occurring (c .before) in
     let a = absent .before .before .args in
     ap some (c .table-value .ensures) ∙
     by-positive (quantifier-at (a .quantifier)) (a .signs) (absent .if1 .left) (c .before .if2 .taken)
@@ -27,7 +34,7 @@ table-value-requires-2 c κs = search needs
 
 returns-3 : tie.Need-returns-3
 returns-3 c =
-    let positive = c .before .before .before .before in
+    let positive = positive-passed (c .before) in
     let absent = positive .before .before .before in
     let a = absent .before .before .args in
     ap some (c .table-value2 .ensures) ∙
