@@ -16,6 +16,13 @@ Inv-loop b s ends₀ i₀ ends i = Filling (node-rows-in s b) (s .nodes) ends₀
 abbrev μ-loop : tie.MeasureT-loop
 μ-loop b s ends₀ i₀ ends i = i
 
+-- places in the code, each from a later one
+abbrev start : tie.At-loop Inv-loop μ-loop → tie.Start Inv-loop μ-loop
+start c = c .before .before .before
+
+abbrev at-loop : tie.After-hop-arg Inv-loop μ-loop → tie.At-loop Inv-loop μ-loop
+at-loop c = c .before .before .before
+
 loop-holds : tie.Need-loop-holds Inv-loop μ-loop
 loop-holds c =
     let a = c .before .before in
@@ -28,7 +35,7 @@ sub-i c = omega arith
 
 children-at-requires : tie.Need-children-at-requires Inv-loop μ-loop
 children-at-requires c κs =
-    let a = c .before .before .before .before in
+    let a = start (c .before) in
     (a .pre .0, omega arith)
 
 -- the children of the row are hopped over
@@ -66,7 +73,7 @@ loop-less c = omega arith
 
 loop-again : tie.Need-loop-again Inv-loop μ-loop
 loop-again c =
-    let head = c .before .before .before .before in
+    let head = at-loop (c .before) in
     let a = head .before .before .before in
     let long = length-nodes (a .args .b .now) (a .pre .0) in
     fill-turn (node-rows-in (a .args .s) (a .args .b .now)) (sound-nodes (a .args .b .now) (a .pre .0))
