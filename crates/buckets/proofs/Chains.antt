@@ -1,7 +1,7 @@
 -- Laws of chains: which members they visit, what adding a member does to them, and a walk along one.
 -- Assumes nothing.
 use mathlib.Core.Path.{_≡_, refl, sym, ap, _∙_, subst}
-use mathlib.Core.Bool.{Bool, true, false, cond}
+use mathlib.Core.Bool.{cond}
 use mathlib.Core.List.{List}
 use mathlib.Core.Logic.{inl, inr, ⊎-elim}
 use Prim.Native.Nat.{ℕ, zero, suc, _+_, _≤_, _<_}
@@ -11,17 +11,17 @@ use lib.Dec.{eqb, ltb}
 use lib.ListN.{length, getD, set}
 use lib.Seq.{getD-set-same, getD-set-other}
 use borrow.Author.Tests.{eqb-true, eqb-false, eq-eqb, ne-eqb, ltb-true, ltb-false}
+use Rattle.formula.proofs.Booleans.{by-cases}
 use Rattle.buckets.specs.Chains.{entry-of, BUCKETS, bucket, last, Head, Linked, Passed}
 use Rattle.buckets.specs.declared.Link.{Link}
 use Rattle.buckets.specs.declared.Link.the-variants.{End, Member}
 
 -- both outcomes of a test
 decide : {A : Type 0} (a b : ℕ) → (a ≡ b → A) → ((a ≡ b → ⊥) → A) → A
-decide {A} a b f g = go (eqb a b) refl
-  where
-    go : (t : Bool) → eqb a b ≡ t → A
-    go true e = f (eqb-true a b e)
-    go false e = g (eqb-false a b e)
+decide {A} a b f g =
+    by-cases (eqb a b)
+    (λ e. f (eqb-true a b e))
+    (λ e. g (eqb-false a b e))
 
 -- a link by its entry
 same-link : (l r : Link) → entry-of l ≡ entry-of r → l ≡ r
@@ -170,11 +170,10 @@ module _ {H L M : List ℕ} {n i : ℕ} {l : Link} (lk : Linked H L M n) (within
       }
     where
       below : {A : Type 0} (j i : ℕ) → (j < i → A) → (i ≤ j → A) → A
-      below {A} j i f g = go (ltb j i) refl
-        where
-          go : (t : Bool) → ltb j i ≡ t → A
-          go true e = f (ltb-true j i e)
-          go false e = g (ltb-false j i e)
+      below {A} j i f g =
+          by-cases (ltb j i)
+          (λ e. f (ltb-true j i e))
+          (λ e. g (ltb-false j i e))
 
   -- the chain goes down
   pub link-down : entry-of r < entry-of l

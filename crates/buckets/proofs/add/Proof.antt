@@ -9,17 +9,24 @@ use borrow.Author.Needs.{needs}
 use Rattle.buckets.proofs.add.Statement.{statement}
 use Rattle.buckets.proofs.add.Tie as tie
 
+-- places in the code, each from a later one
+abbrev begun : tie.After-slice-known3 → tie.Start
+begun c = c .before .before .before
+
+abbrev bucket-found : tie.After-first → tie.After-bucket-of
+bucket-found c = c .before .before .before
+
 bucket-of-requires : tie.Need-bucket-of-requires
 bucket-of-requires c κs = search needs
 
 first-requires : tie.Need-first-requires
 first-requires c κs =
     let k = c .before .before .bucket-of in
-    let a = c .before .before .before .before .before .before in
+    let a = begun (c .before .before .before) in
     (omega (arith, k .ensures .1, a .pre .0 .all-heads), omega arith, a .pre .2 .heads (k .result) (k .ensures .1))
 
 abbrev start : tie.After-first → tie.Start
-start f = f .before .before .before .before .before .before .before
+start f = begun (bucket-found f .before)
 
 -- the entry of the first of the bucket's chain
 within : (f : tie.After-first) → entry-of (f .first .result) ≤ start f .args .n

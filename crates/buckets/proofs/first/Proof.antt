@@ -9,6 +9,10 @@ use borrow.Author.Needs.{needs}
 use Rattle.buckets.proofs.first.Statement.{statement}
 use Rattle.buckets.proofs.first.Tie as tie
 
+-- places in the code, each from a later one
+abbrev entry : tie.After-shared-slice-known3 → tie.Start
+entry c = c .before .before .before
+
 mul-small : tie.Need-mul-small
 mul-small c = search needs
 
@@ -31,7 +35,7 @@ abbrev linked : tie.After-i → tie.After-link-of
 linked c = c .before .before
 
 abbrev start : tie.After-link-of → tie.Start
-start l = l .before .before .before .before .before
+start l = entry (l .before .before)
 
 -- the entry in the heads is that of the link
 read : (l : tie.After-link-of) → getD (start l .args .heads .now) (start l .args .k) 0 ≡ entry-of (l .link-of .result)
