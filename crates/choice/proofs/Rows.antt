@@ -1,49 +1,25 @@
 -- A prefix of distinct numbers by its rows: each variable's row, what may be done with it, and the choice among the rows from one on.
 -- Assumes nothing.
-use mathlib.Core.Path.{_≡_, refl, sym, ap, _∙_}
-use mathlib.Core.Bool.{Bool, true, false, not, _||_, cond, or-true, false≢true}
+use mathlib.Core.Path.{_≡_, refl, ap, _∙_}
+use mathlib.Core.Bool.{Bool, true, false, not, cond}
 use mathlib.Core.List.{[], _∷_}
 use Prim.Native.Nat.{ℕ, zero, suc, _≤_, _<_}
 use native.Mathlib.Omega.{arith}
-use lib.Dec.{eqb, leb}
+use lib.Dec.{leb}
 use lib.ListN.{length, drop}
-use borrow.Author.Tests.{eq-eqb, ne-eqb, not-true}
-use Rattle.formula.specs.Tree.{Binding, Prefix, binds, distinct}
+use Rattle.formula.specs.Tree.{Binding, Prefix, distinct}
 use Rattle.formula.specs.Settle.{settling, may-settle}
 use Rattle.formula.specs.Expand.{all-of, innermost}
 use Rattle.formula.specs.Solve.{those, earlier, least}
-use Rattle.formula.proofs.Booleans.{and-parts}
 use Rattle.formula.proofs.Innermost.{solve-block}
 use Rattle.sheet.specs.Format.{Bytes}
 use Rattle.rows.specs.Formulas.{prefix-in, matrix-in, formula-in, Readable}
 use Rattle.rows.specs.declared.Layout.{Layout}
 use Rattle.rows.proofs.Formulas.{length-prefix}
 use Rattle.prefixes.specs.Places.{place, binding-at, binding-in, block-start}
-use Rattle.prefixes.proofs.Places.{quantifier-of-place, block-place}
+use Rattle.prefixes.proofs.Places.{quantifier-of-place, block-place, place-row}
 use Rattle.polarity.specs.Value.{settling-in, Bound}
 use Rattle.choice.specs.Settling.{Unsettled}
-
--- a row's number is bound
-binds-row : (p : Prefix) (i : ℕ) → i < length p → binds p ((binding-at p i) .variable) ≡ true
-unfolding binds binding-at
-binds-row [] i h = absurd (omega arith)
-binds-row (z ∷ p) zero h = ap (λ (e : Bool). e || binds p (z .variable)) (eq-eqb (z .variable) (z .variable) refl)
-binds-row (z ∷ p) (suc i) h =
-    let x = (binding-at p i) .variable in
-    ap (λ (e : Bool). eqb (z .variable) x || e) (binds-row p i (omega arith)) ∙ or-true (eqb (z .variable) x)
-
--- the row of a row's number is that row
-place-row : (p : Prefix) (i : ℕ) → distinct p ≡ true → i < length p → place ((binding-at p i) .variable) p ≡ i
-unfolding place binding-at distinct
-place-row [] i d h = absurd (omega arith)
-place-row (z ∷ p) zero d h = ap (λ (e : Bool). cond e 0 (suc (place (z .variable) p))) (eq-eqb (z .variable) (z .variable) refl)
-place-row (z ∷ p) (suc i) d h =
-    let parts = and-parts (not (binds p (z .variable))) (distinct p) d in
-    let x = (binding-at p i) .variable in
-    let other : eqb (z .variable) x ≡ false
-    = ne-eqb (z .variable) x
-    (λ e. false≢true (sym (not-true (binds p (z .variable)) (parts .0)) ∙ ap (binds p) e ∙ binds-row p i (omega arith))) in
-    ap (λ (e : Bool). cond e 0 (suc (place x p))) other ∙ ap suc (place-row p i (parts .1) (omega arith))
 
 -- the innermost block has a row
 pub block-within : (p : Prefix) → 0 < length p → block-start p < length p

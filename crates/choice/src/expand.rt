@@ -3,7 +3,7 @@
 use prefixes::block_start;
 use prefixes::bound_at;
 use relevance::variable::Candidate;
-use relevance::variable::part_of;
+use relevance::variable::presence_of;
 use relevance::variable::raw_rows_of;
 use rows::Layout;
 ghost use mathlib.Core.Path.{_≡_};
@@ -27,7 +27,7 @@ pub fn price_row(
     ensures { λ r. ⌜ r ≡ priced-in s (now (b .entry)) i ⌝ }
 {
     let x = bound_at(b, s, i);
-    let relevant = part_of(b, s, ends, ranges, next, x);
+    let relevant = presence_of(b, s, ends, ranges, next, x);
     let raw = raw_rows_of(s.nodes, relevant);
     Candidate {
         row: i,

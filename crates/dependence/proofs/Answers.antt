@@ -13,9 +13,10 @@ use Rattle.formula.specs.Tree.{same-op, exists, Binding, Prefix, Formula, binds
 use Rattle.formula.specs.Expand.{after, among, occurs, occurring, later}
 use Rattle.formula.specs.Solve.{those}
 use Rattle.formula.specs.Outer.{existentials, block, depends, dependents, lowest-of}
-use Rattle.formula.proofs.Booleans.{and-parts, or-parts, or-cases, or-later, eqb-comm}
+use Rattle.formula.proofs.Booleans.{and-parts, or-parts, or-cases, or-later, eqb-comm, by-cases}
 use Rattle.formula.proofs.Outer.Closure.{stage-binds}
 use Rattle.formula.proofs.Outer.Fresh.{rows-of, those-binds}
+use Rattle.formula.proofs.Prefixes.{distinct-after}
 use Rattle.sets.specs.Sets.{holds, amount, size, IsLowest}
 use Rattle.sets.proofs.Members.{amount-same, amount-none, amount-more}
 use Rattle.dependence.specs.Dependents.{Dependents}
@@ -57,16 +58,6 @@ distinct-by T (z ∷ p) d =
     by : (m : Bool) → binds p (z .variable) ≡ false → distinct (rows-by T p) ≡ true → distinct (cond m (z ∷ rows-by T p) (rows-by T p)) ≡ true
     by true e rest = ap₂ (λ (a b : Bool). not a && b) (unbound-by T (z .variable) p e) rest
     by false e rest = rest
-
-distinct-after : (x : ℕ) (p : Prefix) → distinct p ≡ true → distinct (after x p) ≡ true
-unfolding after distinct
-distinct-after x [] d = refl
-distinct-after x (z ∷ p) d =
-    let rest = and-parts (not (binds p (z .variable))) (distinct p) d .1 in by (eqb (z .variable) x) rest (distinct-after x p rest)
-  where
-    by : (m : Bool) → distinct p ≡ true → distinct (after x p) ≡ true → distinct (cond m p (after x p)) ≡ true
-    by true own rest = own
-    by false own rest = rest
 
 distinct-block : (x : ℕ) (f : Formula) → distinct (f .prefix) ≡ true → distinct (block x f) ≡ true
 unfolding block later occurring
@@ -146,11 +137,10 @@ lowest-below (y ∷ z ∷ ys) v h = by (ltb y (lowest-of (z ∷ ys))) refl (lowe
 lowest-is : (ys : List ℕ) (r : ℕ) → binds (rows-of ys) r ≡ true → ((v : ℕ) → v < r → binds (rows-of ys) v ≡ false) → r ≡ lowest-of ys
 unfolding binds
 lowest-is [] r h none = absurd (false≢true h)
-lowest-is (y ∷ ys) r h none = by (ltb (lowest-of (y ∷ ys)) r) refl
-  where
-    by : (m : Bool) → ltb (lowest-of (y ∷ ys)) r ≡ m → r ≡ lowest-of (y ∷ ys)
-    by true e = absurd (true≢false (sym (lowest-in y ys) ∙ none (lowest-of (y ∷ ys)) (ltb-true _ _ e)))
-    by false e = let below = lowest-below (y ∷ ys) r h in let above = ltb-false (lowest-of (y ∷ ys)) r e in omega (arith, below, above)
+lowest-is (y ∷ ys) r h none =
+    by-cases (ltb (lowest-of (y ∷ ys)) r)
+    (λ e. absurd (true≢false (sym (lowest-in y ys) ∙ none (lowest-of (y ∷ ys)) (ltb-true _ _ e))))
+    (λ e. let below = lowest-below (y ∷ ys) r h in let above = ltb-false (lowest-of (y ∷ ys)) r e in omega (arith, below, above))
 
 no-those : (D : ℕ → Bool) → ((v : ℕ) → D v ≡ false) → (p : Prefix) → those D p ≡ []
 unfolding those

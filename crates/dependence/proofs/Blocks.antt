@@ -19,7 +19,7 @@ use Rattle.rows.specs.Formulas.{prefix-in, matrix-in, formula-in, Readable}
 use Rattle.rows.specs.declared.Layout.{Layout}
 use Rattle.rows.proofs.Formulas.{length-prefix}
 use Rattle.prefixes.specs.Places.{place, binding-at, binding-in}
-use Rattle.prefixes.proofs.Places.{binds-place, quantifier-of-place, prefix-row, no-rows}
+use Rattle.prefixes.proofs.Places.{binds-place, quantifier-of-place, prefix-row, no-rows, after-place}
 use Rattle.sets.specs.Sets.{holds}
 use Rattle.sets.proofs.Members.{holds-none}
 use Rattle.dependence.specs.Blocks.{Numbered, Located, row-test, first-row, WithRow, IsBlock}
@@ -143,16 +143,6 @@ by-first t (z ∷ p) =
     by true false rest = on rest
     by false true rest = on rest
     by false false rest = on rest
-
--- the rows after x are those behind its row
-after-place : (x : ℕ) (p : Prefix) → after x p ≡ drop (suc (place x p)) p
-unfolding after place
-after-place x [] = refl
-after-place x (z ∷ p) = by (eqb (z .variable) x) (after-place x p)
-  where
-    by : (e : Bool) → after x p ≡ drop (suc (place x p)) p → cond e p (after x p) ≡ drop (cond e 0 (suc (place x p))) p
-    by true h = refl
-    by false h = h
 
 universal : (q : Quantifier) → same-op for-all q ≡ not (same-op exists q)
 universal and = refl

@@ -14,6 +14,7 @@ use Rattle.formula.specs.Expand.{after, among, occurs, occurring, later}
 use Rattle.formula.specs.Outer.{existentials, block, within, touches, some-row, touched, grown, stage, depends}
 use Rattle.formula.proofs.Booleans.{and-parts, or-cases, or-later}
 use Rattle.formula.proofs.Outer.Closure.{shut, stage-binds}
+use Rattle.formula.proofs.Prefixes.{some-here, some-found}
 use Rattle.sheet.specs.Format.{Bytes}
 use Rattle.rows.specs.Formulas.{formula-in}
 use Rattle.rows.specs.declared.Layout.{Layout}
@@ -24,7 +25,7 @@ use Rattle.occurrences.specs.Chains.{Chain}
 use Rattle.occurrences.specs.Occurrences.{Occurrences}
 use Rattle.relevance.specs.Walks.{Chained}
 use Rattle.relevance.specs.declared.Range.{Range}
-use Rattle.dependence.specs.Marks.{Marked, MarkedPart}
+use Rattle.dependence.specs.Marks.{Marked, MarkedRelevant}
 use Rattle.dependence.specs.Blocks.{IsBlock}
 use Rattle.dependence.specs.Dependents.{range-at, IsNext, Dependents}
 
@@ -49,20 +50,6 @@ among-has P (z ∷ p) v h = by (P (z .variable)) refl h (among-has P p v)
 block-has : (x : ℕ) (f : Formula) (v : ℕ) → binds (block x f) v ≡ true → has (of v) (f .matrix) ≡ true
 unfolding block later occurring
 block-has x f v h = among-has (occurs (f .matrix)) (after x (f .prefix)) v h
-
--- stages
-
-some-here : (P : ℕ → Bool) (p : Prefix) (y : ℕ) → binds p y ≡ true → P y ≡ true → some-row P p ≡ true
-unfolding some-row binds
-some-here P [] y b h = absurd (false≢true b)
-some-here P (z ∷ p) y b h =
-    ⊎-elim (λ e. ap (λ (m : Bool). m || some-row P p) (ap P (eqb-true (z .variable) y e) ∙ h))
-    (λ e. or-later (P (z .variable)) (some-here P p y e h)) (or-cases (eqb (z .variable) y) (binds p y) b)
-
-some-found : (P : ℕ → Bool) (p : Prefix) → some-row P p ≡ true → (y : ℕ) × (P y ≡ true)
-unfolding some-row
-some-found P [] h = absurd (false≢true h)
-some-found P (z ∷ p) h = ⊎-elim (λ e. (z .variable, e)) (λ e. some-found P p e) (or-cases (P (z .variable)) (some-row P p) h)
 
 -- a set of no numbers
 
@@ -296,6 +283,6 @@ module _ {s : Layout} (b : Bytes) {ranges next : List ℕ} (o : Occurrences s b 
     pub chained-range : {ends : List ℕ} → Indexed s b ends → Chained s b ends next (r .first) (r .last)
     chained-range i = record { indexed = i; chosen = of y; chain = chain }
 
-    pub marked-range : {old new : List ℕ} → MarkedPart s b next r old new → Marked (λ v. within (of y) (of v) (formula-in s b .matrix)) old new
+    pub marked-range : {old new : List ℕ} → MarkedRelevant s b next r old new → Marked (λ v. within (of y) (of v) (formula-in s b .matrix)) old new
     unfolding formula-in
     marked-range m = m (of y) chain

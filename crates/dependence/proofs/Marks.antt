@@ -24,7 +24,7 @@ use Rattle.occurrences.specs.Chains.{hits, hits-all}
 use Rattle.occurrences.specs.Occurrences.{variable-of}
 use Rattle.occurrences.proofs.Hits.{has-hits, length-hits, hits-row, hits-subtree}
 use Rattle.relevance.specs.Walks.{Way}
-use Rattle.relevance.proofs.TurnPart.{Begun, Walk, walk-start, walked, held-by, walk-next}
+use Rattle.relevance.proofs.TurnSubtree.{Begun, Walk, walk-start, walked, held-by, walk-next}
 use Rattle.dependence.specs.Marks.{Marked, literal-in}
 
 -- a test that no number passes marks nothing

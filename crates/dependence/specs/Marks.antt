@@ -46,6 +46,6 @@ MarkedChildren s b next o old new =
     → Marked (λ v. has-any (of v) (relevant L (kids (subtree-in s b (o .operator))))) old new
 
 -- the set with the variables of the relevant subtree added
-abbrev pub MarkedPart : Layout → Bytes → List ℕ → Range → List ℕ → List ℕ → Type 0
-MarkedPart s b next c old new =
+abbrev pub MarkedRelevant : Layout → Bytes → List ℕ → Range → List ℕ → List ℕ → Type 0
+MarkedRelevant s b next c old new =
     (L : Literals) → Chain L s b next (c .first) (c .last) → Marked (λ v. within L (of v) (matrix-in s b)) old new

@@ -2,7 +2,7 @@
 // member costs at most one walk over the rows of its relevant subtree; no pair of variables is looked at.
 use crate::Target;
 use crate::block::fill_block;
-use crate::mark::mark_part;
+use crate::mark::mark_relevant;
 use occurrences::occurs;
 use relevance::Range;
 use rows::NUMBERS;
@@ -66,12 +66,12 @@ pub fn fill_dependents(
     fill_block(b, ranges, t, &mut block);
     let mut found = [0u64; WORDS];
     let own = range_of(ranges, x);
-    mark_part(b, s, ends, next, own, &mut found);
+    mark_relevant(b, s, ends, next, own, &mut found);
     let mut y = next_member(&block, &found, set);
     while y < NUMBERS {
         add(set, y);
         let range = range_of(ranges, y);
-        mark_part(b, s, ends, next, range, &mut found);
+        mark_relevant(b, s, ends, next, range, &mut found);
         y = next_member(&block, &found, set);
     }
     intersect(&block, &found, set);

@@ -14,7 +14,7 @@ ghost use Prim.Native.Nat.{_≤_, _<_};
 ghost use lib.ListN.{length};
 ghost use Rattle.rows.specs.Formulas.{Readable};
 ghost use Rattle.relevance.specs.Walks.{Chained, Sited};
-ghost use Rattle.dependence.specs.Marks.{MarkedRow, MarkedRows, MarkedChild, MarkedChildren, MarkedPart};
+ghost use Rattle.dependence.specs.Marks.{MarkedRow, MarkedRows, MarkedChild, MarkedChildren, MarkedRelevant};
 
 // Marks the variable of node row `i`, if the row is a literal.
 fn mark_row(b: &[u8], s: Layout, i: usize, set: &mut [u64])
@@ -69,9 +69,9 @@ fn mark_children(b: &[u8], s: Layout, ends: &[u16], next: &[u16], site: Site, se
 }
 
 // Marks the variables of the relevant subtree of a chain's literals: the one literal, or the relevant children of the operator found.
-pub fn mark_part(b: &[u8], s: Layout, ends: &[u16], next: &[u16], range: Range, set: &mut [u64])
+pub fn mark_relevant(b: &[u8], s: Layout, ends: &[u16], next: &[u16], range: Range, set: &mut [u64])
     requires { ⌜ Chained s (now b) (now ends) (now next) (range .first) (range .last) × (length (now set) ≡ 17) ⌝ }
-    ensures { λ _. ⌜ MarkedPart s (now (b .entry)) (now (next .entry)) range (now (set .entry)) (now (set .exit)) ⌝ }
+    ensures { λ _. ⌜ MarkedRelevant s (now (b .entry)) (now (next .entry)) range (now (set .entry)) (now (set .exit)) ⌝ }
 {
     let relevant = relevant_subtree(b, s, ends, next, range);
     if relevant.operator == range.first {

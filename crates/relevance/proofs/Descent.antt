@@ -7,10 +7,10 @@ use native.Mathlib.Omega.{arith}
 use lib.Dec.{eqb, ltb}
 use lib.ListN.{length}
 use borrow.Author.Tests.{lt-ltb, le-ltb, ltb-true, ltb-false, eq-eqb, ne-eqb, eqb-true, eqb-false}
-use Rattle.formula.proofs.Booleans.{or-parts}
 use Rattle.formula.specs.Tree.{and, or, Tree, lit, node, Forest, ∅, _▸_, _⧺_, Literals, rows, has, has-any, count, keep}
 use Rattle.formula.specs.Settle.{is-lit}
 use Rattle.formula.specs.Expand.{relevant, one-relevant}
+use Rattle.formula.proofs.Booleans.{or-parts, by-cases}
 use Rattle.sheet.specs.Format.{Bytes}
 use Rattle.sheet.specs.Sheet.{root}
 use Rattle.rows.specs.Formulas.{node-rows-in, matrix-in, Readable}
@@ -210,19 +210,16 @@ module _ (L : Literals) {s : Layout} (b : Bytes) (ok : Readable s b) where
 
     -- at the first literal's own row it is the one literal
     at-literal : at ≡ first → relevant-subtree L 0 (matrix-in s b) ≡ literal-part at
-    at-literal e = go (is-lit L (subtree-in s b at)) refl
-      where
-        go : (c : Bool) → is-lit L (subtree-in s b at) ≡ c → relevant-subtree L 0 (matrix-in s b) ≡ literal-part at
-        go true h = n .same ∙ a-literal L at (subtree-in s b at) h
-        go false h =
-            absurd (omega (arith, n .first-is, first-later L b ok at (n .inside) h, first-after L b ok (suc at)))
+    at-literal e =
+        by-cases (is-lit L (subtree-in s b at))
+        (λ h. n .same ∙ a-literal L at (subtree-in s b at) h)
+        (λ h. absurd (omega (arith, n .first-is, first-later L b ok at (n .inside) h, first-after L b ok (suc at))))
 
     not-a-literal : (at ≡ first → ⊥) → is-lit L (subtree-in s b at) ≡ false
-    not-a-literal other = go (is-lit L (subtree-in s b at)) refl
-      where
-        go : (c : Bool) → is-lit L (subtree-in s b at) ≡ c → is-lit L (subtree-in s b at) ≡ false
-        go true h = absurd (other (sym (n .first-is ∙ first-here L b ok at (n .inside) h)))
-        go false h = h
+    not-a-literal other =
+        by-cases (is-lit L (subtree-in s b at))
+        (λ h. absurd (other (sym (n .first-is ∙ first-here L b ok at (n .inside) h))))
+        (λ h. h)
 
     behind-children : forest-in s b (suc at) ≡ kids (subtree-in s b at) ⧺ forest-in s b (at + rows (subtree-in s b at))
     unfolding forest-in subtree-in rest
@@ -328,11 +325,10 @@ module _ (L : Literals) {s : Layout} (b : Bytes) (ok : Readable s b) (c : Range)
     -- where no step is left the operator is found
     pub narrow-done : next ≤ at → at ≡ (relevant-subtree L 0 (matrix-in s b)) .operator
     unfolding operator-part
-    narrow-done h = go (eqb at (c .first)) refl
-      where
-        go : (x : Bool) → eqb at (c .first) ≡ x → at ≡ (relevant-subtree L 0 (matrix-in s b)) .operator
-        go true e = sym (ap (λ (p : Relevant). p .operator) (at-literal L b ok n (eqb-true at (c .first) e)))
-        go false e = sym (ap (λ (p : Relevant). p .operator) (narrow-end h (eqb-false at (c .first) e)))
+    narrow-done h =
+        by-cases (eqb at (c .first))
+        (λ e. sym (ap (λ (p : Relevant). p .operator) (at-literal L b ok n (eqb-true at (c .first) e))))
+        (λ e. sym (ap (λ (p : Relevant). p .operator) (narrow-end h (eqb-false at (c .first) e))))
 
     placed-at : next ≤ at → Placed L s b (c .first) (relevant-subtree L 0 (matrix-in s b))
     placed-at h =

@@ -8,14 +8,15 @@ use lib.Dec.{eqb}
 use borrow.Author.Tests.{eq-eqb, ne-eqb, eqb-true, eqb-false}
 use Rattle.formula.specs.Tree.{Tree, lit, node, Forest, ∅, _▸_, Literals, rows, rows-all, has, has-any, count, some-child, keep}
 use Rattle.formula.specs.Expand.{relevant, one-relevant, all-relevant, growth, growth-below, raw-rows}
+use Rattle.formula.proofs.Booleans.{by-cases}
 use Rattle.sheet.specs.Format.{Bytes}
 use Rattle.sheet.proofs.Preorder.{rows-positive}
 use Rattle.rows.specs.Formulas.{matrix-in, Readable}
 use Rattle.rows.specs.declared.Layout.{Layout}
 use Rattle.rows.proofs.Formulas.{rows-nodes}
 use Rattle.subtrees.specs.Subtrees.{kids}
-use Rattle.subtrees.proofs.Forest.{rows-kids}
 use Rattle.subtrees.specs.Parts.{relevant-subtree, part-below, operator-part}
+use Rattle.subtrees.proofs.Forest.{rows-kids}
 use Rattle.relevance.specs.Raw.{added, grown, presence, grown-by, copied}
 use Rattle.subtrees.specs.declared.relevant.Relevant.{Relevant}
 use Rattle.relevance.specs.declared.variable.Presence.{Presence}
@@ -34,11 +35,10 @@ relevant-most L (t ▸ ts) = go (has L t) (relevant-most L ts)
     go false h = omega arith
 
 eqb-shift : (m a b : ℕ) → eqb (m + a) (m + b) ≡ eqb a b
-eqb-shift m a b = go (eqb a b) refl
-  where
-    go : (c : Bool) → eqb a b ≡ c → eqb (m + a) (m + b) ≡ eqb a b
-    go true e = eq-eqb (m + a) (m + b) (ap (λ n. m + n) (eqb-true a b e)) ∙ sym e
-    go false e = let other = eqb-false a b e in ne-eqb (m + a) (m + b) (λ h. other (omega arith)) ∙ sym e
+eqb-shift m a b =
+    by-cases (eqb a b)
+    (λ e. eq-eqb (m + a) (m + b) (ap (λ n. m + n) (eqb-true a b e)) ∙ sym e)
+    (λ e. let other = eqb-false a b e in ne-eqb (m + a) (m + b) (λ h. other (omega arith)) ∙ sym e)
 
 -- every child is relevant exactly if the relevant ones have all rows
 all-rows : (L : Literals) (ts : Forest) → eqb (rows-all (relevant L ts)) (rows-all ts) ≡ all-relevant L ts
@@ -150,11 +150,10 @@ unfolding presence
 present L t {p} h e = ap Present e ∙ rw h
 
 raw-grown : (L : Literals) (t : Tree) → grown-by (rows t) (presence L t) ≡ raw-rows L t
-raw-grown L t = go (has L t) refl
-  where
-    go : (c : Bool) → has L t ≡ c → grown-by (rows t) (presence L t) ≡ raw-rows L t
-    go true h = ap (grown-by (rows t)) (sym (present L t h refl)) ∙ sym (raw-present L t h)
-    go false h = ap (grown-by (rows t)) (sym (absent L t h)) ∙ sym (raw-absent L t h)
+raw-grown L t =
+    by-cases (has L t)
+    (λ h. ap (grown-by (rows t)) (sym (present L t h refl)) ∙ sym (raw-present L t h))
+    (λ h. ap (grown-by (rows t)) (sym (absent L t h)) ∙ sym (raw-absent L t h))
 
 copied-most : (L : Literals) (t : Tree) → copied (presence L t) ≤ rows t
 unfolding presence

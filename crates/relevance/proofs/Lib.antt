@@ -1,5 +1,5 @@
 -- Laws of the relevant subtree, and the turns of this crate's loops.
 pub mod Growth
 pub mod Descent
-pub mod TurnPart
+pub mod TurnSubtree
 mod TurnCuts

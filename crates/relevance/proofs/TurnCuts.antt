@@ -17,7 +17,7 @@ use Rattle.subtrees.proofs.Siblings.{Walked, siblings-none}
 use Rattle.subtrees.specs.Cuts.{turns, cuts}
 use Rattle.relevance.specs.Walks.{Way, run-cut, table-cut}
 use Rattle.relevance.specs.declared.cuts.Runs.{Runs}
-use Rattle.relevance.proofs.TurnPart.{Begun, Walk, walk-start, walk-next, walked, end-later, held-by}
+use Rattle.relevance.proofs.TurnSubtree.{Begun, Walk, walk-start, walk-next, walked, end-later, held-by}
 
 -- The cuts in the table and those to come are the cuts of all; there is at most one for each row.
 pub record Cutting (L : Literals) (s : Layout) (b : Bytes) (ts : Forest) (from at left row : ℕ) (runs : Runs) (table : List ℕ) : Type 0 where

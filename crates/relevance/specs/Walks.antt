@@ -83,14 +83,14 @@ IsShare s b next o r =
     → (r .rows ≡ rows-all (relevant L (kids (subtree-in s b (o .operator)))))
     × (r .children ≡ count (relevant L (kids (subtree-in s b (o .operator)))))
 
-abbrev pub IsOperatorPart : Layout → Bytes → List ℕ → Site → Relevant → Type 0
-IsOperatorPart s b next o r =
+abbrev pub IsRelevantAt : Layout → Bytes → List ℕ → Site → Relevant → Type 0
+IsRelevantAt s b next o r =
     (L : Literals) (last : ℕ) → Chain L s b next (o .first) last
     → r ≡ operator-part L (o .operator) (kids (subtree-in s b (o .operator)))
 
 -- the relevant subtree
-abbrev pub IsPart : Layout → Bytes → List ℕ → Range → Relevant → Type 0
-IsPart s b next c r =
+abbrev pub IsRelevant : Layout → Bytes → List ℕ → Range → Relevant → Type 0
+IsRelevant s b next c r =
     (L : Literals) → Chain L s b next (c .first) (c .last) → r ≡ relevant-subtree L 0 (matrix-in s b)
 
 -- the runs after a cut at row `at`; without one the run goes on

@@ -12,7 +12,7 @@ ghost use Rattle.rows.specs.Tables.{ROWS};
 ghost use Rattle.subtrees.specs.Ends.{Indexed, Hops};
 ghost use Rattle.subtrees.specs.Subtrees.{subtree-in};
 ghost use Rattle.relevance.specs.Walks.{span-by, narrower, Bounded, IsAncestor, Way, Leads, with-child};
-ghost use Rattle.relevance.specs.Walks.{Chained, Sited, IsShare, IsOperatorPart, IsPart};
+ghost use Rattle.relevance.specs.Walks.{Chained, Sited, IsShare, IsRelevantAt, IsRelevant};
 
 // The node rows of a subtree: its own row, and the row behind it.
 struct Span {
@@ -123,9 +123,9 @@ fn relevant_children(b: &[u8], s: Layout, ends: &[u16], next: &[u16], site: Site
 }
 
 // What is relevant of an operator. Every child is exactly if the relevant ones have all of its rows.
-fn operator_part(b: &[u8], s: Layout, ends: &[u16], next: &[u16], site: Site) -> Relevant
+fn relevant_at(b: &[u8], s: Layout, ends: &[u16], next: &[u16], site: Site) -> Relevant
     requires { ⌜ Sited s (now b) (now ends) (now next) site ⌝ }
-    ensures { λ r. ⌜ IsOperatorPart s (now (b .entry)) (now (next .entry)) site r ⌝ }
+    ensures { λ r. ⌜ IsRelevantAt s (now (b .entry)) (now (next .entry)) site r ⌝ }
 {
     let share = relevant_children(b, s, ends, next, site);
     let at = site.operator;
@@ -142,7 +142,7 @@ fn operator_part(b: &[u8], s: Layout, ends: &[u16], next: &[u16], site: Site) ->
 // The relevant subtree of the matrix for the literals of a chain.
 pub fn relevant_subtree(b: &[u8], s: Layout, ends: &[u16], next: &[u16], range: Range) -> Relevant
     requires { ⌜ Chained s (now b) (now ends) (now next) (range .first) (range .last) ⌝ }
-    ensures { λ r. ⌜ IsPart s (now (b .entry)) (now (next .entry)) range r ⌝ }
+    ensures { λ r. ⌜ IsRelevant s (now (b .entry)) (now (next .entry)) range r ⌝ }
 {
     let at = ancestor(b, s, ends, range);
     if at == range.first {
@@ -157,5 +157,5 @@ pub fn relevant_subtree(b: &[u8], s: Layout, ends: &[u16], next: &[u16], range: 
         operator: at,
         first: range.first,
     };
-    operator_part(b, s, ends, next, site)
+    relevant_at(b, s, ends, next, site)
 }

@@ -27,7 +27,7 @@ pub struct Candidate {
 }
 
 // The relevant subtree of the variable `x`, if it has a literal.
-pub fn part_of(
+pub fn presence_of(
     b: &[u8],
     s: Layout,
     ends: &[u16],

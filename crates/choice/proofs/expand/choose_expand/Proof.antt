@@ -11,11 +11,15 @@ Inv-loop b s ends ranges next from i₀ best₀ i best = Pricing s b i best
 abbrev μ-loop : tie.MeasureT-loop
 μ-loop b s ends ranges next from i₀ best₀ i best = i
 
+-- places in the code, each from a later one
+abbrev entry : tie.After-shared-slice-known3 Inv-loop μ-loop → tie.Start Inv-loop μ-loop
+entry c = c .before .before .before
+
 block-start-requires : tie.Need-block-start-requires Inv-loop μ-loop
-block-start-requires c κs = let a = c .before .before .before .before in (a .pre .0 .readable, a .pre .3)
+block-start-requires c κs = let a = entry (c .before) in (a .pre .0 .readable, a .pre .3)
 
 abbrev start : tie.After-block-start Inv-loop μ-loop → tie.Start Inv-loop μ-loop
-start c = c .before .before .before .before .before
+start c = entry (c .before .before)
 
 sub-i : tie.Need-sub-i Inv-loop μ-loop
 sub-i c = omega (arith, start (c .before) .pre .3)

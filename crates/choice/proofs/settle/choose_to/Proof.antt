@@ -6,6 +6,10 @@ use Rattle.choice.proofs.Settling.{settle-lower, settle-none, settle-on
 use Rattle.choice.proofs.settle.choose_to.Statement.{statement}
 use Rattle.choice.proofs.settle.choose_to.Tie as tie
 
+-- places in the code, each from a later one
+abbrev entry : tie.After-bound-at → tie.Start
+entry c = c .before .before .before
+
 bound-at-requires : tie.Need-bound-at-requires
 bound-at-requires c κs = search needs
 
@@ -13,7 +17,7 @@ is-lower-requires : tie.Need-is-lower-requires
 is-lower-requires c κs = search needs
 
 abbrev start : tie.After-is-lower → tie.Start
-start c = c .before .before .before .before
+start c = entry (c .before)
 
 returns : tie.Need-returns
 returns c =

@@ -27,10 +27,10 @@ start c = known c .before .before .before
 abbrev occurring : tie.After-block2 Inv-loop μ-loop → tie.Else1 Inv-loop μ-loop
 occurring c = c .before .before .before
 
-abbrev ranged : tie.After-mark-part Inv-loop μ-loop → tie.After-block2 Inv-loop μ-loop
+abbrev ranged : tie.After-mark-relevant Inv-loop μ-loop → tie.After-block2 Inv-loop μ-loop
 ranged c = c .before .before .before
 
-abbrev marked : tie.After-found3 Inv-loop μ-loop → tie.After-mark-part Inv-loop μ-loop
+abbrev marked : tie.After-found3 Inv-loop μ-loop → tie.After-mark-relevant Inv-loop μ-loop
 marked c = c .before .before .before
 
 abbrev entry : tie.At-loop Inv-loop μ-loop → tie.Start Inv-loop μ-loop
@@ -42,7 +42,7 @@ turn c = c .before .before
 abbrev added : tie.After-range-of2 Inv-loop μ-loop → tie.After-add Inv-loop μ-loop
 added c = c .before .before .before
 
-abbrev again : tie.After-block4 Inv-loop μ-loop → tie.After-mark-part2 Inv-loop μ-loop
+abbrev again : tie.After-block4 Inv-loop μ-loop → tie.After-mark-relevant2 Inv-loop μ-loop
 again c = c .before .before
 
 abbrev over : tie.After-intersect-arg Inv-loop μ-loop → tie.After-loop Inv-loop μ-loop
@@ -75,11 +75,11 @@ fill-block-requires c κs =
 range-of-requires : tie.Need-range-of-requires Inv-loop μ-loop
 range-of-requires c κs = let a = start (occurring c .before .before) in (a .pre .1 .holds, a .pre .2 .few)
 
-slice-aggregate-mark-part : tie.Need-slice-aggregate-mark-part Inv-loop μ-loop
-slice-aggregate-mark-part c = refl
+slice-aggregate-mark-relevant : tie.Need-slice-aggregate-mark-relevant Inv-loop μ-loop
+slice-aggregate-mark-relevant c = refl
 
-mark-part-requires : tie.Need-mark-part-requires Inv-loop μ-loop
-mark-part-requires c κs =
+mark-relevant-requires : tie.Need-mark-relevant-requires Inv-loop μ-loop
+mark-relevant-requires c κs =
     let here = occurring (c .before .before) in
     let a = start (here .before .before) in
     (chained-range (a .args .b .now) (a .pre .1) (a .pre .2 .few) (c .before .range-of .ensures) (occurs here) (a .pre .0), refl)
@@ -87,14 +87,14 @@ mark-part-requires c κs =
 slice-aggregate-next-member : tie.Need-slice-aggregate-next-member Inv-loop μ-loop
 slice-aggregate-next-member c = sym (ranged (c .before .before) .before .fill-block .ensures .words)
 
-growing : (c : tie.After-mark-part Inv-loop μ-loop) →
+growing : (c : tie.After-mark-relevant Inv-loop μ-loop) →
     let a = start (occurring (ranged c) .before .before) .args in
-    Growing (a .t .variable) (formula-in (a .t .layout) (a .b .now)) (c .mark-part .last .1 .1 .1 .1 .1 .0) (a .set .now)
+    Growing (a .t .variable) (formula-in (a .t .layout) (a .b .now)) (c .mark-relevant .last .1 .1 .1 .1 .1 .0) (a .set .now)
 growing c =
     let here = occurring (ranged c) in
     let a = start (here .before .before) in
     grow-start (a .args .t .variable) _ (occurs here) refl (a .pre .3)
-    (marked-range (a .args .b .now) (a .pre .1) (a .pre .2 .few) (c .before .before .range-of .ensures) (occurs here) (c .mark-part .ensures))
+    (marked-range (a .args .b .now) (a .pre .1) (a .pre .2 .few) (c .before .before .range-of .ensures) (occurs here) (c .mark-relevant .ensures))
 
 slice-aggregate-next-member-2 : tie.Need-slice-aggregate-next-member-2 Inv-loop μ-loop
 slice-aggregate-next-member-2 c = sym (growing (marked c) .room)
@@ -126,11 +126,11 @@ range-of-requires-2 c κs =
     let a = entry (here .before) in
     (a .pre .1 .holds, omega (arith, a .pre .2 .few, taken here .near))
 
-slice-aggregate-mark-part-2 : tie.Need-slice-aggregate-mark-part-2 Inv-loop μ-loop
-slice-aggregate-mark-part-2 c = sym (turn (added (c .before)) .before .loop .inv .growing .room)
+slice-aggregate-mark-relevant-2 : tie.Need-slice-aggregate-mark-relevant-2 Inv-loop μ-loop
+slice-aggregate-mark-relevant-2 c = sym (turn (added (c .before)) .before .loop .inv .growing .room)
 
-mark-part-requires-2 : tie.Need-mark-part-requires-2 Inv-loop μ-loop
-mark-part-requires-2 c κs =
+mark-relevant-requires-2 : tie.Need-mark-relevant-requires-2 Inv-loop μ-loop
+mark-relevant-requires-2 c κs =
     let here = turn (added (c .before)) in
     let a = entry (here .before) in
     let k = taken here in (
@@ -138,16 +138,16 @@ mark-part-requires-2 c κs =
       here .before .loop .inv .growing .room,
     )
 
-grown : (c : tie.After-mark-part2 Inv-loop μ-loop) →
+grown : (c : tie.After-mark-relevant2 Inv-loop μ-loop) →
     let a = entry (turn (added (c .before .before)) .before) .args in
-    Growing (a .t .variable) (formula-in (a .t .layout) (a .b .now)) (c .mark-part2 .last .1 .1 .1 .1 .1 .0) (added (c .before .before) .add .last .0)
+    Growing (a .t .variable) (formula-in (a .t .layout) (a .b .now)) (c .mark-relevant2 .last .1 .1 .1 .1 .1 .0) (added (c .before .before) .add .last .0)
 grown c =
     let grew = added (c .before .before) in
     let head = turn grew .before in
     let a = entry head in
     let k = taken (turn grew) in
     grow-on (a .args .t .variable) (formula-in (a .args .t .layout) (a .args .b .now)) k (head .loop .inv .growing) (grew .add .ensures .0) (grew .add .ensures .1)
-    (marked-range (a .args .b .now) (a .pre .1) (k .near) (c .before .before .range-of2 .ensures) (k .occurs) (c .mark-part2 .ensures))
+    (marked-range (a .args .b .now) (a .pre .1) (k .near) (c .before .before .range-of2 .ensures) (k .occurs) (c .mark-relevant2 .ensures))
 
 slice-aggregate-next-member-3 : tie.Need-slice-aggregate-next-member-3 Inv-loop μ-loop
 slice-aggregate-next-member-3 c = sym (turn (added (again c .before .before)) .before .loop .inv .block-is .words)
@@ -211,16 +211,16 @@ fill-dependents-spec =
     slice-aggregate-fill-block
     fill-block-requires
     range-of-requires
-    slice-aggregate-mark-part
-    mark-part-requires
+    slice-aggregate-mark-relevant
+    mark-relevant-requires
     slice-aggregate-next-member
     slice-aggregate-next-member-2
     next-member-requires
     loop-holds
     add-requires
     range-of-requires-2
-    slice-aggregate-mark-part-2
-    mark-part-requires-2
+    slice-aggregate-mark-relevant-2
+    mark-relevant-requires-2
     slice-aggregate-next-member-3
     slice-aggregate-next-member-4
     next-member-requires-2

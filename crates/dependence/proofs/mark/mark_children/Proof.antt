@@ -6,7 +6,7 @@ use Rattle.formula.specs.Tree.{Literals, Forest, of, has-any}
 use Rattle.formula.specs.Expand.{relevant}
 use Rattle.subtrees.specs.Subtrees.{siblings-in}
 use Rattle.subtrees.proofs.Siblings.{Walked}
-use Rattle.relevance.proofs.TurnPart.{Begun, SiteBegun, site-inside, site-children, site-begun, site-chosen, walked, end-later, leads}
+use Rattle.relevance.proofs.TurnSubtree.{Begun, SiteBegun, site-inside, site-children, site-begun, site-chosen, walked, end-later, leads}
 use Rattle.dependence.proofs.Marks.{Marking, marking-start, marking-on, marking-done, marked-as}
 use Rattle.dependence.proofs.mark.mark_children.Statement.{statement}
 use Rattle.dependence.proofs.mark.mark_children.Tie as tie

@@ -10,7 +10,7 @@ use Rattle.rows.specs.declared.Layout.{Layout}
 use Rattle.subtrees.specs.Subtrees.{siblings-in}
 use Rattle.subtrees.proofs.Siblings.{Walked}
 use Rattle.subtrees.specs.Cuts.{cuts}
-use Rattle.relevance.proofs.TurnPart.{Begun, SiteBegun, site-inside, site-children, site-begun, site-chosen, walked, leads}
+use Rattle.relevance.proofs.TurnSubtree.{Begun, SiteBegun, site-inside, site-children, site-begun, site-chosen, walked, leads}
 use Rattle.relevance.proofs.TurnCuts.{Cutting, Kept, cut-start, cut-on, kept-turn, length-kept, cuts-done}
 use Rattle.relevance.proofs.cuts.fill_cuts.Statement.{statement}
 use Rattle.relevance.proofs.cuts.fill_cuts.Tie as tie

@@ -2,7 +2,7 @@
 use mathlib.Core.Path.{refl}
 use native.Mathlib.Omega.{arith}
 use Rattle.relevance.specs.Walks.{span-by}
-use Rattle.relevance.proofs.TurnPart.{Spanned, span-inside, span-found, span-on, span-none}
+use Rattle.relevance.proofs.TurnSubtree.{Spanned, span-inside, span-found, span-on, span-none}
 use Rattle.relevance.proofs.subtree.child_with.Statement.{statement}
 use Rattle.relevance.proofs.subtree.child_with.Tie as tie
 

@@ -2,7 +2,7 @@
 use Prim.Native.Nat.{ℕ, _-_}
 use native.Mathlib.Omega.{arith}
 use Rattle.relevance.specs.Walks.{Way}
-use Rattle.relevance.proofs.TurnPart.{way-on, way-end}
+use Rattle.relevance.proofs.TurnSubtree.{way-on, way-end}
 use Rattle.relevance.proofs.subtree.first_behind.Statement.{statement}
 use Rattle.relevance.proofs.subtree.first_behind.Tie as tie
 

@@ -6,7 +6,7 @@ use native.Mathlib.Omega.{arith}
 use Rattle.subtrees.specs.Subtrees.{kids, subtree-in}
 use Rattle.subtrees.proofs.Siblings.{Children, children-read}
 use Rattle.relevance.specs.Walks.{child-span}
-use Rattle.relevance.proofs.TurnPart.{hops-beside, span-read}
+use Rattle.relevance.proofs.TurnSubtree.{hops-beside, span-read}
 use Rattle.relevance.proofs.Descent.{narrow-at, narrow-child, narrow-stay}
 use Rattle.relevance.proofs.subtree.narrower.Statement.{statement}
 use Rattle.relevance.proofs.subtree.narrower.Tie as tie

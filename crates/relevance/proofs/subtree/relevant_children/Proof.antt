@@ -7,8 +7,8 @@ use Rattle.formula.specs.Expand.{relevant}
 use Rattle.rows.specs.declared.Layout.{Layout}
 use Rattle.subtrees.specs.Subtrees.{siblings-in}
 use Rattle.subtrees.proofs.Siblings.{Walked}
-use Rattle.relevance.proofs.TurnPart.{Begun, SiteBegun, site-inside, site-children, site-begun, site-chosen}
-use Rattle.relevance.proofs.TurnPart.{Sharing, share-start, walked, end-later, leads, share-on, share-none}
+use Rattle.relevance.proofs.TurnSubtree.{Begun, SiteBegun, site-inside, site-children, site-begun, site-chosen}
+use Rattle.relevance.proofs.TurnSubtree.{Sharing, share-start, walked, end-later, leads, share-on, share-none}
 use Rattle.relevance.proofs.subtree.relevant_children.Statement.{statement}
 use Rattle.relevance.proofs.subtree.relevant_children.Tie as tie
 

@@ -1,4 +1,4 @@
--- `relevance::subtree::relevant_subtree` meets its contract: the part of the deepest operator above all literals. Assumes nothing.
+-- `relevance::subtree::relevant_subtree` meets its contract: what is relevant of the deepest operator above all literals. Assumes nothing.
 use mathlib.Core.Path.{_∙_}
 use Prim.Native.Nat.{_<_}
 use Rattle.relevance.proofs.Descent.{found-literal, found-before, found-operator}
@@ -30,17 +30,17 @@ before c =
     found-before (a .pre .chosen) (a .args .b .now) (a .pre .indexed .readable) (a .args .range) k
     (found c .ancestor .ensures (a .pre .chosen) k) (c .if1 .left)
 
-operator-part-requires : tie.Need-operator-part-requires
-operator-part-requires c κs =
+relevant-at-requires : tie.Need-relevant-at-requires
+relevant-at-requires c κs =
     let a = start (found c .before) in
     record { last = a .args .range .last; chained = a .pre; before = before c }
 
 returns-2 : tie.Need-returns-2
 returns-2 c =
     let a = start (found (c .before) .before) in
-    λ L k. c .operator-part .ensures L (a .args .range .last) k ∙
+    λ L k. c .relevant-at .ensures L (a .args .range .last) k ∙
     found-operator L (a .args .b .now) (a .pre .indexed .readable) (a .args .range) (k .bounds)
     (found (c .before) .ancestor .ensures L (k .bounds)) (c .before .if1 .left)
 
 pub relevant-subtree-spec : {M : Type 1} → statement M
-relevant-subtree-spec = tie.close (tie.spec ancestor-requires returns operator-part-requires returns-2)
+relevant-subtree-spec = tie.close (tie.spec ancestor-requires returns relevant-at-requires returns-2)

@@ -1,6 +1,6 @@
 -- `relevance::subtree::with_child` meets its contract. Assumes nothing.
 use borrow.Author.Needs.{needs}
-use Rattle.relevance.proofs.TurnPart.{with-held, with-none}
+use Rattle.relevance.proofs.TurnSubtree.{with-held, with-none}
 use Rattle.relevance.proofs.subtree.with_child.Statement.{statement}
 use Rattle.relevance.proofs.subtree.with_child.Tie as tie
 

@@ -1,13 +1,13 @@
--- `relevance::subtree::operator_part` meets its contract. Assumes nothing.
+-- `relevance::subtree::relevant_at` meets its contract. Assumes nothing.
 use borrow.Author.Needs.{needs}
 use Prim.Native.Nat.{_+_, _≤_, _<_}
 use native.Mathlib.Omega.{arith}
 use Rattle.subtrees.specs.Subtrees.{subtree-in}
 use Rattle.subtrees.proofs.Siblings.{end-subtree}
-use Rattle.relevance.proofs.TurnPart.{site-inside, kept-within}
+use Rattle.relevance.proofs.TurnSubtree.{site-inside, kept-within}
 use Rattle.relevance.proofs.Growth.{operator-part-read}
-use Rattle.relevance.proofs.subtree.operator_part.Statement.{statement}
-use Rattle.relevance.proofs.subtree.operator_part.Tie as tie
+use Rattle.relevance.proofs.subtree.relevant_at.Statement.{statement}
+use Rattle.relevance.proofs.subtree.relevant_at.Tie as tie
 
 -- places in the code, each from a later one
 abbrev start : tie.After-shared-slice-known3 → tie.Start
@@ -54,8 +54,8 @@ returns c =
     (share .1)
     (end-subtree (a .args .b .now) (i .readable) (a .args .ends .now) i (a .args .site .operator) (inside (c .before)))
 
-pub operator-part-spec : {M : Type 1} → statement M
-operator-part-spec =
+pub relevant-at-spec : {M : Type 1} → statement M
+relevant-at-spec =
     tie.close
     (tie.spec
     relevant-children-requires

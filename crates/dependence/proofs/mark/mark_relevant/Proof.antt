@@ -1,4 +1,4 @@
--- `dependence::mark::mark_part` meets its contract: the relevant subtree is the one literal or has the operator's relevant children.
+-- `dependence::mark::mark_relevant` meets its contract: the relevant subtree is the one literal or has the operator's relevant children.
 -- Assumes nothing.
 use borrow.Author.Needs.{needs}
 use mathlib.Core.Path.{_≡_, sym, ap}
@@ -11,8 +11,8 @@ use Rattle.subtrees.specs.declared.relevant.Relevant.{Relevant}
 use Rattle.relevance.proofs.Descent.{found-before}
 use Rattle.dependence.proofs.Marks.{marked-as}
 use Rattle.dependence.proofs.Within.{within-literal, within-operator}
-use Rattle.dependence.proofs.mark.mark_part.Statement.{statement}
-use Rattle.dependence.proofs.mark.mark_part.Tie as tie
+use Rattle.dependence.proofs.mark.mark_relevant.Statement.{statement}
+use Rattle.dependence.proofs.mark.mark_relevant.Tie as tie
 
 -- places in the code, each from a later one
 abbrev known : tie.After-slice-known → tie.After-shared-slice-known
@@ -81,8 +81,8 @@ returns-2 c =
     (λ v h. sym
     (within-operator L (of v) (a .args .b .now) (a .pre .0 .indexed .readable) (a .args .range) (k .bounds) (at there L k) (here .if1 .left)))
 
-pub mark-part-spec : {M : Type 1} → statement M
-mark-part-spec =
+pub mark-relevant-spec : {M : Type 1} → statement M
+mark-relevant-spec =
     tie.close
     (tie.spec
     relevant-subtree-requires

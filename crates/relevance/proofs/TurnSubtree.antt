@@ -10,6 +10,7 @@ use lib.ListN.{length, getD}
 use borrow.Author.Tests.{lt-ltb, le-ltb, ltb-true, ltb-false}
 use Rattle.formula.specs.Tree.{Tree, Forest, _▸_, Literals, rows, rows-all, has, count, keep}
 use Rattle.formula.specs.Expand.{relevant}
+use Rattle.formula.proofs.Forests.{rows-▸}
 use Rattle.sheet.specs.Format.{Bytes}
 use Rattle.sheet.proofs.Preorder.{rows-positive}
 use Rattle.rows.specs.Formulas.{Readable}
@@ -142,10 +143,6 @@ relevant-more L size sum more t ts = go (has L t)
     go true = more t (keep (has L) ts)
     go false = omega arith
 
-rows-more : (t : Tree) (ts : Forest) → rows-all (t ▸ ts) ≡ rows t + rows-all ts
-unfolding rows-all
-rows-more t ts = refl
-
 count-more : (t : Tree) (ts : Forest) → count (t ▸ ts) ≡ 1 + count ts
 unfolding count
 count-more t ts = omega arith
@@ -245,7 +242,7 @@ module _ (L : Literals) {s : Layout} {b : Bytes} {ends next : List ℕ} {from k 
   unfolding with-child
   share-on {ts} {at} {left} {row} {row′} {share} {after} some p is to-end =
       go (has L (subtree-in s b at)) (is ∙ ap (λ c. with-child c share at (getD ends at 0)) (held-by some (p .walk)))
-      (more rows rows-all rows-more) (more (λ _. 1) count count-more)
+      (more rows rows-all rows-▸) (more (λ _. 1) count count-more)
     where
       w : Walked s b ends at left
       w = walked some (p .walk)

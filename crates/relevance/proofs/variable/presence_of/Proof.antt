@@ -1,4 +1,4 @@
--- `relevance::variable::part_of` meets its contract. Assumes nothing.
+-- `relevance::variable::presence_of` meets its contract. Assumes nothing.
 use borrow.Author.Needs.{needs}
 use mathlib.Core.Path.{_≡_, sym, _∙_}
 use mathlib.Core.Bool.{true}
@@ -10,8 +10,8 @@ use Rattle.formula.specs.Tree.{of, has}
 use Rattle.rows.specs.Formulas.{matrix-in}
 use Rattle.occurrences.specs.Chains.{Chain}
 use Rattle.relevance.proofs.Growth.{absent, present}
-use Rattle.relevance.proofs.variable.part_of.Statement.{statement}
-use Rattle.relevance.proofs.variable.part_of.Tie as tie
+use Rattle.relevance.proofs.variable.presence_of.Statement.{statement}
+use Rattle.relevance.proofs.variable.presence_of.Tie as tie
 
 -- places in the code, each from a later one
 abbrev start : tie.After-shared-slice-known3 → tie.Start
@@ -71,8 +71,8 @@ returns-2 c =
     let x = start (read (c .before .before .before)) .args .x in
     present (of x) _ (occurs (c .before .before)) (c .relevant-subtree .ensures (of x) (chain (c .before .before)))
 
-pub part-of-spec : {M : Type 1} → statement M
-part-of-spec =
+pub presence-of-spec : {M : Type 1} → statement M
+presence-of-spec =
     tie.close
     (tie.spec
     mul-first
