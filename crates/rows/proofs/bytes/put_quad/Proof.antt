@@ -4,6 +4,10 @@ use Rattle.rows.proofs.Stores.{stored-quad}
 use Rattle.rows.proofs.bytes.put_quad.Statement.{statement}
 use Rattle.rows.proofs.bytes.put_quad.Tie as tie
 
+-- places in the code, each from a later one
+abbrev pair-put : tie.After-put-pair-arg2 → tie.After-put-pair
+pair-put c = c .before .before .before
+
 put-pair-requires : tie.Need-put-pair-requires
 put-pair-requires c κs = search needs
 
@@ -19,7 +23,7 @@ same-length c = search needs
 returns : tie.Need-returns
 returns c =
     let high = c .before .before in
-    let low = high .before .before .before .before in
+    let low = pair-put (high .before) in
     let a = low .before .before .before in
     stored-quad (a .args .b .now) (a .args .at) (a .args .value) (a .pre) (low .put-pair .ensures) (high .put-pair2 .ensures)
 

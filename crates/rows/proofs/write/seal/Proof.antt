@@ -11,6 +11,10 @@ use borrow.Author.Needs.{needs}
 use Rattle.rows.proofs.write.seal.Statement.{statement}
 use Rattle.rows.proofs.write.seal.Tie as tie
 
+-- places in the code, each from a later one
+abbrev measured : tie.After-move-down → tie.After-width
+measured c = c .before .before .before
+
 width-requires : tie.Need-width-requires
 width-requires c κs = search needs
 
@@ -52,10 +56,10 @@ add-end : tie.Need-add-end
 add-end c = search needs
 
 mul-end-2 : tie.Need-mul-end-2
-mul-end-2 c = omega (arith, within (c .before .before .before .before .before))
+mul-end-2 c = omega (arith, within (measured (c .before .before)))
 
 add-end-2 : tie.Need-add-end-2
-add-end-2 c = omega (arith, within (c .before .before .before .before .before))
+add-end-2 c = omega (arith, within (measured (c .before .before)))
 
 clear-requires : tie.Need-clear-requires
 clear-requires c κs =
@@ -79,9 +83,12 @@ returns : tie.Need-returns
 unfolding sealed rows-in flat-rows
 returns c =
     let second = c .before .before in
-    let first = second .before .before .before .before .before in
-    let clear = first .before .before .before .before in
-    let move = clear .before .before .before .before in
+    let once-written = second .before .before .before in
+    let first = once-written .before .before in
+    let tail-cleared = first .before .before in
+    let clear = tail-cleared .before .before in
+    let rows-moved = clear .before .before in
+    let move = rows-moved .before .before in
     let w = move .before .before .before in
     let a = w .before .before in
     let e = w .width .ensures .0 in

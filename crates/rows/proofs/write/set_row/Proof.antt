@@ -13,6 +13,10 @@ use Rattle.rows.proofs.Stores.{rows-put, header-kept, back-kept}
 use Rattle.rows.proofs.write.set_row.Statement.{statement}
 use Rattle.rows.proofs.write.set_row.Tie as tie
 
+-- places in the code, each from a later one
+abbrev start : tie.After-put-number-arg → tie.Start
+start c = c .before .before .before
+
 kind-place-requires : tie.Need-kind-place-requires
 kind-place-requires c κs = search needs
 
@@ -26,7 +30,7 @@ argument-place-requires c κs =
 
 put-number-requires : tie.Need-put-number-requires
 put-number-requires c κs =
-    let a = c .before .before .before .before in
+    let a = start (c .before) in
     simp length-set (omega (arith, argument-within (a .args .b .now) (a .pre .0) (a .args .r) (a .pre .1), c .argument-place .ensures))
 
 same-length : tie.Need-same-length
@@ -36,7 +40,7 @@ returns : tie.Need-returns
 unfolding rows-in flat-rows
 returns c =
     let put = c .before .before in
-    let a = put .before .before .before .before .before in
+    let a = start (put .before .before) in
     let b = a .args .b .now in
     let s = a .args .s in
     let stored : ℕ → ℕ → Bytes = λ k p.
