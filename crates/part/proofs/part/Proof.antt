@@ -14,6 +14,10 @@ use Rattle.part.proofs.Subtree.{told as told-at, bad-sheet, bad-sheet-p
 use Rattle.part.proofs.part.Statement.{statement}
 use Rattle.part.proofs.part.Tie as tie
 
+-- places in the code, each from a later one
+abbrev entry : tie.At-match-keys1 → tie.Start
+entry c = c .before .before .before
+
 check-requires : tie.Need-check-requires
 check-requires c κs = search needs
 
@@ -53,7 +57,7 @@ part-result-end-2 c = search needs
 
 -- the sheet that Check accepted, with its layout
 abbrev start : tie.After-c → tie.Start
-start c = c .before .before .before .before
+start c = entry (c .before)
 
 abbrev layout : tie.After-c → Layout
 layout c = c .c .given .0 .0
