@@ -6,15 +6,22 @@ use Rattle.conversion.proofs.Written.{room, rows-fit, layout-is, sheet-
 use Rattle.conversion.proofs.convert.Statement.{statement}
 use Rattle.conversion.proofs.convert.Tie as tie
 
+-- places in the code, each from a later one
+abbrev entry : tie.After-convert-rows-arg → tie.Start
+entry c = c .before .before .before
+
+abbrev converted : tie.After-seal-arg → tie.After-convert-rows
+converted c = c .before .before .before
+
 convert-rows-requires : tie.Need-convert-rows-requires
 convert-rows-requires c κs = rows-fit (c .before .before .before .pre)
 
 -- where all rows have been written
 abbrev start : tie.After-convert-rows → tie.Start
-start c = c .before .before .before .before
+start c = entry (c .before)
 
 abbrev wrote : tie.After-struct-known → tie.After-convert-rows
-wrote c = c .before .before .before .before
+wrote c = converted (c .before)
 
 add-seal : tie.Need-add-seal
 add-seal c = search needs

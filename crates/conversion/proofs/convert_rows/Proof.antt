@@ -11,6 +11,13 @@ Inv-loop sheet s out₀ t end r₀ out r = Copied s sheet t out₀ out r
 abbrev μ-loop : tie.MeasureT-loop
 μ-loop sheet s out₀ t end r₀ out r = end - r
 
+-- places in the code, each from a later one
+abbrev start : tie.After-struct-known Inv-loop μ-loop → tie.Start Inv-loop μ-loop
+start c = c .before .before .before
+
+abbrev at-loop : tie.After-argument-at Inv-loop μ-loop → tie.At-loop Inv-loop μ-loop
+at-loop c = c .before .before .before
+
 add-end : tie.Need-add-end Inv-loop μ-loop
 add-end c = omega (arith, c .before .before .before .pre .few-rows)
 
@@ -18,15 +25,15 @@ loop-holds : tie.Need-loop-holds Inv-loop μ-loop
 loop-holds c = copied-none _ (c .before .before .before .pre)
 
 kind-at-requires : tie.Need-kind-at-requires Inv-loop μ-loop
-kind-at-requires c κs = (c .before .before .before .before .before .pre .source, omega arith)
+kind-at-requires c κs = (start (c .before .before) .pre .source, omega arith)
 
 argument-at-requires : tie.Need-argument-at-requires Inv-loop μ-loop
-argument-at-requires c κs = (c .before .before .before .before .before .before .pre .source, omega arith)
+argument-at-requires c κs = (start (c .before .before .before) .pre .source, omega arith)
 
 set-row-requires : tie.Need-set-row-requires Inv-loop μ-loop
 set-row-requires c κs =
-    let turn = c .before .before .before .before in
-    let fit = turn .before .before .before .before .pre in (
+    let turn = at-loop (c .before) in
+    let fit = start (turn .before) .pre in (
       room-left _ fit (turn .loop .inv),
       omega (arith, fit .as-many),
       omega (arith, c .before .argument-at .ensures .0, fit .arguments-fit (turn .loop .r) (omega arith)),
@@ -43,14 +50,14 @@ loop-again c =
     let put = c .before .before in
     let told = put .before .before in
     let turn = told .before .before .before in
-    copied-row _ (turn .before .before .before .before .pre) (turn .loop .inv) (omega arith) (told .before .kind-at .ensures)
+    copied-row _ (start (turn .before) .pre) (turn .loop .inv) (omega arith) (told .before .kind-at .ensures)
     (told .argument-at .ensures .0) (put .set-row .ensures .0) (put .set-row .kept .0)
 
 same-length : tie.Need-same-length Inv-loop μ-loop
 same-length c = c .before .loop .inv .same-length
 
 returns : tie.Need-returns Inv-loop μ-loop
-returns c = copied-all _ (c .before .before .before .before .before .pre) (c .before .loop .inv) (omega arith)
+returns c = copied-all _ (start (c .before .before) .pre) (c .before .loop .inv) (omega arith)
 
 pub convert-rows-spec : {M : Type 1} → statement M
 convert-rows-spec =

@@ -11,11 +11,15 @@ Inv-loop sheet s most r₀ r = Looked most s sheet r
 abbrev μ-loop : tie.MeasureT-loop
 μ-loop sheet s most r₀ r = s .variables - r
 
+-- places in the code, each from a later one
+abbrev start : tie.After-struct-known Inv-loop μ-loop → tie.Start Inv-loop μ-loop
+start c = c .before .before .before
+
 loop-holds : tie.Need-loop-holds Inv-loop μ-loop
 loop-holds c = looked-none _ _ (c .before .pre)
 
 argument-at-requires : tie.Need-argument-at-requires Inv-loop μ-loop
-argument-at-requires c κs = (c .before .before .before .before .pre .room, omega arith)
+argument-at-requires c κs = (start (c .before) .pre .room, omega arith)
 
 returns : tie.Need-returns Inv-loop μ-loop
 returns c =
@@ -36,7 +40,7 @@ loop-again c =
     looked-row _ _ (turn .before .before .pre) (turn .loop .inv) (omega arith) (told .argument-at .ensures .0) (omega arith)
 
 returns-2 : tie.Need-returns-2 Inv-loop μ-loop
-returns-2 c = looked-all _ _ (c .before .before .before .before .pre) (omega arith) (c .before .before .loop .inv)
+returns-2 c = looked-all _ _ (start (c .before) .pre) (omega arith) (c .before .before .loop .inv)
 
 pub has-above-spec : {M : Type 1} → statement M
 has-above-spec =
