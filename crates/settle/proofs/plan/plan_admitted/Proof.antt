@@ -11,6 +11,16 @@ use Rattle.settle.proofs.Deciding.{not-settled, no-room, planned}
 use Rattle.settle.proofs.plan.plan_admitted.Statement.{statement}
 use Rattle.settle.proofs.plan.plan_admitted.Tie as tie
 
+-- places in the code, each from a later one
+abbrev start : tie.After-fill-signs → tie.Start
+start c = c .before .before .before
+
+abbrev value-found : tie.After-known-told → tie.After-value-at
+value-found c = c .before .before .before
+
+abbrev value-told : tie.After-sheet-length → tie.After-v
+value-told c = c .before .before .before
+
 slice-aggregate-fill-signs : tie.Need-slice-aggregate-fill-signs
 slice-aggregate-fill-signs c = search needs
 
@@ -25,7 +35,7 @@ slice-aggregate-value-at c = search needs
 
 value-at-requires : tie.Need-value-at-requires
 value-at-requires c κs =
-    let a = c .before .before .before .before .before in
+    let a = start (c .before .before) in
     (sheet-readable (a .pre .1 .sheet), a .pre .1 .named .inside, c .before .before .fill-signs .ensures)
 
 enum-known-v : tie.Need-enum-known-v
@@ -37,7 +47,7 @@ enum-told c = search needs
 returns : tie.Need-returns
 returns c =
     let value = c .before .before in
-    let a = value .before .before .before .before .before .before in
+    let a = start (value .before .before .before) in
     not-settled (a .pre .1) (a .args .room) (value .value-at .result) (value .value-at .ensures) (c .enum-told .given .1)
 
 sub-sheet-length : tie.Need-sub-sheet-length
@@ -48,17 +58,17 @@ sheet-length-requires c κs = search needs
 
 returns-2 : tie.Need-returns-2
 returns-2 c =
-    let value = c .before .before .before .before .before .before in
-    let a = value .before .before .before .before .before .before in
-    no-room (a .pre .1) (a .args .room) (value .value-at .result) (value .value-at .ensures) (c .before .before .before .before .v .given .1)
+    let value = value-found (c .before .before .before) in
+    let a = start (value .before .before .before) in
+    no-room (a .pre .1) (a .args .room) (value .value-at .result) (value .value-at .ensures) (value-told (c .before) .v .given .1)
     (omega (arith, c .before .sheet-length .ensures, c .if1 .taken))
 
 returns-3 : tie.Need-returns-3
 returns-3 c =
-    let value = c .before .before .before .before .before .before in
-    let a = value .before .before .before .before .before .before in (
+    let value = value-found (c .before .before .before) in
+    let a = start (value .before .before .before) in (
       refl,
-      planned (a .pre .1) (a .args .room) (value .value-at .result) (value .value-at .ensures) _ (c .before .before .before .before .v .given .1)
+      planned (a .pre .1) (a .args .room) (value .value-at .result) (value .value-at .ensures) _ (value-told (c .before) .v .given .1)
           (omega (arith, c .before .sheet-length .ensures, c .if1 .left)),
     )
 
