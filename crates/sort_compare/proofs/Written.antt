@@ -2,7 +2,7 @@
 -- Assumes nothing.
 use mathlib.Core.Path.{_≡_, refl, sym, ap, ap₂, _∙_, subst}
 use mathlib.Core.List.{List, _++_, map, append-nil}
-use Prim.Native.Nat.{ℕ, _+_, _*_, _-_, _≤_, _<_}
+use Prim.Native.Nat.{ℕ, _+_, _*_, _≤_, _<_}
 use native.Mathlib.Numerals.{add-one}
 use native.Mathlib.Omega.{arith}
 use lib.ListN.{length, getD, take, drop, set, replicate, length-map, length-replicate, drop-of-length-le}
@@ -10,12 +10,11 @@ use lib.Seq.{length-take-le, take-all, take-at, paste, paste-zero, paste-suc}
 use Rattle.formula.specs.Tree.{Formula, rows}
 use Rattle.formula.specs.Order.{sort, sorted}
 use Rattle.formula.proofs.Sorting.{rows-sort}
-use Rattle.sheet.specs.Format.{Bytes, Format, Row, row, header, digits}
-use Rattle.sheet.specs.Sheet.{binding-row, tree-rows, formula-rows, row-kinds, row-arguments, formula, sheet}
+use Rattle.sheet.specs.Format.{Bytes, row}
+use Rattle.sheet.specs.Sheet.{binding-row, tree-rows, formula-rows, formula, sheet}
 use Rattle.sheet.specs.Operations.{padded}
-use Rattle.sheet.proofs.Parts.{sheet-length-rows}
-use Rattle.sheet.proofs.RoundTrip.{length-sheet}
 use Rattle.sheet.proofs.Accepted.{accepted-variables, accepted-nodes}
+use Rattle.sheet.proofs.Every.{every-at}
 use Rattle.rows.specs.Layouts.{format-in, width, Fits, total, rows-in, Room, sealed}
 use Rattle.rows.specs.Formulas.{matrix-in, formula-in, Readable}
 use Rattle.rows.specs.declared.Layout.{Layout}
@@ -27,7 +26,8 @@ use Rattle.rows.proofs.Sealing.{all-bytes}
 use Rattle.tidying.proofs.Packed as packed
 use Rattle.tidying.proofs.Raw.{copied-raw, copied-formula, length-copied}
 use Rattle.tree_order.specs.Tables.{picked-rows, Numbers}
-use Rattle.tree_order.proofs.Rows.{every-at, length-picked-rows, picked-row}
+use Rattle.tree_order.proofs.Rows.{length-picked-rows, picked-row}
+use Rattle.rows.proofs.Sealed.{sealed-length, sealed-sheet}
 
 -- a part of a table of zeros
 pub part-length : (m n : ℕ) → n ≤ m → length (take n (replicate {A = ℕ} m 0)) ≡ n
@@ -86,38 +86,6 @@ module _ {source : Bytes} {s : Layout} (at : List ℕ) (ok : Readable s source) 
       (drop-of-length-le (rows-in s before) {i = s .variables + length at} (omega (arith, length-rows-in before room, long))) ∙
       append-nil (take (s .variables) (rows-in s before) ++ P)
 
--- rows of a formula, sealed
-
-abbrev laid-out : ℕ → ℕ → ℕ → List Row → ℕ → Bytes
-laid-out w v n rs zeros = digits w v ++ digits w n ++ row-kinds rs ++ row-arguments w rs ++ replicate zeros 0
-
-module _ (s : Layout) (b : Bytes) (g : Formula) (room : Room s (length b)) (is : rows-in s b ≡ formula-rows g)
-    (vs : length (g .prefix) ≡ s .variables) (ns : rows (g .matrix) ≡ s .nodes) where
-  abbrev F : Format
-  F = format-in s
-
-  sheet-end : 2 * width s + total s + width s * total s ≡ length (sheet F g)
-  sheet-end =
-      sym
-      (length-sheet F g ∙ sheet-length-rows F (length (g .prefix)) (rows (g .matrix)) ∙
-      ap₂ (λ v n. header F + (v + n + F .width * (v + n))) vs ns ∙ regroup (F .width) (total s))
-    where
-      regroup : (w m : ℕ) → 2 * w + (m + w * m) ≡ 2 * w + m + w * m
-      regroup w m = omega arith
-
-  pub sealed-length : {end : ℕ} → end ≡ 2 * width s + total s + width s * total s → end ≡ length (sheet F g)
-  sealed-length e = e ∙ sheet-end
-
-  pub sealed-sheet : sealed s (total s) b ≡ padded (length b) (sheet F g)
-  unfolding sealed padded sheet
-  sealed-sheet =
-      ap₂ (λ rs k. laid-out (width s) (s .variables) (total s - s .variables) rs (length b - k))
-      (take-all (total s) (rows-in s b) (omega (arith, length-rows-in b room)) ∙ is) sheet-end ∙
-      ap₂ (λ v n. laid-out (width s) v n (formula-rows g) (length b - length (sheet F g))) (sym vs) (nodes-left (s .variables) (s .nodes) ∙ sym ns)
-    where
-      nodes-left : (v n : ℕ) → v + n - v ≡ n
-      nodes-left v n = omega arith
-
 -- a sheet that Check accepts, copied, with its sorted tree's rows behind the prefix
 module _ {b : Bytes} {s : Layout} (sh : Sheet (s .format) b s) (out : Bytes) (l : length b ≤ length out)
     {copied : Bytes} (is : copied ≡ b ++ drop (length b) out) where
@@ -162,5 +130,5 @@ module _ {b : Bytes} {s : Layout} (sh : Sheet (s .format) b s) (out : Bytes) (l 
     sorted-sealed e end-is = (
       e ∙ sealed-sheet s new (sorted f) new-room sorted-rows prefix-count node-count ∙
           ap (λ n. padded n (sheet (format-in s) (sorted f))) (same ∙ length-copied sh out l is),
-      sealed-length s new (sorted f) new-room sorted-rows prefix-count node-count end-is,
+      end-is ∙ sealed-length s new (sorted f) new-room sorted-rows prefix-count node-count,
     )

@@ -6,6 +6,16 @@ use borrow.Author.Needs.{needs}
 use Rattle.sort_compare.proofs.compare.compare.Statement.{statement}
 use Rattle.sort_compare.proofs.compare.compare.Tie as tie
 
+-- places in the code, each from a later one
+abbrev entry : tie.After-slice-known → tie.Start
+entry c = c .before .before .before
+
+abbrev entered : tie.After-judge → tie.After-slice-known2
+entered c = c .before .before .before
+
+abbrev cleared : tie.After-clear-arg2 → tie.After-clear
+cleared c = c .before .before .before
+
 judge-requires : tie.Need-judge-requires
 judge-requires c κs = search needs
 
@@ -19,7 +29,7 @@ same-length-2 : tie.Need-same-length-2
 same-length-2 c = search needs
 
 abbrev start : tie.After-judge → tie.Start
-start c = c .before .before .before .before .before .before .before
+start c = entry (entered c .before)
 
 returns : tie.Need-returns
 returns c =
@@ -43,7 +53,7 @@ same-length-4 c = search needs
 returns-2 : tie.Need-returns-2
 returns-2 c =
     let second = c .before .before in
-    let first = second .before .before .before .before in
+    let first = cleared (second .before) in
     let ordered = first .before .before in
     let j = ordered .before .before in
     let a = start j .args in

@@ -4,6 +4,10 @@ use borrow.Author.Needs.{needs}
 use Rattle.sort_compare.proofs.compare.compare_binding.Statement.{statement}
 use Rattle.sort_compare.proofs.compare.compare_binding.Tie as tie
 
+-- places in the code, each from a later one
+abbrev start : tie.After-kind-at → tie.Start
+start c = c .before .before .before
+
 kind-at-requires : tie.Need-kind-at-requires
 kind-at-requires c κs = search needs
 
@@ -36,7 +40,7 @@ returns c =
     let numbers = c .before in
     let arguments = numbers .before .before in
     let kinds = arguments .before in
-    let a = kinds .before .before .before .before .before in
+    let a = start (kinds .before .before) in
     binding-compared (a .pre .0) (a .pre .2) (a .pre .1) (a .pre .3) (kinds .before .before .kind-at .ensures) (kinds .before .kind-at2 .ensures)
     (arguments .argument-at .ensures .0) (numbers .before .argument-at2 .ensures .0) (kinds .compare-numbers .ensures) (numbers .compare-numbers2 .ensures)
     (c .then .ensures)

@@ -14,12 +14,16 @@ Inv-loop first s second t r₀ r = Passed (prefix-in s first) (prefix-in t secon
 abbrev μ-loop : tie.MeasureT-loop
 μ-loop first s second t r₀ r = s .variables - r
 
+-- places in the code, each from a later one
+abbrev start : tie.At-loop Inv-loop μ-loop → tie.Start Inv-loop μ-loop
+start c = c .before .before .before
+
 loop-holds : tie.Need-loop-holds Inv-loop μ-loop
 loop-holds c = record { same-rows = refl }
 
 compare-binding-requires : tie.Need-compare-binding-requires Inv-loop μ-loop
 compare-binding-requires c κs =
-    let a = c .before .before .before .before .before in
+    let a = start (c .before .before) in
     (a .pre .0, c .if1 .taken, a .pre .1, omega (arith, c .if1 .taken, a .pre .2))
 
 is-same-requires : tie.Need-is-same-requires Inv-loop μ-loop
@@ -36,7 +40,7 @@ returns c =
 add-r : tie.Need-add-r Inv-loop μ-loop
 add-r c =
     let d = c .before .before in
-    omega (arith, d .before .if1 .taken, d .before .before .before .before .before .before .pre .0 .few-variables)
+    omega (arith, d .before .if1 .taken, start (d .before .before .before) .pre .0 .few-variables)
 
 loop-less : tie.Need-loop-less Inv-loop μ-loop
 loop-less c = omega (arith, c .before .before .before .if1 .taken)

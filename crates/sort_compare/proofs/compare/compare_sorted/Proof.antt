@@ -6,6 +6,16 @@ use borrow.Author.Needs.{needs}
 use Rattle.sort_compare.proofs.compare.compare_sorted.Statement.{statement}
 use Rattle.sort_compare.proofs.compare.compare_sorted.Tie as tie
 
+-- places in the code, each from a later one
+abbrev first-sorted : tie.After-sort-rows-arg2 → tie.After-sort-rows
+first-sorted c = c .before .before .before
+
+abbrev asked : tie.After-compare-rows → tie.After-slice-known4
+asked c = c .before .before .before
+
+abbrev second-sorted : tie.After-slice-known4 → tie.After-sort-rows2
+second-sorted c = c .before .before
+
 sort-rows-requires : tie.Need-sort-rows-requires
 sort-rows-requires c κs = search needs
 
@@ -23,8 +33,8 @@ same-length-2 c = search needs
 
 returns : tie.Need-returns
 returns c =
-    let second = c .before .before .before .before .before in
-    let first = c .before .before .before .before .before .before .before .before .before in
+    let second = second-sorted (asked c) in
+    let first = first-sorted (second .before) in
     c .compare-rows .ensures ∙ ap₂ compare-rows (first .sort-rows .ensures .0) (second .sort-rows2 .ensures .0) ∙ rows-of-trees _ _
 
 pub compare-sorted-spec : {M : Type 1} → statement M

@@ -5,6 +5,10 @@ use borrow.Author.Needs.{needs}
 use Rattle.sort_compare.proofs.compare.compare_trees.Statement.{statement}
 use Rattle.sort_compare.proofs.compare.compare_trees.Tie as tie
 
+-- places in the code, each from a later one
+abbrev start : tie.After-at → tie.Start
+start c = c .before .before .before
+
 array-borrow-prefix-at : tie.Need-array-borrow-prefix-at
 array-borrow-prefix-at c = search needs
 
@@ -15,11 +19,11 @@ array-borrow-prefix-to : tie.Need-array-borrow-prefix-to
 array-borrow-prefix-to c = search needs
 
 slice-aggregate-compare-sorted-2 : tie.Need-slice-aggregate-compare-sorted-2
-slice-aggregate-compare-sorted-2 c = sym (part-length 8192 _ (c .before .before .before .before .pre .1 .few-nodes))
+slice-aggregate-compare-sorted-2 c = sym (part-length 8192 _ (start (c .before) .pre .1 .few-nodes))
 
 compare-sorted-requires : tie.Need-compare-sorted-requires
 compare-sorted-requires c κs =
-    let a = c .before .before .before .before in
+    let a = start (c .before) in
     (a .pre .0, part-length 8192 _ (a .pre .0 .few-nodes), a .pre .1, part-length 8192 _ (a .pre .1 .few-nodes))
 
 returns : tie.Need-returns

@@ -9,6 +9,10 @@ use borrow.Author.Needs.{needs}
 use Rattle.sort_compare.proofs.compare.judge.Statement.{statement}
 use Rattle.sort_compare.proofs.compare.judge.Tie as tie
 
+-- places in the code, each from a later one
+abbrev begun : tie.After-shared-slice-known3 → tie.Start
+begun c = c .before .before .before
+
 check-requires : tie.Need-check-requires
 check-requires c κs = search needs
 
@@ -28,7 +32,7 @@ enum-known-d-2 : tie.Need-enum-known-d-2
 enum-known-d-2 c = search needs
 
 abbrev start : tie.After-check → tie.Start
-start c = c .before .before .before .before .before
+start c = begun (c .before .before)
 
 -- Check has accepted the first sheet, and the second
 first-of : (c : tie.After-c2) → Sheet (start (c .before .before) .args .f) (start (c .before .before) .args .a .now) (c .c2 .given .0 .0)

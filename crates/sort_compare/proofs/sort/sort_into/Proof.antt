@@ -8,11 +8,24 @@ use Rattle.sort_compare.proofs.Written.{part-length, copied-room, new-r
 use Rattle.sort_compare.proofs.sort.sort_into.Statement.{statement}
 use Rattle.sort_compare.proofs.sort.sort_into.Tie as tie
 
+-- places in the code, each from a later one
+abbrev entry : tie.After-copy-front-arg → tie.Start
+entry c = c .before .before .before
+
+abbrev front-copied : tie.After-table → tie.After-copy-front
+front-copied c = c .before .before .before
+
+abbrev wrote-sorted : tie.After-slice-known3 → tie.After-write-sorted
+wrote-sorted c = c .before .before .before
+
+abbrev sealing-done : tie.After-slice-known4 → tie.After-seal
+sealing-done c = c .before .before
+
 copy-front-requires : tie.Need-copy-front-requires
 copy-front-requires c κs = c .before .before .before .pre .1
 
 abbrev start : tie.After-copy-front → tie.Start
-start c = c .before .before .before .before
+start c = entry (c .before)
 
 readable : (c : tie.After-copy-front) → Readable (start c .args .s) (start c .args .source .now)
 readable c = sheet-readable (start c .pre .0)
@@ -25,7 +38,7 @@ slice-aggregate-write-sorted c = sym (part-length 8192 _ (readable (c .before .b
 
 write-sorted-requires : tie.Need-write-sorted-requires
 write-sorted-requires c κs =
-    let d = c .before .before .before .before in
+    let d = front-copied (c .before) in
     let a = start d in (
       readable d,
       part-length 8192 _ (readable d .few-nodes),
@@ -33,16 +46,16 @@ write-sorted-requires c κs =
     )
 
 abbrev copied : tie.After-write-sorted → tie.After-copy-front
-copied c = c .before .before .before .before .before
+copied c = front-copied (c .before .before)
 
 add-seal : tie.Need-add-seal
 add-seal c =
-    let ok = readable (copied (c .before .before .before .before .before)) in
+    let ok = readable (copied (wrote-sorted (c .before .before))) in
     omega (arith, ok .few-nodes, ok .few-variables)
 
 seal-requires : tie.Need-seal-requires
 seal-requires c κs =
-    let w = c .before .before .before .before .before in
+    let w = wrote-sorted (c .before .before) in
     let d = copied w in
     let a = start d in (
       new-room (a .pre .0) (a .args .out .now) (a .pre .1) (d .copy-front .ensures) (w .write-sorted .last .1 .1 .1 .0) (w .write-sorted .ensures)
@@ -56,7 +69,7 @@ same-length c = search needs
 
 returns : tie.Need-returns
 returns c =
-    let w = c .before .before .before .before .before .before .before .before in
+    let w = wrote-sorted (sealing-done c .before .before .before) in
     let d = copied w in
     let a = start d in
     let sealed = c .before .before .seal .ensures in

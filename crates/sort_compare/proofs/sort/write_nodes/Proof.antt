@@ -12,8 +12,21 @@ Inv-loop source s at out₀ r₀ out r = Wrote source s at out₀ out r
 abbrev μ-loop : tie.MeasureT-loop
 μ-loop source s at out₀ r₀ out r = length at - r
 
+-- places in the code, each from a later one
+abbrev entry : tie.After-slice-known Inv-loop μ-loop → tie.Start Inv-loop μ-loop
+entry c = c .before .before .before
+
+abbrev entered : tie.After-shared-slice-known3 Inv-loop μ-loop → tie.After-slice-known Inv-loop μ-loop
+entered c = c .before .before .before
+
+abbrev row-found : tie.After-argument-at Inv-loop μ-loop → tie.After-struct-known Inv-loop μ-loop
+row-found c = c .before .before .before
+
+abbrev kind-read : tie.After-set-row-arg Inv-loop μ-loop → tie.After-kind-at Inv-loop μ-loop
+kind-read c = c .before .before .before
+
 abbrev start : tie.After-struct-known Inv-loop μ-loop → tie.Start Inv-loop μ-loop
-start c = c .before .before .before .before .before .before .before
+start c = entry (entered (c .before))
 
 -- the number that the table holds
 number : (c : tie.After-struct-known Inv-loop μ-loop) → getD (start c .args .at .now) (c .before .before .before .loop .r) 0 < start c .args .s .nodes
@@ -22,7 +35,7 @@ number c =
     number-within (a .args .at .now) (a .pre .0) (a .pre .1) (a .pre .2) (a .args .out .now) (a .pre .3) (c .before .before .loop-test .taken)
 
 a-bytes : (c : tie.After-struct-known Inv-loop μ-loop) (i : ℕ) → getD (start c .args .source .now) i 0 < 256
-a-bytes c i = (c .before .before .before .before .before .before .shared-slice-known .given i) .fits
+a-bytes c i = (entered (c .before) .before .before .shared-slice-known .given i) .fits
 
 loop-holds : tie.Need-loop-holds Inv-loop μ-loop
 loop-holds c =
@@ -56,12 +69,12 @@ argument-at-requires c κs =
 
 add-set-row : tie.Need-add-set-row Inv-loop μ-loop
 add-set-row c =
-    let k = c .before .before .before .before .before in
+    let k = row-found (c .before .before) in
     omega (arith, k .before .before .before .loop .inv .within, start k .pre .2, start k .pre .0 .few-variables, start k .pre .0 .few-nodes)
 
 set-row-requires : tie.Need-set-row-requires Inv-loop μ-loop
 set-row-requires c κs =
-    let k = c .before .before .before .before .before in
+    let k = row-found (c .before .before) in
     let head = k .before .before .before in
     let a = start k in (
       room-kept (a .args .at .now) (a .pre .0) (a .pre .1) (a .pre .2) (a .args .out .now) (a .pre .3) (head .loop .inv),
@@ -79,18 +92,18 @@ loop-less c = omega arith
 loop-again : tie.Need-loop-again Inv-loop μ-loop
 loop-again c =
     let d = c .before .before in
-    let k = d .before .before .before .before .before .before in
+    let k = row-found (d .before .before .before) in
     let head = k .before .before .before in
     let a = start k in
     wrote-row (a .args .at .now) (a .pre .0) (a .pre .1) (a .pre .2) (a .args .out .now) (a .pre .3) (k .before .before .loop-test .taken) (head .loop .inv)
-    (d .before .before .before .before .before .kind-at .ensures) (d .before .before .before .argument-at .ensures .0) (d .set-row .ensures .0) (d .set-row .kept .0)
+    (kind-read (d .before .before) .kind-at .ensures) (d .before .before .before .argument-at .ensures .0) (d .set-row .ensures .0) (d .set-row .kept .0)
 
 same-length : tie.Need-same-length Inv-loop μ-loop
 same-length c = c .before .loop .inv .same-length
 
 returns : tie.Need-returns Inv-loop μ-loop
 returns c =
-    let a = c .before .before .before .before .before in
+    let a = entry (c .before .before) in
     wrote-all (a .args .at .now) (a .pre .0) (a .pre .1) (a .pre .2) (a .args .out .now) (a .pre .3) (c .loop-test .left) (c .before .loop .inv)
 
 pub write-nodes-spec : {M : Type 1} → statement M
