@@ -7,6 +7,16 @@ use Rattle.resume.proofs.Answered.{resume-told, sheet-placed, resume-ch
 use Rattle.resume.proofs.resume.Statement.{statement}
 use Rattle.resume.proofs.resume.Tie as tie
 
+-- places in the code, each from a later one
+abbrev entry : tie.After-slice-known2 → tie.Start
+entry c = c .before .before .before
+
+abbrev check-told : tie.After-resume-checked-arg2 → tie.After-checked2
+check-told c = c .before .before .before
+
+abbrev answered : tie.After-second → tie.After-resume-checked
+answered c = c .before .before .before
+
 check-requires : tie.Need-check-requires
 check-requires c κs = search needs
 
@@ -17,7 +27,7 @@ enum-known-checked-2 : tie.Need-enum-known-checked-2
 enum-known-checked-2 c = search needs
 
 abbrev start : tie.After-check → tie.Start
-start c = c .before .before .before .before
+start c = entry (c .before)
 
 -- the sheet that Check accepted
 abbrev layout : tie.After-checked2 → Layout
@@ -48,8 +58,8 @@ same-length-2 c = search needs
 
 returns-2 : tie.Need-returns-2
 returns-2 c =
-    let went = c .before .before .before .before in
-    let told = went .before .before .before .before in
+    let went = answered (c .before) in
+    let told = check-told (went .before) in
     let a = start (told .before .before) .args in
     resume-told (a .c) (a .sheet .now) (a .f) (a .first .now) (a .second .now)
     (resume-checked _ (a .c) (a .sheet .now) (a .first .now) (a .second .now) (accepted told) (went .resume-checked .ensures))

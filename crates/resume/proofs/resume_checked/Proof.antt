@@ -13,11 +13,18 @@ use Rattle.resume.proofs.Answered.{uncounted, short, ran}
 use Rattle.resume.proofs.resume_checked.Statement.{statement}
 use Rattle.resume.proofs.resume_checked.Tie as tie
 
+-- places in the code, each from a later one
+abbrev entry : tie.After-slice-known2 → tie.Start
+entry c = c .before .before .before
+
+abbrev run-done : tie.After-second → tie.After-run-wide
+run-done c = c .before .before .before
+
 adds-up-requires : tie.Need-adds-up-requires
 adds-up-requires c κs = search needs
 
 abbrev start : tie.After-adds-up → tie.Start
-start c = c .before .before .before .before
+start c = entry (c .before)
 
 returns : tie.Need-returns
 returns c =
@@ -67,7 +74,7 @@ run c = c .before .before .before
 
 add-counts-requires : tie.Need-add-counts-requires
 add-counts-requires c κs =
-    let went = c .before .before .before .before in
+    let went = run-done (c .before) in
     let right = measured (run went .before) in
     let a = start (right .before) in
     addable (a .args .first .now) (a .args .second .now) (a .pre) (went .run-wide .result)
@@ -82,7 +89,7 @@ same-length-2 c = search needs
 
 returns-3 : tie.Need-returns-3
 returns-3 c =
-    let went = c .before .before .before .before .before in
+    let went = run-done (c .before .before) in
     let going = run went in
     let right = measured (going .before) in
     let a = start (right .before) .args in
