@@ -14,8 +14,12 @@ use borrow.Author.Needs.{needs}
 use Rattle.step_list.proofs.begin.Statement.{statement}
 use Rattle.step_list.proofs.begin.Tie as tie
 
+-- places in the code, each from a later one
+abbrev entry : tie.After-slice-known2 → tie.Start
+entry c = c .before .before .before
+
 abbrev start : tie.After-check → tie.Start
-start c = c .before .before .before .before
+start c = entry (c .before)
 
 -- the sheet is accepted
 accepted-at : (c : tie.After-enum-told)

@@ -10,6 +10,10 @@ use borrow.Author.Needs.{needs}
 use Rattle.step_list.proofs.call.Statement.{statement}
 use Rattle.step_list.proofs.call.Tie as tie
 
+-- places in the code, each from a later one
+abbrev start : tie.After-slice-known → tie.Start
+start c = c .before .before
+
 -- the call of an operation
 abbrev does : tie.Start → Operation → Written
 does c o = perform (format-of (c .args .f)) (single (operation-of o) (c .args .x) (c .args .out .now)) (c .args .sheet .now)
@@ -34,7 +38,7 @@ unfolding perform
 returns c =
     let call = c .before .before in
     let told = call .before .before in
-    call .settle .ensures .0 ∙ ap (does (told .before .before .before .before)) (sym (told .enum-told .given .1))
+    call .settle .ensures .0 ∙ ap (does (start (told .before .before))) (sym (told .enum-told .given .1))
 
 same-length-2 : tie.Need-same-length-2
 same-length-2 c = search needs
@@ -44,7 +48,7 @@ unfolding perform
 returns-2 c =
     let call = c .before .before in
     let told = call .before .before in
-    call .expand .ensures .0 ∙ ap (does (told .before .before .before .before)) (sym (told .enum-told2 .given .1))
+    call .expand .ensures .0 ∙ ap (does (start (told .before .before))) (sym (told .enum-told2 .given .1))
 
 pub call-spec : {M : Type 1} → statement M
 call-spec =

@@ -8,6 +8,13 @@ use borrow.Author.Needs.{needs}
 use Rattle.step_list.proofs.keep.Statement.{statement}
 use Rattle.step_list.proofs.keep.Tie as tie
 
+-- places in the code, each from a later one
+abbrev start : tie.After-shared-slice-known → tie.Start
+start c = c .before .before
+
+abbrev answer-told : tie.After-copy-front-arg2 → tie.After-answer2
+answer-told c = c .before .before .before
+
 enum-known-answer : tie.Need-enum-known-answer
 enum-known-answer c = search needs
 
@@ -17,20 +24,20 @@ enum-known-answer-2 c = search needs
 slice-aggregate-copy-front : tie.Need-slice-aggregate-copy-front
 slice-aggregate-copy-front c =
     let told = c .before .before in
-    let a = told .before .before .before .before in
+    let a = start (told .before .before) in
     sym (length-take-le _ (a .args .second .now) (subst (Kept (a .args .first .now) (a .args .second .now)) (told .answer2 .given .1) (a .pre) .1))
 
 copy-front-requires : tie.Need-copy-front-requires
 copy-front-requires c κs =
     let told = c .before .before .before in
-    let a = told .before .before .before .before in
+    let a = start (told .before .before) in
     let fits = subst (Kept (a .args .first .now) (a .args .second .now)) (told .answer2 .given .1) (a .pre) in
     omega (arith, length-take-le _ (a .args .second .now) (fits .1), fits .0)
 
 returns : tie.Need-returns
 returns c =
     let told = c .before in
-    let a = told .before .before .before .before .args in
+    let a = start (told .before .before) .args in
     subst (Keeps (a .held) (a .first .now) (a .second .now) (a .first .now) (a .held)) (sym (told .answer .given .1)) (refl, refl)
 
 same-length : tie.Need-same-length
@@ -39,8 +46,8 @@ same-length c = search needs
 returns-2 : tie.Need-returns-2
 returns-2 c =
     let copied = c .before .before in
-    let told = copied .before .before .before .before in
-    let a = told .before .before .before .before in
+    let told = answer-told (copied .before) in
+    let a = start (told .before .before) in
     let n = told .answer2 .given .0 .0 in
     let fits = subst (Kept (a .args .first .now) (a .args .second .now)) (told .answer2 .given .1) (a .pre) in
     subst (Keeps (a .args .held) (a .args .first .now) (a .args .second .now) _ n) (sym (told .answer2 .given .1))

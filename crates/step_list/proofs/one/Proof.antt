@@ -8,6 +8,13 @@ use borrow.Author.Needs.{needs}
 use Rattle.step_list.proofs.one.Statement.{statement}
 use Rattle.step_list.proofs.one.Tie as tie
 
+-- places in the code, each from a later one
+abbrev entry : tie.After-shorter → tie.Start
+entry c = c .before .before .before
+
+abbrev call-made : tie.After-keep-arg → tie.After-call
+call-made c = c .before .before .before
+
 shorter-requires : tie.Need-shorter-requires
 shorter-requires c κs = search needs
 
@@ -16,7 +23,7 @@ slice-reshare-prefix-call c = search needs
 
 slice-aggregate-call : tie.Need-slice-aggregate-call
 slice-aggregate-call c =
-    let a = c .before .before .before .before in
+    let a = entry (c .before) in
     sym (length-take-le (a .args .held) (a .args .first .now) (omega (arith, a .pre)))
 
 slice-relend-prefix-call : tie.Need-slice-relend-prefix-call
@@ -33,7 +40,7 @@ call-requires c κs = search needs
 
 keep-requires : tie.Need-keep-requires
 keep-requires c κs =
-    let called = c .before .before .before .before in
+    let called = call-made (c .before) in
     let n = called .before .before .before in
     let a = n .before .before .before .args in
     can-keep (format-of (a .f)) (a .s) (a .first .now) (a .second .now) (a .held) (n .shorter .result) (n .shorter .ensures)
@@ -48,7 +55,7 @@ same-length-2 c = search needs
 returns : tie.Need-returns
 returns c =
     let kept = c .before .before in
-    let called = kept .before .before .before .before .before in
+    let called = call-made (kept .before .before) in
     let n = called .before .before .before in
     let start = n .before .before .before in
     let a = start .args in

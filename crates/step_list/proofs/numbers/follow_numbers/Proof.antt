@@ -22,14 +22,36 @@ abbrev μ-loop : tie.MeasureT-loop
 μ-loop sheet f operations variables numbers₀ values₀ first₀ second₀ count b turns held₀ at₀ numbers values first second held at =
     turns - at
 
+-- places in the code, each from a later one
+abbrev entered : tie.After-slice-known3 Inv-loop μ-loop → tie.After-shared-slice-known3 Inv-loop μ-loop
+entered c = c .before .before .before
+
+abbrev known : tie.After-shorter3 Inv-loop μ-loop → tie.After-slice-known4 Inv-loop μ-loop
+known c = c .before .before .before
+
+abbrev begun-run : tie.After-second Inv-loop μ-loop → tie.After-begin Inv-loop μ-loop
+begun-run c = c .before .before .before
+
+abbrev run-finished : tie.After-second3 Inv-loop μ-loop → tie.After-finish Inv-loop μ-loop
+run-finished c = c .before .before .before
+
+abbrev part-followed : tie.After-second2 Inv-loop μ-loop → tie.After-follow-part Inv-loop μ-loop
+part-followed c = c .before .before .before
+
+abbrev result-known : tie.After-store-arg2 Inv-loop μ-loop → tie.After-done Inv-loop μ-loop
+result-known c = c .before .before
+
+abbrev result-stored : tie.After-values Inv-loop μ-loop → tie.After-store Inv-loop μ-loop
+result-stored c = c .before .before .before
+
 abbrev counted-at : tie.After-begin Inv-loop μ-loop → tie.After-shorter3 Inv-loop μ-loop
 counted-at c = c .before .before .before
 
 abbrev start : tie.After-begin Inv-loop μ-loop → tie.Start Inv-loop μ-loop
-start c = counted-at c .before .before .before .before .before .before .before .before .before .before
+start c = entered (known (counted-at c) .before) .before .before .before
 
 abbrev begun : tie.At-loop Inv-loop μ-loop → tie.After-begin Inv-loop μ-loop
-begun c = c .before .before .before .before .before
+begun c = begun-run (c .before .before)
 
 counted : (c : tie.After-begin Inv-loop μ-loop)
     → let a = start c .args in
@@ -74,7 +96,7 @@ begin-requires c κs = search needs
 
 loop-holds : tie.Need-loop-holds Inv-loop μ-loop
 loop-holds c =
-    let g = c .before .before .before .before in
+    let g = begun-run (c .before) in
     let a = start g .args in (
       omega arith,
       turned-none (format-of (a .f)) (a .operations .now) (a .variables .now) (a .numbers .now) (a .values .now) _ _ (g .begin .result .held)
@@ -104,10 +126,10 @@ abbrev loaded : tie.After-follow-part Inv-loop μ-loop → tie.After-load Inv-lo
 loaded c = c .before .before .before
 
 abbrev followed : tie.After-store-arg2 Inv-loop μ-loop → tie.After-follow-part Inv-loop μ-loop
-followed c = c .before .before .before .before .before .before .before
+followed c = part-followed (result-known c .before .before)
 
 abbrev stored : tie.After-slice-known10 Inv-loop μ-loop → tie.After-store Inv-loop μ-loop
-stored c = c .before .before .before .before
+stored c = result-stored (c .before)
 
 store-requires : tie.Need-store-requires Inv-loop μ-loop
 store-requires c κs =
@@ -151,7 +173,7 @@ finish-requires c κs =
     omega (arith, g .is-short, g .same-room)
 
 abbrev ended : tie.After-slice-known12 Inv-loop μ-loop → tie.After-finish Inv-loop μ-loop
-ended c = c .before .before .before .before
+ended c = run-finished (c .before)
 
 abbrev last : tie.After-finish Inv-loop μ-loop → tie.After-loop Inv-loop μ-loop
 last c = c .before .before .before
