@@ -30,20 +30,20 @@ same-entry (e ∷ t) (suc v) d h = other t v d (suc v) (omega arith)
     other (e ∷ t) zero d d′ h = refl
     other (e ∷ t) (suc v) d d′ h = other t v d d′ (omega arith)
 
--- the first i entries are numbered
-pub record Numbered (old new : List ℕ) (i : ℕ) : Type 0 where
+-- the first i entries are their own numbers
+pub record Keeping (old new : List ℕ) (i : ℕ) : Type 0 where
   pub within : i ≤ length old
   pub so-far : new ≡ numbers i ++ drop i old
   pub same-length : length new ≡ length old
 
-pub numbered-none : (old : List ℕ) → Numbered old old 0
+pub keeping-none : (old : List ℕ) → Keeping old old 0
 unfolding numbers
-numbered-none old = record { within = omega arith; so-far = refl; same-length = refl }
+keeping-none old = record { within = omega arith; so-far = refl; same-length = refl }
 
 module _ {old new : List ℕ} {i : ℕ} where
-  pub numbered-next : i < length new → Numbered old new i → Numbered old (set new i i) (i + 1)
+  pub keeping-next : i < length new → Keeping old new i → Keeping old (set new i i) (i + 1)
   unfolding numbers
-  numbered-next h n =
+  keeping-next h n =
       record {
         within = omega (arith, n .same-length);
         so-far =
@@ -53,8 +53,8 @@ module _ {old new : List ℕ} {i : ℕ} where
         same-length = length-set new i i ∙ n .same-length;
       }
 
-  pub numbered-all : length new ≤ i → Numbered old new i → new ≡ numbers (length old)
-  numbered-all h n =
+  pub keeping-all : length new ≤ i → Keeping old new i → new ≡ numbers (length old)
+  keeping-all h n =
       let last : i ≡ length old = omega (arith, n .within, n .same-length) in
       n .so-far ∙ ap (λ k. numbers k ++ drop k old) last ∙ ap (λ l. numbers (length old) ++ l) (drop-length old) ∙
       append-nil (numbers (length old))

@@ -11,8 +11,12 @@ use borrow.Author.Needs.{needs}
 use Rattle.substitution.proofs.change.new_argument.Statement.{statement}
 use Rattle.substitution.proofs.change.new_argument.Tie as tie
 
+-- places in the code, each from a later one
+abbrev begun : tie.After-argument-at → tie.Start
+begun c = c .before .before .before
+
 abbrev start : tie.After-is-changed → tie.Start
-start c = c .before .before .before .before
+start c = begun (c .before)
 
 abbrev here : tie.Start → Row
 here a = getD (rows-in (a .args .s) (a .args .b .now)) (a .args .r) (row 0 0)

@@ -11,6 +11,10 @@ use borrow.Author.Needs.{needs}
 use Rattle.substitution.proofs.table.fill_both.Statement.{statement}
 use Rattle.substitution.proofs.table.fill_both.Tie as tie
 
+-- places in the code, each from a later one
+abbrev filled : tie.After-fill-arg2 → tie.After-fill
+filled c = c .before .before .before
+
 slice-relend-prefix-fill : tie.Need-slice-relend-prefix-fill
 slice-relend-prefix-fill c = search needs
 
@@ -42,7 +46,7 @@ same-length c = search needs
 
 returns : tie.Need-returns
 returns c =
-    let one = c .before .before .before .before .before .before in
+    let one = filled (c .before .before .before) in
     let two = c .before .before in
     let a = one .before .before .before in
     let x = a .args .x in

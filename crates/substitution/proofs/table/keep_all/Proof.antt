@@ -2,18 +2,18 @@
 use Prim.Native.Nat.{_-_}
 use native.Mathlib.Omega.{arith}
 use lib.ListN.{length, length-set}
-use Rattle.substitution.proofs.Tables.{Numbered, numbered-none, numbered-next, numbered-all}
+use Rattle.substitution.proofs.Tables.{Keeping, keeping-none, keeping-next, keeping-all}
 use Rattle.substitution.proofs.table.keep_all.Statement.{statement}
 use Rattle.substitution.proofs.table.keep_all.Tie as tie
 
 abbrev Inv-loop : tie.InvT-loop
-Inv-loop table₀ i₀ table i = Numbered table₀ table i
+Inv-loop table₀ i₀ table i = Keeping table₀ table i
 
 abbrev μ-loop : tie.MeasureT-loop
 μ-loop table₀ i₀ table i = length table - i
 
 loop-holds : tie.Need-loop-holds Inv-loop μ-loop
-loop-holds c = numbered-none (c .args .table .now)
+loop-holds c = keeping-none (c .args .table .now)
 
 cast-table : tie.Need-cast-table Inv-loop μ-loop
 cast-table c = omega arith
@@ -31,13 +31,13 @@ loop-less : tie.Need-loop-less Inv-loop μ-loop
 loop-less c = simp length-set (omega arith)
 
 loop-again : tie.Need-loop-again Inv-loop μ-loop
-loop-again c = numbered-next (c .loop-test .taken) (c .before .loop .inv)
+loop-again c = keeping-next (c .loop-test .taken) (c .before .loop .inv)
 
 same-length : tie.Need-same-length Inv-loop μ-loop
 same-length c = c .before .loop .inv .same-length
 
 returns : tie.Need-returns Inv-loop μ-loop
-returns c = numbered-all (c .loop-test .left) (c .before .loop .inv)
+returns c = keeping-all (c .loop-test .left) (c .before .loop .inv)
 
 pub keep-all-spec : {M : Type 1} → statement M
 keep-all-spec =

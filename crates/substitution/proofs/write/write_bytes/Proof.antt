@@ -7,6 +7,10 @@ use borrow.Author.Needs.{needs}
 use Rattle.substitution.proofs.write.write_bytes.Statement.{statement}
 use Rattle.substitution.proofs.write.write_bytes.Tie as tie
 
+-- places in the code, each from a later one
+abbrev entry : tie.After-copy-bytes-arg → tie.Start
+entry c = c .before .before .before
+
 sub-copy-bytes : tie.Need-sub-copy-bytes
 sub-copy-bytes c = search needs
 
@@ -24,7 +28,7 @@ same-length c = search needs
 
 returns : tie.Need-returns
 returns c =
-    let a = c .before .before .before .before .before .before in
+    let a = entry (c .before .before .before) in
     let rest = drop (a .args .from) (a .args .b .now) in
     lent (a .args .out .now) (take (a .args .count) rest) (a .args .start) (a .args .count)
     (length-take-le (a .args .count) rest (omega (arith, a .pre .0, length-drop (a .args .from) (a .args .b .now))))

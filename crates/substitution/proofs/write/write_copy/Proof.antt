@@ -18,6 +18,10 @@ use borrow.Author.Needs.{needs}
 use Rattle.substitution.proofs.write.write_copy.Statement.{statement}
 use Rattle.substitution.proofs.write.write_copy.Tie as tie
 
+-- places in the code, each from a later one
+abbrev kinds-copied : tie.After-copy-arguments-arg → tie.After-copy-kinds
+kinds-copied c = c .before .before .before
+
 abbrev known : tie.After-t → tie.After-shared-slice-known
 known c = c .before .before .before
 
@@ -130,7 +134,7 @@ same-length c = search needs
 returns : tie.Need-returns
 returns c =
     let arguments = c .before .before .before in
-    let kinds = arguments .before .before .before .before in
+    let kinds = kinds-copied (arguments .before) in
     let at = placed kinds in
     let a = begun at in
     let s = a .args .s in

@@ -13,8 +13,15 @@ use borrow.Author.Needs.{needs}
 use Rattle.substitution.proofs.write.write_rows.Statement.{statement}
 use Rattle.substitution.proofs.write.write_rows.Tie as tie
 
+-- places in the code, each from a later one
+abbrev entry : tie.After-t → tie.Start
+entry c = c .before .before .before
+
+abbrev entered : tie.After-struct-known → tie.After-shared-slice-known
+entered c = c .before .before .before
+
 abbrev start : tie.After-argument-place → tie.Start
-start c = c .before .before .before .before .before .before
+start c = entry (c .before .before .before)
 
 abbrev placed : tie.After-write-bytes → tie.After-argument-place
 placed c = c .before .before .before
@@ -39,7 +46,7 @@ kind-place-requires c κs = search needs
 
 argument-place-requires : tie.Need-argument-place-requires
 argument-place-requires c κs =
-    let a = c .before .before .before .before .before in
+    let a = entry (c .before .before) in
     omega (arith, output-within a, a .good)
 
 kind-place-requires-2 : tie.Need-kind-place-requires-2
@@ -91,7 +98,7 @@ returns c =
     let read = sized .before in
     let first = written read in
     let places = placed first in
-    let known = places .before .before .before .before .before in
+    let known = entered (places .before .before) in
     let a = known .before in
     let s = a .args .s in
     let b = a .args .b .now in
