@@ -6,6 +6,10 @@ use borrow.Author.Needs.{needs}
 use Rattle.capi.proofs.buffers.compare.Statement.{statement}
 use Rattle.capi.proofs.buffers.compare.Tie as tie
 
+-- places in the code, each from a later one
+abbrev returned : tie.After-second → tie.After-compare
+returned c = c .before .before .before
+
 compare-requires : tie.Need-compare-requires
 compare-requires c κs = search needs
 
@@ -19,7 +23,7 @@ same-length-2 : tie.Need-same-length-2
 same-length-2 c = search needs
 
 abbrev called : tie.After-pack-compared → tie.After-compare
-called c = c .before .before .before .before .before
+called c = returned (c .before .before)
 
 returns : tie.Need-returns
 returns c = rw (c .pack-compared .ensures) (ap packed-comparing (called c .compare .ensures))

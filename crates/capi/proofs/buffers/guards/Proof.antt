@@ -5,6 +5,19 @@ use Rattle.capi.proofs.Telling.{guarding-joined, guards-told}
 use Rattle.capi.proofs.buffers.guards.Statement.{statement}
 use Rattle.capi.proofs.buffers.guards.Tie as tie
 
+-- places in the code, each from a later one
+abbrev entry : tie.After-slice-known2 → tie.Start
+entry c = c .before .before .before
+
+abbrev entered : tie.After-guards-arg3 → tie.After-slice-known3
+entered c = c .before .before .before
+
+abbrev returned : tie.After-first → tie.After-guards
+returned c = c .before .before .before
+
+abbrev first-back : tie.After-slice-known6 → tie.After-first
+first-back c = c .before .before .before
+
 guards-requires : tie.Need-guards-requires
 guards-requires c κs = search needs
 
@@ -21,10 +34,10 @@ same-length-3 : tie.Need-same-length-3
 same-length-3 c = search needs
 
 abbrev called : tie.After-pack-guarded → tie.After-guards
-called c = c .before .before .before .before .before .before .before
+called c = returned (first-back (c .before))
 
 abbrev start : tie.After-guards → tie.Start
-start c = c .before .before .before .before .before .before .before .before
+start c = entry (entered (c .before) .before)
 
 returns : tie.Need-returns
 returns c =

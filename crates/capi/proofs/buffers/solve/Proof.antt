@@ -5,6 +5,13 @@ use Rattle.capi.proofs.Telling.{solving-joined, solve-told}
 use Rattle.capi.proofs.buffers.solve.Statement.{statement}
 use Rattle.capi.proofs.buffers.solve.Tie as tie
 
+-- places in the code, each from a later one
+abbrev entry : tie.After-slice-known2 → tie.Start
+entry c = c .before .before .before
+
+abbrev returned : tie.After-second → tie.After-solve
+returned c = c .before .before .before
+
 solve-requires : tie.Need-solve-requires
 solve-requires c κs = search needs
 
@@ -18,10 +25,10 @@ same-length-2 : tie.Need-same-length-2
 same-length-2 c = search needs
 
 abbrev called : tie.After-pack-solved → tie.After-solve
-called c = c .before .before .before .before .before
+called c = returned (c .before .before)
 
 abbrev start : tie.After-solve → tie.Start
-start c = c .before .before .before .before .before .before
+start c = entry (c .before .before .before)
 
 returns : tie.Need-returns
 returns c =

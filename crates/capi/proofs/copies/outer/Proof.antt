@@ -5,6 +5,10 @@ use Rattle.capi.proofs.Telling.{copied-joined, outer-said}
 use Rattle.capi.proofs.copies.outer.Statement.{statement}
 use Rattle.capi.proofs.copies.outer.Tie as tie
 
+-- places in the code, each from a later one
+abbrev entry : tie.After-outer-arg → tie.Start
+entry c = c .before .before .before
+
 outer-requires : tie.Need-outer-requires
 outer-requires c κs = search needs
 
@@ -18,7 +22,7 @@ abbrev called : tie.After-pack-copied → tie.After-outer
 called c = c .before .before .before
 
 abbrev start : tie.After-outer → tie.Start
-start c = c .before .before .before .before
+start c = entry (c .before)
 
 returns : tie.Need-returns
 returns c =

@@ -5,6 +5,16 @@ use Rattle.capi.proofs.Telling.{forcing-joined, force-told}
 use Rattle.capi.proofs.panel.force.Statement.{statement}
 use Rattle.capi.proofs.panel.force.Tie as tie
 
+-- places in the code, each from a later one
+abbrev entry : tie.After-slice-known → tie.Start
+entry c = c .before .before .before
+
+abbrev entered : tie.After-force → tie.After-slice-known2
+entered c = c .before .before .before
+
+abbrev returned : tie.After-second → tie.After-force
+returned c = c .before .before .before
+
 force-requires : tie.Need-force-requires
 force-requires c κs = search needs
 
@@ -18,10 +28,10 @@ same-length-2 : tie.Need-same-length-2
 same-length-2 c = search needs
 
 abbrev called : tie.After-pack-forced → tie.After-force
-called c = c .before .before .before .before .before
+called c = returned (c .before .before)
 
 abbrev start : tie.After-force → tie.Start
-start c = c .before .before .before .before .before .before .before
+start c = entry (entered c .before)
 
 returns : tie.Need-returns
 returns c =

@@ -9,6 +9,13 @@ use Rattle.capi.proofs.Telling.{solving-joined, resume-told}
 use Rattle.capi.proofs.resuming.plumanchor_resume.Statement.{statement}
 use Rattle.capi.proofs.resuming.plumanchor_resume.Tie as tie
 
+-- places in the code, each from a later one
+abbrev entry : tie.After-slice-known2 → tie.Start
+entry c = c .before .before .before
+
+abbrev returned : tie.After-second → tie.After-resume
+returned c = c .before .before .before
+
 named-format-requires : tie.Need-named-format-requires
 named-format-requires c κs = search needs
 
@@ -25,13 +32,13 @@ same-length-2 : tie.Need-same-length-2
 same-length-2 c = search needs
 
 abbrev called : tie.After-pack-solved → tie.After-resume
-called c = c .before .before .before .before .before
+called c = returned (c .before .before)
 
 abbrev named : tie.After-pack-solved → tie.After-named-format
 named c = called c .before .before .before
 
 abbrev start : tie.After-named-format → tie.Start
-start c = c .before .before .before .before
+start c = entry (c .before)
 
 returns : tie.Need-returns
 returns c =

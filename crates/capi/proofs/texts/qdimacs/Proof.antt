@@ -5,6 +5,10 @@ use Rattle.capi.proofs.Telling.{written-joined, qdimacs-told}
 use Rattle.capi.proofs.texts.qdimacs.Statement.{statement}
 use Rattle.capi.proofs.texts.qdimacs.Tie as tie
 
+-- places in the code, each from a later one
+abbrev entry : tie.After-qdimacs-arg → tie.Start
+entry c = c .before .before .before
+
 qdimacs-requires : tie.Need-qdimacs-requires
 qdimacs-requires c κs = search needs
 
@@ -18,7 +22,7 @@ abbrev called : tie.After-pack-written → tie.After-qdimacs
 called c = c .before .before .before
 
 abbrev start : tie.After-qdimacs → tie.Start
-start c = c .before .before .before .before
+start c = entry (c .before)
 
 returns : tie.Need-returns
 returns c =

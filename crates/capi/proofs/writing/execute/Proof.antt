@@ -5,6 +5,10 @@ use Rattle.capi.proofs.Telling.{written-joined, execute-told}
 use Rattle.capi.proofs.writing.execute.Statement.{statement}
 use Rattle.capi.proofs.writing.execute.Tie as tie
 
+-- places in the code, each from a later one
+abbrev entry : tie.After-execute-arg → tie.Start
+entry c = c .before .before .before
+
 execute-requires : tie.Need-execute-requires
 execute-requires c κs = search needs
 
@@ -18,7 +22,7 @@ abbrev called : tie.After-pack-written → tie.After-execute
 called c = c .before .before .before
 
 abbrev start : tie.After-execute → tie.Start
-start c = c .before .before .before .before
+start c = entry (c .before)
 
 returns : tie.Need-returns
 returns c =

@@ -5,6 +5,10 @@ use Rattle.capi.proofs.Telling.{written-joined, expand-told}
 use Rattle.capi.proofs.writing.expand.Statement.{statement}
 use Rattle.capi.proofs.writing.expand.Tie as tie
 
+-- places in the code, each from a later one
+abbrev entry : tie.After-expand-arg → tie.Start
+entry c = c .before .before .before
+
 expand-requires : tie.Need-expand-requires
 expand-requires c κs = search needs
 
@@ -18,7 +22,7 @@ abbrev called : tie.After-pack-written → tie.After-expand
 called c = c .before .before .before
 
 abbrev start : tie.After-expand → tie.Start
-start c = c .before .before .before .before
+start c = entry (c .before)
 
 returns : tie.Need-returns
 returns c =

@@ -5,6 +5,10 @@ use Rattle.capi.proofs.Telling.{written-joined, to-narrow-told}
 use Rattle.capi.proofs.writing.plumanchor_narrow.Statement.{statement}
 use Rattle.capi.proofs.writing.plumanchor_narrow.Tie as tie
 
+-- places in the code, each from a later one
+abbrev entry : tie.After-to-narrow-arg → tie.Start
+entry c = c .before .before .before
+
 to-narrow-requires : tie.Need-to-narrow-requires
 to-narrow-requires c κs = search needs
 
@@ -18,7 +22,7 @@ abbrev called : tie.After-pack-written → tie.After-to-narrow
 called c = c .before .before .before
 
 abbrev start : tie.After-to-narrow → tie.Start
-start c = c .before .before .before .before
+start c = entry (c .before)
 
 returns : tie.Need-returns
 returns c =

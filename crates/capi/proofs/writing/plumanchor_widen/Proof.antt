@@ -5,6 +5,10 @@ use Rattle.capi.proofs.Telling.{written-joined, to-wide-told}
 use Rattle.capi.proofs.writing.plumanchor_widen.Statement.{statement}
 use Rattle.capi.proofs.writing.plumanchor_widen.Tie as tie
 
+-- places in the code, each from a later one
+abbrev entry : tie.After-to-wide-arg → tie.Start
+entry c = c .before .before .before
+
 to-wide-requires : tie.Need-to-wide-requires
 to-wide-requires c κs = search needs
 
@@ -18,7 +22,7 @@ abbrev called : tie.After-pack-written → tie.After-to-wide
 called c = c .before .before .before
 
 abbrev start : tie.After-to-wide → tie.Start
-start c = c .before .before .before .before
+start c = entry (c .before)
 
 returns : tie.Need-returns
 returns c =

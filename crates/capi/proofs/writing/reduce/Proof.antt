@@ -5,6 +5,10 @@ use Rattle.capi.proofs.Telling.{written-joined, reduce-told}
 use Rattle.capi.proofs.writing.reduce.Statement.{statement}
 use Rattle.capi.proofs.writing.reduce.Tie as tie
 
+-- places in the code, each from a later one
+abbrev entry : tie.After-reduce-arg → tie.Start
+entry c = c .before .before .before
+
 reduce-requires : tie.Need-reduce-requires
 reduce-requires c κs = search needs
 
@@ -18,7 +22,7 @@ abbrev called : tie.After-pack-written → tie.After-reduce
 called c = c .before .before .before
 
 abbrev start : tie.After-reduce → tie.Start
-start c = c .before .before .before .before
+start c = entry (c .before)
 
 returns : tie.Need-returns
 returns c =

@@ -5,6 +5,10 @@ use Rattle.capi.proofs.Telling.{written-joined, settle-told}
 use Rattle.capi.proofs.writing.settle.Statement.{statement}
 use Rattle.capi.proofs.writing.settle.Tie as tie
 
+-- places in the code, each from a later one
+abbrev entry : tie.After-settle-arg → tie.Start
+entry c = c .before .before .before
+
 settle-requires : tie.Need-settle-requires
 settle-requires c κs = search needs
 
@@ -18,7 +22,7 @@ abbrev called : tie.After-pack-written → tie.After-settle
 called c = c .before .before .before
 
 abbrev start : tie.After-settle → tie.Start
-start c = c .before .before .before .before
+start c = entry (c .before)
 
 returns : tie.Need-returns
 returns c =

@@ -5,6 +5,10 @@ use Rattle.capi.proofs.Telling.{written-joined, sort-told}
 use Rattle.capi.proofs.writing.sort.Statement.{statement}
 use Rattle.capi.proofs.writing.sort.Tie as tie
 
+-- places in the code, each from a later one
+abbrev entry : tie.After-sort-arg → tie.Start
+entry c = c .before .before .before
+
 sort-requires : tie.Need-sort-requires
 sort-requires c κs = search needs
 
@@ -18,7 +22,7 @@ abbrev called : tie.After-pack-written → tie.After-sort
 called c = c .before .before .before
 
 abbrev start : tie.After-sort → tie.Start
-start c = c .before .before .before .before
+start c = entry (c .before)
 
 returns : tie.Need-returns
 returns c =

@@ -5,6 +5,10 @@ use borrow.Author.Needs.{needs}
 use Rattle.capi.proofs.writing.tidy.Statement.{statement}
 use Rattle.capi.proofs.writing.tidy.Tie as tie
 
+-- places in the code, each from a later one
+abbrev entry : tie.After-tidy-arg → tie.Start
+entry c = c .before .before .before
+
 tidy-requires : tie.Need-tidy-requires
 tidy-requires c κs = search needs
 
@@ -18,7 +22,7 @@ abbrev called : tie.After-pack-written → tie.After-tidy
 called c = c .before .before .before
 
 abbrev start : tie.After-tidy → tie.Start
-start c = c .before .before .before .before
+start c = entry (c .before)
 
 returns : tie.Need-returns
 returns c =
