@@ -1,12 +1,12 @@
 -- The depending variables in the order of the whole prefix, and the numbers that their copies get.
 -- Assumes nothing.
 use mathlib.Core.Path.{_≡_, refl, sym, _∙_, ap, ap₂}
-use mathlib.Core.Bool.{Bool, true, false, not, _&&_, _||_, cond, true≢false, false≢true}
+use mathlib.Core.Bool.{Bool, true, false, not, _&&_, _||_, cond, true≢false}
 use mathlib.Core.List.{List, [], _∷_, map}
 use mathlib.Core.Logic.{⊎-elim}
-use Prim.Native.Nat.{ℕ, zero, suc, _+_, _≤_, _<_}
+use Prim.Native.Nat.{ℕ, _+_, _≤_, _<_}
 use native.Mathlib.Omega.{arith}
-use lib.Dec.{eqb, ltb}
+use lib.Dec.{eqb}
 use lib.ListN.{length, take, set, length-set}
 use lib.Seq.{getD-set-same, getD-set-other}
 use borrow.Author.Tests.{eqb-true, eqb-false, eq-eqb, ne-eqb, not-true}
@@ -14,12 +14,13 @@ use Rattle.formula.specs.Tree.{same-op, exists, Binding, Prefix, Formula, binds
 use Rattle.formula.specs.Expand.{after, among, occurs, occurring, later}
 use Rattle.formula.specs.Solve.{those}
 use Rattle.formula.specs.Outer.{existentials, block, depends, dependents, unused, renamed}
-use Rattle.formula.proofs.Booleans.{and-parts, or-parts, or-cases, or-later, eqb-comm}
+use Rattle.formula.proofs.Booleans.{and-parts, or-cases, or-later, eqb-comm}
 use Rattle.formula.proofs.Outer.Closure.{stage-binds}
 use Rattle.formula.proofs.Outer.Fresh.{rows-of, unused-many, those-binds}
+use Rattle.formula.proofs.Prefixes.{after-own}
 use Rattle.sheet.specs.Format.{Format}
 use Rattle.sheet.specs.Limits.{numbered}
-use Rattle.sheet.proofs.Limits.{binds-numbered}
+use Rattle.sheet.proofs.Limits.{binds-numbered, binds-positive}
 use Rattle.substitution.specs.Changes.{entry}
 use Rattle.renaming.specs.Numbers.{renumbered}
 
@@ -119,39 +120,10 @@ unfolding those
 those-same D E h [] = refl
 those-same D E h (z ∷ p) = ap₂ (λ (m : Bool) (ys : List ℕ). cond m (z .variable ∷ ys) ys) (h (z .variable)) (those-same D E h p)
 
-after-own : (x : ℕ) (p : Prefix) → distinct p ≡ true → binds (after x p) x ≡ false
-unfolding after binds distinct
-after-own x [] d = refl
-after-own x (z ∷ p) d =
-    let parts = and-parts (not (binds p (z .variable))) (distinct p) d in
-    by (eqb (z .variable) x) refl (not-true (binds p (z .variable)) (parts .0)) (after-own x p (parts .1))
-  where
-    by : (m : Bool) → eqb (z .variable) x ≡ m → binds p (z .variable) ≡ false → binds (after x p) x ≡ false
-        → binds (cond m p (after x p)) x ≡ false
-    by true e f rest = ap (binds p) (sym (eqb-true (z .variable) x e)) ∙ f
-    by false e f rest = rest
-
 -- the numbers of a sheet's prefix
 
-numbered-positive : (F : Format) (p : Prefix) (v : ℕ) → numbered F p ≡ true → binds p v ≡ true → 1 ≤ v
-unfolding numbered binds
-numbered-positive F [] v h k = absurd (false≢true k)
-numbered-positive F (z ∷ p) v h k =
-    let parts = and-parts (not (eqb (z .variable) 0 || ltb (F .most-variables) (z .variable))) (numbered F p) h in
-    ⊎-elim
-    (λ e. first (eqb-true (z .variable) v e)
-    (or-parts (eqb (z .variable) 0) (ltb (F .most-variables) (z .variable)) (not-true (eqb (z .variable) 0 || ltb (F .most-variables) (z .variable)) (parts .0)) .0))
-    (λ e. numbered-positive F p v (parts .1) e) (or-cases (eqb (z .variable) v) (binds p v) k)
-  where
-    first : z .variable ≡ v → eqb (z .variable) 0 ≡ false → 1 ≤ v
-    first e n = let o = eqb-false (z .variable) 0 n in positive v (λ q. o (e ∙ q))
-      where
-        positive : (v : ℕ) → (v ≡ 0 → ⊥) → 1 ≤ v
-        positive zero o = absurd (o refl)
-        positive (suc v) o = omega arith
-
 pub numbers-left : (F : Format) (p : Prefix) → numbered F p ≡ true → distinct p ≡ true → length (unused p (F .most-variables) 1) + length p ≡ F .most-variables
-numbers-left F p n d = unused-many (F .most-variables) p d (λ v k. (numbered-positive F p v n k, binds-numbered F p v n k))
+numbers-left F p n d = unused-many (F .most-variables) p d (λ v k. (binds-positive F p v n k, binds-numbered F p v n k))
 
 module _ (x : ℕ) (f : Formula) (d : distinct (f .prefix) ≡ true) where
   abbrev p : Prefix

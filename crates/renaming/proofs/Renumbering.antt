@@ -3,7 +3,7 @@
 use mathlib.Core.Path.{_≡_, refl, sym, _∙_, ap, ap₂, subst}
 use mathlib.Core.Bool.{Bool, true, false, _||_, cond, or-false}
 use mathlib.Core.List.{List, [], _∷_, _++_}
-use Prim.Native.Nat.{ℕ, zero, suc, _+_, _-_, _/_, _%_, _≤_, _<_}
+use Prim.Native.Nat.{ℕ, zero, suc, _+_, _-_, _≤_, _<_}
 use native.Mathlib.Omega.{arith}
 use lib.Dec.{eqb, leb}
 use borrow.Author.Tests.{leb-true, leb-false}
@@ -12,14 +12,14 @@ use lib.Seq.{take-all, drop-at}
 use Rattle.formula.specs.Tree.{Prefix, binds}
 use Rattle.formula.specs.Solve.{those}
 use Rattle.formula.specs.Outer.{unused}
-use Rattle.formula.proofs.Booleans.{eqb-comm}
+use Rattle.formula.proofs.Booleans.{eqb-comm, by-cases}
 use Rattle.sheet.specs.Format.{Bytes}
 use Rattle.rows.specs.Formulas.{prefix-in, Readable}
 use Rattle.rows.specs.declared.Layout.{Layout}
 use Rattle.prefixes.specs.Places.{binding-in}
 use Rattle.prefixes.proofs.Places.{prefix-row, no-rows}
-use Rattle.sets.specs.Sets.{digit, holds}
-use Rattle.sets.proofs.Digits.{digit-none}
+use Rattle.sets.specs.Sets.{holds}
+use Rattle.sets.proofs.Members.{holds-none}
 use Rattle.substitution.proofs.Tables.{both-parts}
 use Rattle.renaming.specs.Numbers.{Uses, free, NextFree, renumbered, Renamed}
 
@@ -29,10 +29,6 @@ zero-at : (n i : ℕ) → _≡_ {A = ℕ} (getD (replicate n 0) i 0) 0
 zero-at zero i = refl
 zero-at (suc n) zero = refl
 zero-at (suc n) (suc i) = zero-at n i
-
-pub holds-none : (n v : ℕ) → holds (replicate n 0) v ≡ false
-unfolding holds
-holds-none n v = ap (λ w. digit w (v % 64)) (zero-at n (v / 64)) ∙ digit-none (v % 64)
 
 -- the rows before row j are in it
 pub record Using (p : Prefix) (ws : List ℕ) (j : ℕ) : Type 0 where
@@ -131,11 +127,10 @@ module _ (ws : List ℕ) (highest : ℕ) where
 
   -- a number is left
   pub found-within : {from n : ℕ} → NextFree ws highest from n → 0 < length (free ws (suc highest - from) from) → n ≤ highest
-  found-within {from} {n} f some = by (leb (suc highest) n) refl
-    where
-      by : (c : Bool) → leb (suc highest) n ≡ c → n ≤ highest
-      by true e = absurd (omega (arith, some, ap length (f .same), ap length (none-behind n (leb-true (suc highest) n e))))
-      by false e = let l = leb-false (suc highest) n e in omega arith
+  found-within {from} {n} f some =
+      by-cases (leb (suc highest) n)
+      (λ e. absurd (omega (arith, some, ap length (f .same), ap length (none-behind n (leb-true (suc highest) n e)))))
+      (λ e. let l = leb-false (suc highest) n e in omega arith)
 
 -- one variable
 

@@ -12,6 +12,7 @@ use borrow.Author.Tests.{eqb-true, ne-eqb, le-leb}
 use Rattle.formula.specs.Tree.{and, Tree, lit, Prefix, Formula, Literals, of, binds, distinct, constant}
 use Rattle.formula.specs.Solve.{those}
 use Rattle.formula.specs.Outer.{depends, dependents, copies-of, too-few, renamed, chosen-by, renaming, outer-copying, existential}
+use Rattle.formula.proofs.Booleans.{by-cases}
 use Rattle.formula.proofs.Outer.Fresh.{renamed-other, renamed-new}
 use Rattle.formula.proofs.Outer.Step.{copies-new, copies-numbered, copies-many}
 use Rattle.sheet.specs.Sheet.{binding-row}
@@ -126,20 +127,17 @@ module _ {highest x : ℕ} {f : Formula} (k : Numbers highest x f) where
 
   changed-at : (s : Bool) (v : ℕ) → changed second s v ≡ renaming x ys ns s v
   unfolding changed chosen became
-  changed-at s v = by (D v) refl
+  changed-at s v =
+      by-cases (D v)
+      (λ e. ap made (entry-member v e) ∙
+      ap₂ (λ (c d : Bool). cond (not c) (cond d (lit s (renamed ys ns v)) (constant (Bool·beq s (eqb (renamed ys ns v) 1026)))) (lit s v))
+      (ne-eqb (renamed ys ns v) v (new-number v e .0)) (le-leb (renamed ys ns v) 1024 (new-number v e .1)) ∙
+      sym (ap (λ (c : Bool). cond c (constant s) (lit s (renamed ys ns v))) (depends-other x f (k .is-distinct) v e)))
+      (λ e. ap made (entry-other v e) ∙ ap (λ (g : Bool → ℕ → Tree). g s v) (changed-putting x (k .small) true) ∙
+      ap₂ (λ (t : Tree) (n : ℕ). cond (eqb v x) t (lit s n)) (constant-true s) (sym (same-number v e)))
     where
       made : ℕ → Tree
       made e = cond (not (eqb e v)) (cond (leb e 1024) (lit s e) (constant (Bool·beq s (eqb e 1026)))) (lit s v)
-
-      by : (m : Bool) → D v ≡ m → made (entry second v) ≡ cond (eqb v x) (constant s) (lit s (renamed ys ns v))
-      by true e =
-          ap made (entry-member v e) ∙
-          ap₂ (λ (c d : Bool). cond (not c) (cond d (lit s (renamed ys ns v)) (constant (Bool·beq s (eqb (renamed ys ns v) 1026)))) (lit s v))
-          (ne-eqb (renamed ys ns v) v (new-number v e .0)) (le-leb (renamed ys ns v) 1024 (new-number v e .1)) ∙
-          sym (ap (λ (c : Bool). cond c (constant s) (lit s (renamed ys ns v))) (depends-other x f (k .is-distinct) v e))
-      by false e =
-          ap made (entry-other v e) ∙ ap (λ (g : Bool → ℕ → Tree). g s v) (changed-putting x (k .small) true) ∙
-          ap₂ (λ (t : Tree) (n : ℕ). cond (eqb v x) t (lit s n)) (constant-true s) (sym (same-number v e))
 
   renamed-at : (v : ℕ) → is-renamed second v ≡ D v
   renamed-at v = by (D v) refl
