@@ -8,10 +8,10 @@ use native.Mathlib.Omega.{arith}
 use lib.Dec.{eqb, leb, eqb·suc-zero}
 use borrow.Author.Tests.{eqb-true}
 use Rattle.formula.specs.Tree.{exists, for-all}
+use Rattle.formula.proofs.Booleans.{and-parts}
 use Rattle.sheet.specs.Format.{Bytes}
 use Rattle.sheet.specs.Qdimacs.{is-nil, digit, all, unsigned, number-from, negative, magnitude, is-word, is-e, is-a, Token, opener, plain, minus, other, token}
 use Rattle.words.specs.Tokens.{name-of, number-class, class-of}
-use Rattle.words.proofs.Digits.{both}
 
 -- a word's class, what it says, and its magnitude
 pub data View : ℕ → Token → ℕ → Type 0 where
@@ -50,7 +50,7 @@ negative-some (c ∷ w) e = go (eqb c 45) (eqb (number-from 0 w) 0) refl e
   where
     go : (t s : Bool) → eqb (number-from 0 w) 0 ≡ s → (t && unsigned w && not s) ≡ true → eqb (cond t (number-from 0 w) (number-from 0 (c ∷ w))) 0 ≡ false
     go true false f h = f
-    go true true f h = let z = (both (unsigned w) false h) .1 in let y : _≡_ {A = ℕ} 0 1 = cc in absurd (omega arith)
+    go true true f h = let z = (and-parts (unsigned w) false h) .1 in let y : _≡_ {A = ℕ} 0 1 = cc in absurd (omega arith)
     go false s f h = let z : _≡_ {A = ℕ} 0 1 = cc in absurd (omega arith)
 
 view-unsigned : (m : ℕ) → View (cond (eqb m 0) 6 7) (plain m) m

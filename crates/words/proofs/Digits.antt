@@ -1,28 +1,24 @@
 -- A digit a turn.
 -- Assumes nothing.
-use mathlib.Core.Logic.{_⊎_, inl, inr}
+use mathlib.Core.Logic.{inl, inr}
 use mathlib.Core.Path.{_≡_, refl, sym, ap, _∙_}
-use mathlib.Core.Bool.{Bool, true, false, _&&_}
-use mathlib.Core.List.{List, [], _∷_}
-use Prim.Native.Nat.{ℕ, zero, suc, _+_, _*_, _-_, _/_, _≤_, _<_}
+use mathlib.Core.Bool.{true, false, _&&_}
+use Prim.Native.Nat.{ℕ, suc, _+_, _*_, _-_, _/_, _≤_, _<_}
 use native.Mathlib.Numerals.{add-one}
 use native.Mathlib.Omega.{arith}
 use lib.Dec.{leb}
 use borrow.Author.Tests.{leb-true}
 use lib.ListN.{length, getD}
 use lib.Seq.{slice, slice-cons, slice-empty}
+use Rattle.formula.proofs.Booleans.{and-parts}
 use Rattle.sheet.specs.Format.{Bytes}
 use Rattle.sheet.specs.Qdimacs.{digit, all, number-from}
 use Rattle.words.specs.Numbers.{Capped, largest}
 
-pub both : (s t : Bool) → (s && t) ≡ true → (s ≡ true) × (t ≡ true)
-both true t e = (refl, e)
-both false t e = let z : _≡_ {A = ℕ} 0 1 = cc in absurd (omega arith)
-
 -- with_digit
 
 pub digit-range : (c : ℕ) → digit c ≡ true → (48 ≤ c) × (c ≤ 57)
-digit-range c e = let h = both (leb 48 c) (leb c 57) e in (leb-true 48 c (h .0), leb-true c 57 (h .1))
+digit-range c e = let h = and-parts (leb 48 c) (leb c 57) e in (leb-true 48 c (h .0), leb-true c 57 (h .1))
 
 pub too-large : (v d : ℕ) → (largest - d) / 10 < v → largest ≤ 10 * v + d
 too-large v d h = omega arith
@@ -81,7 +77,7 @@ module _ {b : Bytes} {from to i value : ℕ} (h : Counted b from to i value) (en
   left l = sym (ap (all digit) (slice-cons i to b 0 l end)) ∙ h .digits
 
   pub counted-here : i < to → digit (getD b i 0) ≡ true
-  counted-here l = (both (digit (getD b i 0)) (all digit (slice (suc i) to b)) (left l)) .0
+  counted-here l = (and-parts (digit (getD b i 0)) (all digit (slice (suc i) to b)) (left l)) .0
 
   pub counted-digit : {new : ℕ} → i < to → Capped largest (10 * value + (getD b i 0 - 48)) new → new ≤ largest → Counted b from to (i + 1) new
   unfolding number-from
@@ -91,7 +87,7 @@ module _ {b : Bytes} {from to i value : ℕ} (h : Counted b from to i value) (en
         so-far = 10 * h .so-far + (getD b i 0 - 48);
         same = rw add-one (h .same ∙ ap (number-from (h .so-far)) (slice-cons i to b 0 l end));
         near = capped-digit (h .so-far) value (getD b i 0 - 48) new (h .near) c m;
-        digits = rw add-one ((both (digit (getD b i 0)) (all digit (slice (suc i) to b)) (left l)) .1);
+        digits = rw add-one ((and-parts (digit (getD b i 0)) (all digit (slice (suc i) to b)) (left l)) .1);
       }
 
   pub counted-all : to ≤ i → Capped largest (number-from 0 (slice from to b)) value

@@ -11,6 +11,7 @@ use lib.Dec.{eqb, leb}
 use lib.ListN.{length, take, drop, getD, length-drop, drop-of-length-le}
 use lib.Seq.{slice, slice-cons, length-slice, drop-drop, take-nil}
 use borrow.Author.Tests.{eq-eqb, ne-eqb, leb-true, lt-leb}
+use Rattle.formula.proofs.Booleans.{and-parts}
 use Rattle.sheet.specs.Format.{Bytes}
 use Rattle.sheet.specs.Qdimacs.{split, nonempty, is-nil, digit, all, unsigned, number-from, negative, magnitude, is-word}
 use Rattle.sheet.specs.Texts.{separator, separated}
@@ -19,7 +20,7 @@ use Rattle.words.specs.Numbers.{Capped, largest}
 use Rattle.words.specs.Tokens.{name-of, number-class, class-of, first-class, Plain, Negated, Says, Reads}
 use Rattle.words.specs.declared.token.Token.{Token}
 use Rattle.words.proofs.Words.{lead-within, gap-within, words-gap, gap-lead, words-lead, slice-take}
-use Rattle.words.proofs.Digits.{both, digit-range}
+use Rattle.words.proofs.Digits.{digit-range}
 
 abbrev token : ℕ → ℕ → ℕ → Token
 token k m to = record { class = k; magnitude = m; to = to }
@@ -118,7 +119,7 @@ module _ (c : ℕ) (cs : Bytes) (o : name-of (c ∷ cs) ≡ 1) where
 
   no-sign : all digit (c ∷ cs) ≡ true → c ≡ 45 → ⊥
   unfolding all
-  no-sign d e = let r = digit-range c ((both (digit c) (all digit cs) d) .0) in omega (arith, r .0)
+  no-sign d e = let r = digit-range c ((and-parts (digit c) (all digit cs) d) .0) in omega (arith, r .0)
 
   plain-magnitude : (c ≡ 45 → ⊥) → magnitude (c ∷ cs) ≡ number-from 0 (c ∷ cs)
   unfolding magnitude
