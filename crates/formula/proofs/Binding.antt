@@ -6,12 +6,12 @@ use mathlib.Core.List.{[], _∷_}
 use Prim.Native.Nat.{ℕ}
 use lib.Dec.{eqb}
 use borrow.Author.Tests.{eqb-true, eq-eqb, not-true}
-use Rattle.formula.specs.Tree.{Op, and, or, same-op, Quantifier, Binding, Prefix, binds, quantifier-of, without, distinct}
+use Rattle.formula.specs.Tree.{Op, same-op, Quantifier, Binding, Prefix, binds, quantifier-of, without, distinct}
 use Rattle.formula.specs.Truth.{Assignment, put, join, bind, Leads, Ignores}
 use Rattle.formula.specs.Settle.{value}
 use Rattle.formula.specs.Expand.{all-of, after, among}
 pub use Rattle.formula.proofs.Booleans.{same-op-eq}
-use Rattle.formula.proofs.Booleans.{join-comm, join-assoc, join-self, join-value, join-leads, and-parts, or-parts}
+use Rattle.formula.proofs.Booleans.{join-comm, join-assoc, join-self, join-value, join-leads, and-parts, or-parts, by-cases}
 
 -- setting another variable first or last makes no difference
 pub put-swap : (ρ : Assignment) (x y : ℕ) (a b : Bool) → eqb x y ≡ false → put (put ρ x a) y b ≡ put (put ρ y b) x a
@@ -109,12 +109,10 @@ put-again ρ x a b = fun-ext (λ v. at v (eqb v x))
     at v false = refl
 
 pub ignores-put : (f : Assignment → Bool) (v x : ℕ) (a : Bool) → Ignores f v → Ignores (λ σ. f (put σ x a)) v
-ignores-put f v x a h ρ b = by (eqb v x) refl
-  where
-    by : (m : Bool) → eqb v x ≡ m → f (put (put ρ v b) x a) ≡ f (put ρ x a)
-    by true e =
-        ap (λ (y : ℕ). f (put (put ρ y b) x a)) (eqb-true v x e) ∙ ap f (put-again ρ x b a)
-    by false e = ap f (put-swap ρ v x b a e) ∙ h (put ρ x a) b
+ignores-put f v x a h ρ b =
+    by-cases (eqb v x)
+    (λ e. ap (λ (y : ℕ). f (put (put ρ y b) x a)) (eqb-true v x e) ∙ ap f (put-again ρ x b a))
+    (λ e. ap f (put-swap ρ v x b a e) ∙ h (put ρ x a) b)
 
 bind-ignores : (p : Prefix) (f : Assignment → Bool) (v : ℕ) → Ignores f v → Ignores (bind p f) v
 unfolding bind

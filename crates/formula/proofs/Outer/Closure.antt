@@ -11,7 +11,7 @@ use lib.ListN.{length}
 use borrow.Author.Tests.{eqb-true, eq-eqb}
 use Rattle.formula.specs.Tree.{Tree, Prefix, of, has, binds}
 use Rattle.formula.specs.Outer.{within, touches, some-row, touched, grown, stage, chosen-by}
-use Rattle.formula.proofs.Booleans.{and-parts, or-cases, or-later}
+use Rattle.formula.proofs.Booleans.{and-parts, or-cases, or-later, by-cases}
 use Rattle.formula.specs.Truth.{Leads}
 use Rattle.formula.proofs.Outer.Apart.{members, Linked, apart}
 use Rattle.formula.proofs.Prefixes.{some-here, some-found, some-leads}
@@ -106,7 +106,10 @@ module _ (t : Tree) (p : Prefix) where
   -- either nothing is added, or something is
   shut-or-more : (D : ℕ → Bool) → Shut D ⊎ (suc (tally D p) ≤ tally (grown t p D) p)
   unfolding grown
-  shut-or-more D = by (some-row (λ v. grown t p D v && not (D v)) p) refl
+  shut-or-more D =
+      by-cases (some-row (λ v. grown t p D v && not (D v)) p)
+      (λ e. inr (tally-more D (grown t p D) (grown-keeps D) p e))
+      (λ e. inl (λ v h. none e v (D v) refl h))
     where
       none : some-row (λ v. grown t p D v && not (D v)) p ≡ false → (v : ℕ) → (a : Bool) → D v ≡ a
           → (a || (binds p v && some-row (λ y. D y && touches t y v) p)) ≡ true → a ≡ true
@@ -119,11 +122,6 @@ module _ (t : Tree) (p : Prefix) where
           (some-here (λ v. grown t p D v && not (D v)) p v (parts .0)
           (ap₂ (λ (a b : Bool). (a || b) && not a) k h)) ∙
           e))
-
-      by : (b : Bool) → some-row (λ v. grown t p D v && not (D v)) p ≡ b
-          → ((v : ℕ) → Leads (grown t p D v) (D v)) ⊎ (suc (tally D p) ≤ tally (grown t p D) p)
-      by true e = inr (tally-more D (grown t p D) (grown-keeps D) p e)
-      by false e = inl (λ v h. none e v (D v) refl h)
 
   module _ (x : ℕ) where
     shut-or-many : (n : ℕ) → Shut (stage t p x n) ⊎ (n ≤ tally (stage t p x n) p)

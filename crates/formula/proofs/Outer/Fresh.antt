@@ -13,7 +13,7 @@ use Rattle.formula.specs.Tree.{Binding, Prefix, binds, distinct}
 use Rattle.formula.specs.Truth.{Assignment}
 use Rattle.formula.specs.Solve.{those}
 use Rattle.formula.specs.Outer.{unused, renamed, existential}
-use Rattle.formula.proofs.Booleans.{and-parts, or-parts, or-cases, or-later, eqb-comm}
+use Rattle.formula.proofs.Booleans.{and-parts, or-parts, or-cases, or-later, eqb-comm, by-cases}
 
 -- the exists rows of a list of numbers; what they bind is what the list holds
 abbrev pub rows-of : List ℕ → Prefix
@@ -80,11 +80,10 @@ unused-past z p (suc n) i h =
     (unused-past z p n (suc i) (omega arith))
 
 different : (v i : ℕ) → i ≤ v → (v ≡ i → ⊥) → suc i ≤ v
-different v i l n = by (ltb i v) refl
-  where
-    by : (b : Bool) → ltb i v ≡ b → suc i ≤ v
-    by true e = ltb-true i v e
-    by false e = absurd (n (let k = ltb-false i v e in omega (arith, k)))
+different v i l n =
+    by-cases (ltb i v)
+    (λ e. ltb-true i v e)
+    (λ e. absurd (n (let k = ltb-false i v e in omega (arith, k))))
 
 unused-none : (n i : ℕ) → length (unused [] n i) + 0 ≡ n
 unfolding unused binds

@@ -2,14 +2,14 @@
 -- that don't depend on x can be taken from one of them, whichever has the lower value of the relevant subtree.
 -- Assumes nothing.
 use mathlib.Core.Path.{_≡_, refl, sym, _∙_, ap, fun-ext}
-use mathlib.Core.Bool.{Bool, true, false, not, _&&_, _||_, cond, true≢false, false≢true}
+use mathlib.Core.Bool.{Bool, true, false, not, _&&_, cond, true≢false}
 use Prim.Native.Nat.{ℕ}
 use lib.Dec.{eqb}
-use borrow.Author.Tests.{eqb-true, not-true}
+use borrow.Author.Tests.{not-true}
 use Rattle.formula.specs.Tree.{Tree, Prefix, Literals, of, has, binds}
 use Rattle.formula.specs.Truth.{Assignment, put, eval, Leads}
 use Rattle.formula.specs.Outer.{within, chosen-by}
-use Rattle.formula.proofs.Booleans.{false-leads, and-parts, or-parts}
+use Rattle.formula.proofs.Booleans.{false-leads, and-parts, or-parts, by-cases}
 use Rattle.formula.proofs.Evaluation.{eval-same}
 use Rattle.formula.proofs.Outer.Part.{part-value, rises, part-same}
 use Rattle.formula.proofs.Outer.Apart.{members, within-member}
@@ -76,9 +76,7 @@ module _ (t : Tree) (B : Prefix) (x : ℕ) (D : ℕ → Bool)
 
   pub choose : (e d : Assignment) → Agree B e d → eval t (put e x false) ≡ true → eval t (put d x true) ≡ true
       → (c : Assignment) × Agree B c d × (eval t (mixed x D c e false) ≡ true) × (eval t (mixed x D c d true) ≡ true)
-  choose e d g h k = by (part-value L t (put e x false)) refl
-    where
-      by : (m : Bool) → part-value L t (put e x false) ≡ m
-          → (c : Assignment) × Agree B c d × (eval t (mixed x D c e false) ≡ true) × (eval t (mixed x D c d true) ≡ true)
-      by true l = (d, (λ v n. refl), mix d e true false (λ v n. sym (g v n)) (λ _. l) k, own d true k)
-      by false l = (e, g, own e false h, mix e d false true g (false-leads l) h)
+  choose e d g h k =
+      by-cases (part-value L t (put e x false))
+      (λ l. (d, (λ v n. refl), mix d e true false (λ v n. sym (g v n)) (λ _. l) k, own d true k))
+      (λ l. (e, g, own e false h, mix e d false true g (false-leads l) h))

@@ -10,7 +10,7 @@ use borrow.Author.Tests.{eqb-true, eq-eqb, ne-eqb, not-true, not-false}
 use Rattle.formula.specs.Tree.{Quantifier, dual, same-op, constant, Prefix, Formula, Literals, of, has, binds, without, distinct, closed}
 use Rattle.formula.specs.Expand.{occurs, innermost}
 use Rattle.formula.specs.Strategy.{Pair, Pairs, owns, before, function-of, Move, moved, allowed, made, reached, left, strategy, sets, once, reads, beyond, in-order, WellFormed}
-use Rattle.formula.proofs.Booleans.{and-parts, or-parts, eqb-comm}
+use Rattle.formula.proofs.Booleans.{and-parts, or-parts, eqb-comm, by-cases}
 use Rattle.formula.proofs.Evaluation.{has-cover, has-constant}
 use Rattle.formula.proofs.Closed.{unbound}
 use Rattle.formula.proofs.Prefixes.{distinct-parts}
@@ -198,11 +198,10 @@ module _ (q : Quantifier) (x : ℕ) (f f′ : Formula) (g : Pairs) (s : Prenex f
       }
     where
       covers : (v : ℕ) → sets g v ≡ owns q (f .prefix) v
-      covers v = by (eqb v x) refl
-        where
-          by : (m : Bool) → eqb v x ≡ m → sets g v ≡ owns q (f .prefix) v
-          by true e = subst (λ (w : ℕ). sets g w ≡ owns q (f .prefix) w) (sym (eqb-true v x e)) (sets-taken ∙ sym h)
-          by false e = sets-other v e
+      covers v =
+          by-cases (eqb v x)
+          (λ e. subst (λ (w : ℕ). sets g w ≡ owns q (f .prefix) w) (sym (eqb-true v x e)) (sets-taken ∙ sym h))
+          (λ e. sets-other v e)
 
   -- x is of the side: its function reads what the tree has, but x
   function-occurs : (u : ℕ) → occurs (function-of x f) u ≡ true → (occurs (f .matrix) u ≡ true) × (eqb u x ≡ false)

@@ -9,7 +9,7 @@ use borrow.Author.Tests.{eqb-true, ne-eqb, eqb-false}
 use Rattle.formula.specs.Tree.{Op, and, or, dual, same-op, Quantifier, Binding, Prefix, Formula, binds, quantifier-of, without, distinct}
 use Rattle.formula.specs.Expand.{all-of, after, among, occurs, occurring, later, innermost}
 use Rattle.formula.specs.Strategy.{owns, before}
-use Rattle.formula.proofs.Booleans.{and-parts}
+use Rattle.formula.proofs.Booleans.{and-parts, by-cases}
 use Rattle.formula.proofs.Binding.{same-op-eq}
 use Rattle.formula.proofs.Closed.{binds-without}
 use Rattle.formula.proofs.Prefixes.{distinct-parts}
@@ -97,11 +97,10 @@ owns-without q x v p h = ap₂ (λ (b : Bool) (r : Op). b && same-op q r) (binds
 
 -- whoever is left has the side it had
 pub owns-left : (q : Quantifier) (x v : ℕ) (p : Prefix) → distinct p ≡ true → owns q (without x p) v ≡ true → owns q p v ≡ true
-owns-left q x v p d h = by (eqb v x) refl
-  where
-    by : (m : Bool) → eqb v x ≡ m → owns q p v ≡ true
-    by true e = absurd (false≢true (sym (owns-gone q x p d) ∙ ap (owns q (without x p)) (sym (eqb-true v x e)) ∙ h))
-    by false e = sym (owns-without q x v p e) ∙ h
+owns-left q x v p d h =
+    by-cases (eqb v x)
+    (λ e. absurd (false≢true (sym (owns-gone q x p d) ∙ ap (owns q (without x p)) (sym (eqb-true v x e)) ∙ h)))
+    (λ e. sym (owns-without q x v p e) ∙ h)
 
 -- what stands in front stays in front
 
@@ -118,11 +117,10 @@ owns-before q v u (z ∷ p) h = by (eqb (z .variable) v) h (owns-before q v u p)
     by : (m : Bool) → owns q (cond m [] (z ∷ before v p)) u ≡ true → (owns q (before v p) u ≡ true → owns q p u ≡ true)
         → owns q (z ∷ p) u ≡ true
     by true k rest = absurd (false≢true (sym (owns-none q u) ∙ k))
-    by false k rest = at (eqb (z .variable) u) refl
-      where
-        at : (n : Bool) → eqb (z .variable) u ≡ n → owns q (z ∷ p) u ≡ true
-        at true e = owns-own q z p u e ∙ sym (owns-own q z (before v p) u e) ∙ k
-        at false e = owns-other q z p u e ∙ rest (sym (owns-other q z (before v p) u e) ∙ k)
+    by false k rest =
+        by-cases (eqb (z .variable) u)
+        (λ e. owns-own q z p u e ∙ sym (owns-own q z (before v p) u e) ∙ k)
+        (λ e. owns-other q z p u e ∙ rest (sym (owns-other q z (before v p) u e) ∙ k))
 
 stays-in-front : (q : Quantifier) (x v u : ℕ) (p : Prefix) → eqb v x ≡ false → eqb u x ≡ false → owns q (before v (without x p)) u ≡ true
     → owns q (before v p) u ≡ true
@@ -134,11 +132,10 @@ stays-in-front q x v u (z ∷ p) hv hu h = by (eqb (z .variable) x) refl h (stay
     kept : (n : Bool) → owns q (cond n [] (z ∷ before v (without x p))) u ≡ true
         → (owns q (before v (without x p)) u ≡ true → owns q (before v p) u ≡ true) → owns q (cond n [] (z ∷ before v p)) u ≡ true
     kept true k rest = k
-    kept false k rest = at (eqb (z .variable) u) refl
-      where
-        at : (m : Bool) → eqb (z .variable) u ≡ m → owns q (z ∷ before v p) u ≡ true
-        at true e = owns-own q z (before v p) u e ∙ sym (owns-own q z (before v (without x p)) u e) ∙ k
-        at false e = owns-other q z (before v p) u e ∙ rest (sym (owns-other q z (before v (without x p)) u e) ∙ k)
+    kept false k rest =
+        by-cases (eqb (z .variable) u)
+        (λ e. owns-own q z (before v p) u e ∙ sym (owns-own q z (before v (without x p)) u e) ∙ k)
+        (λ e. owns-other q z (before v p) u e ∙ rest (sym (owns-other q z (before v (without x p)) u e) ∙ k))
 
     by : (m : Bool) → eqb (z .variable) x ≡ m → owns q (before v (cond m p (z ∷ without x p))) u ≡ true
         → (owns q (before v (without x p)) u ≡ true → owns q (before v p) u ≡ true)
@@ -150,14 +147,12 @@ stays-in-front q x v u (z ∷ p) hv hu h = by (eqb (z .variable) x) refl h (stay
 
 pub before-without : (q : Quantifier) (x v u : ℕ) (p : Prefix) → distinct p ≡ true → eqb v x ≡ false
     → owns q (before v (without x p)) u ≡ true → owns q (before v p) u ≡ true
-before-without q x v u p d hv h = by (eqb u x) refl
-  where
-    by : (m : Bool) → eqb u x ≡ m → owns q (before v p) u ≡ true
-    by true e =
-        absurd
-        (false≢true
-        (sym (owns-gone q x p d) ∙ ap (owns q (without x p)) (sym (eqb-true u x e)) ∙ owns-before q v u (without x p) h))
-    by false e = stays-in-front q x v u p hv e h
+before-without q x v u p d hv h =
+    by-cases (eqb u x)
+    (λ e. absurd
+    (false≢true
+    (sym (owns-gone q x p d) ∙ ap (owns q (without x p)) (sym (eqb-true u x e)) ∙ owns-before q v u (without x p) h)))
+    (λ e. stays-in-front q x v u p hv e h)
 
 -- the innermost block: the other side's variables that have a literal all stand in front of it
 
@@ -186,11 +181,10 @@ after-one-side r P x u (z ∷ p) a h k n = by (eqb (z .variable) x) refl a (λ a
         → (all-of r (among P (after x p)) ≡ true → owns (dual r) p u ≡ true → owns (dual r) (before x p) u ≡ true)
         → owns (dual r) (cond m [] (z ∷ before x p)) u ≡ true
     by true e b rest = absurd (all-of-one-side r P u p b (sym (owns-other (dual r) z p u (apart-by (z .variable) x u e n)) ∙ h) k)
-    by false e b rest = at (eqb (z .variable) u) refl
-      where
-        at : (m : Bool) → eqb (z .variable) u ≡ m → owns (dual r) (z ∷ before x p) u ≡ true
-        at true i = owns-own (dual r) z (before x p) u i ∙ sym (owns-own (dual r) z p u i) ∙ h
-        at false i = owns-other (dual r) z (before x p) u i ∙ rest b (sym (owns-other (dual r) z p u i) ∙ h)
+    by false e b rest =
+        by-cases (eqb (z .variable) u)
+        (λ i. owns-own (dual r) z (before x p) u i ∙ sym (owns-own (dual r) z p u i) ∙ h)
+        (λ i. owns-other (dual r) z (before x p) u i ∙ rest b (sym (owns-other (dual r) z p u i) ∙ h))
 
 pub innermost-front : (q : Quantifier) (x u : ℕ) (f : Formula) → innermost x f ≡ true → owns q (f .prefix) x ≡ true
     → owns (dual q) (f .prefix) u ≡ true → occurs (f .matrix) u ≡ true → owns (dual q) (before x (f .prefix)) u ≡ true
