@@ -7,19 +7,20 @@ use native.Mathlib.Omega.{arith}
 use lib.Dec.{eqb}
 use lib.ListN.{length, length-drop}
 use borrow.Author.Tests.{eqb-true, eq-eqb, ne-eqb}
-use Rattle.formula.specs.Tree.{and, or, Tree, lit, node, Forest, ∅, _▸_, rows-all, count, _⧺_}
+use Rattle.formula.specs.Tree.{and, or, Tree, lit, node, Forest, ∅, _▸_, count, _⧺_}
 use Rattle.formula.specs.Tidy.{same-tree, same-trees}
 use Rattle.formula.proofs.Booleans.{and-parts}
+use Rattle.formula.proofs.Forests.{count-rows}
 use Rattle.formula.proofs.Tidy.Same.{same-tree-same}
 use Rattle.formula.proofs.Tidy.Children.{count-⧺}
 use Rattle.sheet.specs.Format.{Bytes, row, children}
-use Rattle.sheet.specs.Sheet.{front, trees}
+use Rattle.sheet.specs.Sheet.{front}
 use Rattle.sheet.proofs.Preorder.{length-forest-rows}
 use Rattle.rows.specs.Formulas.{node-rows-in, Readable}
 use Rattle.rows.specs.declared.Layout.{Layout}
 use Rattle.rows.proofs.Formulas.{length-nodes}
 use Rattle.subtrees.specs.Subtrees.{top, kids, forest-in, subtree-in, siblings-in, Beside}
-use Rattle.subtrees.proofs.Forest.{rest, sound-at, some-row, stepped-at, rows-kids}
+use Rattle.subtrees.proofs.Forest.{rest, sound-at, some-row, stepped-at}
 use Rattle.subtrees.proofs.Table.{children-top}
 use Rattle.subtrees.proofs.Matrix.{sound-nodes}
 use Rattle.subtrees.proofs.Siblings.{siblings-none, below-row}
@@ -91,11 +92,6 @@ unfolding front count _⧺_
 front-more ∅ ts n {m} e = let same : m ≡ n = omega arith in rw same
 front-more (c ▸ cs) ts n {m = zero} e = absurd (omega arith)
 front-more (c ▸ cs) ts n {m = suc m} e = ap (λ us. c ▸ us) (front-more cs ts n {m = m} (omega arith))
-
-pub count-rows : (ts : Forest) → count ts ≤ rows-all ts
-unfolding count rows-all
-count-rows ∅ = omega arith
-count-rows (t ▸ ts) = omega (arith, count-rows ts, rows-kids t)
 
 -- What is left to compare: the first `left` trees from each of two rows on.
 pub record Comparing (s : Layout) (b : Bytes) (same : Bool) (at other left : ℕ) : Type 0 where

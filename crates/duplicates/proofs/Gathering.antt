@@ -9,6 +9,7 @@ use native.Mathlib.Omega.{arith}
 use lib.ListN.{length, getD, set}
 use lib.Seq.{getD-set-same, getD-set-other}
 use Rattle.formula.specs.Tree.{Tree, Forest, ∅, _▸_, _⧺_, count, some-child, some-two}
+use Rattle.formula.proofs.Forests.{count-rows}
 use Rattle.formula.proofs.Tidy.Children.{some-child-⧺, some-two-⧺, count-⧺, ⧺-assoc, ⧺-none}
 use Rattle.buckets.specs.Halves.{member-of, row-of, hash-of}
 use Rattle.buckets.specs.Hashes.{hash}
@@ -20,7 +21,6 @@ use Rattle.subtrees.specs.Subtrees.{kids, subtree-in, siblings-in, Beside}
 use Rattle.subtrees.proofs.Forest.{rows-kids}
 use Rattle.subtrees.proofs.Siblings.{Walked, Children, siblings-none, subtree-within}
 use Rattle.duplicates.specs.Members.{clash, tree-of, Member, some-member, clashes-with, two-clash, Gathered, Adds}
-use Rattle.duplicates.proofs.Comparing.{count-rows}
 use Rattle.duplicates.proofs.Members.{less-or-same}
 
 -- some-two at the end of a list
