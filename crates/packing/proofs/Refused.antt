@@ -1,23 +1,19 @@
 -- The refusals of Solve and Resume have the documents' numbers.
 -- Assumes nothing.
-use mathlib.Core.Path.{_≡_, refl, sym, ap, _∙_, subst}
+use mathlib.Core.Path.{_≡_, refl, ap, _∙_, subst}
 use mathlib.Core.Bool.{Bool}
 use Prim.Native.Nat.{ℕ}
 use native.Mathlib.Omega.{arith}
-use Rattle.formula.specs.Solve.{End, ended, stopped, State, Run, solve}
+use Rattle.formula.specs.Solve.{Run, solve}
 use Rattle.sheet.specs.Format.{Bytes, Format, wide, fits}
 use Rattle.sheet.specs.Sheet.{formula}
 use Rattle.sheet.specs.Check.{Answer, refused, accepted, answer, IsKnown}
-use Rattle.sheet.specs.Operations.{tidy-tests, Solved, is-refused, is-stopped, is-ended, Solving, solved, solving, solve-call}
+use Rattle.sheet.specs.Operations.{tidy-tests, Solved, is-refused, is-stopped, is-ended, Solving, solving, solve-call}
 use Rattle.sheet.specs.Trace.{room}
 use Rattle.sheet.specs.Resume.{widened, add-to-answer, with-counts, resuming, resume-tests, resume-call}
 use Rattle.sheet.proofs.Tests.{accepted-passes}
 use Rattle.sheet.proofs.Known.{refused-known, tidy-known, resume-known}
-
-never-refused : (e : End) (s : State) {n i : ℕ} → solved e s ≡ is-refused n i → ⊥
-unfolding solved
-never-refused (ended v) s h = let z : _≡_ {A = ℕ} 0 1 = cc in omega arith
-never-refused (stopped x) s h = let z : _≡_ {A = ℕ} 0 1 = cc in omega arith
+use Rattle.sheet.proofs.Refusals.{solved-not-refused}
 
 pub solve-numbers : (F : Format) (b first second : Bytes) (n i : ℕ) → (solve-call F b first second) .answer ≡ is-refused n i → IsKnown n
 unfolding solve-call solving
@@ -28,7 +24,7 @@ solve-numbers F b first second n i h = by (answer (tidy-tests F b (room first se
     by (refused m j) e k =
         let same : m ≡ n = cc in
         subst IsKnown same (refused-known (tidy-tests F b (room first second)) _ (tidy-known F b (room first second)) e)
-    by (accepted r) e k = absurd (never-refused (r .end) (r .state) k)
+    by (accepted r) e k = absurd (solved-not-refused (r .end) (r .state) k)
 
 added-refused : (s t : ℕ) (r : Solved) {n i : ℕ} → add-to-answer s t r ≡ is-refused n i → r ≡ is-refused n i
 unfolding add-to-answer
