@@ -2,7 +2,7 @@
 -- Assumes nothing.
 use mathlib.Core.Path.{_≡_, refl, sym, ap, ap₂, _∙_, subst}
 use mathlib.Core.Bool.{Bool, true, false}
-use mathlib.Core.List.{List, [], _∷_, _++_, map, append-assoc}
+use mathlib.Core.List.{List, [], _∷_, _++_, map, append-assoc, map-append}
 use Prim.Native.Nat.{ℕ, zero, suc, _+_, _-_, _≤_, _<_}
 use native.Mathlib.Omega.{arith}
 use lib.ListN.{length, getD, take, drop, length-append, length-map, List·getD-eq-default}
@@ -25,10 +25,6 @@ use Rattle.tree_order.specs.Tables.{Entry, entry, tree-entries, forest-e
 contents : List Entry → List Row
 contents es = map (λ (e : Entry). e .content) es
 
-map-++ : {A B : Type 0} (f : A → B) (xs ys : List A) → map f (xs ++ ys) ≡ map f xs ++ map f ys
-map-++ f [] ys = refl
-map-++ f (x ∷ xs) ys = ap (λ l. f x ∷ l) (map-++ f xs ys)
-
 mutual
   unfolding contents tree-entries tree-rows
 
@@ -39,7 +35,7 @@ mutual
   contents-forest : (ts : Forest) → contents (forest-entries ts) ≡ forest-rows ts
   contents-forest ∅ = refl
   contents-forest (t ▸ ts) =
-      map-++ (λ (e : Entry). e .content) (tree-entries t) (forest-entries ts) ∙ ap₂ _++_ (contents-tree t) (contents-forest ts)
+      map-append (λ (e : Entry). e .content) (tree-entries t) (forest-entries ts) ∙ ap₂ _++_ (contents-tree t) (contents-forest ts)
 
 pub forest-entries-⧺ : (ts us : Forest) → forest-entries (ts ⧺ us) ≡ forest-entries ts ++ forest-entries us
 unfolding forest-entries _⧺_
@@ -95,7 +91,7 @@ map-drop f (suc n) (x ∷ xs) = map-drop f n xs
 module _ (s : Layout) (b : Bytes) (ends : List ℕ) where
   pub picked-++ : (xs ys : List ℕ) → picked s b ends (xs ++ ys) ≡ picked s b ends xs ++ picked s b ends ys
   unfolding picked
-  picked-++ xs ys = map-++ (entry-in s b ends) xs ys
+  picked-++ xs ys = map-append (entry-in s b ends) xs ys
 
   pub picked-take : (n : ℕ) (xs : List ℕ) → picked s b ends (take n xs) ≡ take n (picked s b ends xs)
   unfolding picked

@@ -8,9 +8,11 @@ use lib.ListN.{length, take, drop, length-append, length-drop, drop-of-length-le
 use lib.Seq.{take-at, drop-at}
 use Rattle.formula.specs.Tree.{Tree, Forest, ∅, _▸_, rows, rows-all, count, _⧺_}
 use Rattle.formula.specs.Order.{insert}
+use Rattle.formula.proofs.Forests.{rows-⧺}
 use Rattle.formula.proofs.Tidy.Children.{⧺-assoc, count-⧺}
 use Rattle.sheet.specs.Format.{Bytes}
 use Rattle.sheet.specs.Sheet.{front, behind, root}
+use Rattle.sheet.proofs.Forests.{count-front, count-behind, front-behind}
 use Rattle.rows.specs.declared.Layout.{Layout}
 use Rattle.subtrees.specs.Ends.{Indexed}
 use Rattle.subtrees.proofs.Forest.{rest}
@@ -21,14 +23,8 @@ use Rattle.tree_order.specs.Merging.{Merger, all-merged, arranged}
 use Rattle.tree_order.proofs.Entries.{forest-entries-⧺, length-forest-entries, picked-++, picked-take, picked-drop, length-picked, standing-is, stands}
 use Rattle.tree_order.proofs.Arranging.{arrange-⧺, arrange-ascends, rows-arrange, count-arrange}
 use Rattle.tree_order.proofs.MergeTurn.{front-split, size-rows, suffix}
-use Rattle.tree_order.proofs.Merge.{front-behind}
 
 -- lists of trees
-
-rows-all-⧺ : (ts us : Forest) → rows-all (ts ⧺ us) ≡ rows-all ts + rows-all us
-unfolding rows-all _⧺_
-rows-all-⧺ ∅ us = omega arith
-rows-all-⧺ (t ▸ ts) us = omega (arith, rows-all-⧺ ts us)
 
 pub front-at : (k : ℕ) (ts us : Forest) → count ts ≡ k → front k (ts ⧺ us) ≡ ts
 unfolding front count _⧺_
@@ -43,18 +39,6 @@ behind-at zero ∅ us e = refl
 behind-at (suc k) ∅ us e = absurd (omega arith)
 behind-at zero (t ▸ ts) us e = absurd (omega arith)
 behind-at (suc k) (t ▸ ts) us e = behind-at k ts us (omega arith)
-
-pub count-front : (k : ℕ) (ts : Forest) → k ≤ count ts → count (front k ts) ≡ k
-unfolding front count
-count-front zero ts h = refl
-count-front (suc k) ∅ h = omega arith
-count-front (suc k) (t ▸ ts) h = ap suc (count-front k ts (omega arith))
-
-count-behind : (k : ℕ) (ts : Forest) → count (behind k ts) ≡ count ts - k
-unfolding behind count
-count-behind zero ts = omega arith
-count-behind (suc k) ∅ = omega arith
-count-behind (suc k) (t ▸ ts) = count-behind k ts ∙ omega arith
 
 -- no tree, and one
 
@@ -230,7 +214,7 @@ module _ {s : Layout} {b : Bytes} {ends : List ℕ} (at : List ℕ) {k half : �
           sym (length-picked s b ends at₂) ∙ ap length both-picked ∙
           length-append (forest-entries (arrange firsts)) (forest-entries (arrange seconds ⧺ others)) ∙
           ap₂ _+_ length-first
-          (length-forest-entries (arrange seconds ⧺ others) ∙ rows-all-⧺ (arrange seconds) others ∙ ap (λ n. n + rows-all others) rows-right)
+          (length-forest-entries (arrange seconds ⧺ others) ∙ rows-⧺ (arrange seconds) others ∙ ap (λ n. n + rows-all others) rows-right)
 
       pub halves-within : middle + end ≤ length at₂
       halves-within = omega (arith, length-all)
@@ -252,5 +236,5 @@ module _ {s : Layout} {b : Bytes} {ends : List ℕ} (at : List ℕ) {k half : �
         e ∙
             ap forest-entries
             (ap₂ _⧺_ (ap₂ into left-is right-is ∙ arrange-⧺ firsts seconds ∙ ap arrange (sym front-both)) (rest-is ∙ sym behind-both)),
-        ap₂ _+_ ends-at (sym rows-right ∙ rows-arrange seconds) ∙ sym (ap rows-all front-both ∙ rows-all-⧺ firsts seconds),
+        ap₂ _+_ ends-at (sym rows-right ∙ rows-arrange seconds) ∙ sym (ap rows-all front-both ∙ rows-⧺ firsts seconds),
       )

@@ -7,21 +7,16 @@ use native.Mathlib.Nat.{zero-add}
 use native.Mathlib.Omega.{arith}
 use lib.ListN.{length, take, drop}
 use lib.Seq.{length-take-le}
-use Rattle.formula.specs.Tree.{Forest, ∅, _▸_, rows-all, _⧺_}
+use Rattle.formula.specs.Tree.{Forest, ∅, rows-all, _⧺_}
 use Rattle.sheet.specs.Format.{Bytes}
 use Rattle.sheet.specs.Sheet.{front, behind}
+use Rattle.sheet.proofs.Forests.{front-behind}
 use Rattle.rows.specs.declared.Layout.{Layout}
 use Rattle.tree_order.specs.declared.merging.Runs.{Runs}
 use Rattle.tree_order.specs.Tables.{forest-entries, picked, standing}
 use Rattle.tree_order.specs.Arranging.{into}
 use Rattle.tree_order.specs.Merging.{left-trees, right-trees, Merger, merged, Turned, all-merged}
 use Rattle.tree_order.proofs.Entries.{forest-entries-⧺, picked-++, picked-take}
-
-pub front-behind : (k : ℕ) (ts : Forest) → front k ts ⧺ behind k ts ≡ ts
-unfolding front behind _⧺_
-front-behind zero ts = refl
-front-behind (suc k) ∅ = refl
-front-behind (suc k) (t ▸ ts) = ap (λ us. t ▸ us) (front-behind k ts)
 
 front-none : (k : ℕ) (ts : Forest) → k ≤ 0 → front k ts ≡ ∅
 unfolding front

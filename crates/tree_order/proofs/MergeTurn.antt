@@ -9,6 +9,7 @@ use lib.ListN.{length, take, drop, length-append, length-drop}
 use lib.Seq.{length-take-le, take-all, take-at, drop-drop}
 use Rattle.formula.specs.Tree.{Tree, Forest, ∅, _▸_, rows, rows-all, count}
 use Rattle.formula.specs.Order.{Ordering, not-after, leads}
+use Rattle.formula.proofs.Forests.{rows-▸}
 use Rattle.sheet.specs.Format.{Bytes}
 use Rattle.sheet.specs.Sheet.{front, behind, root}
 use Rattle.sheet.proofs.Preorder.{rows-positive}
@@ -21,7 +22,7 @@ use Rattle.tree_order.specs.declared.merging.Runs.{Runs}
 use Rattle.tree_order.specs.Rows.{compare-rows}
 use Rattle.tree_order.specs.Tables.{tree-entries, forest-entries, picked-rows, picked, Numbers, standing, Stands, first-size, FirstSized}
 use Rattle.tree_order.specs.Arranging.{into, Ascending, first-leads}
-use Rattle.tree_order.specs.Merging.{left-trees, right-trees, Merger, merged, Turned}
+use Rattle.tree_order.specs.Merging.{left-trees, right-trees, Merger, Turned}
 use Rattle.tree_order.proofs.Rows.{rows-of-trees}
 use Rattle.tree_order.proofs.Entries.{Headed, headed, rows-picked-tree, numbers-tree, picked-++, picked-take, standing-is, stands}
 use Rattle.tree_order.proofs.Arranging.{into-left, into-right}
@@ -162,10 +163,6 @@ length-copied spare part to n room long is =
     whole : (l m : ℕ) → m ≤ l → m + (l - m) ≡ l
     whole l m h = omega arith
 
-rows-cons : (t : Tree) (ts : Forest) → rows-all (t ▸ ts) ≡ rows t + rows-all ts
-unfolding rows-all
-rows-cons t ts = refl
-
 entries-cons : (t : Tree) (ts : Forest) → forest-entries (t ▸ ts) ≡ tree-entries t ++ forest-entries ts
 unfolding forest-entries
 entries-cons t ts = refl
@@ -199,7 +196,7 @@ module _ {s : Layout} {b : Bytes} {ends : List ℕ} (ix : Indexed s b ends) (at 
       by (suc k) f = omega arith
 
   pub room-left : (spare : List ℕ) → length at ≤ length spare → {n : ℕ} → Advanced s b ends at (m .left) (m .lefts) n → m .to + n ≤ length spare
-  room-left spare l {n} a = omega (arith, g .meets, g .within, ap rows-all (a .front-is), rows-cons next-left (front (m .lefts - 1) (standing s b (drop (m .left + n) at))), a .rows-are)
+  room-left spare l {n} a = omega (arith, g .meets, g .within, ap rows-all (a .front-is), rows-▸ next-left (front (m .lefts - 1) (standing s b (drop (m .left + n) at))), a .rows-are)
 
   pub room-right : (spare : List ℕ) → length at ≤ length spare → {n : ℕ} → Advanced s b ends at (m .right) (m .rights) n → m .to + n ≤ length spare
   room-right spare l {n} a = omega (arith, g .meets, a .is-within)
@@ -212,7 +209,7 @@ module _ {s : Layout} {b : Bytes} {ends : List ℕ} (ix : Indexed s b ends) (at 
     turned-left a first is =
         let others = front (m .lefts - 1) (standing s b (drop (m .left + n) at)) in
         let ascends = subst Ascending (a .front-is) (g .left-ascends) in
-        let counted-rows = ap rows-all (a .front-is) ∙ rows-cons next-left others in
+        let counted-rows = ap rows-all (a .front-is) ∙ rows-▸ next-left others in
         let part = take n (drop (m .left) at) in
         let room = room-left spare l a in
         record {
@@ -247,7 +244,7 @@ module _ {s : Layout} {b : Bytes} {ends : List ℕ} (ix : Indexed s b ends) (at 
         let left-is = front-split (m .lefts) (standing s b (drop (m .left) at)) some (g .left-stands .few) in
         let others = front (m .rights - 1) (standing s b (drop (m .right + n) at)) in
         let ascends = subst Ascending (a .front-is) (g .right-ascends) in
-        let counted-rows = ap rows-all (a .front-is) ∙ rows-cons next-right others in
+        let counted-rows = ap rows-all (a .front-is) ∙ rows-▸ next-right others in
         let part = take n (drop (m .right) at) in
         let room = room-right spare l a in
         let more = some-right first in

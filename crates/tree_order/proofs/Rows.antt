@@ -11,8 +11,9 @@ use lib.Dec.{leb}
 use borrow.Author.Tests.{le-leb, lt-leb, leb-true, leb-false}
 use Rattle.formula.specs.Tree.{Op, and, or, Tree, lit, node, Forest, ∅, _▸_, count}
 use Rattle.formula.specs.Order.{Ordering, before, same, after, _then_, compare-numbers, sign-rank, operator-rank, compare-trees, compare-children}
+use Rattle.formula.proofs.Booleans.{by-cases}
 use Rattle.formula.proofs.Ordering.{then-where, then-assoc, numbers-equal}
-use Rattle.sheet.specs.Format.{Bytes, Row, row, Every}
+use Rattle.sheet.specs.Format.{Bytes, Row, row}
 use Rattle.sheet.specs.Sheet.{literal-kind, operator-kind, tree-rows, forest-rows}
 use Rattle.rows.specs.Layouts.{rows-in}
 use Rattle.rows.specs.declared.Layout.{Layout}
@@ -26,11 +27,6 @@ pub map-at : {A B : Type 0} (f : A → B) (l : List A) (j : ℕ) (d : A) (e : B)
 map-at f [] j d e h = absurd (omega arith)
 map-at f (x ∷ xs) zero d e h = refl
 map-at f (x ∷ xs) (suc j) d e h = map-at f xs j d e (omega arith)
-
-pub every-at : {A : Type 0} (P : A → Type 0) (l : List A) (j : ℕ) (d : A) → Every P l → j < length l → P (getD l j d)
-every-at P [] j d h l = absurd (omega arith)
-every-at P (x ∷ xs) zero d h l = h .0
-every-at P (x ∷ xs) (suc j) d h l = every-at P xs j d (h .1) (omega arith)
 
 pub length-picked-rows : (s : Layout) (b : Bytes) (at : List ℕ) → length (picked-rows s b at) ≡ length at
 unfolding picked-rows
@@ -69,12 +65,10 @@ none-right [] = refl
 none-right (x ∷ xs) = refl
 
 pub lock-out : (xs ys : List Row) (n j : ℕ) → n ≡ min (length xs) (length ys) → n ≤ j → compare-rows (drop j xs) (drop j ys) ≡ same
-lock-out xs ys n j e h = by (leb (length xs) j) refl
-  where
-    by : (b : Bool) → leb (length xs) j ≡ b → compare-rows (drop j xs) (drop j ys) ≡ same
-    by true p = ap (λ l. compare-rows l (drop j ys)) (drop-of-length-le xs {i = j} (leb-true (length xs) j p)) ∙ none-left (drop j ys)
-    by false p =
-        ap (compare-rows (drop j xs)) (drop-of-length-le ys {i = j} (omega (arith, leb-false (length xs) j p, e, h))) ∙ none-right (drop j xs)
+lock-out xs ys n j e h =
+    by-cases (leb (length xs) j)
+    (λ p. ap (λ l. compare-rows l (drop j ys)) (drop-of-length-le xs {i = j} (leb-true (length xs) j p)) ∙ none-left (drop j ys))
+    (λ p. ap (compare-rows (drop j xs)) (drop-of-length-le ys {i = j} (omega (arith, leb-false (length xs) j p, e, h))) ∙ none-right (drop j xs))
 
 -- two tables, compared up to place j
 pub record Locked (s : Layout) (b : Bytes) (at : List ℕ) (t : Layout) (d : Bytes) (to : List ℕ) (j : ℕ) : Type 0 where

@@ -4,7 +4,8 @@ use Prim.Native.Nat.{_-_, _<_}
 use native.Mathlib.Omega.{arith}
 use lib.ListN.{length}
 use borrow.Author.Tests.{not-true, not-false}
-use Rattle.tree_order.proofs.Rows.{every-at, Locked, locked-differ, locked-on, locked-out}
+use Rattle.sheet.proofs.Every.{every-at}
+use Rattle.tree_order.proofs.Rows.{Locked, locked-differ, locked-on, locked-out}
 use Rattle.tree_order.proofs.compare.compare_rows.Statement.{statement}
 use Rattle.tree_order.proofs.compare.compare_rows.Tie as tie
 
