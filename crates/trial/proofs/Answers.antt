@@ -28,7 +28,7 @@ use Rattle.rows.proofs.Limits.{limits}
 use Rattle.prefixes.specs.Places.{binding-at}
 use Rattle.checking.specs.Sheets.{Sheet}
 use Rattle.checking.proofs.CheckedSheets.{sheet-right, sheet-readable, sheet-formula-in}
-use Rattle.trial.specs.Inner.Turns.{semantic-tree, Numbered, Playable}
+use Rattle.trial.specs.Inner.Turns.{semantic-tree, InTable, Playable}
 
 pub check-refuses : {n i : ℕ} (F : sheet.Format) (b : Bytes) → refused n i ≡ check F b → refused n i ≡ trial-call F b
 unfolding check trial-call
@@ -43,7 +43,7 @@ module _ {f : Format} {b : Bytes} {s : Layout} (h : Sheet f b s) where
   unfolding formula-in
   prefix-of = ap (λ (g : Formula). g .prefix) (sheet-formula-in h)
 
-  numbered : Numbered s b NUMBERS
+  numbered : InTable s b NUMBERS
   unfolding binding-at
   numbered i less =
       let z = binding (row 0 0) in

@@ -12,6 +12,7 @@ use Rattle.sheet.specs.Format.{Row, row, children}
 use Rattle.sheet.specs.Sheet.{tree-rows}
 use Rattle.sheet.specs.Operations.{span}
 use Rattle.sheet.proofs.Preorder.{span-tree}
+use Rattle.checking.proofs.Debt.{span-length}
 
 -- span
 
@@ -36,13 +37,6 @@ span-split (r ∷ rs) (suc a) k =
   where
     swap : (a k c : ℕ) → a + k + c ≡ a + c + k
     swap a k c = omega arith
-
-span-length : (rs : List Row) (k : ℕ) → span k rs ≤ length rs
-unfolding span
-span-length [] zero = omega arith
-span-length [] (suc k) = omega arith
-span-length (r ∷ rs) zero = omega arith
-span-length (r ∷ rs) (suc k) = omega (arith, span-length rs (k + children r))
 
 -- a subtree that begins within the rows of a debt ends there
 span-within : (rs : List Row) (k j : ℕ) → j < span k rs → j + span 1 (drop j rs) ≤ span k rs

@@ -30,15 +30,15 @@ turns s b i table = try (unread s b i) (eval (matrix-in s b)) (values table)
 unfoldable pub semantic-tree : Layout → Bytes → Tried
 semantic-tree s b = try (prefix-in s b) (eval (matrix-in s b)) (λ _. false)
 
--- the bound numbers have an entry in the assignment
-abbrev pub Numbered : Layout → Bytes → ℕ → Type 0
-Numbered s b numbers = (i : ℕ) → i < s .variables → (binding-in s b i) .variable < numbers
+-- the bound numbers have an entry in a table of so many
+abbrev pub InTable : Layout → Bytes → ℕ → Type 0
+InTable s b numbers = (i : ℕ) → i < s .variables → (binding-in s b i) .variable < numbers
 
 -- a sheet that can be tried: of few variables, each in the assignment
 pub record Playable (s : Layout) (b : Bytes) (numbers : ℕ) : Type 0 where
   pub readable : Readable s b
   pub few : s .variables ≤ 20
-  pub numbered : Numbered s b numbers
+  pub numbered : InTable s b numbers
 
 -- what every turn finds: such a sheet, with its matrix in the jump tables
 pub record TurnsReady (s : Layout) (b : Bytes) (high low : List ℕ) (numbers : ℕ) : Type 0 where
