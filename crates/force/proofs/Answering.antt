@@ -1,13 +1,13 @@
 -- What Force answers and leaves, from its tests and its two runs.
 -- Assumes nothing.
 use mathlib.Core.Path.{_≡_, refl, sym, ap, ap₂, _∙_}
-use mathlib.Core.Bool.{Bool, true, false, not, Bool·beq, false≢true, true≢false}
+use mathlib.Core.Bool.{Bool, true, false, not, Bool·beq, false≢true}
 use Prim.Native.Nat.{ℕ, _≤_, _<_}
 use native.Mathlib.Omega.{arith}
 use lib.ListN.{length, drop, replicate, length-map}
 use lib.Seq.{drop-cons}
 use borrow.Author.Tests.{not-true, not-false}
-use Rattle.formula.specs.Tree.{Quantifier, and, or, same-op, exists, for-all, Formula}
+use Rattle.formula.specs.Tree.{Quantifier, and, or, same-op, exists, Formula}
 use Rattle.formula.specs.Solve.{End, ended, stopped}
 use Rattle.formula.specs.Force.{owner, turn-after, wanted, Forced, stopped-at, which, forced-by, forced}
 use Rattle.formula.proofs.Force.{prefix-given, first-stop, second-stop}
@@ -31,10 +31,6 @@ use Rattle.force.proofs.Judging.{readable}
 pub is-exists : (q : Quantifier) → same-op exists q ≡ true → exists ≡ q
 is-exists or h = refl
 is-exists and h = absurd (false≢true h)
-
-pub is-for-all : (q : Quantifier) → same-op exists q ≡ false → for-all ≡ q
-is-for-all or h = absurd (true≢false h)
-is-for-all and h = refl
 
 wanted-is : (q : Quantifier) → same-op exists q ≡ wanted q
 wanted-is or = refl

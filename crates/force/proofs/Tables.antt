@@ -1,17 +1,18 @@
 -- A table with several values put in makes of a tree what assigning them one after another makes of it.
 -- Assumes nothing.
 use mathlib.Core.Path.{_≡_, refl, sym, ap, ap₂, _∙_, fun-ext}
-use mathlib.Core.Bool.{Bool, true, false, not, _||_, cond, Bool·beq, true≢false, or-true}
+use mathlib.Core.Bool.{Bool, true, false, not, cond, Bool·beq, true≢false}
 use mathlib.Core.List.{List, [], _∷_}
 use Prim.Native.Nat.{ℕ, _≤_, _<_}
 use native.Mathlib.Omega.{arith}
 use lib.Dec.{eqb, leb}
 use lib.ListN.{length, set, length-set}
 use lib.Seq.{getD-set-same, getD-set-other}
-use borrow.Author.Tests.{eqb-true, eqb-false, eq-eqb, ne-eqb, lt-leb, not-true}
+use borrow.Author.Tests.{eqb-true, eqb-false, eq-eqb, ne-eqb, lt-leb}
 use Rattle.formula.specs.Tree.{Tree, lit, node, Forest, ∅, _▸_, Binding, Prefix, binds, distinct, constant, replace, replace-all, assigned, assign}
 use Rattle.formula.specs.Force.{given-by}
-use Rattle.formula.proofs.Booleans.{and-parts}
+use Rattle.formula.proofs.Booleans.{by-cases}
+use Rattle.formula.proofs.Prefixes.{distinct-parts, binds-first, binds-later}
 use Rattle.substitution.specs.Changes.{entry, put-entry, numbers, chosen, became, changed}
 use Rattle.substitution.proofs.Tables.{length-numbers, numbers-at, none-chosen, numbers-change}
 use Rattle.force.specs.Inner.Moves.{put-all, moves}
@@ -89,7 +90,10 @@ module _ (t : List ℕ) (long : length t ≡ 1025) (x : ℕ) (small : x ≤ 1024
   changed-put : entry t x ≡ x → ((s : Bool) (v : ℕ) → chosen t s v ≡ true → leb (entry t v) 1024 ≡ false)
       → (s : Bool) (v : ℕ) → changed (set t x (put-entry b)) s v ≡ replace (assigned x b) (changed t s v)
   unfolding changed chosen became replace
-  changed-put own only s v = by (eqb v x) refl
+  changed-put own only s v =
+      by-cases (eqb v x)
+      (λ h. put-in s v h ∙ ap (λ m. cond m (constant (Bool·beq s b)) (lit s v)) (sym h) ∙ ap (replace (assigned x b)) (stays h))
+      (λ h. left-out s v h ∙ apart (chosen t s v) refl h)
     where
       stays : eqb v x ≡ true → lit s v ≡ changed t s v
       stays h =
@@ -104,37 +108,15 @@ module _ (t : List ℕ) (long : length t ≡ 1025) (x : ℕ) (small : x ≤ 1024
           put ∙ sym (replace-constant (assigned x b) (Bool·beq s (eqb (entry t v) 1026))) ∙ ap (replace (assigned x b)) (sym put)
       apart false k h = ap (λ m. cond m (constant (Bool·beq s b)) (lit s v)) (sym h)
 
-      by : (m : Bool) → eqb v x ≡ m → changed (set t x (put-entry b)) s v ≡ replace (assigned x b) (changed t s v)
-      by true h =
-          put-in s v h ∙ ap (λ m. cond m (constant (Bool·beq s b)) (lit s v)) (sym h) ∙ ap (replace (assigned x b)) (stays h)
-      by false h = left-out s v h ∙ apart (chosen t s v) refl h
-
   only-put : ((s : Bool) (v : ℕ) → chosen t s v ≡ true → leb (entry t v) 1024 ≡ false)
       → (s : Bool) (v : ℕ) → chosen (set t x (put-entry b)) s v ≡ true → leb (entry (set t x (put-entry b)) v) 1024 ≡ false
   unfolding chosen
-  only-put only s v k = by (eqb v x) refl
-    where
-      by : (m : Bool) → eqb v x ≡ m → leb (entry (set t x (put-entry b)) v) 1024 ≡ false
-      by true h =
-          ap (λ e. leb e 1024) (ap (λ w. entry (set t x (put-entry b)) w) (eqb-true v x h) ∙ here) ∙ lt-leb (put-entry b) 1024 (high b)
-      by false h =
-          ap (λ e. leb e 1024) (elsewhere v h) ∙ only s v (ap (λ e. not (eqb e v)) (sym (elsewhere v h)) ∙ k)
+  only-put only s v k =
+      by-cases (eqb v x)
+      (λ h. ap (λ e. leb e 1024) (ap (λ w. entry (set t x (put-entry b)) w) (eqb-true v x h) ∙ here) ∙ lt-leb (put-entry b) 1024 (high b))
+      (λ h. ap (λ e. leb e 1024) (elsewhere v h) ∙ only s v (ap (λ e. not (eqb e v)) (sym (elsewhere v h)) ∙ k))
 
 -- values one after another
-
-first-distinct : (z : Binding) (p : Prefix) → distinct (z ∷ p) ≡ true → (binds p (z .variable) ≡ false) × (distinct p ≡ true)
-unfolding distinct
-first-distinct z p h =
-    let parts = and-parts (not (binds p (z .variable))) (distinct p) h in
-    (not-true (binds p (z .variable)) (parts .0), parts .1)
-
-binds-first : (z : Binding) (p : Prefix) → binds (z ∷ p) (z .variable) ≡ true
-unfolding binds
-binds-first z p = ap (λ m. m || binds p (z .variable)) (eq-eqb (z .variable) (z .variable) refl)
-
-binds-later : (z : Binding) (p : Prefix) (v : ℕ) → binds p v ≡ true → binds (z ∷ p) v ≡ true
-unfolding binds
-binds-later z p v h = ap (λ m. eqb (z .variable) v || m) h ∙ or-true (eqb (z .variable) v)
 
 open-put : (t : List ℕ) (z : Binding) (p : Prefix) (b : Bool) → distinct (z ∷ p) ≡ true → z .variable ≤ 1024 → Open t (z ∷ p)
     → Open (set t (z .variable) (put-entry b)) p
@@ -146,7 +128,7 @@ open-put t z p b d small o =
     }
   where
     apart : (v : ℕ) → binds p v ≡ true → eqb v (z .variable) ≡ false
-    apart v h = ne-eqb v (z .variable) (λ e. true≢false (sym h ∙ ap (binds p) e ∙ first-distinct z p d .0))
+    apart v h = ne-eqb v (z .variable) (λ e. true≢false (sym h ∙ ap (binds p) e ∙ distinct-parts z p d .0))
 
 replaced : (bs : List Bool) (p : Prefix) (t : List ℕ) (u : Tree) → distinct p ≡ true → Small p → Open t p
     → replace (changed (put-all bs p t)) u ≡ (given-by bs p (replace (changed t) u)) .matrix
@@ -156,7 +138,7 @@ replaced (b ∷ bs) [] t u d small o = refl
 replaced (b ∷ bs) (z ∷ p) t u d small o =
     let x = z .variable in
     let few : x ≤ 1024 = small x (binds-first z p) in
-    replaced bs p (set t x (put-entry b)) u (first-distinct z p d .1) (λ v h. small v (binds-later z p v h)) (open-put t z p b d few o) ∙
+    replaced bs p (set t x (put-entry b)) u (distinct-parts z p d .1) (λ v h. small v (binds-later z p v h)) (open-put t z p b d few o) ∙
     ap (λ (w : Tree). (given-by bs p w) .matrix)
     (ap (λ (h : Bool → ℕ → Tree). replace h u)
     (fun-ext λ s. fun-ext λ v. changed-put t (o .long) x few b (o .fresh x (binds-first z p)) (o .only) s v) ∙

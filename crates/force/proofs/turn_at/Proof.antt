@@ -1,8 +1,9 @@
 -- `force::turn_at` meets its contract. Assumes nothing.
 use mathlib.Core.Path.{sym, _∙_}
 use borrow.Author.Needs.{needs}
+use Rattle.formula.proofs.Booleans.{is-for-all}
 use Rattle.prefixes.specs.Places.{binding-in}
-use Rattle.force.proofs.Answering.{is-exists, is-for-all}
+use Rattle.force.proofs.Answering.{is-exists}
 use Rattle.force.proofs.turn_at.Statement.{statement}
 use Rattle.force.proofs.turn_at.Tie as tie
 
