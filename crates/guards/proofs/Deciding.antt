@@ -23,6 +23,7 @@ use Rattle.rows.specs.Layouts.{format-in, width, total, size, rows-in, Room, se
 use Rattle.rows.specs.Formulas.{prefix-in, matrix-in, formula-in}
 use Rattle.rows.specs.declared.Layout.{Layout}
 use Rattle.rows.proofs.Formulas.{length-prefix}
+use Rattle.rows.proofs.Sealed.{sealed-length, sealed-sheet}
 use Rattle.checking.specs.Sheets.{Sheet}
 use Rattle.checking.proofs.CheckedSheets.{sheet-right, sheet-formula-in}
 use Rattle.subtrees.specs.Subtrees.{top}
@@ -33,7 +34,7 @@ use Rattle.solve.specs.declared.Solved.{Solved}
 use Rattle.guards.specs.declared.sift.Sieve.{Sieve}
 use Rattle.guards.specs.Inner.Selections.{guards-in, selection-layout}
 use Rattle.guards.specs.Inner.Sieves.{clashing-in, clashed, starts, kept-part, Sifted, initial, Said, found, Telling, telling, kept-call, found-call}
-use Rattle.guards.proofs.Writing.{part-room, sealed-length, sealed-sheet}
+use Rattle.guards.proofs.Writing.{part-room}
 
 -- the root's kind
 pub and-kind : (t : Tree) → (top t) .kind ≡ 5 → is-and t ≡ true

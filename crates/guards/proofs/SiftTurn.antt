@@ -3,7 +3,7 @@
 use mathlib.Core.Path.{_≡_, refl, sym, ap, ap₂, _∙_, subst}
 use mathlib.Core.Bool.{false}
 use mathlib.Core.List.{List, [], _∷_, _++_, append-nil}
-use Prim.Native.Nat.{ℕ, zero, suc, _+_, _-_, _≤_, _<_}
+use Prim.Native.Nat.{ℕ, suc, _+_, _-_, _≤_, _<_}
 use native.Mathlib.Omega.{arith}
 use native.Mathlib.Numerals.{add-one}
 use lib.ListN.{length, getD, take, drop, set, length-set, length-drop}
@@ -15,10 +15,11 @@ use Rattle.formula.proofs.Tidy.Children.{count-⧺}
 use Rattle.formula.proofs.Tidy.Growth.{rows-⧺}
 use Rattle.formula.proofs.Guards.{fewer-none, fewer-again, one-fewer, next-tried, and-matrix, and-formula}
 use Rattle.sheet.specs.Format.{Bytes, Format, Row, fits}
-use Rattle.sheet.specs.Sheet.{front, tree-rows, forest-rows}
+use Rattle.sheet.specs.Sheet.{tree-rows, forest-rows}
 use Rattle.sheet.specs.Limits.{Within}
 use Rattle.sheet.proofs.Preorder.{forest-rows-⧺, length-tree-rows, length-forest-rows, count-rows, rows-positive}
 use Rattle.sheet.proofs.Accepted.{accepted-within}
+use Rattle.sheet.proofs.Forests.{count-front}
 use Rattle.sheet.proofs.Guards.{within-fewer}
 use Rattle.rows.specs.Layouts.{format-in, Fits}
 use Rattle.rows.specs.Formulas.{prefix-in, node-rows-in, matrix-in, formula-in, Readable}
@@ -42,12 +43,6 @@ kids-guards : (t : Tree) → kids t ≡ guards t
 unfolding guards
 kids-guards (lit s v) = refl
 kids-guards (node o ts) = refl
-
-count-front : (n : ℕ) (ts : Forest) → n ≤ count ts → count (front n ts) ≡ n
-unfolding front count
-count-front zero ts h = refl
-count-front (suc n) ∅ h = omega arith
-count-front (suc n) (t ▸ ts) h = ap suc (count-front n ts (omega arith))
 
 -- one child less is left, whatever the word
 pub judged-left : (g : Sieve) (w : Word) (end : ℕ) → (judged-by g w end) .left ≡ g .left - 1

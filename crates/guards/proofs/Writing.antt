@@ -1,24 +1,20 @@
--- The rows of a part of the children, written one after the other, and the sheet that they are made.
+-- The rows of a part of the children, written one after the other.
 -- Assumes nothing.
 use mathlib.Core.Path.{_≡_, refl, sym, ap, ap₂, _∙_, subst}
 use mathlib.Core.List.{List, [], _∷_, _++_, append-assoc, map}
-use Prim.Native.Nat.{ℕ, _+_, _*_, _-_, _≤_}
+use Prim.Native.Nat.{ℕ, _+_, _-_, _≤_}
 use native.Mathlib.Nat.{mul-le-mul-left}
 use native.Mathlib.Omega.{arith}
-use lib.ListN.{length, replicate, length-append}
-use lib.Seq.{slice, take-all, length-slice}
-use Rattle.formula.specs.Tree.{Formula, rows}
+use lib.ListN.{length, length-append}
+use lib.Seq.{slice, length-slice}
+use Rattle.formula.specs.Tree.{rows}
 use Rattle.formula.specs.Guards.{conjoined}
-use Rattle.sheet.specs.Format.{Bytes, Format, Row, row, digits, header}
-use Rattle.sheet.specs.Sheet.{binding-row, formula-rows, row-kinds, row-arguments, sheet}
-use Rattle.sheet.specs.Operations.{padded}
+use Rattle.sheet.specs.Format.{Bytes, Row, row}
+use Rattle.sheet.specs.Sheet.{binding-row, formula-rows}
 use Rattle.sheet.proofs.Preorder.{length-forest-rows}
-use Rattle.sheet.proofs.Parts.{sheet-length-rows}
-use Rattle.sheet.proofs.RoundTrip.{length-sheet}
-use Rattle.rows.specs.Layouts.{format-in, width, total, size, rows-in, Room, sealed}
+use Rattle.rows.specs.Layouts.{width, total, size, rows-in, Room}
 use Rattle.rows.specs.Formulas.{prefix-in, node-rows-in}
 use Rattle.rows.specs.declared.Layout.{Layout}
-use Rattle.rows.proofs.Layouts.{length-rows-in}
 use Rattle.rows.proofs.Formulas.{quantifiers, length-nodes}
 use Rattle.substitution.specs.Output.{CopyReady, Laid}
 use Rattle.substitution.proofs.Splice.{laid-on, laid-all}
@@ -89,32 +85,3 @@ module _ {s : Layout} {b : Bytes} {ends ks : List ℕ} {p : Selection} (h : Chos
           append-assoc (prefix-rows ++ (row 5 (p .guards) ∷ [])) (children-rows s b ends ks) others ∙
           append-assoc prefix-rows (row 5 (p .guards) ∷ []) (part-rows s b ends ks (p .rest)) ∙
           ap (λ l. l ++ (row 5 (p .guards) ∷ part-rows s b ends ks (p .rest))) (sym (quantifiers b (h .readable)))
-
--- a sheet's bytes and zeros behind them
-abbrev laid-out : ℕ → ℕ → ℕ → List Row → ℕ → Bytes
-laid-out w v n rs zeros = digits w v ++ digits w n ++ row-kinds rs ++ row-arguments w rs ++ replicate zeros 0
-
--- all the rows of a layout are those of a formula: made a sheet, they are that formula's
-module _ (t : Layout) (b : Bytes) (g : Formula) (room : Room t (length b))
-    (is : rows-in t b ≡ formula-rows g) (vs : length (g .prefix) ≡ t .variables) (ns : rows (g .matrix) ≡ t .nodes) where
-  abbrev F : Format
-  F = format-in t
-
-  pub sealed-length : 2 * width t + total t + width t * total t ≡ length (sheet F g)
-  sealed-length =
-      sym
-      (length-sheet F g ∙ sheet-length-rows F (length (g .prefix)) (rows (g .matrix)) ∙
-      ap₂ (λ k n. header F + (k + n + F .width * (k + n))) vs ns ∙ regroup (F .width))
-    where
-      regroup : (w : ℕ) → 2 * w + (total t + w * total t) ≡ 2 * w + total t + w * total t
-      regroup w = omega arith
-
-  pub sealed-sheet : sealed t (total t) b ≡ padded (length b) (sheet F g)
-  unfolding sealed padded sheet
-  sealed-sheet =
-      ap₂ (λ rs k. laid-out (width t) (t .variables) (total t - t .variables) rs (length b - k))
-      (take-all (total t) (rows-in t b) (omega (arith, length-rows-in b room)) ∙ is) sealed-length ∙
-      ap₂ (λ v n. laid-out (width t) v n (formula-rows g) (length b - length (sheet F g))) (sym vs) left
-    where
-      left : total t - t .variables ≡ rows (g .matrix)
-      left = omega (arith, ns)
