@@ -6,6 +6,19 @@ use Rattle.rows.specs.declared.Format.the-variants.{Wide}
 use Rattle.capi.proofs.lists.plumanchor_steps_wide.Statement.{statement}
 use Rattle.capi.proofs.lists.plumanchor_steps_wide.Tie as tie
 
+-- places in the code, each from a later one
+abbrev entry : tie.After-shared-slice-known3 → tie.Start
+entry c = c .before .before .before
+
+abbrev entered : tie.After-follow-numbers-arg2 → tie.After-slice-known3
+entered c = c .before .before .before
+
+abbrev returned : tie.After-values → tie.After-follow-numbers
+returned c = c .before .before .before
+
+abbrev first-back : tie.After-slice-known8 → tie.After-first
+first-back c = c .before .before .before
+
 follow-numbers-requires : tie.Need-follow-numbers-requires
 follow-numbers-requires c κs = search needs
 
@@ -25,10 +38,10 @@ same-length-4 : tie.Need-same-length-4
 same-length-4 c = search needs
 
 abbrev called : tie.After-pack-written → tie.After-follow-numbers
-called c = c .before .before .before .before .before .before .before .before .before
+called c = returned (first-back (c .before) .before .before)
 
 abbrev start : tie.After-follow-numbers → tie.Start
-start c = c .before .before .before .before .before .before .before .before .before .before .before .before
+start c = entry (entered (c .before .before .before) .before .before .before)
 
 returns : tie.Need-returns
 returns c =
