@@ -26,7 +26,13 @@ pub enum ExpandPlan {
 }
 
 // Decides on a variable that tests 1 to 10 admit: 11 not in the innermost block. The cuts of an innermost one are filled.
-fn plan_admitted(sheet: &[u8], s: Layout, ends: &[u16], z: Binding, cuts: &mut [u16]) -> ExpandPlan
+pub fn plan_admitted(
+    sheet: &[u8],
+    s: Layout,
+    ends: &[u16],
+    z: Binding,
+    cuts: &mut [u16],
+) -> ExpandPlan
     requires { ⌜ Admitted (now sheet) (z .variable) s (z .row) (now ends) × (ROWS < length (now cuts)) ⌝ }
     ensures { λ r. ⌜ ExpandPlans (s .format) (now (sheet .entry)) (z .variable) (now (cuts .exit)) r ⌝ }
 {

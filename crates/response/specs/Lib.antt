@@ -1,0 +1,2 @@
+-- Response's contract needs no definition of its own.
+pub mod Inner
