@@ -1,0 +1,3 @@
+-- Laws of the rows of pairs.
+pub mod Rows
+mod Leaving

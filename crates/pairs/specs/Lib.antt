@@ -1,0 +1,2 @@
+-- The rows of pairs; no entry point cites these.
+pub mod Pairs
