@@ -1,0 +1,2 @@
+-- Laws of the choice and of the room for the function.
+mod Choosing
