@@ -1,0 +1,13 @@
+-- `pair_tests::levels::larger` meets its contract. Assumes nothing.
+use Rattle.pair_tests.proofs.Deepest.{larger-second, larger-first}
+use Rattle.pair_tests.proofs.levels.larger.Statement.{statement}
+use Rattle.pair_tests.proofs.levels.larger.Tie as tie
+
+returns : tie.Need-returns
+returns c = larger-second (c .before .args .a) (c .before .args .b) (c .if1 .taken)
+
+returns-2 : tie.Need-returns-2
+returns-2 c = larger-first (c .before .args .a) (c .before .args .b) (c .if1 .left)
+
+pub larger-spec : {M : Type 1} → statement M
+larger-spec = tie.close (tie.spec returns returns-2)
