@@ -1,0 +1,6 @@
+-- Laws for callers.
+pub mod Negation
+pub mod Turns
+pub mod Claims
+pub mod Deciding
+pub mod Answering
