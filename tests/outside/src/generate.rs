@@ -10,6 +10,7 @@ mod pasted;
 mod prefix;
 mod profile;
 mod random;
+mod strategies;
 mod texts;
 mod trees;
 
@@ -25,4 +26,5 @@ pub use limit_sheets::{
 pub use pairs::paired_formula;
 pub use profile::{clause_formula, near_miss};
 pub use random::{cases, run_seed, Rng};
+pub use strategies::damage_strategy;
 pub use texts::{clause_set, damage_text, qdimacs_text};

@@ -5,10 +5,11 @@
 //! sheets of `examples/` with their lines, `generate` seeded random sheets and
 //! damage to them, `literature` families of clause sets from papers, `stored`
 //! the cases of the test program, `qdimacs` a clause translation for solvers
-//! from outside, `depqbf` a run of one of them, `twin` Solve once more, tuned.
-//! Nothing else here is optimised, and trees recurse: sheets of full size want
-//! `with_deep_stack`.
+//! from outside, `depqbf` and `cadical` a run of one of them, `twin` Solve once
+//! more, tuned. Nothing else here is optimised, and trees recurse: sheets of full
+//! size want `with_deep_stack`.
 
+pub mod cadical;
 pub mod depqbf;
 pub mod examples;
 pub mod formulas;

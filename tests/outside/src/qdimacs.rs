@@ -119,8 +119,17 @@ impl Qdimacs {
     }
 
     pub fn text(&self) -> String {
+        self.text_under(&self.blocks)
+    }
+
+    /// DIMACS, for solvers that know no quantifier: every variable is existential.
+    pub fn dimacs(&self) -> String {
+        self.text_under(&[])
+    }
+
+    fn text_under(&self, blocks: &[(Quantifier, Vec<Variable>)]) -> String {
         let mut text = format!("p cnf {} {}\n", self.variables, self.clauses.len());
-        for (quantifier, variables) in &self.blocks {
+        for (quantifier, variables) in blocks {
             text.push(if *quantifier == Quantifier::Exists { 'e' } else { 'a' });
             variables.iter().for_each(|var| text.push_str(&format!(" {var}")));
             text.push_str(" 0\n");

@@ -4,6 +4,7 @@
 //! writes sheets, `Rules` works on formulas, and a `Reading` has both.
 
 mod carrying;
+mod claim;
 mod expand;
 mod force;
 mod format;
@@ -19,12 +20,14 @@ mod sheet;
 mod solve;
 mod step;
 mod steps;
+mod strategy;
 mod text;
 mod tidy;
 mod tree;
 mod trial;
 
 pub use carrying::{bring_back, widen};
+pub use claim::{claim_formula, negated, ClaimAnswer};
 pub use expand::{raw_expansion, raw_rows, Expansion};
 pub use force::Forced;
 pub use format::Format;
@@ -38,6 +41,7 @@ pub use sheet::Row;
 pub use solve::{line_of, Move, SolveAnswer};
 pub use step::Operation;
 pub use steps::Step;
+pub use strategy::{pairs_of, strategy_formula, Pair, StrategyAnswer};
 pub use tidy::verdict;
 pub use tree::{Binding, Formula, Kind, Node, Quantifier, Variable};
 

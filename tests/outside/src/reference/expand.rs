@@ -1,6 +1,6 @@
 //! Expanding: the relevant subtree, its price, the raw sheet, Expand.
 
-use super::{Answer, Format, Formula, Node, Operation, Reading, Refusal, Rules, Variable};
+use super::{Answer, Format, Formula, Node, Reading, Refusal, Rules, Variable};
 use std::collections::BTreeSet;
 
 /// Child indices from the root down.
@@ -83,6 +83,23 @@ fn marked<'a>(children: &'a [Node], marks: &'a [bool]) -> impl Iterator<Item = &
     children.iter().zip(marks).filter(|(_, mark)| **mark).map(|(child, _)| child)
 }
 
+/// The operator with its marked children alone.
+fn with_marked(operator: &Node, marks: &[bool]) -> Node {
+    let Node::Op { kind, children } = operator else {
+        unreachable!("several literals meet in an operator");
+    };
+    Node::Op { kind: *kind, children: marked(children, marks).cloned().collect() }
+}
+
+/// What is relevant to `x` by itself, if it has a literal.
+pub(super) fn relevant_subtree(matrix: &Node, x: Variable) -> Option<Node> {
+    match relevant(matrix, &|var| var == x) {
+        Relevant::Nothing => None,
+        Relevant::Literal { path } => Some(node_at(matrix, &path).clone()),
+        Relevant::Operator { path, marks } => Some(with_marked(node_at(matrix, &path), &marks)),
+    }
+}
+
 /// The variables with a literal in what is copied.
 pub(super) fn copied_variables(matrix: &Node, relevant: &Relevant) -> BTreeSet<Variable> {
     match relevant {
@@ -148,12 +165,11 @@ pub(super) fn raw_matrix(
             let Node::Op { kind, children } = operator else {
                 unreachable!("several literals meet in an operator");
             };
-            let copied = marked(children, marks).cloned().collect();
-            let subtree = Node::Op { kind: *kind, children: copied };
+            let copies = two_copies(&with_marked(operator, marks));
             if marks.iter().all(|&mark| mark) {
-                two_copies(&subtree)
+                copies
             } else {
-                Node::Op { kind: *kind, children: put_in(children, marks, two_copies(&subtree)) }
+                Node::Op { kind: *kind, children: put_in(children, marks, copies) }
             }
         }),
     }
@@ -176,8 +192,7 @@ impl Rules {
 impl Format {
     /// Whether the raw sheet of expanding `x` fits an output of length `room`.
     pub(super) fn raw_sheet_fits(self, formula: &Formula, x: Variable, room: usize) -> bool {
-        raw_rows(formula, x) <= self.most_nodes
-            && self.least_output(Operation::Expand, formula, x) <= room
+        self.fits(formula.prefix.len() - 1, raw_rows(formula, x), room)
     }
 }
 

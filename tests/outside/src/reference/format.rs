@@ -31,6 +31,11 @@ impl Format {
         self.header() + self.bytes_to_a_row() * (variables + nodes)
     }
 
+    /// Whether a sheet of these sizes keeps to the limit of nodes and to `room` bytes.
+    pub const fn fits(self, variables: usize, nodes: usize, room: usize) -> bool {
+        nodes <= self.most_nodes && self.sheet_length(variables, nodes) <= room
+    }
+
     /// The program's buffers are this long.
     pub const fn longest_sheet(self) -> usize {
         self.sheet_length(self.most_variables, self.most_nodes)

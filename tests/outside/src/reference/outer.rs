@@ -131,7 +131,7 @@ impl Reading {
         let block = block_behind(&formula, x).ok_or((11, 0))?;
         let expansion = self.format.outer_expansion(&formula, x, &block).ok_or((18, 0))?;
         let (v, rows) = (expansion.raw.prefix.len(), expansion.raw.matrix.rows());
-        if rows > self.format.most_nodes || self.format.sheet_length(v, rows) > room {
+        if !self.format.fits(v, rows, room) {
             return Err((13, 0));
         }
         Ok(expansion)

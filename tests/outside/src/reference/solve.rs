@@ -69,6 +69,17 @@ impl Reading {
 
     /// The formula reached from a tidy one, and the answer.
     pub(super) fn run(&self, start: Formula, room: usize) -> (Formula, SolveAnswer) {
+        self.run_seen(start, room, |_, _| ())
+    }
+
+    /// The same, with `see` called on the formula right before each step and on
+    /// its variable.
+    pub(super) fn run_seen(
+        &self,
+        start: Formula,
+        room: usize,
+        mut see: impl FnMut(&Formula, Variable),
+    ) -> (Formula, SolveAnswer) {
         let mut formula = start;
         let (mut settled, mut expanded) = (0, 0);
         loop {
@@ -77,10 +88,12 @@ impl Reading {
                     return (formula, SolveAnswer::Ended { verdict, settled, expanded });
                 }
                 Move::Settle(x, value) => {
+                    see(&formula, x);
                     formula = self.rules.settle_formula(&formula, x, value);
                     settled += 1;
                 }
                 Move::Expand(x) if self.format.raw_sheet_fits(&formula, x, room) => {
+                    see(&formula, x);
                     formula = self.rules.expand_formula(&formula, x);
                     expanded += 1;
                 }
