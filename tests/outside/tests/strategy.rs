@@ -447,9 +447,68 @@ fn refusals_of_claims() {
     assert!(seen.iter().all(|&count| count > 300), "{seen:?}");
 }
 
-/// Too many rows for a sheet of the format, though the output has room.
+/// The deepest, the widest and any others of full size: as Solve, and a claim
+/// that is written or too long.
 #[test]
-fn claims_and_strategies_past_the_rows_of_a_sheet() {
+fn sheets_of_full_size() {
+    with_deep_stack(|| {
+        let (mut written, mut claimed, mut long) = (0, 0, 0);
+        for reading in READINGS {
+            let format = reading.format;
+            let mut try_sheet = |sheet: &[u8]| {
+                let room = format.longest_sheet();
+                let (answer, [first, second, output]) = strategy(reading, sheet, [room; 3]);
+                let [mut solved_first, mut solved_second] = [room; 2].map(|room| vec![0xa5; room]);
+                let solved = reading.solve(sheet, &mut solved_first, &mut solved_second);
+                assert_eq!(answer.solve_part(), solved);
+                assert_eq!((first, second), (solved_first, solved_second));
+                let StrategyAnswer::Written { verdict, length, .. } = answer else {
+                    return;
+                };
+                written += 1;
+                let side = if verdict { Exists } else { ForAll };
+                match claim(reading, sheet, side, &output[..length]) {
+                    Ok(_) => claimed += 1,
+                    Err(refusal) => {
+                        assert_eq!(refusal, (0, 13, 0));
+                        long += 1;
+                    }
+                }
+            };
+            generate::limit_sheets(format).iter().for_each(|limit| try_sheet(&limit.sheet));
+            cases(8, |rng| try_sheet(&generate::sheet(rng, Limits::full(format))));
+        }
+        assert!(written > 30 && claimed > 20 && long > 10, "{written} {claimed} {long}");
+    });
+}
+
+/// A strategy with too many rows for the format, though the output has room.
+#[test]
+fn strategies_past_the_rows_of_a_sheet() {
+    let format = Format { most_nodes: 24, ..Format::NARROW };
+    let reading = Reading { format, ..Reading::NARROW };
+    let (mut written, mut long) = (0, 0);
+    cases(2_000, |rng| {
+        let given = generate::formula(rng, Limits { format, variables: 8, nodes: 24 });
+        let (answer, [_, _, output]) = strategy(reading, &format.encode(&given), [1_000; 3]);
+        match answer {
+            StrategyAnswer::Written { length, .. } => {
+                assert!(format.check(&output[..length]).is_ok());
+                written += 1;
+            }
+            StrategyAnswer::TooLong { rows, .. } => {
+                assert!(rows > 24 && output.iter().all(|&byte| byte == 0));
+                long += 1;
+            }
+            _ => (),
+        }
+    });
+    assert!(written > 1_000 && long > 50, "{written} {long}");
+}
+
+/// The same of a claim.
+#[test]
+fn claims_past_the_rows_of_a_sheet() {
     with_deep_stack(|| {
         let reading = Reading::NARROW;
         let format = reading.format;
