@@ -142,6 +142,88 @@ fn strategies_by_hand() {
     }
 }
 
+/// What the proofs of `Strategy/Examples.antt` compute from the definitions, on
+/// formulas and on bytes.
+#[test]
+fn as_computed_in_the_definitions() {
+    let reading = Reading::NARROW;
+    let encode = |formula: &Formula| reading.format.encode(formula);
+    let example =
+        |name| narrow_examples().into_iter().find(|example| example.name == name).unwrap();
+    let press = example("press-line").sheet;
+    let prefix = [(ForAll, 1), (Exists, 2), (ForAll, 3), (Exists, 4)];
+    let differ = || and(vec![clause(&[1, 3]), clause(&[-1, -3])]);
+    let padded = |formula: &Formula, room: usize| {
+        let mut bytes = encode(formula);
+        bytes.resize(room, 0);
+        bytes
+    };
+    // Response: the least output, a byte less, and a constant of one row.
+    let mut output = vec![255; 64];
+    assert_eq!(reading.response(&press, 4, &mut output), Answer::Accepted(34));
+    assert_eq!(output, padded(&formula(&prefix[..3], differ()), 64));
+    assert_eq!(reading.response(&press, 4, &mut [255; 63]), Answer::Refused(13, 0));
+    assert_eq!(reading.response(&press, 2, &mut [255; 64]), Answer::Refused(11, 0));
+    let unit_first = encode(&formula(&[(Exists, 1), (ForAll, 2)], cube(&[1, 2])));
+    let mut output = vec![255; 10];
+    assert_eq!(reading.response(&unit_first, 1, &mut output), Answer::Accepted(10));
+    assert_eq!(output, encode(&formula(&[(ForAll, 2)], and(vec![]))));
+    // Strategy: the same.
+    let of_press = |pairs: &[Pair]| encode(&strategy_formula(&prefix, pairs));
+    let (answer, [_, _, output]) = strategy(reading, &press, [200, 200, 55]);
+    let (verdict, settled, expanded) = (true, 0, 3);
+    assert_eq!(answer, StrategyAnswer::Written { verdict, settled, expanded, length: 55 });
+    assert_eq!(output, of_press(&[pair(4, differ()), pair(2, lit(1))]));
+    let (answer, [_, _, output]) = strategy(reading, &press, [200, 200, 54]);
+    assert_eq!(answer, StrategyAnswer::TooLong { verdict, settled, expanded, rows: 13 });
+    assert_eq!(output, [0; 54]);
+    // Claim: 2 plays 1 where both are equal.
+    let equal = formula(&[(ForAll, 1), (Exists, 2)], equal_pair());
+    let (sheet, plays_1) = (encode(&equal), strategy_formula(&equal.prefix, &[pair(2, lit(1))]));
+    let plays_1 = encode(&plays_1);
+    let mut output = vec![255; 54];
+    assert_eq!(reading.claim(&sheet, Exists, &plays_1, &mut output), ClaimAnswer::Written(52));
+    let claimed = or(vec![equal_pair(), cube(&[2, -1]), cube(&[-2, 1])]);
+    assert_eq!(output, padded(&formula(&[(ForAll, 1), (ForAll, 2)], claimed), 54));
+    let refused = |sheet: &[u8], side, strategy: &[u8], room| match reading.claim(
+        sheet,
+        side,
+        strategy,
+        &mut vec![0; room],
+    ) {
+        ClaimAnswer::Refused(which, number, place) => (which, number, place),
+        ClaimAnswer::Written(length) => panic!("written in {length}"),
+    };
+    assert_eq!(refused(&sheet, Exists, &plays_1, 51), (0, 13, 0));
+    assert_eq!(refused(&sheet, ForAll, &plays_1, 100), (2, 26, 0));
+    assert_eq!(refused(&press, Exists, &plays_1, 100), (2, 26, 0));
+    for (pairs, refusal) in [
+        (vec![pair(4, differ())], (2, 26, 0)),
+        (vec![pair(4, differ()), pair(2, lit(3))], (2, 27, 14)),
+        (vec![pair(4, lit(4)), pair(2, lit(1))], (2, 27, 5)),
+        (vec![pair(4, lit(4)), pair(2, lit(3))], (2, 27, 8)),
+        (vec![pair(4, differ()), pair(2, lit(1))], (0, 13, 0)),
+    ] {
+        assert_eq!(refused(&press, Exists, &of_press(&pairs), 0), refusal, "{pairs:?}");
+    }
+    // The press line by equivalences, and a strategy with a larger function claimed.
+    let follows = or(vec![cube(&[2, 1]), cube(&[-2, -1])]);
+    let xor = || or(vec![cube(&[1, -3]), cube(&[-1, 3])]);
+    let same = or(vec![cube(&[1, 3]), cube(&[-1, -3])]);
+    let stops = or(vec![and(vec![lit(4), xor()]), and(vec![lit(-4), same])]);
+    let nested = encode(&formula(&prefix, and(vec![follows, stops])));
+    let (side, pairs, _) = winning(reading, &nested).expect("a strategy");
+    assert_eq!((side, pairs), (Exists, vec![pair(4, xor()), pair(2, lit(1))]));
+    let three = formula(&[(ForAll, 1), (ForAll, 2), (Exists, 3)], clause(&[3, -1, -2]));
+    let claimed = or(vec![
+        clause(&[3, -1, -2]),
+        and(vec![lit(3), clause(&[-1, -2])]),
+        and(vec![lit(-3), cube(&[1, 2])]),
+    ]);
+    let all = [(ForAll, 1), (ForAll, 2), (ForAll, 3)];
+    assert_eq!(claim_formula(Exists, &three, &[pair(3, cube(&[1, 2]))]), formula(&all, claimed));
+}
+
 /// The assignment of a prefix that these bits say.
 fn assignment(given: &Formula, bits: usize) -> Vec<bool> {
     let mut values = vec![false; given.highest_variable() + 1];
