@@ -619,7 +619,7 @@ fn a_solver_from_outside_finds_no_play_that_beats_them() {
     with_deep_stack(|| {
         let (mut verdicts, mut families) = ([0; 2], [0; 5]);
         for reading in READINGS {
-            cases(100, |rng| {
+            cases(400, |rng| {
                 let given = generate::solver_formula(rng, reading.format);
                 if let Some(verdict) = claimed_outside(reading, &given) {
                     verdicts[usize::from(verdict)] += 1;
@@ -634,7 +634,7 @@ fn a_solver_from_outside_finds_no_play_that_beats_them() {
         for family in
             [Family::Clauses, Family::Tidy, Family::Parity, Family::Ladder, Family::Untidy]
         {
-            cases(12, |rng| {
+            cases(40, |rng| {
                 for (variables, nodes) in [(20, 100), (40, 250), (80, 800), (160, 2500)] {
                     let limits = Limits { format: Format::WIDE, variables, nodes };
                     let given = generate::alternating_formula(rng, family, limits);
@@ -644,7 +644,7 @@ fn a_solver_from_outside_finds_no_play_that_beats_them() {
                 }
             });
         }
-        assert!(verdicts.iter().all(|&count| count > 30), "{verdicts:?}");
+        assert!(verdicts.iter().all(|&count| count > 250), "{verdicts:?}");
         assert!(families.iter().all(|&count| count > 3), "{families:?}");
     });
 }
