@@ -30,5 +30,6 @@ pub mod Guards
 pub mod Resume
 pub mod Qdimacs
 pub mod Strategy
+pub mod Certificates
 pub mod Known
 pub mod Truthful

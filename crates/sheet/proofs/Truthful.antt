@@ -8,10 +8,11 @@ use native.Mathlib.Omega.{arith}
 use lib.ListN.{length, take, drop, replicate, length-append, length-replicate}
 use lib.Seq.{take-append-seam, drop-append-seam}
 use borrow.Author.Tests.{not-false}
-use Rattle.formula.specs.Tree.{Quantifier, Formula}
+use Rattle.formula.specs.Tree.{Op, Quantifier, Formula}
 use Rattle.formula.specs.Truth.{truth}
 use Rattle.formula.specs.Tidy.{is-tidy}
 use Rattle.formula.specs.Trial.{Tried}
+use Rattle.formula.specs.Certificates.{Certified}
 use Rattle.sheet.specs.Format.{Bytes, Format, narrow, wide}
 use Rattle.sheet.specs.Sheet.{formula, sheet}
 use Rattle.sheet.specs.Check.{Answer, accepted, Test, passes, check-tests, check}
@@ -30,7 +31,8 @@ use Rattle.sheet.specs.Steps.{Step, calls, Listed, steps-call}
 use Rattle.sheet.specs.Limits.{Sound, Within}
 use Rattle.sheet.specs.Strategy.{response-call, StrategyAnswer, Winning, strategy-call, solve-part, Claiming, claim-call}
 use Rattle.sheet.specs.Truthful.{truth-of, SheetOf, TruthfulSheet, TruthfulText, TruthfulSteps, TruthfulTrial, Holds, TruthfulSolve, TruthfulGuards, TruthfulForce}
-use Rattle.sheet.specs.Truthful.{TruthfulResponse, TruthfulStrategy, TruthfulClaim}
+use Rattle.sheet.specs.Certificates.{certify-call}
+use Rattle.sheet.specs.Truthful.{TruthfulResponse, TruthfulStrategy, TruthfulClaim, TruthfulCertify}
 use Rattle.sheet.proofs.Tests.{passed-∷, passed-++, answer-passes, accepted-passes}
 use Rattle.sheet.proofs.Limits.{narrow-sound, wide-sound}
 use Rattle.sheet.proofs.RoundTrip.{formula-sheet, passes-sheet}
@@ -48,6 +50,7 @@ use Rattle.sheet.proofs.Force.{force-right}
 use Rattle.sheet.proofs.Strategy.Response.{response-right}
 use Rattle.sheet.proofs.Strategy.Winning.{strategy-solves, strategy-sheet}
 use Rattle.sheet.proofs.Strategy.Claim.{claims-right}
+use Rattle.sheet.proofs.Certificates.{certify-right}
 use Rattle.sheet.proofs.Resume.{widened-sheet, answer-stopped, resume-taken, resume-ended}
 
 -- sheets written
@@ -229,6 +232,11 @@ to-narrow-truthful b out =
 
 pub trial-truthful : (F : Format) (b : Bytes) {a : Answer Tried} → a ≡ trial-call F b → TruthfulTrial (truth-of F b) a
 trial-truthful F b e = subst (TruthfulTrial (truth-of F b)) (sym e) (record { on-accepted = λ r h. trial-right F b r h .0 })
+
+pub certify-truthful : (F : Format) (b : Bytes) (o : Op) (heads codes : List ℕ) {a : Answer Certified} → a ≡ certify-call F b o heads codes
+    → TruthfulCertify (truth-of F b) a
+certify-truthful F b o heads codes e =
+    subst (TruthfulCertify (truth-of F b)) (sym e) (record { on-certain = λ v h. sym (certify-right F b o heads codes v h) })
 
 pub force-truthful : (F : Format) (b vs first second : Bytes) {w : Forcing} → w ≡ force-call F b vs first second → TruthfulForce F b vs w
 force-truthful F b vs first second e =

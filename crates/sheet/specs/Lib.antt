@@ -19,6 +19,8 @@ pub mod Resume
 pub mod Order
 -- Strategy 1
 pub mod Strategy
+-- Certificates
+pub mod Certificates
 -- what is relied on
 pub mod Limits
 pub mod Reliance

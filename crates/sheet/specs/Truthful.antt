@@ -10,6 +10,7 @@ use Rattle.formula.specs.Truth.{truth}
 use Rattle.formula.specs.Force.{Told, turn-after, ForceRight}
 use Rattle.formula.specs.Trial.{Tried}
 use Rattle.formula.specs.Strategy.{winner}
+use Rattle.formula.specs.Certificates.{Certified, certain}
 use Rattle.sheet.specs.Format.{Bytes, Format}
 use Rattle.sheet.specs.Sheet.{formula}
 use Rattle.sheet.specs.Check.{Answer, accepted, passes, check-tests}
@@ -82,3 +83,7 @@ pub record TruthfulStrategy (F : Format) (b : Bytes) (w : Winning) : Type 0 wher
 -- Claim: what is written has the truth that the side wants exactly if the strategy's sheet wins
 pub record TruthfulClaim (F : Format) (b : Bytes) (q : Quantifier) (s : Bytes) (w : Claiming) : Type 0 where
   pub on-written : (n : ℕ) → w .answer ≡ claim-written n → Claims F b q s (take n (w .output))
+
+-- Certify: a verdict is the truth of the sheet given, whatever the words are
+pub record TruthfulCertify (t : Bool) (a : Answer Certified) : Type 0 where
+  pub on-certain : (v : Bool) → a ≡ accepted (certain v) → v ≡ t
