@@ -22,8 +22,7 @@ use Rattle.rows.proofs.Formulas.{length-prefix}
 use Rattle.prefixes.specs.Places.{binding-in}
 use Rattle.prefixes.proofs.Places.{prefix-row}
 use Rattle.trial.specs.declared.TurnOutcome.{TurnOutcome}
-use Rattle.trial.specs.Inner.Jumps.{values}
-use Rattle.trial.specs.Inner.Turns.{tried, unread, turns, semantic-tree, TurnsReady, Turned}
+use Rattle.trial.specs.Inner.Turns.{values, tried, unread, turns, semantic-tree, TurnsReady, Turned}
 
 -- the assignment
 

@@ -1,3 +1,2 @@
 -- What Trial's functions promise one another: definitions that no entry point cites.
-pub mod Jumps
 pub mod Turns

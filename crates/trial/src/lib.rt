@@ -1,11 +1,12 @@
 // Trial: decides a formula by trying values, 0 first, along its semantic tree.
 use checking::Checked;
+use jumps::build;
+use jumps::to_row;
 use prefixes::bound_at;
 use prefixes::is_existential;
 use rows::Format;
 use rows::Layout;
 use rows::refusals::TOO_MANY_TO_TRY;
-use subtrees::ends::fill_ends;
 use subtrees::nodes::argument_at;
 use subtrees::nodes::children_at;
 use subtrees::nodes::kind_at;
@@ -20,10 +21,9 @@ ghost use Rattle.sheet.specs.Truthful.{truth-of, TruthfulTrial};
 ghost use Rattle.rows.specs.Formats.{format-of};
 ghost use Rattle.rows.specs.Formulas.{node-rows-in, matrix-in, Readable};
 ghost use Rattle.rows.specs.Tables.{NUMBERS};
-ghost use Rattle.subtrees.specs.Ends.{Indexed};
 ghost use Rattle.trial.specs.Answers.{tried-answer};
-ghost use Rattle.trial.specs.Inner.Jumps.{entry, Parent, Parents, past, Targets, Rooms, values, row-value, next, Jumps};
-ghost use Rattle.trial.specs.Inner.Turns.{tried, turns, semantic-tree, Playable, TurnsReady, Turned};
+ghost use Rattle.jumps.specs.Jumps.{Rooms, signed, row-value, next, Jumps};
+ghost use Rattle.trial.specs.Inner.Turns.{values, tried, turns, semantic-tree, Playable, TurnsReady, Turned};
 
 // What Trial answers: the verdict and the leaves tried, or a refusal's number and place.
 pub enum Tried {
@@ -35,79 +35,6 @@ pub enum Tried {
 struct TurnOutcome {
     verdict: bool,
     leaves: u64,
-}
-
-// A table's entry as a row.
-fn to_row(entry: u16) -> usize
-    ensures { λ r. ⌜ r ≡ entry ⌝ }
-{
-    entry as usize
-}
-
-// The parent of row `i`: found by going up from the row before it, past every subtree that ends there.
-fn parent_of(ends: &[u16], parents: &[u16], i: usize) -> usize
-    requires { ⌜ (0 < i) × (i < length (now ends)) × (i < length (now parents)) ×
-        (i < entry (now ends) 0) × Parents (now ends) (now parents) i ⌝ }
-    ensures { λ p. ⌜ Parent (now (ends .entry)) p i ⌝ }
-{
-    let mut p = i - 1;
-    while to_row(ends[p]) <= i {
-        p = to_row(parents[p]);
-    }
-    p
-}
-
-// Where evaluation goes on after a child's value: at the next child, if the value doesn't decide the parent and there is one; else where it
-// goes on after the parent's value.
-fn past(undecided: bool, end: u16, last: u16, up: u16) -> u16
-    ensures { λ r. ⌜ r ≡ past undecided end last up ⌝ }
-{
-    if !undecided {
-        return up;
-    }
-    if end < last {
-        return end;
-    }
-    up
-}
-
-// Gives every row its two targets, the first row first: the root's are the verdicts, a child's are made from its parent's.
-fn wire(
-    sheet: &[u8],
-    s: Layout,
-    ends: &[u16],
-    parents: &mut [u16],
-    high: &mut [u16],
-    low: &mut [u16],
-)
-    requires { ⌜ Indexed s (now sheet) (now ends) × (s .nodes ≤ length (now parents)) × Rooms (s .nodes) (now high) (now low) ⌝ }
-    ensures { λ _. ⌜ Targets (node-rows-in s (now (sheet .entry))) (now (ends .entry)) (now (high .exit)) (now (low .exit)) (s .nodes) ⌝ }
-{
-    let n = s.nodes;
-    high[0] = n as u16;
-    low[0] = (n + 1) as u16;
-    let mut i = 1;
-    while i < n {
-        let p = parent_of(ends, parents, i);
-        parents[i] = p as u16;
-        let conjunction = kind_at(sheet, s, p) == rows::AND;
-        let end = ends[i];
-        let last = ends[p];
-        high[i] = past(conjunction, end, last, high[p]);
-        low[i] = past(!conjunction, end, last, low[p]);
-        i += 1;
-    }
-}
-
-// Builds the matrix's jump tables: where to go on once a subtree is known to be true (high) or false (low).
-fn build(sheet: &[u8], s: Layout, high: &mut [u16], low: &mut [u16])
-    requires { ⌜ Readable s (now sheet) × Rooms (s .nodes) (now high) (now low) ⌝ }
-    ensures { λ _. ⌜ Jumps (node-rows-in s (now (sheet .entry))) (now (high .exit)) (now (low .exit)) ⌝ }
-{
-    let mut ends = [0u16; rows::ROWS];
-    let mut parents = [0u16; rows::ROWS];
-    fill_ends(sheet, s, &mut ends);
-    wire(sheet, s, &ends, &mut parents, high, low);
 }
 
 // The value of a variable; the numbers past the table are unassigned, and false.
@@ -123,7 +50,7 @@ fn value_of(assignment: &[bool], x: usize) -> bool
 // The value of row `i`, a literal or an operator that has no child.
 fn row_value(sheet: &[u8], s: Layout, assignment: &[bool], i: usize) -> bool
     requires { ⌜ Readable s (now sheet) × (i < s .nodes) ⌝ }
-    ensures { λ v. ⌜ v ≡ row-value (getD (node-rows-in s (now (sheet .entry))) i (row 0 0)) (values (now (assignment .entry))) ⌝ }
+    ensures { λ v. ⌜ v ≡ row-value (getD (node-rows-in s (now (sheet .entry))) i (row 0 0)) (signed (values (now (assignment .entry)))) ⌝ }
 {
     let kind = kind_at(sheet, s, i);
     if kind <= rows::NEGATIVE {
@@ -137,7 +64,7 @@ fn row_value(sheet: &[u8], s: Layout, assignment: &[bool], i: usize) -> bool
 fn next(sheet: &[u8], s: Layout, high: &[u16], low: &[u16], assignment: &[bool], i: usize) -> usize
     requires { ⌜ Readable s (now sheet) × (i < s .nodes) × Rooms (s .nodes) (now high) (now low) ⌝ }
     ensures { λ e.
-        ⌜ e ≡ next (node-rows-in s (now (sheet .entry))) (now (high .entry)) (now (low .entry)) (values (now (assignment .entry))) i ⌝ }
+        ⌜ e ≡ next (node-rows-in s (now (sheet .entry))) (now (high .entry)) (now (low .entry)) (signed (values (now (assignment .entry)))) i ⌝ }
 {
     if children_at(sheet, s, i) != 0 {
         return i + 1;

@@ -1,22 +1,24 @@
 -- `trial::evaluate` meets its contract. The loop's invariant: the row reached leads to the matrix's value. Each jump leads forward.
 -- Assumes nothing.
+use mathlib.Core.Path.{_∙_}
 use mathlib.Core.List.{List}
 use Prim.Native.Nat.{ℕ, _+_, _-_, _≤_, _<_}
 use native.Mathlib.Omega.{arith}
 use lib.ListN.{length}
-use Rattle.formula.specs.Truth.{Assignment, eval}
+use Rattle.formula.specs.Truth.{Assignment}
 use Rattle.sheet.specs.Format.{Row}
 use Rattle.sheet.specs.Sheet.{trees, root}
 use Rattle.rows.specs.Formulas.{node-rows-in, matrix-in}
-use Rattle.trial.specs.Inner.Jumps.{values, next, Decides}
+use Rattle.jumps.specs.Jumps.{value-by, signed, next, Decides}
+use Rattle.trial.specs.Inner.Turns.{values}
 use Rattle.rows.proofs.Formulas.{length-nodes}
-use Rattle.trial.proofs.Evaluation.{next-on, verdict-at}
+use Rattle.jumps.proofs.Evaluation.{value-eval, next-on, verdict-at}
 use Rattle.trial.proofs.evaluate.Statement.{statement}
 use Rattle.trial.proofs.evaluate.Tie as tie
 
 -- row i leads to the matrix's value
 abbrev Going : List Row → List ℕ → List ℕ → Assignment → ℕ → Type 0
-Going R high low ρ i = Decides (length R) (next R high low ρ) (eval (root (trees R)) ρ) i
+Going R high low ρ i = Decides (length R) (next R high low (signed ρ)) (value-by (root (trees R)) (signed ρ)) i
 
 abbrev Inv-loop : tie.InvT-loop
 Inv-loop sheet s high low assignment n r₀ i =
@@ -41,7 +43,7 @@ start c = entry (head c .before)
 loop-holds : tie.Need-loop-holds Inv-loop μ-loop
 loop-holds c =
     let a = entry c in
-    (omega arith, a .pre .1 .decides (values (a .args .assignment .now)))
+    (omega arith, a .pre .1 .decides (signed (values (a .args .assignment .now))))
 
 next-requires : tie.Need-next-requires Inv-loop μ-loop
 next-requires c κs =
@@ -57,7 +59,7 @@ on c =
     let R = node-rows-in (a .args .s) (a .args .sheet .now) in
     let ρ = values (a .args .assignment .now) in
     let all = length-nodes (a .args .sheet .now) (a .pre .0) in
-    next-on R (a .args .s .nodes) all (a .args .high .now) (a .args .low .now) ρ (eval (root (trees R)) ρ)
+    next-on R (a .args .s .nodes) all (a .args .high .now) (a .args .low .now) (signed ρ) (value-by (root (trees R)) (signed ρ))
     (head c .loop .i) (c .next .result) (a .pre .1) (c .before .loop-test .taken) (head c .loop .inv .1) (c .next .ensures)
 
 loop-less : tie.Need-loop-less Inv-loop μ-loop
@@ -71,7 +73,8 @@ unfolding matrix-in
 returns c =
     let a = entry (c .before .before) in
     let all = length-nodes (a .args .sheet .now) (a .pre .0) in
-    verdict-at _ (a .args .s .nodes) _ _ (c .before .loop .i) all (c .loop-test .left) (c .before .loop .inv .1)
+    verdict-at _ (a .args .s .nodes) _ _ (c .before .loop .i) all (c .loop-test .left) (c .before .loop .inv .1) ∙
+    value-eval (root (trees (node-rows-in (a .args .s) (a .args .sheet .now)))) (values (a .args .assignment .now))
 
 pub evaluate-spec : {M : Type 1} → statement M
 evaluate-spec =

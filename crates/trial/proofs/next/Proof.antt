@@ -1,9 +1,10 @@
 -- `trial::next` meets its contract.
 -- Assumes nothing.
 use Rattle.rows.specs.Formulas.{node-rows-in}
-use Rattle.trial.specs.Inner.Jumps.{values}
-use Rattle.trial.proofs.Rows.{children-row}
-use Rattle.trial.proofs.Evaluation.{next-child, next-high, next-low}
+use Rattle.jumps.specs.Jumps.{signed}
+use Rattle.trial.specs.Inner.Turns.{values}
+use Rattle.jumps.proofs.Rows.{children-row}
+use Rattle.jumps.proofs.Evaluation.{next-child, next-high, next-low}
 use borrow.Author.Needs.{needs}
 use Rattle.trial.proofs.next.Statement.{statement}
 use Rattle.trial.proofs.next.Tie as tie
@@ -30,7 +31,7 @@ add-result c = search needs
 returns : tie.Need-returns
 returns c =
     let a = start (c .before .before) in
-    next-child (node-rows-in (a .args .s) (a .args .sheet .now)) (a .args .high .now) (a .args .low .now) (values (a .args .assignment .now)) (a .args .i)
+    next-child (node-rows-in (a .args .s) (a .args .sheet .now)) (a .args .high .now) (a .args .low .now) (signed (values (a .args .assignment .now))) (a .args .i)
     (c .before .children-at .result) (children-row (a .args .sheet .now) (a .pre .0) (a .args .i) (a .pre .1) (c .before .children-at .ensures .0)) (c .if1 .taken)
 
 row-value-requires : tie.Need-row-value-requires
@@ -51,7 +52,7 @@ returns-2 c =
     let a = start (at .before .before .before) in
     let kids = at .before .before .children-at in
     let value = at .row-value in
-    next-high (node-rows-in (a .args .s) (a .args .sheet .now)) (a .args .high .now) (a .args .low .now) (values (a .args .assignment .now)) (a .args .i) (kids .result)
+    next-high (node-rows-in (a .args .s) (a .args .sheet .now)) (a .args .high .now) (a .args .low .now) (signed (values (a .args .assignment .now))) (a .args .i) (kids .result)
     (children-row (a .args .sheet .now) (a .pre .0) (a .args .i) (a .pre .1) (kids .ensures .0))
     (at .before .if1 .left) (value .result) (value .ensures) (c .to-row .result)
     (c .before .before .if2 .taken) (c .to-row .ensures)
@@ -71,7 +72,7 @@ returns-3 c =
     let a = start (at .before .before .before) in
     let kids = at .before .before .children-at in
     let value = at .row-value in
-    next-low (node-rows-in (a .args .s) (a .args .sheet .now)) (a .args .high .now) (a .args .low .now) (values (a .args .assignment .now)) (a .args .i) (kids .result)
+    next-low (node-rows-in (a .args .s) (a .args .sheet .now)) (a .args .high .now) (a .args .low .now) (signed (values (a .args .assignment .now))) (a .args .i) (kids .result)
     (children-row (a .args .sheet .now) (a .pre .0) (a .args .i) (a .pre .1) (kids .ensures .0))
     (at .before .if1 .left) (value .result) (value .ensures) (c .to-row2 .result)
     (c .before .before .if2 .left) (c .to-row2 .ensures)

@@ -4,16 +4,20 @@ use mathlib.Core.Path.{_≡_}
 use mathlib.Core.Bool.{Bool, false}
 use mathlib.Core.List.{List}
 use Prim.Native.Nat.{ℕ, _≤_, _<_}
-use lib.ListN.{drop}
+use lib.ListN.{drop, getD}
 use Rattle.formula.specs.Tree.{Prefix}
-use Rattle.formula.specs.Truth.{eval}
+use Rattle.formula.specs.Truth.{Assignment, eval}
 use Rattle.formula.specs.Trial.{Tried, try}
 use Rattle.sheet.specs.Format.{Bytes}
 use Rattle.rows.specs.Formulas.{prefix-in, node-rows-in, matrix-in, Readable}
 use Rattle.rows.specs.declared.Layout.{Layout}
 use Rattle.prefixes.specs.Places.{binding-in}
 use Rattle.trial.specs.declared.TurnOutcome.{TurnOutcome}
-use Rattle.trial.specs.Inner.Jumps.{Rooms, values, Jumps}
+use Rattle.jumps.specs.Jumps.{Rooms, Jumps}
+
+-- the assignment that a table holds
+abbrev pub values : List Bool → Assignment
+values table x = getD table x false
 
 -- the verdict and the leaves tried
 abbrev pub tried : TurnOutcome → Tried

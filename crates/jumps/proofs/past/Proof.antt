@@ -1,8 +1,8 @@
--- `trial::past` meets its contract.
+-- `jumps::past` meets its contract.
 -- Assumes nothing.
-use Rattle.trial.proofs.Loops.{past-decided, past-child, past-last}
-use Rattle.trial.proofs.past.Statement.{statement}
-use Rattle.trial.proofs.past.Tie as tie
+use Rattle.jumps.proofs.Loops.{past-decided, past-child, past-last}
+use Rattle.jumps.proofs.past.Statement.{statement}
+use Rattle.jumps.proofs.past.Tie as tie
 
 returns : tie.Need-returns
 returns c =

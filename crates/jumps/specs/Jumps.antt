@@ -7,7 +7,8 @@ use mathlib.Core.List.{List}
 use Prim.Native.Nat.{ℕ, zero, suc, _+_, _≤_, _<_}
 use lib.Dec.{eqb, ltb, leb}
 use lib.ListN.{length, getD}
-use Rattle.formula.specs.Truth.{Assignment, eval}
+use Rattle.formula.specs.Tree.{Op, Tree, lit, node, Forest, ∅, _▸_, Literals}
+use Rattle.formula.specs.Truth.{Assignment, unit, join}
 use Rattle.sheet.specs.Format.{Row, row, children}
 use Rattle.sheet.specs.Sheet.{trees, root}
 
@@ -49,18 +50,28 @@ pub record Rooms (n : ℕ) (high low : List ℕ) : Type 0 where
   pub high-room : n ≤ length high
   pub low-room : n ≤ length low
 
--- the assignment that a table holds
-abbrev pub values : List Bool → Assignment
-values table x = getD table x false
+-- the matrix's value, whatever values its literals are given
+unfoldable mutual
+  pub value-by : Tree → Literals → Bool
+  value-by (lit s v) L = L s v
+  value-by (node o ts) L = value-all ts o L
+
+  pub value-all : Forest → Op → Literals → Bool
+  value-all ∅ o L = unit o
+  value-all (t ▸ ts) o L = join o (value-by t L) (value-all ts o L)
+
+-- the literals' values under an assignment
+abbrev pub signed : Assignment → Literals
+signed ρ s v = Bool·beq s (ρ v)
 
 -- the value of a literal, and of an operator that has no child
-unfoldable pub row-value : Row → Assignment → Bool
-row-value x ρ = cond (leb (x .kind) 4) (Bool·beq (eqb (x .kind) 3) (ρ (x .argument))) (eqb (x .kind) 5)
+unfoldable pub row-value : Row → Literals → Bool
+row-value x L = cond (leb (x .kind) 4) (L (eqb (x .kind) 3) (x .argument)) (eqb (x .kind) 5)
 
 -- where evaluation goes on after row i: an operator goes on at its first child, any other row by its value
-unfoldable pub next : List Row → List ℕ → List ℕ → Assignment → ℕ → ℕ
-next R high low ρ i =
-    cond (eqb (children (getD R i (row 0 0))) 0) (cond (row-value (getD R i (row 0 0)) ρ) (entry high i) (entry low i)) (i + 1)
+unfoldable pub next : List Row → List ℕ → List ℕ → Literals → ℕ → ℕ
+next R high low L i =
+    cond (eqb (children (getD R i (row 0 0))) 0) (cond (row-value (getD R i (row 0 0)) L) (entry high i) (entry low i)) (i + 1)
 
 -- the row that says the verdict
 abbrev pub verdict-row : ℕ → Bool → ℕ
@@ -80,4 +91,4 @@ pub record Decides (n : ℕ) (step : ℕ → ℕ) (x : Bool) (i : ℕ) : Type 0 
 pub record Jumps (R : List Row) (high low : List ℕ) : Type 0 where
   pub high-forward : (i : ℕ) → i < length R → (i < entry high i) × (entry high i ≤ length R + 1)
   pub low-forward : (i : ℕ) → i < length R → (i < entry low i) × (entry low i ≤ length R + 1)
-  pub decides : (ρ : Assignment) → Decides (length R) (next R high low ρ) (eval (root (trees R)) ρ) 0
+  pub decides : (L : Literals) → Decides (length R) (next R high low L) (value-by (root (trees R)) L) 0

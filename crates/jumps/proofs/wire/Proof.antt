@@ -1,4 +1,4 @@
--- `trial::wire` meets its contract. The loop's invariant: the rows before i have their parents and their targets.
+-- `jumps::wire` meets its contract. The loop's invariant: the rows before i have their parents and their targets.
 -- Assumes nothing.
 use mathlib.Core.Path.{_≡_, refl, sym, ap, subst, _∙_}
 use mathlib.Core.List.{List}
@@ -8,12 +8,12 @@ use lib.ListN.{length, length-set}
 use lib.Seq.{getD-set-same}
 use Rattle.sheet.specs.Format.{Row}
 use Rattle.rows.specs.Formulas.{node-rows-in}
-use Rattle.trial.specs.Inner.Jumps.{Targets}
+use Rattle.jumps.specs.Jumps.{Targets}
 use Rattle.rows.proofs.Formulas.{length-nodes}
-use Rattle.trial.proofs.Rows.{kind-row, root-entry}
-use Rattle.trial.proofs.Loops.{Wiring, parents-more, wire-row}
-use Rattle.trial.proofs.wire.Statement.{statement}
-use Rattle.trial.proofs.wire.Tie as tie
+use Rattle.jumps.proofs.Rows.{kind-row, root-entry}
+use Rattle.jumps.proofs.Loops.{Wiring, parents-more, wire-row}
+use Rattle.jumps.proofs.wire.Statement.{statement}
+use Rattle.jumps.proofs.wire.Tie as tie
 
 abbrev Inv-loop : tie.InvT-loop
 Inv-loop sheet s ends parents₀ high₀ low₀ n i₀ parents high low i =

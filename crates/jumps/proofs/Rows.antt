@@ -17,8 +17,8 @@ use Rattle.subtrees.proofs.Forest.{rest, sound-at, stepped-at}
 use Rattle.subtrees.proofs.Table.{children-top}
 use Rattle.subtrees.proofs.Matrix.{sound-nodes}
 use Rattle.subtrees.proofs.Siblings.{row-top, end-subtree, root-end}
-use Rattle.trial.specs.Inner.Jumps.{entry}
-use Rattle.trial.proofs.Span.{end-of, end-tree}
+use Rattle.jumps.specs.Jumps.{entry}
+use Rattle.jumps.proofs.Span.{end-of, end-tree}
 
 module _ {s : Layout} (b : Bytes) (ok : Readable s b) (i : ℕ) (h : i < s .nodes) where
   top-row : top (subtree-in s b i) ≡ getD (node-rows-in s b) i (row 0 0)

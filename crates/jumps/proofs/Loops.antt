@@ -11,7 +11,7 @@ use lib.ListN.{length, getD, set}
 use lib.Seq.{getD-set-same, getD-set-other}
 use borrow.Author.Tests.{lt-ltb, le-ltb}
 use Rattle.sheet.specs.Format.{Row, row}
-use Rattle.trial.specs.Inner.Jumps.{entry, Parent, Parents, past, is-and, Wired, Targets}
+use Rattle.jumps.specs.Jumps.{entry, Parent, Parents, past, is-and, Wired, Targets}
 
 -- past
 

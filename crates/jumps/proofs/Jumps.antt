@@ -11,13 +11,13 @@ use lib.Dec.{ltb, eqb, eqb·suc-zero}
 use lib.ListN.{length, getD, drop, length-drop, length-append}
 use lib.Seq.{drop-drop, getD-drop, drop-at}
 use borrow.Author.Tests.{lt-ltb, le-ltb}
-use Rattle.formula.specs.Tree.{Op, and, or, Tree, lit, node, Forest, ∅, _▸_, rows, rows-all, count}
-use Rattle.formula.specs.Truth.{Assignment, unit, join, eval, eval-all}
+use Rattle.formula.specs.Tree.{Op, and, or, Tree, lit, node, Forest, ∅, _▸_, Literals, rows, rows-all, count}
+use Rattle.formula.specs.Truth.{unit, join}
 use Rattle.sheet.specs.Format.{Row, row, children}
 use Rattle.sheet.specs.Sheet.{literal-kind, operator-kind, trees, root, tree-rows, forest-rows}
 use Rattle.sheet.proofs.Preorder.{root-trees, length-tree-rows, rows-positive}
-use Rattle.trial.specs.Inner.Jumps.{entry, Parent, past, is-and, Wired, Targets, row-value, next, Decides, Jumps}
-use Rattle.trial.proofs.Span.{end-of, end-bound, end-behind, end-within, end-tree}
+use Rattle.jumps.specs.Jumps.{entry, Parent, past, is-and, Wired, Targets, value-by, value-all, row-value, next, Decides, Jumps}
+use Rattle.jumps.proofs.Span.{end-of, end-bound, end-behind, end-within, end-tree}
 
 -- a list from a row on
 
@@ -170,21 +170,21 @@ module _ (R : List Row) (ends high low : List ℕ) (entry-end : (i : ℕ) → i 
       go true = refl
       go false = refl
 
-  module _ (ρ : Assignment) (x : Bool) where
+  module _ (L : Literals) (x : Bool) where
     Goes : ℕ → Type 0
-    Goes i = Decides (length R) (next R high low ρ) x i
+    Goes i = Decides (length R) (next R high low L) x i
 
-    step : (i i′ : ℕ) → i < length R → next R high low ρ i ≡ i′ → Goes i′ → Goes i
+    step : (i i′ : ℕ) → i < length R → next R high low L i ≡ i′ → Goes i′ → Goes i
     unfolding Goes
     step i i′ h e g = record { steps = suc (g .steps); leads = (h, rw e (g .leads)) }
 
-    next-literal : (s : Bool) (v i : ℕ) → getD R i (row 0 0) ≡ row (literal-kind s) v → next R high low ρ i ≡ to (Bool·beq s (ρ v)) i
+    next-literal : (s : Bool) (v i : ℕ) → getD R i (row 0 0) ≡ row (literal-kind s) v → next R high low L i ≡ to (L s v) i
     unfolding next row-value children
-    next-literal true v i e = rw e (by-value (Bool·beq true (ρ v)) i)
-    next-literal false v i e = rw e (by-value (Bool·beq false (ρ v)) i)
+    next-literal true v i e = rw e (by-value (L true v) i)
+    next-literal false v i e = rw e (by-value (L false v) i)
 
     next-operator : (o : Op) (ts : Forest) (i : ℕ) → getD R i (row 0 0) ≡ row (operator-kind o) (count ts)
-        → next R high low ρ i ≡ start o ts i (i + 1)
+        → next R high low L i ≡ start o ts i (i + 1)
     unfolding next row-value children start to count
     next-operator and ∅ i e = rw e
     next-operator or ∅ i e = rw e
@@ -192,26 +192,26 @@ module _ (R : List Row) (ends high low : List ℕ) (entry-end : (i : ℕ) → i 
     next-operator or (t ▸ ts) i e = rw (e, eqb·suc-zero (count ts))
 
     mutual
-      unfolding tree-rows rows eval start to
+      unfolding tree-rows rows value-by start to
 
       -- a subtree goes where its value's target does
-      goes-tree : (t : Tree) (i : ℕ) (rest : List Row) → drop i R ≡ tree-rows t ++ rest → Goes (to (eval t ρ) i) → Goes i
-      goes-tree (lit s v) i rest e g = step i (to (Bool·beq s (ρ v)) i) (head-within R i _ _ e) (next-literal s v i (at-head R i _ _ e)) g
+      goes-tree : (t : Tree) (i : ℕ) (rest : List Row) → drop i R ≡ tree-rows t ++ rest → Goes (to (value-by t L) i) → Goes i
+      goes-tree (lit s v) i rest e g = step i (to (L s v) i) (head-within R i _ _ e) (next-literal s v i (at-head R i _ _ e)) g
       goes-tree (node o ts) i rest e g =
           step i (start o ts i (i + 1)) (head-within R i _ _ e) (next-operator o ts i (at-head R i _ _ e))
           (goes-forest ts o i (i + 1) rest (children-left o ts i rest e) g)
 
       -- an operator's children go where its value's target does
-      goes-forest : (ts : Forest) (o : Op) (p c : ℕ) (rest : List Row) → Left o ts p c rest → Goes (to (eval-all ts o ρ) p)
+      goes-forest : (ts : Forest) (o : Op) (p c : ℕ) (rest : List Row) → Left o ts p c rest → Goes (to (value-all ts o L) p)
           → Goes (start o ts p c)
       goes-forest ∅ o p c rest l g = g
       goes-forest (t ▸ ts) o p c rest l g =
           goes-tree t c (forest-rows ts ++ rest) (first-tree t ts l)
-          (rw (first-target t ts l (eval t ρ), past-start o ts p (c + rows t) (eval t ρ))
-          (by o (eval t ρ) g (goes-forest ts o p (c + rows t) rest (others-left t ts l))))
+          (rw (first-target t ts l (value-by t L), past-start o ts p (c + rows t) (value-by t L))
+          (by o (value-by t L) g (goes-forest ts o p (c + rows t) rest (others-left t ts l))))
         where
-          by : (o : Op) (b : Bool) → Goes (to (join o b (eval-all ts o ρ)) p)
-              → (Goes (to (eval-all ts o ρ) p) → Goes (start o ts p (c + rows t)))
+          by : (o : Op) (b : Bool) → Goes (to (join o b (value-all ts o L)) p)
+              → (Goes (to (value-all ts o L) p) → Goes (start o ts p (c + rows t)))
               → Goes (cond (Bool·beq b (unit o)) (start o ts p (c + rows t)) (to b p))
           by and true g k = k g
           by and false g k = g
@@ -248,8 +248,8 @@ module _ (R : List Row) (ends high low : List ℕ) (entry-end : (i : ℕ) → i 
         high-forward = λ i h. behind true i h;
         low-forward = λ i h. behind false i h;
         decides =
-            λ ρ. rw (ap (λ l. root (trees l)) e ∙ root-trees t)
-            (goes-tree ρ (eval t ρ) t 0 [] (e ∙ sym (append-nil (tree-rows t))) (verdict ρ (eval t ρ)));
+            λ L. rw (ap (λ l. root (trees l)) e ∙ root-trees t)
+            (goes-tree L (value-by t L) t 0 [] (e ∙ sym (append-nil (tree-rows t))) (verdict L (value-by t L)));
       }
     where
       behind : (b : Bool) (i : ℕ) → i < length R → (i < to b i) × (to b i ≤ length R + 1)
@@ -257,6 +257,6 @@ module _ (R : List Row) (ends high low : List ℕ) (entry-end : (i : ℕ) → i 
           let f = forward (suc i) i (omega arith) h b in
           (omega (arith, f, end-behind R i h), f .1)
 
-      verdict : (ρ : Assignment) (x : Bool) → Goes ρ x (to x 0)
-      verdict ρ true = record { steps = 0; leads = targets .root-high }
-      verdict ρ false = record { steps = 0; leads = targets .root-low }
+      verdict : (L : Literals) (x : Bool) → Goes L x (to x 0)
+      verdict L true = record { steps = 0; leads = targets .root-high }
+      verdict L false = record { steps = 0; leads = targets .root-low }

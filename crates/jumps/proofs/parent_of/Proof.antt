@@ -1,10 +1,10 @@
--- `trial::parent_of` meets its contract. The loop's invariant: the subtrees between p and i have come to their ends.
+-- `jumps::parent_of` meets its contract. The loop's invariant: the subtrees between p and i have come to their ends.
 -- Assumes nothing.
 use Prim.Native.Nat.{_<_}
 use native.Mathlib.Omega.{arith}
-use Rattle.trial.proofs.Loops.{Closed, climb}
-use Rattle.trial.proofs.parent_of.Statement.{statement}
-use Rattle.trial.proofs.parent_of.Tie as tie
+use Rattle.jumps.proofs.Loops.{Closed, climb}
+use Rattle.jumps.proofs.parent_of.Statement.{statement}
+use Rattle.jumps.proofs.parent_of.Tie as tie
 
 abbrev Inv-loop : tie.InvT-loop
 Inv-loop ends parents i p₀ p = (p < i) × Closed ends p i

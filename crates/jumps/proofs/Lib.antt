@@ -1,0 +1,5 @@
+pub mod Rows
+pub mod Span
+pub mod Jumps
+pub mod Loops
+pub mod Evaluation

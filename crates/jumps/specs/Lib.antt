@@ -1,0 +1,2 @@
+-- The matrix as a chain of jumps.
+pub mod Jumps
