@@ -3,7 +3,7 @@
 use mathlib.Core.Path.{_≡_, refl, sym, ap, ap₂, _∙_}
 use mathlib.Core.Bool.{Bool, true, false, not, _&&_, _||_, Bool·beq}
 use mathlib.Core.List.{List, [], _∷_, _++_, map}
-use Prim.Native.Nat.{ℕ, suc, _-_, _/_, _%_, _<_}
+use Prim.Native.Nat.{ℕ, suc, _-_, _/_, _%_, _≤_, _<_}
 use native.Mathlib.Omega.{arith}
 use lib.Dec.{eqb, ltb}
 use lib.ListN.{getD}
@@ -75,6 +75,40 @@ some-ext skip P Q h (w ∷ ws) = ap₂ _||_ (h (code-of w) (below w)) (some-ext 
     below : (w : ℕ) → w % 4096 < 4096
     below w = omega arith
 
+-- a part that leaves nothing out
+module _ (d : Part) (codes : List ℕ) (whole : d .skip ≡ 4096) where
+  whole-part : (P : ℕ → Bool) (Q : Literal → Bool) → ((c : ℕ) → c < 4096 → P c ≡ Q (coded c))
+      → some-in d codes P ≡ some-literal Q (constraint-in d codes)
+  whole-part P Q same =
+      some-ext (d .skip) P Q (λ c h. rw (ne-eqb (d .skip) c (λ e. omega (arith, whole))) (same c h)) (words-in d codes)
+
+  -- its set of codes is the set of its literals
+  pub whole-marks : (set set′ : List ℕ) → ((u : ℕ) → sets.holds set u ≡ false) → Adds eqb d codes (sets.holds set) (sets.holds set′)
+      → (c : ℕ) → sets.holds set′ c ≡ holds (constraint-in d codes) (coded c)
+  unfolding holds
+  whole-marks set set′ none adds c =
+      adds c ∙ ap (λ x. some-in d codes (eqb c) || x) (none c) ∙ right (some-in d codes (eqb c)) ∙
+      whole-part (eqb c) (same-literal (coded c)) (λ e h. sym (same-coded c e))
+    where
+      right : (x : Bool) → (x || false) ≡ x
+      right true = refl
+      right false = refl
+
+-- no code says a literal of a greater variable
+pub beyond-codes : (s : Bool) (x : ℕ) (ws : List ℕ) → 2048 ≤ x → holds (map literal-of ws) (record { sign = s; variable = x }) ≡ false
+unfolding holds some-literal
+beyond-codes s x [] h = refl
+beyond-codes s x (w ∷ ws) h =
+    ap₂ _||_ (ap (λ b. Bool·beq s (eqb (w % 4096 % 2) 0) && b) (ne-eqb x (w % 4096 / 2) (λ e. small w (omega arith))) ∙ none (Bool·beq s (eqb (w % 4096 % 2) 0)))
+    (beyond-codes s x ws h)
+  where
+    small : (w : ℕ) → 2048 ≤ w % 4096 / 2 → ⊥
+    small w h = omega arith
+
+    none : (b : Bool) → (b && false) ≡ false
+    none true = refl
+    none false = refl
+
 module _ (a b d : Part) (codes : List ℕ) {n : ℕ} (parts : Triple a b d n) where
   abbrev l : Literal
   l = coded (a .skip)
@@ -107,8 +141,7 @@ module _ (a b d : Part) (codes : List ℕ) {n : ℕ} (parts : Triple a b d n) wh
         (words-in b codes)
 
     step-part : some-in d codes P ≡ some-literal Q D
-    step-part =
-        some-ext (d .skip) P Q (λ c h. rw (ne-eqb (d .skip) c (λ e. omega (arith, parts .whole))) (same c h)) (words-in d codes)
+    step-part = whole-part d codes (parts .whole) P Q same
 
     resolvent-parts : (some-in a codes P || some-in b codes P) ≡ some-literal Q R
     resolvent-parts = ap₂ _||_ first-part second-part ∙ sym (some-literal-resolvent Q l A B)
@@ -132,14 +165,7 @@ module _ (a b d : Part) (codes : List ℕ) {n : ℕ} (parts : Triple a b d n) wh
       (in-all : Gathers eqb a b d codes (sets.holds zeros′) (sets.holds all))
       (is-last : Gathers (ranked-behind own) a b d codes (λ u. ltb u 0) (λ u. ltb u last)) where
     derived-holds : (c : ℕ) → sets.holds derived c ≡ holds D (coded c)
-    unfolding holds
-    derived-holds c =
-        in-derived c ∙ ap (λ x. some-in d codes (eqb c) || x) (none c) ∙ right (some-in d codes (eqb c)) ∙
-        step-part (eqb c) (same-literal (coded c)) (λ e h. sym (same-coded c e))
-      where
-        right : (x : Bool) → (x || false) ≡ x
-        right true = refl
-        right false = refl
+    derived-holds = whole-marks d codes (parts .whole) zeros derived none in-derived
 
     all-holds : (c : ℕ) → sets.holds all (complement c) ≡ holds (R ++ D) (negated (coded c))
     unfolding holds

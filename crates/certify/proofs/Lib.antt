@@ -1,0 +1,4 @@
+pub mod Ranking
+pub mod Settling
+pub mod Steps
+pub mod Judging
