@@ -1,6 +1,7 @@
 //! Debian's solver `depqbf`, run as a process on the clause translation.
 
 use crate::qdimacs::translate;
+use crate::qrp::Trace;
 use crate::reference::Formula;
 use std::io::{Result, Write};
 use std::process::{Command, Stdio};
@@ -27,7 +28,21 @@ pub fn verdict_of(text: &str) -> Result<Option<bool>> {
     })
 }
 
-/// The same without a limit of decisions, for at most so long: nothing if it
+/// The trace of a run in the QRP format, if it comes to an end.
+pub fn trace_of(text: &str) -> Result<Option<Trace>> {
+    let mut process = Command::new("depqbf")
+        .args(["--trace", "--dep-man=simple", "--no-qbce-dynamic", "--no-lazy-qpup"])
+        .arg(format!("--max-dec={DECISIONS}"))
+        .stdin(Stdio::piped())
+        .stdout(Stdio::piped())
+        .stderr(Stdio::null())
+        .spawn()?;
+    process.stdin.take().expect("a piped input").write_all(text.as_bytes())?;
+    let output = process.wait_with_output()?;
+    Ok(Trace::read(&String::from_utf8_lossy(&output.stdout)))
+}
+
+/// The verdict without a limit of decisions, for at most so long: nothing if it
 /// takes longer.
 pub fn verdict_within(text: &str, limit: Duration) -> Result<Option<bool>> {
     let mut process = Command::new("depqbf")

@@ -1,8 +1,10 @@
-//! Seeded random sheets, damage to them, and random calls.
+//! Seeded random sheets, damage to them and to what comes with them, and random
+//! calls.
 
 mod calls;
 mod clauses;
 mod damage;
+mod derivations;
 mod families;
 mod limit_sheets;
 mod pairs;
@@ -16,6 +18,7 @@ mod trees;
 
 pub use calls::{call, ceiling_around, dirty, length_around, Call};
 pub use damage::damage;
+pub use derivations::{any_words, damage_steps};
 pub use families::{
     alternating_formula, formula, formula_of, sheet, solver_formula, spare_formula, tidy_formula,
     Family, Limits,

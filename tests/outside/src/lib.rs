@@ -5,9 +5,9 @@
 //! sheets of `examples/` with their lines, `generate` seeded random sheets and
 //! damage to them, `literature` families of clause sets from papers, `stored`
 //! the cases of the test program, `qdimacs` a clause translation for solvers
-//! from outside, `depqbf` and `cadical` a run of one of them, `twin` Solve once
-//! more, tuned. Nothing else here is optimised, and trees recurse: sheets of full
-//! size want `with_deep_stack`.
+//! from outside, `depqbf` and `cadical` a run of one of them, `qrp` a trace of
+//! such a run, `twin` Solve once more, tuned. Nothing else here is optimised, and
+//! trees recurse: sheets of full size want `with_deep_stack`.
 
 pub mod cadical;
 pub mod depqbf;
@@ -16,6 +16,7 @@ pub mod formulas;
 pub mod generate;
 pub mod literature;
 pub mod qdimacs;
+pub mod qrp;
 pub mod reference;
 pub mod stored;
 pub mod truth;

@@ -4,7 +4,9 @@
 //! writes sheets, `Rules` works on formulas, and a `Reading` has both.
 
 mod carrying;
+mod certificates;
 mod claim;
+mod clausal;
 mod expand;
 mod force;
 mod format;
@@ -27,6 +29,9 @@ mod tree;
 mod trial;
 
 pub use carrying::{bring_back, widen};
+pub use certificates::{
+    certified, steps_said, words_of, Certified, Constraint, Inference, Literal, Reason,
+};
 pub use claim::{claim_formula, negated, ClaimAnswer};
 pub use expand::{raw_expansion, raw_rows, Expansion};
 pub use force::Forced;

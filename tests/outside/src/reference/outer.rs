@@ -73,7 +73,7 @@ fn renamed(node: &Node, numbers: &BTreeMap<Variable, Variable>) -> Node {
 }
 
 /// The numbers that the prefix leaves, the smallest first.
-fn unused(format: Format, formula: &Formula) -> impl Iterator<Item = Variable> {
+pub(super) fn unused(format: Format, formula: &Formula) -> impl Iterator<Item = Variable> {
     let bound: BTreeSet<Variable> = formula.variables().into_iter().collect();
     (1..=format.most_variables).filter(move |var| !bound.contains(var))
 }
