@@ -108,3 +108,71 @@ impl Line {
         })
     }
 }
+
+#[cfg(test)]
+mod tests {
+    use super::*;
+
+    const TEXT: &str = "\
+p qrp 4 6
+a 1 0
+e 2 4 0
+a 3 0
+1 -1 2 0 0
+3 1 -4 3 0 0
+7 -1 4 3 0 0
+8 -1 4 0 7 0
+9 -1 -4 -3 0 0
+10 -1 -4 0 9 0
+12 -1 0 10 8 0
+13 0 12 0
+r UNSAT
+";
+
+    #[test]
+    fn the_steps_are_those_of_the_last_line() {
+        let trace = Trace::read(TEXT).expect("a trace");
+        assert_eq!((trace.lines.len(), trace.verdict), (8, false));
+        let none = Literal { positive: true, variable: 0 };
+        let expected = [
+            (None, [0, 0], &[-1, 4, 3][..]),
+            (Some(none), [0, 0], &[-1, 4]),
+            (None, [0, 0], &[-1, -4, -3]),
+            (Some(none), [2, 2], &[-1, -4]),
+            (Some(Literal::of(-4)), [3, 1], &[-1]),
+            (Some(none), [4, 4], &[]),
+        ];
+        let steps = trace.steps().expect("a whole trace");
+        assert_eq!(steps.len(), expected.len());
+        for (step, (pivot, antecedents, literals)) in steps.iter().zip(expected) {
+            let derived = |pivot| Reason::Derived { pivot, antecedents };
+            assert_eq!(step.reason, pivot.map_or(Reason::Initial, derived));
+            let literals: Constraint = literals.iter().map(|&signed| Literal::of(signed)).collect();
+            assert_eq!(step.constraint, literals);
+        }
+    }
+
+    #[test]
+    fn what_is_no_whole_trace() {
+        for (text, other) in [
+            ("r UNSAT\n", ""),
+            ("p qrp", "p cnf"),
+            ("1 -1 2 0 0", "1 -1 2 0"),
+            ("1 -1 2 0 0", "1 -1 two 0 0"),
+            ("9 -1 -4 -3 0 0", "-9 -1 -4 -3 0 0"),
+        ] {
+            assert_eq!(Trace::read(&TEXT.replace(text, other)), None, "{other}");
+        }
+        // An antecedent that isn't there or comes later, three of them, and no pivot.
+        for (text, other) in [
+            ("8 -1 4 0 7 0", "8 -1 4 0 6 0"),
+            ("8 -1 4 0 7 0", "8 -1 4 0 12 0"),
+            ("0 10 8 0", "0 10 8 9 0"),
+            ("0 10 8 0", "0 10 9 0"),
+            ("e 2 4 0\na 3 0", "e 2 0\na 4 3 0"),
+        ] {
+            let trace = Trace::read(&TEXT.replace(text, other)).expect("a trace");
+            assert_eq!(trace.steps(), None, "{other}");
+        }
+    }
+}
