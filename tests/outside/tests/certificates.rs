@@ -94,6 +94,76 @@ fn cubes_by_hand() {
     assert_eq!(certified(Kind::Or, &formula(&[], and(vec![])), &[initial(&[])]), Uncertain(0));
 }
 
+/// What the proofs of `Certificates/Examples.antt` and `Clausal/Examples.antt`
+/// compute from the definitions.
+#[test]
+fn as_computed_in_the_definitions() {
+    let refutable = formula(
+        &[(Exists, 1), (ForAll, 2), (Exists, 3)],
+        and(vec![clause(&[1, 2, 3]), clause(&[1, -3]), lit(-1)]),
+    );
+    let steps = [
+        initial(&[1, 2, 3]),
+        initial(&[1, -3]),
+        derived(3, 0, 1, &[1]),
+        initial(&[-1]),
+        derived(1, 2, 3, &[]),
+    ];
+    assert_eq!(certified(Kind::Or, &refutable, &steps), Certain(false));
+    let differing =
+        formula(&[(ForAll, 1), (Exists, 2)], and(vec![clause(&[1, 2]), clause(&[-1, -2])]));
+    for (side, steps, answer) in [
+        (
+            Kind::And,
+            vec![
+                initial(&[1, -2]),
+                derived(-2, 0, 0, &[1]),
+                initial(&[2, -1]),
+                derived(1, 1, 2, &[]),
+            ],
+            Certain(true),
+        ),
+        (
+            Kind::Or,
+            vec![
+                initial(&[1, 2]),
+                derived(1, 0, 0, &[2]),
+                initial(&[-1, -2]),
+                derived(-1, 2, 2, &[-2]),
+                derived(2, 1, 3, &[]),
+            ],
+            Uncertain(1),
+        ),
+        (Kind::Or, vec![initial(&[1, 2]), initial(&[-1, -2]), derived(2, 0, 1, &[])], Uncertain(2)),
+        (
+            Kind::Or,
+            vec![initial(&[1, 2]), initial(&[-1, -2]), derived(2, 0, 1, &[1, -1])],
+            Uncertain(3),
+        ),
+        (Kind::And, vec![initial(&[1])], Uncertain(0)),
+        (Kind::And, vec![initial(&[1, -2]), derived(-2, 1, 1, &[])], Uncertain(1)),
+        (Kind::And, vec![], Uncertain(0)),
+    ] {
+        assert_eq!(certified(side, &differing, &steps), answer, "{steps:?}");
+    }
+    let under_and =
+        formula(&[(ForAll, 1), (Exists, 2)], and(vec![or(vec![lit(1), cube(&[2, -1])]), lit(-2)]));
+    let clauses = and(vec![clause(&[1, 3]), clause(&[-3, 2]), clause(&[-3, -1]), lit(-2)]);
+    let prefix = [(ForAll, 1), (Exists, 2), (Exists, 3)];
+    assert_eq!(Format::NARROW.clausal_formula(&under_and), Some(formula(&prefix, clauses)));
+    let nested = formula(
+        &[(Exists, 1), (Exists, 3)],
+        or(vec![and(vec![lit(1), or(vec![lit(3), cube(&[1, 3])])]), cube(&[-1, -3])]),
+    );
+    let clauses =
+        [&[2, 6][..], &[-2, 1], &[-2, 4], &[-4, 3, 5], &[-5, 1], &[-5, 3], &[-6, -1], &[-6, -3]];
+    let prefix = [1, 3, 2, 4, 5, 6].map(|var| (Exists, var));
+    let named = formula(&prefix, and(clauses.map(clause).to_vec()));
+    let with_highest = |most_variables| Format { most_variables, ..Format::NARROW };
+    assert_eq!(with_highest(6).clausal_formula(&nested), Some(named));
+    assert_eq!(with_highest(5).clausal_formula(&nested), None);
+}
+
 #[test]
 fn words_by_hand() {
     // Initial 1 and not 2; then by pivot not 3 from 0 and 7, no literal.
