@@ -3,7 +3,9 @@
 
 use outside::depqbf;
 use outside::formulas::{and, clause, cube, equal_pair, formula, lit, or};
-use outside::generate::{self, any_words, cases, clause_formula, damage_steps, Limits, Rng};
+use outside::generate::{
+    self, any_words, cases, clause_formula, damage_steps, dirty, length_around, Limits, Rng,
+};
 use outside::literature::LITERATURE;
 use outside::qdimacs::Qdimacs;
 use outside::qrp::Trace;
@@ -179,6 +181,42 @@ fn words_by_hand() {
     assert_eq!(said, [initial(&[1, -2]), initial(&[]), initial(&[-2])]);
 }
 
+/// The highest words in each place, and codes of the highest variable.
+#[test]
+fn words_at_their_limits() {
+    let highest = Literal { positive: false, variable: 2047 };
+    assert_eq!(steps_said(&[0, 0, 0, 1], &[u32::MAX])[0].constraint, [highest]);
+    let far = u32::MAX as usize;
+    let derived = Reason::Derived { pivot: highest.complement(), antecedents: [far; 2] };
+    let said = steps_said(&[u32::MAX; 4], &[]);
+    assert_eq!(said, [Inference { reason: derived, constraint: vec![] }]);
+    let steps = [Inference { reason: Reason::Initial, constraint: vec![highest] }];
+    assert_eq!(words_of(&steps), (vec![0, 0, 0, 1], vec![4095]));
+    for reading in [Reading::NARROW, Reading::WIDE] {
+        let sheet = reading.format.encode(&formula(&[(Exists, 1)], and(vec![lit(1), lit(-1)])));
+        let said = |heads: &[u32]| reading.certify(&sheet, Kind::Or, heads, &[2, 3]);
+        // 1, then not 1, then neither; the last step's antecedents and ends at the limit.
+        let whole = [0, 0, 0, 1, 0, 0, 0, 2, 3, 0, 1, 2];
+        assert_eq!(said(&whole), Answer::Accepted(Certain(false)));
+        for (at, word, answer) in [
+            (9, u32::MAX, Uncertain(2)),
+            (10, u32::MAX, Uncertain(2)),
+            (10, 2, Uncertain(2)),
+            (8, u32::MAX, Uncertain(2)),
+            (8, 4096 + 3, Certain(false)),
+            (11, u32::MAX, Certain(false)),
+            (11, 0, Certain(false)),
+            (7, 1, Uncertain(1)),
+            (3, u32::MAX, Uncertain(1)),
+            (1, u32::MAX, Certain(false)),
+        ] {
+            let mut heads = whole;
+            heads[at] = word;
+            assert_eq!(said(&heads), Answer::Accepted(answer), "{word} at {at}");
+        }
+    }
+}
+
 /// The trace of a clause set, if the solver comes to an end.
 fn trace_of(clauses: &Formula) -> Option<Trace> {
     let text = Qdimacs::of_formula(clauses).expect("a clause set").text();
@@ -295,32 +333,6 @@ fn judged_rightly(side: Kind, formula: &Formula, steps: &[Inference]) -> Certifi
     answer
 }
 
-#[test]
-fn damaged_traces_say_nothing_wrong() {
-    let (mut certain, mut uncertain) = ([0; 2], 0);
-    cases(600, |rng| {
-        let (_, clauses) = small_clauses(rng, Format::NARROW);
-        let (side, whole) = derivation(&trace_of(&clauses).expect("a small one"));
-        let variables = clauses.variables();
-        for _ in 0..40 {
-            let mut steps = whole.clone();
-            for _ in 0..rng.between(1, 3) {
-                if !steps.is_empty() {
-                    damage_steps(rng, &variables, &mut steps);
-                }
-            }
-            match judged_rightly(side, &clauses, &steps) {
-                Certain(verdict) => certain[usize::from(verdict)] += 1,
-                Uncertain(_) => uncertain += 1,
-            }
-        }
-    });
-    assert!(
-        certain.iter().all(|&count| count > 500) && uncertain > 5_000,
-        "{certain:?} {uncertain}"
-    );
-}
-
 /// A row of another kind, rows exchanged, a child dropped, a literal negated.
 fn another_formula(rng: &mut Rng, given: &Formula) -> Formula {
     let mut other = given.clone();
@@ -345,6 +357,42 @@ fn another_formula(rng: &mut Rng, given: &Formula) -> Formula {
         _ => (),
     }
     other
+}
+
+/// A derivation that shows the truth of one formula is judged, damaged, on that
+/// one and on another whose truth is the opposite: there it must show nothing.
+#[test]
+fn damaged_traces_say_nothing_wrong() {
+    let (mut certain, mut uncertain, mut opposite) = ([0; 2], 0, 0);
+    cases(600, |rng| {
+        let (_, clauses) = small_clauses(rng, Format::NARROW);
+        let (side, whole) = derivation(&trace_of(&clauses).expect("a small one"));
+        let truth = truth::is_true(&clauses);
+        let tries = (0..20).map(|_| another_formula(rng, &clauses));
+        let other = tries.into_iter().find(|other| truth::is_true(other) != truth);
+        let variables = clauses.variables();
+        for _ in 0..40 {
+            let mut steps = whole.clone();
+            for _ in 0..rng.between(1, 3) {
+                if !steps.is_empty() {
+                    damage_steps(rng, &variables, &mut steps);
+                }
+            }
+            match judged_rightly(side, &clauses, &steps) {
+                Certain(verdict) => certain[usize::from(verdict)] += 1,
+                Uncertain(_) => uncertain += 1,
+            }
+            if let Some(other) = &other {
+                let answer = judged_rightly(side, other, &steps);
+                opposite += usize::from(!matches!(answer, Uncertain(0)));
+            }
+        }
+    });
+    assert!(
+        certain.iter().all(|&count| count > 500) && uncertain > 5_000,
+        "{certain:?} {uncertain}"
+    );
+    assert!(opposite > 5_000, "{opposite}");
 }
 
 #[test]
@@ -436,18 +484,38 @@ fn clausal_by_hand() {
         let given = formula(&rows, or(vec![cube(&[1, 2]), cube(&[3, 4])]));
         assert_eq!(narrow.clausal_formula(&given).is_some(), fits);
         assert!(Format::WIDE.clausal_formula(&given).is_some());
+        // 18 comes before 13, and behind the refusals of the sheet.
+        let sheet = narrow.encode(&given);
+        let number = |sheet: &[u8]| Reading::NARROW.clauses(sheet, &mut []).number();
+        assert_eq!((number(&sheet), number(&sheet[..3])), (if fits { 13 } else { 18 }, 1));
     }
 }
 
 #[test]
 fn clauses_ask_an_equal_question() {
-    let (mut verdicts, mut named) = ([0; 2], 0);
-    for format in [Format::NARROW, Format::WIDE] {
+    let (mut verdicts, mut named, mut refused) = ([0; 2], 0, 0);
+    for reading in [Reading::NARROW, Reading::WIDE] {
+        let format = reading.format;
         cases(5_000, |rng| {
             let given = generate::formula(rng, Limits { format, variables: 5, nodes: 16 });
             let clauses = format.clausal_formula(&given).expect("names enough");
             assert!(Qdimacs::of_formula(&clauses).is_some(), "{given:?}");
-            assert!(format.check(&format.encode(&clauses)).is_ok());
+            let sheet = format.encode(&given);
+            let exact = format.sheet_length(clauses.prefix.len(), clauses.matrix.rows());
+            let room = length_around(rng, format, exact);
+            let before = dirty(rng, room);
+            let mut output = before.clone();
+            match reading.clauses(&sheet, &mut output) {
+                Answer::Refused(number, place) => {
+                    assert_eq!((number, place), (13, 0));
+                    assert!(room < exact && output == before);
+                    refused += 1;
+                }
+                Answer::Accepted(length) => {
+                    assert_eq!(format.parse(&output[..length]), Ok(clauses.clone()));
+                    assert!(length == exact && output[length..].iter().all(|&byte| byte == 0));
+                }
+            }
             if Rules::CURRENT.is_of_the_clause_profile(&given.matrix) {
                 assert_eq!(clauses.prefix, given.prefix);
             }
@@ -459,5 +527,6 @@ fn clauses_ask_an_equal_question() {
             }
         });
     }
-    assert!(verdicts.iter().all(|&count| count > 1_700) && named > 1_700, "{verdicts:?} {named}");
+    assert!(verdicts.iter().all(|&count| count > 1_700), "{verdicts:?}");
+    assert!(named > 1_700 && refused > 1_000, "{named} {refused}");
 }

@@ -1,8 +1,8 @@
-//! Clauses (Certificates): an equal question whose matrix is AND of clauses, by
-//! names for operators.
+//! An equal question whose matrix is AND of clauses, by names for operators
+//! (Certificates), Clauses.
 
 use super::outer::unused;
-use super::{Format, Formula, Kind, Node, Quantifier, Variable};
+use super::{Answer, Format, Formula, Kind, Node, Quantifier, Reading, Refusal, Variable};
 
 /// A tree whose operators have names.
 enum Named {
@@ -88,5 +88,21 @@ impl Format {
         let mut prefix = formula.prefix.clone();
         prefix.extend(given.into_iter().map(|name| (Quantifier::Exists, name)));
         Some(Formula { prefix, matrix: Node::and(clauses) })
+    }
+}
+
+impl Reading {
+    /// Clauses: the new sheet's length.
+    pub fn clauses(&self, sheet: &[u8], output: &mut [u8]) -> Answer<usize> {
+        self.format.answer(self.clausal(sheet, output.len()), output)
+    }
+
+    fn clausal(&self, sheet: &[u8], room: usize) -> Result<Formula, Refusal> {
+        let formula = self.format.parse(sheet)?;
+        let clausal = self.format.clausal_formula(&formula).ok_or((18, 0))?;
+        if !self.format.fits(clausal.prefix.len(), clausal.matrix.rows(), room) {
+            return Err((13, 0));
+        }
+        Ok(clausal)
     }
 }
