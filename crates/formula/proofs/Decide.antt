@@ -3,4 +3,5 @@
 pub mod Lone
 pub mod Right
 pub mod More
+pub mod Budget
 pub mod Examples

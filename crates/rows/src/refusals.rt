@@ -1,4 +1,4 @@
-// The numbers of refusals, as the documents give them; 26 and 27 are ours.
+// The numbers of refusals, as the documents give them; 26 to 29 are ours.
 // Shorter than the two sizes.
 pub const TOO_SHORT: usize = 1;
 
@@ -62,7 +62,7 @@ pub const NO_CLAUSES: usize = 20;
 // A value other than 0 and 1.
 pub const BAD_VALUE: usize = 21;
 
-// As many values as variables, or more.
+// As many values as variables, or more; for Split and Join, more.
 pub const TOO_MANY_VALUES: usize = 22;
 
 // The root is not AND.
@@ -79,3 +79,9 @@ pub const NOT_A_STRATEGY: usize = 26;
 
 // A function that reads what it may not.
 pub const READS_BEYOND: usize = 27;
+
+// Not as many answers as lists of values.
+pub const WRONG_ANSWERS: usize = 28;
+
+// An answer other than 0, 1 and 2.
+pub const BAD_ANSWER: usize = 29;

@@ -25,6 +25,8 @@ use Rattle.sheet.proofs.Accepted.{accepted-within, accepted-variables}
 use Rattle.sheet.specs.Qdimacs.{said-tests, qdimacs-tests}
 use Rattle.sheet.specs.Outer.{outer-tests}
 use Rattle.sheet.specs.Force.{force-tests}
+use Rattle.sheet.specs.Split.{split-tests}
+use Rattle.sheet.specs.Join.{join-tests}
 use Rattle.sheet.specs.Guards.{guards-tests}
 use Rattle.sheet.specs.Conversion.{to-wide-tests, to-narrow-tests}
 use Rattle.sheet.specs.Resume.{named, resume-tests}
@@ -138,6 +140,10 @@ module _ (F : Format) (b : Bytes) where
   pub force-known : (vs : Bytes) (len : ℕ) → Known (force-tests F b vs len)
   unfolding force-tests known
   force-known vs len = behind-check _ refl
+
+  pub split-known : (vs : Bytes) (len : ℕ) → Known (split-tests F b vs len)
+  unfolding split-tests known
+  split-known vs len = behind-check _ refl
 
   pub guards-known : (len : ℕ) → Known (guards-tests F b len)
   unfolding guards-tests known
@@ -361,6 +367,14 @@ module _ (F : Format) (b : Bytes) {A : Type 0} (a : A) where
   pub force-place : (vs : Bytes) (len : ℕ) {n i : ℕ} → answer (force-tests F b vs len) a ≡ refused n i → i ≤ last-place F
   unfolding force-tests places-to
   force-place vs len e = check-place F b _ a (λ p. rw zero-place) e
+
+  pub split-place : (vs : Bytes) (len : ℕ) {n i : ℕ} → answer (split-tests F b vs len) a ≡ refused n i → i ≤ last-place F
+  unfolding split-tests places-to
+  split-place vs len e = check-place F b _ a (λ p. rw zero-place) e
+
+  pub join-place : (k : ℕ) (xs : Bytes) {n i : ℕ} → answer (join-tests F b k xs) a ≡ refused n i → i ≤ last-place F
+  unfolding join-tests places-to
+  join-place k xs e = check-place F b _ a (λ p. rw zero-place) e
 
   pub guards-place : (len : ℕ) {n i : ℕ} → answer (guards-tests F b len) a ≡ refused n i → i ≤ last-place F
   unfolding guards-tests places-to

@@ -13,6 +13,7 @@ use Rattle.formula.specs.Truth.{truth}
 use Rattle.formula.specs.Tidy.{is-tidy}
 use Rattle.formula.specs.Trial.{Tried}
 use Rattle.formula.specs.Certificates.{Certified}
+use Rattle.formula.specs.Join.{Answer as Known}
 use Rattle.sheet.specs.Format.{Bytes, Format, narrow, wide}
 use Rattle.sheet.specs.Sheet.{formula, sheet}
 use Rattle.sheet.specs.Check.{Answer, accepted, Test, passes, check-tests, check}
@@ -32,7 +33,10 @@ use Rattle.sheet.specs.Limits.{Sound, Within}
 use Rattle.sheet.specs.Strategy.{response-call, StrategyAnswer, Winning, strategy-call, solve-part, Claiming, claim-call}
 use Rattle.sheet.specs.Truthful.{truth-of, SheetOf, TruthfulSheet, TruthfulText, TruthfulSteps, TruthfulTrial, Holds, TruthfulSolve, TruthfulGuards, TruthfulForce}
 use Rattle.sheet.specs.Certificates.{certify-call}
-use Rattle.sheet.specs.Truthful.{TruthfulResponse, TruthfulStrategy, TruthfulClaim, TruthfulCertify}
+use Rattle.sheet.specs.Decide.{Deciding, decide-call}
+use Rattle.sheet.specs.Split.{split-call}
+use Rattle.sheet.specs.Join.{join-call}
+use Rattle.sheet.specs.Truthful.{TruthfulResponse, TruthfulStrategy, TruthfulClaim, TruthfulCertify, TruthfulDecide, TruthfulSplit, TruthfulJoin}
 use Rattle.sheet.proofs.Tests.{passed-∷, passed-++, answer-passes, accepted-passes}
 use Rattle.sheet.proofs.Limits.{narrow-sound, wide-sound}
 use Rattle.sheet.proofs.RoundTrip.{formula-sheet, passes-sheet}
@@ -51,6 +55,8 @@ use Rattle.sheet.proofs.Strategy.Response.{response-right}
 use Rattle.sheet.proofs.Strategy.Winning.{strategy-solves, strategy-sheet}
 use Rattle.sheet.proofs.Strategy.Claim.{claims-right}
 use Rattle.sheet.proofs.Certificates.{certify-right}
+use Rattle.sheet.proofs.Decide.{decide-verdict}
+use Rattle.sheet.proofs.Join.{split-right, join-right}
 use Rattle.sheet.proofs.Resume.{widened-sheet, answer-stopped, resume-taken, resume-ended}
 
 -- sheets written
@@ -245,6 +251,20 @@ force-truthful F b vs first second e =
       whose-turn = λ a h. force-right F b vs first second a h .0;
       which-wins = λ a h. force-right F b vs first second a h .1;
     })
+
+pub decide-truthful : (F : Format) (b : Bytes) (budget : ℕ) (first second stack : Bytes) {d : Deciding}
+    → d ≡ decide-call F b budget first second stack → TruthfulDecide (truth-of F b) d
+decide-truthful F b budget first second stack e =
+    subst (TruthfulDecide (truth-of F b)) (sym e) (record { on-ended = λ v n h. decide-verdict F b budget first second stack v n h .0 })
+
+pub split-truthful : (F : Format) → Sound F → (b vs out : Bytes) {w : Written} → w ≡ split-call F b vs out → TruthfulSplit F b vs w
+split-truthful F sound b vs out e =
+    of-call F sound (λ n h.
+    let r = split-right F sound b vs out n h in
+    record { is-accepted = r .is-accepted; is-truth = ap truth (r .is-under) }) e
+
+pub join-truthful : (F : Format) (b : Bytes) (k : ℕ) (xs : Bytes) {a : Answer Known} → a ≡ join-call F b k xs → TruthfulJoin F b k xs a
+join-truthful F b k xs e = record { on-known = λ v h right. join-right F b k xs v (sym e ∙ h) right }
 
 pub resume-truthful : (started settles expands : ℕ) (b : Bytes) (w : Bool) (first second : Bytes) {s : Solving}
     → s ≡ resume-call started settles expands b w first second → TruthfulSolve wide (truth-of (named w) b) s

@@ -21,6 +21,10 @@ pub mod Order
 pub mod Strategy
 -- Certificates
 pub mod Certificates
+-- Decide
+pub mod Decide
+pub mod Split
+pub mod Join
 -- what is relied on
 pub mod Limits
 pub mod Reliance

@@ -1,4 +1,4 @@
--- The numbers of refusals ("What each operation turns away"; N1 and the later requests; 26 and 27 are ours).
+-- The numbers of refusals ("What each operation turns away"; N1 and the later requests; 26 to 29 are ours).
 -- Assumes nothing.
 use Prim.Native.Nat.{ℕ}
 
@@ -86,7 +86,7 @@ no-clauses = 20
 abbrev pub bad-value : ℕ
 bad-value = 21
 
--- as many values as variables, or more
+-- as many values as variables, or more; for Split and Join, more
 abbrev pub too-many-values : ℕ
 too-many-values = 22
 
@@ -109,3 +109,11 @@ not-a-strategy = 26
 -- a function that reads what it may not
 abbrev pub reads-beyond : ℕ
 reads-beyond = 27
+
+-- not as many answers as lists of values
+abbrev pub wrong-answers : ℕ
+wrong-answers = 28
+
+-- an answer other than 0, 1 and 2
+abbrev pub bad-answer : ℕ
+bad-answer = 29

@@ -3,6 +3,7 @@
 -- Assumes nothing.
 use mathlib.Core.Path.{_≡_}
 use mathlib.Core.Bool.{Bool, true, false}
+use mathlib.Core.Option.{some}
 use Prim.Native.Nat.{ℕ, _-_}
 use lib.ListN.{length, take, drop, replicate}
 use Rattle.formula.specs.Tree.{Quantifier}
@@ -11,6 +12,7 @@ use Rattle.formula.specs.Force.{Told, turn-after, ForceRight}
 use Rattle.formula.specs.Trial.{Tried}
 use Rattle.formula.specs.Strategy.{winner}
 use Rattle.formula.specs.Certificates.{Certified, certain}
+use Rattle.formula.specs.Join.{Answer as Known}
 use Rattle.sheet.specs.Format.{Bytes, Format}
 use Rattle.sheet.specs.Sheet.{formula}
 use Rattle.sheet.specs.Check.{Answer, accepted, passes, check-tests}
@@ -19,6 +21,9 @@ use Rattle.sheet.specs.Steps.{Listed}
 use Rattle.sheet.specs.Guards.{guards-stopped, guards-true, guards-kept, Guarding, Clashing}
 use Rattle.sheet.specs.Force.{values-of, Panel, Forcing}
 use Rattle.sheet.specs.Qdimacs.{qdimacs}
+use Rattle.sheet.specs.Decide.{decide-ended, Deciding}
+use Rattle.sheet.specs.Split.{under}
+use Rattle.sheet.specs.Join.{RightAnswers}
 use Rattle.sheet.specs.Strategy.{Responds, strategy-stopped, strategy-written, strategy-too-long, Winning, StrategySheet, claim-written, Claiming, Claims}
 
 -- the truth of a sheet's formula
@@ -87,3 +92,15 @@ pub record TruthfulClaim (F : Format) (b : Bytes) (q : Quantifier) (s : Bytes) (
 -- Certify: a verdict is the truth of the sheet given, whatever the words are
 pub record TruthfulCertify (t : Bool) (a : Answer Certified) : Type 0 where
   pub on-certain : (v : Bool) → a ≡ accepted (certain v) → v ≡ t
+
+-- Decide: a verdict is the truth of the sheet given, however many places and runs there were
+pub record TruthfulDecide (t : Bool) (d : Deciding) : Type 0 where
+  pub on-ended : (v : Bool) (runs : ℕ) → d .answer ≡ decide-ended v runs → v ≡ t
+
+-- Split: what is written is a sheet of the formula under the values given
+abbrev pub TruthfulSplit : Format → Bytes → Bytes → Written → Type 0
+TruthfulSplit F b vs w = TruthfulSheet F (truth (under vs (formula F b))) w
+
+-- Join: of right answers, a verdict is the truth of the sheet given
+pub record TruthfulJoin (F : Format) (b : Bytes) (k : ℕ) (xs : Bytes) (a : Answer Known) : Type 0 where
+  pub on-known : (v : Bool) → a ≡ accepted (some v) → RightAnswers (formula F b) k xs → v ≡ truth-of F b

@@ -21,14 +21,14 @@ use Rattle.formula.proofs.Decide.Lone.{two-left}
 
 -- the formula that a stopped run reached
 
-record Reached (f g : Formula) : Type 0 where
-  is-distinct : distinct (g .prefix) ≡ true
-  is-closed : closed g ≡ true
-  same-truth : truth g ≡ truth f
-  two : 2 ≤ length (g .prefix)
-  no-more : length (g .prefix) ≤ length (f .prefix)
+pub record Reached (f g : Formula) : Type 0 where
+  pub is-distinct : distinct (g .prefix) ≡ true
+  pub is-closed : closed g ≡ true
+  pub same-truth : truth g ≡ truth f
+  pub two : 2 ≤ length (g .prefix)
+  pub no-more : length (g .prefix) ≤ length (f .prefix)
 
-reached : (fits : Fits) (f : Formula) (x : ℕ) → distinct (f .prefix) ≡ true → closed f ≡ true → (solve fits f) .end ≡ stopped x
+pub reached : (fits : Fits) (f : Formula) (x : ℕ) → distinct (f .prefix) ≡ true → closed f ≡ true → (solve fits f) .end ≡ stopped x
     → Reached f (((solve fits f) .state) .formula)
 unfolding solve tidied
 reached fits f x d c e =
