@@ -1,0 +1,4 @@
+pub mod Halving
+pub mod Reaching
+pub mod Searching
+pub mod Answering
