@@ -7,6 +7,7 @@ mod carrying;
 mod certificates;
 mod claim;
 mod clausal;
+mod decide;
 mod expand;
 mod force;
 mod format;
@@ -33,6 +34,7 @@ pub use certificates::{
     certified, steps_said, words_of, Certified, Constraint, Inference, Literal, Reason,
 };
 pub use claim::{claim_formula, negated, ClaimAnswer};
+pub use decide::{join_answers, DecideAnswer};
 pub use expand::{raw_expansion, raw_rows, Expansion};
 pub use force::Forced;
 pub use format::Format;
