@@ -3,6 +3,7 @@
 //! solver from outside.
 
 use outside::depqbf;
+use outside::examples::examples;
 use outside::formulas::{and, cube, formula, lit, or};
 use outside::generate::{self, cases, dirty, length_around, Family, Limits, Rng};
 use outside::literature::LITERATURE;
@@ -54,6 +55,24 @@ fn by_hand() {
         let solved = reading.decide_formula(&odd(3), room, 0, 1);
         assert_eq!(solved, Ended { verdict: true, runs: 1 });
     }
+}
+
+/// Solve stops at the crowded example, whose valve is in every guard.
+#[test]
+fn the_crowded_example() {
+    let reading = Reading::WIDE;
+    let crowded = examples().into_iter().find(|example| example.name == "crowded").unwrap();
+    let room = reading.format.longest_sheet();
+    let decide = |places: usize| {
+        let (mut first, mut second, mut stack) =
+            (vec![1; room], vec![1; room], vec![1; places * room]);
+        reading.decide(&crowded.sheet, 100, &mut first, &mut second, &mut stack)
+    };
+    assert_eq!(decide(0), NoPlace { runs: 1 });
+    assert_eq!(decide(1), NoPlace { runs: 2 });
+    assert_eq!(decide(2), Ended { verdict: false, runs: 3 });
+    assert_eq!(decide(12), decide(2));
+    assert_eq!(depqbf::verdict(&reading.format.parse(&crowded.sheet).unwrap()), Some(false));
 }
 
 /// A formula that has something to split: parities, clauses, or any.
