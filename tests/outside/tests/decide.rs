@@ -97,7 +97,7 @@ fn tight_room(rng: &mut Rng, sheet: &[u8]) -> usize {
 fn verdicts_runs_and_bounds() {
     let (mut verdicts, mut several, mut early, mut stops) = ([0; 2], 0, 0, [0; 2]);
     for reading in READINGS {
-        cases(3_000, |rng| {
+        cases(6_000, |rng| {
             let limits = Limits { variables: 7, ..Limits::small(reading.format) };
             let given = any_formula(rng, limits);
             let sheet = reading.format.encode(&given);
@@ -147,7 +147,7 @@ fn verdicts_runs_and_bounds() {
             early += usize::from(runs > 1 && runs % 2 == 0);
         });
     }
-    assert!(verdicts.iter().all(|&count| count > 1_000), "{verdicts:?}");
+    assert!(verdicts.iter().all(|&count| count > 2_000), "{verdicts:?}");
     assert!(several > 200 && early > 200, "{several} {early}");
     assert!(stops.iter().all(|&count| count > 100), "{stops:?}");
 }
@@ -183,7 +183,7 @@ fn decide_is_its_single_calls() {
     let mut seen = [0; 4];
     for reading in READINGS {
         let format = reading.format;
-        cases(3_000, |rng| {
+        cases(8_000, |rng| {
             let limits = Limits { variables: 6, ..Limits::small(format) };
             let whole = format.encode(&any_formula(rng, limits));
             let sheet = if rng.one_in(6) { generate::damage(rng, format, &whole) } else { whole };
@@ -219,7 +219,7 @@ fn decide_is_its_single_calls() {
             seen[at] += 1;
         });
     }
-    assert!(seen.iter().all(|&count| count > 200), "{seen:?}");
+    assert!(seen.iter().all(|&count| count > 500), "{seen:?}");
 }
 
 #[test]
@@ -227,7 +227,7 @@ fn split_puts_values_in() {
     let mut numbers = [0; 23];
     for reading in READINGS {
         let format = reading.format;
-        cases(4_000, |rng| {
+        cases(8_000, |rng| {
             let given = generate::formula(rng, Limits { variables: 6, ..Limits::small(format) });
             let whole = format.encode(&given);
             let sheet = if rng.one_in(6) { generate::damage(rng, format, &whole) } else { whole };
@@ -272,7 +272,7 @@ fn split_puts_values_in() {
         });
     }
     for number in [0, 13, 21, 22] {
-        assert!(numbers[number] > 200, "{numbers:?}");
+        assert!(numbers[number] > 400, "{numbers:?}");
     }
 }
 
@@ -295,7 +295,7 @@ fn with_answers(rows: &[Binding], answers: &[bool]) -> Formula {
 fn join_against_every_way_to_turn_out() {
     let mut seen = [0; 3];
     for reading in READINGS {
-        cases(3_000, |rng| {
+        cases(8_000, |rng| {
             let limits = Limits { format: reading.format, variables: 5, nodes: 4 };
             let given = generate::formula(rng, limits);
             let sheet = reading.format.encode(&given);
@@ -326,7 +326,7 @@ fn join_against_every_way_to_turn_out() {
             seen[expected.map_or(2, usize::from)] += 1;
         });
     }
-    assert!(seen.iter().all(|&count| count > 500), "{seen:?}");
+    assert!(seen.iter().all(|&count| count > 1_300), "{seen:?}");
 }
 
 #[test]
@@ -360,7 +360,7 @@ fn the_same_work_spread() {
     let (mut known, mut open) = (0, 0);
     for reading in READINGS {
         let format = reading.format;
-        cases(800, |rng| {
+        cases(2_000, |rng| {
             let given = any_formula(rng, Limits { variables: 7, ..Limits::small(format) });
             let sheet = format.encode(&given);
             let k = rng.below(given.prefix.len().min(4) + 1);
@@ -385,7 +385,7 @@ fn the_same_work_spread() {
             }
         });
     }
-    assert!(known > 200 && open > 50, "{known} {open}");
+    assert!(known > 500 && open > 120, "{known} {open}");
 }
 
 /// Larger ones, where Solve stops: what the search says, a solver from outside says.
