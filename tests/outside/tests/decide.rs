@@ -4,7 +4,7 @@
 
 use outside::depqbf;
 use outside::examples::examples;
-use outside::formulas::{and, cube, formula, lit, or};
+use outside::formulas::{and, clause, cube, formula, lit, or};
 use outside::generate::{self, cases, dirty, length_around, Family, Limits, Rng};
 use outside::literature::LITERATURE;
 use outside::reference::*;
@@ -54,6 +54,26 @@ fn by_hand() {
         let room = reading.format.longest_sheet();
         let solved = reading.decide_formula(&odd(3), room, 0, 1);
         assert_eq!(solved, Ended { verdict: true, runs: 1 });
+    }
+}
+
+/// What the proofs of `Decide/Examples.antt` compute from the definitions, where
+/// nothing fits.
+#[test]
+fn as_computed_in_the_definitions() {
+    let clauses = || and(vec![clause(&[1, 2]), clause(&[-1, 2]), clause(&[-1, -2])]);
+    let of_two = |quantifier| formula(&[(quantifier, 1), (Exists, 2)], clauses());
+    let rows = [(Exists, 3), (Exists, 1), (Exists, 2)];
+    let settled_first = formula(&rows, and(vec![lit(3), clauses()]));
+    for (given, places, budget, answer) in [
+        (of_two(Exists), 1, 2, Ended { verdict: true, runs: 2 }),
+        (of_two(ForAll), 1, 3, Ended { verdict: false, runs: 3 }),
+        (settled_first, 1, 2, Ended { verdict: true, runs: 2 }),
+        (of_two(Exists), 0, 2, NoPlace { runs: 1 }),
+        (of_two(Exists), 1, 1, Spent { runs: 1 }),
+    ] {
+        let decided = Reading::NARROW.decide_formula(&given, 0, places, budget);
+        assert_eq!(decided, answer, "{given:?}");
     }
 }
 
