@@ -296,6 +296,47 @@ fn split_puts_values_in() {
     }
 }
 
+/// What Force says is what Solve says of the two sheets that Split writes.
+#[test]
+fn split_is_what_force_judges() {
+    let mut seen = [0; 4];
+    for reading in READINGS {
+        cases(2_000, |rng| {
+            let given = any_formula(rng, Limits { variables: 6, ..Limits::small(reading.format) });
+            if given.prefix.is_empty() {
+                return;
+            }
+            let sheet = reading.format.encode(&given);
+            let room = tight_room(rng, &sheet);
+            let values: Vec<u8> =
+                (0..rng.below(given.prefix.len())).map(|_| rng.below(2) as u8).collect();
+            let turn = given.prefix[values.len()].0;
+            let said = [0, 1].map(|value| {
+                let mut half = vec![0xa5; room];
+                let values = [&values[..], &[value]].concat();
+                let length = reading.split(&sheet, &values, &mut half).accepted().expect("room");
+                reading.solve(&half[..length], &mut vec![0; room], &mut vec![0; room])
+            });
+            let wins = said.map(|answer| match answer {
+                SolveAnswer::Ended { verdict, .. } => Ok(verdict == (turn == Exists)),
+                SolveAnswer::Stopped { variable, .. } => Err(variable),
+                SolveAnswer::Refused(number, _) => panic!("refused with {number}"),
+            });
+            let (expected, at) = match wins {
+                [Err(variable), _] | [_, Err(variable)] => (Forced::Stopped(variable), 0),
+                [Ok(false), Ok(false)] => (Forced::Neither, 1),
+                [Ok(true), Ok(true)] => (Forced::Both, 2),
+                [Ok(true), Ok(false)] => (Forced::Zero, 3),
+                [Ok(false), Ok(true)] => (Forced::One, 3),
+            };
+            let forced = reading.force(&sheet, &values, &mut vec![0; room], &mut vec![0; room]);
+            assert_eq!(forced, Answer::Accepted((turn, expected)));
+            seen[at] += 1;
+        });
+    }
+    assert!(seen.iter().all(|&count| count > 100), "{seen:?}");
+}
+
 /// A formula over these rows that is true exactly where the answers are.
 fn with_answers(rows: &[Binding], answers: &[bool]) -> Formula {
     let cube_at = |at: usize| {
