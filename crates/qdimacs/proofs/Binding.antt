@@ -2,7 +2,7 @@
 -- Assumes nothing.
 use mathlib.Core.Logic.{_⊎_, inl, inr}
 use mathlib.Core.Path.{_≡_, refl, sym, ap, ap₂, _∙_, subst}
-use mathlib.Core.Bool.{Bool, true, false, not, _&&_, _||_, cond, false≢true}
+use mathlib.Core.Bool.{Bool, true, false, not, _&&_, _||_, cond, false≢true, and-false}
 use mathlib.Core.List.{List, [], _∷_}
 use Prim.Native.Nat.{ℕ, zero, suc, _+_, _≤_, _<_}
 use native.Mathlib.Omega.{arith}
@@ -23,7 +23,6 @@ use Rattle.qdimacs.specs.Inner.Lists.{State, between, within, ordered, b
 use Rattle.qdimacs.specs.Inner.Cursor.{tokens-at, state-code, step}
 use Rattle.qdimacs.specs.Inner.Marks.{Listed, bindings-in, found-with, marks-with, Marked, Binds}
 use Rattle.qdimacs.specs.declared.marks.Bound.{Bound}
-use Rattle.qdimacs.proofs.Pieces.{and-false}
 use Rattle.qdimacs.proofs.Next as leads
 use Rattle.qdimacs.proofs.Next.{Next, none, word, next, Led, begins, breaks, goes, led}
 use Rattle.qdimacs.proofs.Cutting.{no-tokens, small-code}

@@ -1,7 +1,7 @@
 -- count_clauses and has_above: a word a turn.
 -- Assumes nothing.
 use mathlib.Core.Path.{_≡_, refl, sym, ap, ap₂, _∙_, subst}
-use mathlib.Core.Bool.{Bool, true, false, not, _&&_, cond, false≢true}
+use mathlib.Core.Bool.{Bool, true, false, not, _&&_, cond, false≢true, and-false}
 use mathlib.Core.List.{List, [], _∷_}
 use Prim.Native.Nat.{ℕ, zero, suc, _+_, _≤_, _<_}
 use native.Mathlib.Omega.{arith}
@@ -21,7 +21,6 @@ use Rattle.qdimacs.specs.Inner.Lists.{whole-lists, ends}
 use Rattle.qdimacs.specs.Inner.Cursor.{tokens-at}
 use Rattle.qdimacs.specs.Inner.Clauses.{count-step, Counts, variable-said, says-above}
 use Rattle.qdimacs.specs.declared.clauses.Clauses.{Clauses}
-use Rattle.qdimacs.proofs.Pieces.{and-false}
 use Rattle.qdimacs.proofs.Next.{Next, none, word, next}
 use Rattle.qdimacs.proofs.Cutting.{no-tokens}
 

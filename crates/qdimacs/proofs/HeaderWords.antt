@@ -1,7 +1,7 @@
 -- The words of the header, by their classes.
 -- Assumes nothing.
 use mathlib.Core.Path.{_≡_, refl, sym, ap, ap₂, _∙_, subst}
-use mathlib.Core.Bool.{Bool, true, false, not, _&&_, _||_, cond, false≢true}
+use mathlib.Core.Bool.{Bool, true, false, not, _&&_, _||_, cond, false≢true, and-false}
 use mathlib.Core.List.{List, [], _∷_, tail}
 use Prim.Native.Nat.{ℕ, zero, suc, _+_, _≤_, _<_}
 use native.Mathlib.Omega.{arith}
@@ -18,9 +18,8 @@ use Rattle.words.specs.declared.token.Token as code
 use Rattle.words.proofs.Classes.{View, view-other, view-exists, view-for-all, view-p, view-cnf, view-zero, view-plain, view-minus, tells}
 use Rattle.qdimacs.specs.Inner.Header.{unsigned-class, is-header, Heads}
 use Rattle.qdimacs.specs.declared.header.Header.{Header}
-use Rattle.qdimacs.proofs.Pieces.{and-false}
 
-some-class : {k m : ℕ} {t : Token} → View k t m → eqb k 0 ≡ false
+pub some-class : {k m : ℕ} {t : Token} → View k t m → eqb k 0 ≡ false
 some-class view-other = refl
 some-class view-exists = refl
 some-class view-for-all = refl

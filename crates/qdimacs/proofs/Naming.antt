@@ -1,19 +1,20 @@
 -- name and count_free: a word of the clauses a turn, then a number a turn.
 -- Assumes nothing.
-use mathlib.Core.Logic.{_⊎_, inl, inr}
+use mathlib.Core.Logic.{inl, inr}
 use mathlib.Core.Path.{_≡_, refl, sym, ap, ap₂, _∙_, subst}
-use mathlib.Core.Bool.{Bool, true, false, not, _&&_, _||_, cond, false≢true}
+use mathlib.Core.Bool.{Bool, true, false, _&&_, _||_, cond}
 use mathlib.Core.List.{List, [], _∷_, _++_}
-use Prim.Native.Nat.{ℕ, zero, suc, _+_, _≤_, _<_}
+use Prim.Native.Nat.{ℕ, suc, _+_, _≤_, _<_}
 use native.Mathlib.Numerals.{add-one}
 use native.Mathlib.Omega.{arith}
 use lib.Dec.{eqb, ltb, leb}
 use lib.ListN.{length, getD, set, length-set, length-append}
 use lib.Seq.{getD-set-same, getD-set-other}
 use borrow.Author.Tests.{eqb-true, eqb-false, eq-eqb, ne-eqb, ltb-true, ltb-false, leb-true, leb-false}
-use Rattle.formula.specs.Tree.{exists, Prefix}
+use Rattle.formula.specs.Tree.{exists}
+use Rattle.formula.proofs.Booleans.{by-cases}
 use Rattle.sheet.specs.Format.{Bytes}
-use Rattle.sheet.specs.Qdimacs.{Token, opener, plain, minus, other, absolute, named}
+use Rattle.sheet.specs.Qdimacs.{Token, absolute, named}
 use Rattle.words.specs.Numbers.{Capped, largest}
 use Rattle.words.specs.Literals.{literal, variable}
 use Rattle.words.specs.Tokens.{Reads}
@@ -73,11 +74,10 @@ named-word m t {w} ts x size low high v c = go (ltb (t .class) 6) refl
 
     marks : (y : ℕ) → y ≡ absolute w → y ≤ 1024 → (b : Bool) → eqb (getD m y 0) 0 ≡ b → Goal (cond b (set m y 2) m)
     marks y e l true q = subst (λ z. Goal (set m z 2)) (sym e) (new-number m w ts x (omega (arith, size, e)) (subst (λ z. eqb (getD m z 0) 0 ≡ true) e q))
-    marks y e l false q = by (eqb (absolute w) x) refl
-      where
-        by : (b : Bool) → eqb (absolute w) x ≡ b → Goal m
-        by true f = marked-number m w ts x (subst (λ z. eqb (getD m z 0) 0 ≡ false) (e ∙ eqb-true (absolute w) x f) q)
-        by false f = other-number m w ts x f
+    marks y e l false q =
+        by-cases (eqb (absolute w) x)
+        (λ f. marked-number m w ts x (subst (λ z. eqb (getD m z 0) 0 ≡ false) (e ∙ eqb-true (absolute w) x f) q))
+        (λ f. other-number m w ts x f)
 
     number : (y : ℕ) → Near y (absolute w) → (b : Bool) → leb 1025 y ≡ b → Goal (cond b m (cond (eqb (getD m y 0) 0) (set m y 2) m))
     number y (inl e) true q = other-number m w ts x (ne-eqb (absolute w) x (λ f. absurd (omega (arith, leb-true 1025 y q, e, f))))

@@ -1,24 +1,19 @@
 -- Lists that a 0 ends, word for word.
 -- Assumes nothing.
-use mathlib.Core.Path.{_≡_, refl, sym, ap, ap₂, _∙_, subst}
-use mathlib.Core.Bool.{Bool, true, false, not, _&&_, _||_, cond, and-assoc}
-use mathlib.Core.List.{List, [], _∷_, _++_, tail, flatten, flatMap}
-use Prim.Native.Nat.{ℕ, zero, suc}
-use native.Mathlib.Omega.{arith}
+use mathlib.Core.Path.{_≡_, refl, sym, ap, ap₂, _∙_}
+use mathlib.Core.Bool.{Bool, true, false, not, _&&_, and-assoc, and-false}
+use mathlib.Core.List.{List, [], _∷_}
+use Prim.Native.Nat.{zero, suc}
 use lib.Dec.{eqb·suc-zero}
-use Rattle.formula.specs.Tree.{Quantifier, Prefix}
+use Rattle.formula.specs.Tree.{Quantifier}
 use Rattle.sheet.specs.Qdimacs.{onto-first, split, is-nil, all, Token, opener, plain, minus, other, is-plain, is-whole, is-end}
-use Rattle.sheet.specs.Qdimacs.{is-opener, pieces, ended-lists, open-list, is-quantified, are-clauses, in-order, well-listed, quantified, bindings, bound, clauses}
-use Rattle.sheet.proofs.Qdimacs.Lists.{cut, split-separator, split-within}
+use Rattle.sheet.specs.Qdimacs.{is-opener, pieces, ended-lists, open-list, is-quantified, are-clauses, in-order, well-listed}
 use Rattle.sheet.specs.Texts.{lists}
-use Rattle.qdimacs.specs.Inner.Lists.{State, between, within, ordered, clause-tokens, bound-from, whole-lists}
+use Rattle.sheet.proofs.Qdimacs.Lists.{cut, split-separator, split-within}
+use Rattle.qdimacs.specs.Inner.Lists.{State, between, within, ordered, clause-tokens, whole-lists}
 
 abbrev pub open-part : List Token → List Token
 open-part ts = open-list (pieces ts)
-
-pub and-false : (t : Bool) → (t && false) ≡ false
-and-false true = refl
-and-false false = refl
 
 -- a 0 ends a list
 

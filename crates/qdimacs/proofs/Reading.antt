@@ -1,20 +1,20 @@
 -- What well listed words say, word for word.
 -- Assumes nothing.
-use mathlib.Core.Path.{_≡_, refl, sym, ap, ap₂, _∙_, subst}
-use mathlib.Core.Bool.{Bool, true, false, not, _&&_, _||_, cond, and-assoc, false≢true}
-use mathlib.Core.List.{List, [], _∷_, _++_, tail, flatten, flatMap, append-assoc}
+use mathlib.Core.Path.{_≡_, refl, sym, ap, _∙_}
+use mathlib.Core.Bool.{Bool, true, false, _&&_, _||_, cond, false≢true}
+use mathlib.Core.List.{List, [], _∷_, _++_, tail, flatten, flatMap}
 use Prim.Native.Nat.{ℕ, zero, suc, _+_}
 use native.Mathlib.Omega.{arith}
 use lib.Dec.{eqb, leb, eqb·suc-zero, eqb·zero-suc, leb·zero}
 use lib.ListN.{length}
-use Rattle.formula.specs.Tree.{Quantifier, and, or, Tree, lit, node, Forest, ∅, _▸_, Prefix, rows, rows-all, count}
+use Rattle.formula.specs.Tree.{Quantifier, Prefix, rows, rows-all}
 use Rattle.formula.proofs.Booleans.{and-parts}
-use Rattle.sheet.specs.Qdimacs.{is-nil, all, split, Token, opener, plain, minus, other, is-plain, is-whole, is-end, absolute, pieces}
-use Rattle.sheet.specs.Qdimacs.{ended-lists, is-quantified, are-clauses, in-order, quantified, bindings, bound, clauses, literals, clause-trees, matrix-of, named, numbers-of}
-use Rattle.sheet.proofs.Qdimacs.Lists.{all-++}
-use Rattle.sheet.proofs.Qdimacs.Accepted.{whole-unquantified}
+use Rattle.sheet.specs.Qdimacs.{is-nil, all, split, Token, opener, plain, minus, other, is-whole, pieces}
+use Rattle.sheet.specs.Qdimacs.{ended-lists, is-quantified, are-clauses, quantified, bindings, bound, clauses, literals, clause-trees, named, numbers-of}
 use Rattle.sheet.specs.Texts.{up-to, lists}
-use Rattle.qdimacs.specs.Inner.Lists.{State, between, within, ordered, clause-tokens, bound-from, whole-lists, numbers, ends, first-length}
+use Rattle.sheet.proofs.Qdimacs.Accepted.{whole-unquantified}
+use Rattle.sheet.proofs.Qdimacs.Joined.{clauses-bind-none, clauses-all}
+use Rattle.qdimacs.specs.Inner.Lists.{State, between, within, ordered, clause-tokens, bound-from, whole-lists, numbers, ends}
 use Rattle.qdimacs.proofs.Pieces.{open-part, lists-end, lists-more, onto, clauses-by, listed-clauses, open-clauses, whole, in-line, order-by, listed}
 
 -- the first list and the others
@@ -31,20 +31,6 @@ no-bindings (opener q ∷ l) h = absurd (false≢true h)
 no-bindings (plain n ∷ l) h = refl
 no-bindings (minus n ∷ l) h = refl
 no-bindings (other ∷ l) h = absurd (false≢true h)
-
-clauses-bound : (ls : List (List Token)) → are-clauses ls ≡ true → bound ls ≡ []
-unfolding are-clauses all bound flatMap
-clauses-bound [] h = refl
-clauses-bound (l ∷ ls) h =
-    let p = and-parts (all is-whole l) (are-clauses ls) h in
-    ap (λ (r : Prefix). r ++ bound ls) (no-bindings l (p .0)) ∙ clauses-bound ls (p .1)
-
-clauses-all : (ls : List (List Token)) → are-clauses ls ≡ true → clauses ls ≡ ls
-unfolding are-clauses all clauses
-clauses-all [] h = refl
-clauses-all (l ∷ ls) h =
-    let p = and-parts (all is-whole l) (are-clauses ls) h in
-    ap (λ b. cond b (clauses ls) (l ∷ clauses ls)) (whole-unquantified l (p .0)) ∙ ap (λ (r : List (List Token)). l ∷ r) (clauses-all ls (p .1))
 
 clauses-numbers : (ls : List (List Token)) → are-clauses ls ≡ true → flatMap numbers-of ls ≡ flatten ls
 unfolding are-clauses all flatMap flatten numbers-of
@@ -139,11 +125,6 @@ rows-lists p (minus n ∷ ts) h =
     ap (λ ls. rows-all (clause-trees ls)) (lists-more (minus n) ts refl) ∙ rows-onto (minus n) (some-list ts h) ∙ ap suc (rows-lists true ts h)
 rows-lists p (other ∷ ts) h = absurd (false≢true h)
 
-pub count-trees : (cs : List (List Token)) → count (clause-trees cs) ≡ length cs
-unfolding clause-trees count
-count-trees [] = refl
-count-trees (c ∷ cs) = ap suc (count-trees cs)
-
 -- quantifier lines
 
 unfoldable pub bound-by : State → List (List Token) → Prefix
@@ -186,9 +167,9 @@ unfolding bound-by bound-from ordered clause-tokens pieces ended-lists split bou
 bound-is between [] h = refl
 bound-is (within q) [] h = absurd (false≢true h)
 bound-is between (opener q ∷ ts) h = ap bound (lists-more (opener q) ts refl) ∙ open-bound q (lists ts) ∙ bound-is (within q) ts h
-bound-is between (plain n ∷ ts) h = clauses-bound (lists (plain n ∷ ts)) (are-whole (plain n ∷ ts) h)
-bound-is between (minus n ∷ ts) h = clauses-bound (lists (minus n ∷ ts)) (are-whole (minus n ∷ ts) h)
-bound-is between (other ∷ ts) h = clauses-bound (lists (other ∷ ts)) (are-whole (other ∷ ts) h)
+bound-is between (plain n ∷ ts) h = clauses-bind-none (lists (plain n ∷ ts)) (are-whole (plain n ∷ ts) h)
+bound-is between (minus n ∷ ts) h = clauses-bind-none (lists (minus n ∷ ts)) (are-whole (minus n ∷ ts) h)
+bound-is between (other ∷ ts) h = clauses-bind-none (lists (other ∷ ts)) (are-whole (other ∷ ts) h)
 bound-is (within q) (opener r ∷ ts) h = absurd (false≢true h)
 bound-is (within q) (plain zero ∷ ts) h = ap (bound-by (within q)) (lists-end ts) ∙ bound-is between ts h
 bound-is (within q) (plain (suc n) ∷ ts) h =

@@ -17,12 +17,13 @@ use Rattle.sheet.specs.Check.{Answer, refused, accepted}
 use Rattle.sheet.specs.Operations.{padded}
 use Rattle.sheet.specs.Qdimacs.{all, is-nil, Token, is-end, absolute, text-header, tokens-below, pieces, ended-lists, open-list}
 use Rattle.sheet.specs.Qdimacs.{in-order, well-listed, numbers-of, bound, clauses, clause-trees, matrix-of, named, is-free, free-up-to, said, qdimacs, qdimacs-call, above-count}
+use Rattle.sheet.specs.Texts.{up-to, Uncut, lists, counts-fail}
 use Rattle.sheet.proofs.RoundTrip.{length-sheet}
 use Rattle.sheet.proofs.Parts.{sheet-length-rows}
 use Rattle.sheet.proofs.Qdimacs.Accepted.{positive, in-order-positive, prefix-few}
-use Rattle.sheet.specs.Texts.{up-to, Uncut, lists, counts-fail}
 use Rattle.sheet.proofs.Qdimacs.Lists.{pieces-uncut, all-both, all-leads}
 use Rattle.sheet.proofs.Qdimacs.Answers.{qdimacs-refused, refused-16, refused-17, refused-6, refused-2, refused-13, accepts}
+use Rattle.sheet.proofs.Qdimacs.Rows.{count-clauses}
 use Rattle.sheet.proofs.Writing.{written}
 use Rattle.rows.specs.Layouts.{width, total}
 use Rattle.rows.specs.declared.Layout.{Layout}
@@ -36,7 +37,7 @@ use Rattle.qdimacs.specs.Inner.Body.{laid, Below, CallAnswers}
 use Rattle.qdimacs.specs.declared.clauses.Clauses.{Clauses}
 use Rattle.qdimacs.specs.declared.prefix.Cut.{Cut}
 use Rattle.qdimacs.proofs.Pieces.{well-listed-is}
-use Rattle.qdimacs.proofs.Reading.{bound-by, bound-is, clauses-of, clauses-are, numbers-by, below-is, flatten-lists, numbers-named, length-lists, rows-lists, count-trees}
+use Rattle.qdimacs.proofs.Reading.{bound-by, bound-is, clauses-of, clauses-are, numbers-by, below-is, flatten-lists, numbers-named, length-lists, rows-lists}
 
 -- a sheet's bytes and zeros behind them
 abbrev laid-out : ℕ → ℕ → ℕ → List Row → ℕ → Bytes
@@ -156,7 +157,7 @@ module _ {F : Format} {t b : Bytes} {n : ℕ} (w : Below F t b n) (out : Bytes) 
           unfolding formula-rows qdimacs said matrix-of tree-rows
           rows-of {c} {us} ec eu =
               ap₂ (λ p ls. map binding-row p ++ (row 5 (count (clause-trees ls)) ∷ forest-rows (clause-trees ls))) prefix-is clause-lists ∙
-              ap₂ (λ p k. p ++ (row 5 k ∷ clause-rows cs)) (map-append binding-row (frees m n) (bindings-in b)) (count-trees (lists cs) ∙ length-lists cs ∙ sym ec) ∙
+              ap₂ (λ p k. p ++ (row 5 k ∷ clause-rows cs)) (map-append binding-row (frees m n) (bindings-in b)) (count-clauses (lists cs) ∙ length-lists cs ∙ sym ec) ∙
               append-assoc (map binding-row (frees m n)) (map binding-row (bindings-in b)) (row 5 c ∷ clause-rows cs) ∙ ap (rows-said c) (sym eu)
 
           pub whole-sheet : (s : Layout) {c end : ℕ} {us : List Token} {new : Bytes} → sizes ≤ length out → width s ≡ F .width

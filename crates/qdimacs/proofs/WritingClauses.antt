@@ -1,21 +1,21 @@
 -- clause_length and write_clauses: a word a turn.
 -- Assumes nothing.
-use mathlib.Core.Logic.{_⊎_, inl, inr}
 use mathlib.Core.Path.{_≡_, refl, sym, ap, ap₂, _∙_, subst}
-use mathlib.Core.Bool.{Bool, true, false, not, _&&_, cond, false≢true}
+use mathlib.Core.Bool.{Bool, true, false, not, _&&_, cond, false≢true, and-false}
 use mathlib.Core.List.{List, [], _∷_, _++_, append-assoc, append-nil}
-use Prim.Native.Nat.{ℕ, zero, suc, _+_, _^_, _≤_, _<_}
+use Prim.Native.Nat.{ℕ, zero, suc, _+_, _≤_, _<_}
 use native.Mathlib.Omega.{arith}
-use lib.Dec.{eqb, ltb, leb, eqb·suc-zero}
+use lib.Dec.{eqb, ltb, eqb·suc-zero}
 use lib.ListN.{length, set, length-append}
-use borrow.Author.Tests.{eq-eqb, ne-eqb, lt-ltb, le-ltb, leb-true}
-use Rattle.formula.specs.Tree.{or, Forest, ∅, _▸_, lit, node, rows, rows-all, count}
+use borrow.Author.Tests.{ne-eqb, le-ltb, leb-true}
+use Rattle.formula.specs.Tree.{lit, count}
 use Rattle.formula.proofs.Booleans.{and-parts}
 use Rattle.sheet.specs.Format.{Bytes, Row, row}
 use Rattle.sheet.specs.Sheet.{literal-kind, tree-rows, forest-rows}
-use Rattle.sheet.specs.Qdimacs.{split, all, pieces, ended-lists, Token, opener, plain, minus, other, is-plain, is-whole, is-end, absolute, literals, clause-trees}
+use Rattle.sheet.specs.Qdimacs.{split, all, pieces, ended-lists, Token, opener, plain, minus, other, is-plain, is-end, absolute, literals, clause-trees}
 use Rattle.sheet.specs.Texts.{up-to, lists}
 use Rattle.sheet.proofs.Preorder.{length-forest-rows}
+use Rattle.sheet.proofs.Qdimacs.Rows.{count-literals}
 use Rattle.rows.specs.declared.Layout.{Layout}
 use Rattle.words.specs.Numbers.{Capped, largest}
 use Rattle.words.specs.Literals.{literal, variable, kind}
@@ -28,10 +28,11 @@ use Rattle.qdimacs.specs.Inner.Cursor.{tokens-at}
 use Rattle.qdimacs.specs.Inner.Clauses.{literal-said, variable-said}
 use Rattle.qdimacs.specs.Inner.Rows.{spliced, clause-rows, begins, open-place, open-rows, literal-row, word-place, word-rows, Writable}
 use Rattle.qdimacs.specs.declared.write.ListPlace.{ListPlace}
-use Rattle.qdimacs.proofs.Pieces.{and-false, lists-end, lists-more, onto}
+use Rattle.qdimacs.proofs.Pieces.{lists-end, lists-more, onto}
 use Rattle.qdimacs.proofs.Reading.{first, Cons, some-list, rows-lists}
 use Rattle.qdimacs.proofs.Next.{Next, none, word, next}
 use Rattle.qdimacs.proofs.Cutting.{no-tokens}
+use Rattle.qdimacs.proofs.HeaderWords.{some-class}
 use Rattle.qdimacs.proofs.Putting.{Put, put-none, put-row, put-all}
 
 -- clause_length: the words so far belong to the clause
@@ -66,16 +67,6 @@ length-end us view-zero e = refl
 length-end us view-plain e = absurd (omega arith)
 length-end us view-minus e = absurd (omega arith)
 
-some-word : {k m : ℕ} {w : Token} → View k w m → eqb k 0 ≡ false
-some-word view-other = refl
-some-word view-exists = refl
-some-word view-for-all = refl
-some-word view-p = refl
-some-word view-cnf = refl
-some-word view-zero = refl
-some-word view-plain = refl
-some-word view-minus = refl
-
 module _ {b : Bytes} {from n at : ℕ} (h : Measured b from n at) {t : code.Token} (r : Reads b at t) where
   pub measured-end : t .class ≡ 6 → n ≡ first-length (tokens-at b from)
   measured-end e = go (next r)
@@ -92,7 +83,7 @@ module _ {b : Bytes} {from n at : ℕ} (h : Measured b from n at) {t : code.Toke
           let z = o ∙ ap (λ j. cond (eqb j 0) 0 1) k in
           record { inside = r .inside; so-far = omega (arith, h .so-far, ap first-length (p ∙ sym q)); fewer = omega (arith, h .fewer, r .onward l) }
       go (word v c p) =
-          let z = o ∙ ap (λ b. cond b 0 1) (some-word v) in
+          let z = o ∙ ap (λ b. cond b 0 1) (some-class v) in
           record {
             inside = r .inside;
             so-far = omega (arith, h .so-far, ap first-length p, length-word (tokens-at b (t .to)) v e);
@@ -127,11 +118,6 @@ first-length-is p (plain (suc n) ∷ ts) h =
 first-length-is p (minus n ∷ ts) h =
     ap suc (first-length-is true ts h) ∙ sym (ap (λ ls. length (first ls)) (lists-more (minus n) ts refl) ∙ first-onto (minus n) (some-list ts h))
 first-length-is p (other ∷ ts) h = absurd (false≢true h)
-
-count-literals : (l : List Token) → count (literals l) ≡ length l
-unfolding literals count
-count-literals [] = refl
-count-literals (w ∷ l) = ap suc (count-literals l)
 
 -- the rows that are left, where a clause begins or within one
 unfoldable pub rest-rows : Bool → List (List Token) → List Row

@@ -1,6 +1,6 @@
 -- `qdimacs::body::read_body` meets its contract. Assumes nothing.
 use mathlib.Core.Path.{_≡_, sym, ap, ap₂, _∙_}
-use mathlib.Core.Bool.{true, not, _&&_}
+use mathlib.Core.Bool.{true, not, _&&_, and-false}
 use Prim.Native.Nat.{ℕ}
 use native.Mathlib.Omega.{arith}
 use lib.Dec.{eqb}
@@ -10,7 +10,6 @@ use Rattle.sheet.specs.Texts.{up-to}
 use Rattle.words.specs.Numbers.{Capped, largest}
 use Rattle.qdimacs.specs.Inner.Lists.{between, clause-tokens, ends}
 use Rattle.qdimacs.specs.Inner.Cursor.{tokens-at}
-use Rattle.qdimacs.proofs.Pieces.{and-false}
 use Rattle.qdimacs.proofs.Whole.{ordered-whole, not-listed, too-high, other-count, right-counts, same-count, disordered, listed-so, ends-are, up-to-more}
 use Rattle.qdimacs.proofs.body.read_body.Statement.{statement}
 use Rattle.qdimacs.proofs.body.read_body.Tie as tie
