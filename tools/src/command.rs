@@ -1,8 +1,8 @@
 //! What a command is, and how it ends.
 
 use crate::arguments::{Arguments, Misuse};
-use crate::library::Solved;
 use crate::refusal::Refusal;
+use plumanchor::Solved;
 use std::fmt::{self, Display, Formatter};
 
 /// A command: its name, what it is for in a line, its help, the options that it

@@ -1,15 +1,13 @@
 //! The formats of sheets: sizes and numbers of a width, kinds of a byte.
 
-use crate::library::foreign::{self, Entries};
-
-/// A sheet's numbers have `width` bytes, low byte first; `entries` are the
-/// proved operations on such sheets.
+/// A sheet's numbers have `width` bytes, low byte first; `proved` is what the
+/// proved operations call it.
 pub struct Format {
     pub name: &'static str,
     pub width: usize,
     pub most_variables: usize,
     pub most_nodes: usize,
-    pub entries: Entries,
+    pub proved: plumanchor::Format,
 }
 
 pub static NARROW: Format = Format {
@@ -17,7 +15,7 @@ pub static NARROW: Format = Format {
     width: 2,
     most_variables: 256,
     most_nodes: 4096,
-    entries: foreign::NARROW,
+    proved: plumanchor::Format::Narrow,
 };
 
 pub static WIDE: Format = Format {
@@ -25,7 +23,7 @@ pub static WIDE: Format = Format {
     width: 4,
     most_variables: 1024,
     most_nodes: 8192,
-    entries: foreign::WIDE,
+    proved: plumanchor::Format::Wide,
 };
 
 /// Every format of sheets.

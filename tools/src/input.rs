@@ -4,10 +4,10 @@
 use crate::arguments::{contents, Arguments, Misuse};
 use crate::command::{Answer, Failure};
 use crate::format::{Format, DEFAULT, FORMATS};
-use crate::library::Sheet;
 use crate::names::Names;
 use crate::qcir;
 use crate::refusal::Refusal;
+use crate::sheet::Sheet;
 
 /// What `--from` and `--to` can name.
 #[derive(Clone, Copy)]

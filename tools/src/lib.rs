@@ -2,8 +2,8 @@
 //! tested, not proved: it reads files, converts, calls the operations and shows
 //! what they answer.
 //!
-//! `commands` has a file for each command. `library` is all that calls the
-//! proved operations; a `Format` has the entry points of one width of sheet.
+//! `commands` has a file for each command. `sheet` is all that calls the proved
+//! operations, by the crate `plumanchor`; a `Format` is one width of sheet.
 
 mod arguments;
 mod command;
@@ -12,13 +12,13 @@ mod dot;
 mod format;
 mod formula;
 mod input;
-mod library;
 mod names;
 mod picture;
 mod qcir;
 mod refusal;
 mod relevant;
 mod rule;
+mod sheet;
 mod words;
 
 use arguments::{Arguments, Misuse};

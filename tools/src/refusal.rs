@@ -1,8 +1,8 @@
 //! Refusals in words.
 
 use crate::formula::row_at;
-use crate::library::foreign::refusals;
-use crate::library::Sheet;
+use crate::sheet::Sheet;
+use plumanchor::refusals;
 use std::fmt::{self, Display, Formatter};
 
 /// The number of a refusal, its place, and what the sheet has to show for it.

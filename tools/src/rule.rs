@@ -3,8 +3,8 @@
 //! raw rows, ties to the lower number.
 
 use crate::formula::{Formula, Row, AND, EXISTS, POSITIVE};
-use crate::library::Sheet;
 use crate::refusal::Refusal;
+use crate::sheet::Sheet;
 
 /// What comes next for a tidy sheet.
 #[derive(Debug, PartialEq, Eq)]

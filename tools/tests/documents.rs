@@ -20,8 +20,17 @@ const PAGES: [&str; 6] = [
 ];
 
 /// The folders that a path in a document begins with.
-const FOLDERS: [&str; 8] =
-    [".cargo/", ".ci/", "crates/", "docs/", "examples/", "include/", "tests/", "tools/"];
+const FOLDERS: [&str; 9] = [
+    ".cargo/",
+    ".ci/",
+    "bindings/",
+    "crates/",
+    "docs/",
+    "examples/",
+    "include/",
+    "tests/",
+    "tools/",
+];
 
 fn read(path: &str) -> String {
     std::fs::read_to_string(Path::new(ROOT).join(path)).expect(path)

@@ -34,5 +34,5 @@ fn refusals_have_one_name_and_one_number() {
     let (_, below) = header.split_once("PLUMANCHOR_ACCEPTED = 0,\n").expect("the refusals");
     let (listed, _) = below.split_once("};").expect("their end");
     assert_eq!(refusals_in(listed, "PLUMANCHOR_", " = "), code);
-    assert_eq!(refusals("include/plumanchor.rs", "pub const ", ": u8 = "), code);
+    assert_eq!(refusals("bindings/rust/src/refusal.rs", "", " = "), code);
 }

@@ -63,6 +63,12 @@ impl Format {
         self.header() + self.row() * rows
     }
 
+    /// The number at a byte of a sheet.
+    pub(crate) fn number(self, sheet: &[u8], at: usize) -> usize {
+        let digits = &sheet[at..at + self.width()];
+        digits.iter().rev().fold(0, |value, &digit| value << 8 | usize::from(digit))
+    }
+
     /// The length of the longest sheet. No output and no work buffer needs to be longer.
     pub const fn longest(self) -> usize {
         self.length(self.most_variables() + self.most_nodes())

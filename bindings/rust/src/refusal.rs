@@ -4,7 +4,8 @@ use std::error::Error;
 use std::fmt::{self, Display, Formatter};
 
 /// A line for each refusal: its name as everywhere else, its number, its name as a variant, and
-/// what it means. From it come the variants of [`Reason`], the constants of [`refusals`] and the words.
+/// what it means. From it come the variants of [`Reason`], the constants of [`refusals`] and the
+/// words.
 macro_rules! table {
     ($($(#[$doc:meta])* $name:ident = $number:literal, $variant:ident, $text:literal;)*) => {
         /// Why a call is refused, by the number of documents 01 and 02; 26 and 27 are ours.
@@ -143,9 +144,9 @@ impl Display for Reason {
 /// A call that was refused. It has changed no byte of its outputs.
 ///
 /// ```
-/// use plumanchor::{Reason, Refusal};
+/// use plumanchor::{Format, Reason};
 ///
-/// let refusal = Refusal { number: 1, place: 0 };
+/// let refusal = Format::Wide.check(&[1, 0, 0]).unwrap_err();
 /// assert_eq!(refusal.reason(), Some(Reason::TooShort));
 /// assert_eq!(refusal.to_string(), "refused 1: the sheet is shorter than its two sizes");
 /// ```

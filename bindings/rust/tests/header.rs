@@ -3,7 +3,7 @@
 
 mod common;
 
-use common::{compile, output, read, root, Folder, LANGUAGES};
+use common::{compile, output, root, Folder, LANGUAGES};
 use outside::examples::examples;
 use outside::generate::Rng;
 use plumanchor::{
@@ -11,7 +11,6 @@ use plumanchor::{
     Solved, TRIAL_VARIABLES,
 };
 use std::cmp::Ordering;
-use std::collections::BTreeSet;
 use std::process::Command;
 
 /// A program of `bindings/c` in each language, compiled with the header in this repository.
@@ -175,29 +174,4 @@ fn programs_in_c_and_in_cpp_link_the_library() {
             assert_eq!(told, format!("{}\n", example.line));
         }
     }
-}
-
-/// The names between a mark and what ends a name.
-fn names_behind<'a>(text: &'a str, mark: &'a str) -> impl Iterator<Item = &'a str> {
-    let is_part = |letter: char| letter.is_ascii_alphanumeric() || letter == '_';
-    text.split(mark)
-        .skip(1)
-        .map(move |rest| rest.split(|letter| !is_part(letter)).next().expect("a name"))
-}
-
-#[test]
-fn every_function_of_the_library_is_declared() {
-    let folder = std::fs::read_dir(root("crates/capi/src")).expect("the sources");
-    let sources: String = folder
-        .map(|entry| std::fs::read_to_string(entry.expect("a source").path()).expect("text"))
-        .collect();
-    let entries: BTreeSet<&str> = names_behind(&sources, "pub extern \"C\" fn ").collect();
-    let header = read("include/plumanchor.h");
-    let declared: BTreeSet<&str> = header
-        .lines()
-        .flat_map(|line| ["uint64_t ", "size_t "].into_iter().filter_map(|t| line.strip_prefix(t)))
-        .filter_map(|rest| rest.split_once('(').map(|(name, _)| name))
-        .collect();
-    assert!(!entries.is_empty());
-    assert_eq!(declared, entries);
 }

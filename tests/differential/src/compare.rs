@@ -182,21 +182,6 @@ impl Library {
     }
 }
 
-/// The lower 16 bits of an answer's counts, which are all that comes back from
-/// Resume.
-pub fn lower_counts(answer: SolveAnswer) -> SolveAnswer {
-    let lower = |count: usize| count % 65_536;
-    match answer {
-        SolveAnswer::Refused(..) => answer,
-        SolveAnswer::Stopped { variable, settled, expanded } => {
-            SolveAnswer::Stopped { variable, settled: lower(settled), expanded: lower(expanded) }
-        }
-        SolveAnswer::Ended { verdict, settled, expanded } => {
-            SolveAnswer::Ended { verdict, settled: lower(settled), expanded: lower(expanded) }
-        }
-    }
-}
-
 pub fn agree_on_resume(
     counts: Counts,
     sheet: &[u8],
@@ -208,6 +193,6 @@ pub fn agree_on_resume(
         sheet,
         before,
         |[first, second]| crate::resume(counts, sheet, narrow, first, second),
-        |[first, second]| lower_counts(reference::resume(counts, sheet, narrow, first, second)),
+        |[first, second]| reference::resume(counts, sheet, narrow, first, second),
     )
 }

@@ -1,36 +1,20 @@
 //! Guards on sheets of either format, beside the independent reading.
 
 use crate::compare::hexadecimal;
-use crate::{Library, Packed};
+use crate::Library;
 use outside::reference::GuardsAnswer;
+use plumanchor::Guarded;
 
 impl Library {
     pub fn guards(&self, sheet: &[u8], buffers: &mut [Vec<u8>; 3]) -> GuardsAnswer {
         let [output, first, second] = buffers;
-        // Sound: each pointer comes with the length of a slice that lives until the call returns.
-        let answer = Packed::from(unsafe {
-            (self.entries.guards)(
-                sheet.as_ptr(),
-                sheet.len(),
-                output.as_mut_ptr(),
-                output.len(),
-                first.as_mut_ptr(),
-                first.len(),
-                second.as_mut_ptr(),
-                second.len(),
-            )
-        });
-        let (low, high) = (answer.low, answer.high as usize);
-        match (answer.number, answer.word) {
-            (0, 0) => GuardsAnswer::Kept { length: high, stops: low },
-            (0, 1) => GuardsAnswer::True { settled: low, expanded: high },
-            (0, 2) => GuardsAnswer::Stopped {
-                variable: high >> 16,
-                settled: low,
-                expanded: high & 0xffff,
-            },
-            (number, 0) if high == 0 => GuardsAnswer::Refused(number, low),
-            _ => panic!("no answer of Guards: {low} {high}"),
+        match self.proved.guards(sheet, output, first, second) {
+            Err(refused) => GuardsAnswer::Refused(refused.number, refused.place),
+            Ok(Guarded::Kept { sheet: length, stops }) => GuardsAnswer::Kept { length, stops },
+            Ok(Guarded::True { settled, expanded }) => GuardsAnswer::True { settled, expanded },
+            Ok(Guarded::Stopped { variable, settled, expanded }) => {
+                GuardsAnswer::Stopped { variable, settled, expanded }
+            }
         }
     }
 

@@ -1,21 +1,13 @@
-//! Sort and Compare of both formats (N14), as include/plumanchor.h declares
-//! them, each beside the independent reading.
+//! Sort and Compare of both formats (N14), each beside the independent reading.
 
 use crate::compare::hexadecimal;
-use crate::Library;
+use crate::{answer, Library};
 use outside::reference::{Answer, CompareAnswer};
-use std::cmp::Ordering;
+use plumanchor::{PairRefusal, Refusal};
 
-// Every call is sound: each pointer comes with the length of a slice that lives until the call
-// returns, and buffers are borrowed for it alone.
 impl Library {
     pub fn sort(&self, sheet: &[u8], output: &mut [u8]) -> Answer<usize> {
-        let (out, room) = (output.as_mut_ptr(), output.len());
-        let answer = unsafe { (self.entries.sort)(sheet.as_ptr(), sheet.len(), out, room) };
-        match answer as u8 {
-            0 => Answer::Accepted((answer >> 32) as usize),
-            number => Answer::Refused(number, (answer >> 16) as u16 as usize),
-        }
+        answer(self.proved.sort(sheet, output))
     }
 
     pub fn compare(
@@ -25,18 +17,10 @@ impl Library {
         first: &mut [u8],
         second: &mut [u8],
     ) -> CompareAnswer {
-        let rooms = (first.len(), second.len());
-        let (first, second) = (first.as_mut_ptr(), second.as_mut_ptr());
-        let (p, q) = (a.as_ptr(), b.as_ptr());
-        let answer = unsafe {
-            (self.entries.compare)(p, a.len(), q, b.len(), first, rooms.0, second, rooms.1)
-        };
-        match (answer as u8, (answer >> 8) as u8) {
-            (0, 0) => CompareAnswer::Ordered(Ordering::Less),
-            (0, 1) => CompareAnswer::Ordered(Ordering::Equal),
-            (0, 2) => CompareAnswer::Ordered(Ordering::Greater),
-            (number, which) => {
-                CompareAnswer::Refused(which, number, (answer >> 16) as u16 as usize)
+        match self.proved.compare(a, b, first, second) {
+            Ok(order) => CompareAnswer::Ordered(order),
+            Err(PairRefusal { sheet, refusal: Refusal { number, place } }) => {
+                CompareAnswer::Refused(sheet, number, place)
             }
         }
     }

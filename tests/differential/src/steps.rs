@@ -1,7 +1,7 @@
 //! A whole list of steps (N2) through the compiled library: the records in
 //! four arrays of numbers.
 
-use crate::{foreign, written};
+use crate::answer;
 use outside::reference::{Answer, Format, Operation, Step};
 
 /// The arrays; as many records as the shortest holds.
@@ -53,29 +53,10 @@ pub fn follow(
     first: &mut [u8],
     second: &mut [u8],
 ) -> Answer<usize> {
-    let entry = match format {
-        Format::NARROW => foreign::NARROW.steps,
-        _ => foreign::WIDE.steps,
+    let proved = match format {
+        Format::NARROW => plumanchor::Format::Narrow,
+        _ => plumanchor::Format::Wide,
     };
     let Records { operations, variables, numbers, values } = records;
-    // Sound: each pointer comes with the length of a slice that lives until the call returns, and
-    // what is written is borrowed for it alone.
-    written(unsafe {
-        entry(
-            sheet.as_ptr(),
-            sheet.len(),
-            operations.as_ptr(),
-            operations.len(),
-            variables.as_ptr(),
-            variables.len(),
-            numbers.as_mut_ptr(),
-            numbers.len(),
-            values.as_mut_ptr(),
-            values.len(),
-            first.as_mut_ptr(),
-            first.len(),
-            second.as_mut_ptr(),
-            second.len(),
-        )
-    })
+    answer(proved.steps(sheet, operations, variables, numbers, values, first, second))
 }

@@ -2,7 +2,7 @@
 
 use crate::command::Command;
 use crate::input::step;
-use crate::library::Sheet;
+use crate::sheet::Sheet;
 
 pub const COMMAND: Command = Command {
     name: "expand",

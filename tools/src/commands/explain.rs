@@ -5,11 +5,12 @@ use crate::command::{Answer, Command, Failure};
 use crate::format::DEFAULT;
 use crate::formula::{Row, POSITIVE};
 use crate::input::{self, Input};
-use crate::library::{foreign::refusals, Sheet, Solved};
 use crate::names::Names;
 use crate::refusal::Refusal;
 use crate::rule::{next_move, Move, Reason};
+use crate::sheet::Sheet;
 use crate::words::count;
+use plumanchor::{refusals, Solved};
 use std::path::Path;
 
 pub const COMMAND: Command = Command {

@@ -3,7 +3,7 @@
 use crate::arguments::{Arguments, Misuse};
 use crate::command::{Answer, Command, Failure};
 use crate::input;
-use crate::library::Outcome;
+use plumanchor::Outcome;
 
 pub const COMMAND: Command = Command {
     name: "force",

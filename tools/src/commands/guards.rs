@@ -4,8 +4,9 @@ use crate::arguments::Arguments;
 use crate::command::{Answer, Command, Failure};
 use crate::formula::{Formula, Row, AND};
 use crate::input;
-use crate::library::{Guarded, Sheet};
 use crate::refusal::Refusal;
+use crate::sheet::Sheet;
+use plumanchor::Guarded;
 use std::sync::mpsc::{channel, Receiver, RecvTimeoutError};
 use std::time::{Duration, Instant};
 

@@ -5,7 +5,7 @@ use crate::arguments::Arguments;
 use crate::command::{Answer, Command, Failure};
 use crate::format::WIDE;
 use crate::input;
-use crate::library::Counts;
+use plumanchor::Counts;
 
 pub const COMMAND: Command = Command {
     name: "resume",

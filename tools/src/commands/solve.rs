@@ -4,8 +4,9 @@ use crate::arguments::{Arguments, Misuse};
 use crate::command::{Answer, Command, Failure};
 use crate::format::DEFAULT;
 use crate::input;
-use crate::library::{Sheet, Solved};
 use crate::refusal::Refusal;
+use crate::sheet::Sheet;
+use plumanchor::Solved;
 
 pub const COMMAND: Command = Command {
     name: "solve",

@@ -3,7 +3,7 @@
 use crate::arguments::{number, Arguments, Misuse};
 use crate::command::{Answer, Command, Failure};
 use crate::input;
-use crate::library::{Operation, Step};
+use plumanchor::{Operation, Step};
 
 pub const COMMAND: Command = Command {
     name: "steps",
