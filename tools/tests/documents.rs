@@ -20,7 +20,7 @@ const PAGES: [&str; 6] = [
 ];
 
 /// The folders that a path in a document begins with.
-const FOLDERS: [&str; 9] = [
+const FOLDERS: [&str; 10] = [
     ".cargo/",
     ".ci/",
     "bindings/",
@@ -28,6 +28,7 @@ const FOLDERS: [&str; 9] = [
     "docs/",
     "examples/",
     "include/",
+    "install/",
     "tests/",
     "tools/",
 ];
