@@ -67,6 +67,7 @@ stage: built $(shared)
 	@ln -s libplumanchor.so.$(version) $(staged)/lib/$(soname)
 	@ln -s $(soname) $(staged)/lib/libplumanchor.so
 	@install -D -m 644 include/plumanchor.h $(staged)/include/plumanchor.h
+	@install -D -m 644 bindings/python/plumanchor.py $(staged)/share/plumanchor/python/plumanchor.py
 	@install -d $(staged)/lib/pkgconfig $(staged)/share/plumanchor $(staged)/share/doc/plumanchor
 	@sed 's/@VERSION@/$(version)/' install/plumanchor.pc > $(staged)/lib/pkgconfig/plumanchor.pc
 	@! [[ -d share ]] || cp -R share $(staged)

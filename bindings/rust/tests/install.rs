@@ -1,5 +1,6 @@
 //! What `make install` puts into a folder is used as people use it: programs in C and in C++
-//! compiled with pkg-config, the command, the tarball. `make uninstall` leaves nothing.
+//! compiled with pkg-config, the command, the module for Python, the tarball. `make uninstall`
+//! leaves nothing.
 
 mod common;
 
@@ -97,6 +98,23 @@ fn command_works(installed: &Path, folder: &Folder) {
     assert!(!ended.stderr.is_empty());
 }
 
+/// The module for Python finds the library that it is installed with.
+fn python_works(installed: &Path) {
+    let mut python = Command::new("python3");
+    python.env("PYTHONPATH", installed.join("share/plumanchor/python"));
+    python.env("PYTHONDONTWRITEBYTECODE", "1").env_remove("PLUMANCHOR_LIBRARY");
+    python.arg("-c").arg(
+        "import plumanchor, sys\n\
+         print(plumanchor._LIBRARY._name)\n\
+         print(plumanchor.solve(open(sys.argv[1], 'rb').read()))",
+    );
+    let told = output(python.arg(root("examples/press-line.sheet")), "");
+    let (library, line) = told.split_once('\n').expect("two lines");
+    let installed = installed.canonicalize().expect("a folder");
+    assert!(Path::new(library).starts_with(installed), "{library}");
+    assert_eq!(line, "true 0 3 0\n");
+}
+
 /// The shared library has a version, and shows the functions of the header alone.
 fn library_is_tidy(installed: &Path) {
     let library = installed.join(format!("lib/libplumanchor.so.{VERSION}"));
@@ -130,6 +148,7 @@ fn what_is_installed_works_and_goes() {
     assert_eq!(pkg_config(&installed, &["--modversion"]), [VERSION]);
     programs_work(&installed, &beside);
     command_works(&installed, &beside);
+    python_works(&installed);
     library_is_tidy(&installed);
     let told = std::fs::read_to_string(installed.join("share/doc/plumanchor/BUILD"));
     build_is_told(&told.expect("what was built"));
@@ -150,4 +169,5 @@ fn what_is_installed_works_and_goes() {
     std::fs::remove_file(beside.path("linked")).expect("the link");
     programs_work(&unpacked, &beside);
     command_works(&unpacked, &beside);
+    python_works(&unpacked);
 }
