@@ -24,21 +24,31 @@ static := target/staticlib/libcapi.a
 tool := build/release/plumanchor-tool
 shared := build/library/libplumanchor.so.$(version)
 staged := build/stage
-target := $(DESTDIR)$(abspath $(PREFIX))
+target := $(DESTDIR)$(PREFIX)
+
+ifeq ($(filter /%,$(firstword $(PREFIX))),)
+$(error PREFIX is to begin with '/', and not '$(PREFIX)')
+endif
+
+need_rt := command -v rt >/dev/null || { echo "make: no 'rt': the Rattle toolchain proves and builds the program; a machine without it takes \
+  what 'make dist' packed on another" >&2; exit 1; }
 
 # The list of files installed, which is itself one of them.
 list := share/plumanchor/installed
 
 all:
+	@$(need_rt)
 	source .ci/prover; rt check plumanchor; rt staticlib capi
 	cargo build --release --offline -p plumanchor-tool
 	$(MAKE) --no-print-directory library
 
 # Only what is missing is built here. What is older than its source is not installed.
 $(program):
+	@$(need_rt)
 	source .ci/prover; rt check plumanchor
 
 $(static):
+	@$(need_rt)
 	source .ci/prover; rt staticlib capi
 
 built: $(program) $(static)
@@ -76,14 +86,17 @@ stage: built $(shared)
 	@cd $(staged) && { find . ! -type d -printf '%P\n'; echo $(list); } | LC_ALL=C sort > .list && mv .list $(list)
 	@chmod -R u=rwX,go=rX $(staged)
 
+# File by file, so that folders that are there stay as they are. What only an earlier installation had goes.
 install: stage
 	@mkdir -p '$(target)'
-	@cp -RP --preserve=mode,timestamps $(staged)/. '$(target)'
+	@! [[ -e '$(target)/$(list)' ]] || LC_ALL=C comm -23 '$(target)/$(list)' $(staged)/$(list) | (cd '$(target)' && xargs -r rm -f)
+	@cd $(staged) && while read -r file; do mkdir -p '$(target)'/"$${file%/*}"; \
+	  cp -P --preserve=mode,timestamps --remove-destination "$$file" '$(target)'/"$$file"; done < $(list)
 	@echo "installed in $(target)"
 
 # Folders go that are empty then.
 uninstall:
-	@[[ -e '$(target)/$(list)' ]] || { echo "make: nothing of Plumanchor is installed in $(target)" >&2; exit 1; }
+	@[[ -e '$(target)/$(list)' ]] || { echo "make: Plumanchor isn't installed in $(target)" >&2; exit 1; }
 	@cd '$(target)' && files=$$(cat $(list)) && for file in $$files; do rm -f "$$file"; done && \
 	  for file in $$files; do ! [[ -d $${file%/*} ]] || rmdir -p --ignore-fail-on-non-empty "$${file%/*}"; done
 	@echo "uninstalled from $(target)"

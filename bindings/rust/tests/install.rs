@@ -6,10 +6,12 @@ mod common;
 
 use common::{compile, output, root, Folder, LANGUAGES, ROOT};
 use outside::examples::examples;
+use std::fs::Permissions;
+use std::os::unix::fs::{symlink, PermissionsExt};
 use std::path::{Path, PathBuf};
 use std::process::{Command, Output, Stdio};
 
-const PREFIX: &str = "/opt/plumanchor";
+const PREFIX: &str = "/opt/plum anchor";
 const VERSION: &str = env!("CARGO_PKG_VERSION");
 
 fn make(words: &[&str], folder: &Folder) -> String {
@@ -39,7 +41,9 @@ fn pkg_config(installed: &Path, words: &[&str]) -> Vec<String> {
     let mut command = Command::new("pkg-config");
     command.env("PKG_CONFIG_PATH", installed.join("lib/pkgconfig"));
     let told = output(command.args(words).arg("plumanchor"), "");
-    told.split_whitespace().map(str::to_string).collect()
+    // It writes words for a shell.
+    let words = told.replace("\\ ", "\0");
+    words.split_whitespace().map(|word| word.replace('\0', " ")).collect()
 }
 
 /// The example in C compiled against the copy below `installed`, in each language, with the shared
@@ -76,7 +80,7 @@ fn command(program: &Path, words: &[&str], input: &str) -> Output {
 fn command_works(installed: &Path, folder: &Folder) {
     let link = folder.path("linked");
     let program = installed.join("bin/plumanchor");
-    std::os::unix::fs::symlink(&program, &link).expect("a link");
+    symlink(&program, &link).expect("a link");
     for program in [&program, &link] {
         for example in examples() {
             let sheet = format!("examples/{}.sheet", example.name);
@@ -143,8 +147,17 @@ fn build_is_told(told: &str) {
 #[test]
 fn what_is_installed_works_and_goes() {
     let (folder, beside) = (Folder::new("install"), Folder::new("beside"));
-    make(&["install"], &folder);
     let installed = folder.path(&PREFIX[1..]);
+    // Folders of others stay as they are, and what an earlier version had goes.
+    let before = ["bin", "share/plumanchor"].map(|name| installed.join(name));
+    before.iter().for_each(|name| std::fs::create_dir_all(name).expect("a folder"));
+    let mode = || std::fs::metadata(&before[0]).expect("a folder").permissions().mode() & 0o7777;
+    std::fs::set_permissions(&before[0], Permissions::from_mode(0o2770)).expect("a mode");
+    std::fs::write(before[0].join("early"), "").expect("a file");
+    std::fs::write(before[1].join("installed"), "bin/early\n").expect("a file");
+    make(&["install"], &folder);
+    assert_eq!(mode(), 0o2770);
+    assert!(!before[0].join("early").exists());
     assert_eq!(pkg_config(&installed, &["--modversion"]), [VERSION]);
     programs_work(&installed, &beside);
     command_works(&installed, &beside);
