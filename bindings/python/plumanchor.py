@@ -130,6 +130,21 @@ class Refused(Exception):
         return f"{which}refused {self.number}: {text}{row}"
 
 
+class Kind(enum.IntEnum):
+    """What a row is: a quantifier of the prefix, or a node of the tree."""
+
+    EXISTS = 1
+    FOR_ALL = 2
+    POSITIVE = 3
+    NEGATIVE = 4
+    AND = 5
+    OR = 6
+
+
+Row = Tuple[int, int]
+"""A row's kind, and its variable or, of an operator, how many children it has."""
+
+
 class Quantifier(enum.IntEnum):
     """A quantifier, by its row's kind."""
 
@@ -339,6 +354,36 @@ def _written(name: str, sheet: Bytes, format: Format, room: Optional[int], *numb
     output = _buffer(format, room)
     parts = _Parts(_call(name, _lent(sheet), *numbers, output))
     return output.raw[: parts.high]
+
+
+def from_rows(prefix: Sequence[Row], nodes: Sequence[Row], format: Format = Format.WIDE) -> bytes:
+    """The sheet of a prefix, outermost variable first, and of the nodes in preorder: each operator in front of its children.
+
+    >>> both = [(Kind.AND, 2), (Kind.POSITIVE, 1), (Kind.NEGATIVE, 2)]
+    >>> sheet = from_rows([(Kind.EXISTS, 1), (Kind.EXISTS, 2)], both)
+    >>> rows(sheet) == ([(Kind.EXISTS, 1), (Kind.EXISTS, 2)], both)
+    True
+    """
+    all_rows = [*prefix, *nodes]
+    # A number that doesn't fit becomes the highest that does, which is above all limits: check refuses it where it stands.
+    highest = 256**format.width - 1
+    numbers = [len(prefix), len(nodes)] + [argument for _, argument in all_rows]
+    digits = [min(_number(number), highest).to_bytes(format.width, "little") for number in numbers]
+    sheet = b"".join(digits[:2]) + bytes(kind for kind, _ in all_rows) + b"".join(digits[2:])
+    check(sheet, format)
+    return sheet
+
+
+def rows(sheet: Bytes, format: Format = Format.WIDE) -> Tuple[List[Row], List[Row]]:
+    """The prefix and the nodes of a sheet, as `from_rows` takes them."""
+    lent, sizes = _lent(sheet), check(sheet, format)
+    count = sizes.variables + sizes.nodes
+    kinds = map(Kind, lent[format.header : format.header + count])
+    starts = range(format.header + count, len(lent), format.width)
+    all_rows: List[Row] = [
+        (kind, int.from_bytes(lent[start : start + format.width], "little")) for kind, start in zip(kinds, starts)
+    ]
+    return all_rows[: sizes.variables], all_rows[sizes.variables :]
 
 
 def check(sheet: Bytes, format: Format = Format.WIDE) -> Sizes:

@@ -3,6 +3,7 @@
 from __future__ import annotations
 
 import doctest
+import os
 import random
 import re
 import unittest
@@ -11,13 +12,11 @@ from pathlib import Path
 from typing import Dict, List, Tuple
 
 import plumanchor
-from plumanchor import Format, Operation, Order, Outcome, Quantifier, Reason, Refused
+from plumanchor import Format, Kind, Operation, Order, Outcome, Quantifier, Reason, Refused, Row
 
 ROOT = Path(__file__).resolve().parents[2]
 HEADER = (ROOT / "include/plumanchor.h").read_text()
 EXISTS, FOR_ALL, POSITIVE, NEGATIVE, AND, OR = range(1, 7)
-
-Row = Tuple[int, int]
 
 
 def encode(prefix: List[Row], nodes: List[Row], format: Format) -> bytes:
@@ -90,8 +89,8 @@ class Header(unittest.TestCase):
         self.assertEqual(texts, {reason.name: reason.text for reason in Reason})
 
     def test_words(self) -> None:
-        names = {"order": Order, "kind": Quantifier, "step": Operation}
-        for enum, members in names.items():
+        names = (("order", Order), ("kind", Kind), ("kind", Quantifier), ("step", Operation))
+        for enum, members in names:
             body = HEADER.split(f"enum plumanchor_{enum} {{")[1].split("};")[0]
             for member in members:
                 self.assertIn(f"PLUMANCHOR_{member.name} = {member.value}", body)
@@ -129,6 +128,12 @@ class Examples(unittest.TestCase):
 
     def test_documentation(self) -> None:
         self.assertEqual(doctest.testmod(plumanchor).failed, 0)
+        folder = os.getcwd()
+        self.addCleanup(os.chdir, folder)
+        os.chdir(ROOT / "examples")
+        page = doctest.testfile(str(ROOT / "bindings/README.md"), module_relative=False)
+        self.assertEqual(page.failed, 0)
+        self.assertGreater(page.attempted, 3)
 
 
 class Operations(unittest.TestCase):
@@ -239,6 +244,21 @@ class Operations(unittest.TestCase):
             narrow, wide = (encode(prefix, rows, format) for format in Format)
             self.assertEqual(plumanchor.widen(narrow), wide)
             self.assertEqual(plumanchor.narrow(wide), narrow)
+
+    def test_rows(self) -> None:
+        for _, prefix, rows, sheet, format, _ in self.cases(100):
+            self.assertEqual(plumanchor.from_rows(prefix, rows, format), sheet)
+            self.assertEqual(plumanchor.rows(sheet, format), (prefix, rows))
+        for format in Format:
+            above = 256**format.width
+            for prefix, rows, reason in (
+                ([(EXISTS, above + 1)], [(POSITIVE, 1)], Reason.BAD_NUMBER),
+                ([(EXISTS, 1)], [(POSITIVE, above + 1)], Reason.UNBOUND),
+                ([(EXISTS, 1)], [(AND, above + 1), (POSITIVE, 1)], Reason.NOT_ONE_TREE),
+            ):
+                with self.assertRaises(Refused) as raised:
+                    plumanchor.from_rows(prefix, rows, format)
+                self.assertIs(raised.exception.reason, reason)
 
     def test_part(self) -> None:
         for _, prefix, rows, sheet, format, _ in self.cases(50):

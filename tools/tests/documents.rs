@@ -10,9 +10,10 @@ use std::path::Path;
 const ROOT: &str = concat!(env!("CARGO_MANIFEST_DIR"), "/..");
 
 /// Pages that speak of the repository as it is.
-const PAGES: [&str; 6] = [
+const PAGES: [&str; 7] = [
     "README.md",
     "CONTRIBUTING.md",
+    "bindings/README.md",
     "docs/ARCHITECTURE.md",
     "docs/DECISIONS.md",
     "docs/TOOL.md",

@@ -5,14 +5,18 @@ use std::fmt::{self, Display, Formatter};
 /// How many variables and nodes a sheet has.
 #[derive(Clone, Copy, Debug, PartialEq, Eq, Hash)]
 pub struct Sizes {
+    /// V, the rows of the prefix.
     pub variables: usize,
+    /// N, the rows of the tree.
     pub nodes: usize,
 }
 
 /// The verdict of trying all values, and how many leaves were tried.
 #[derive(Clone, Copy, Debug, PartialEq, Eq, Hash)]
 pub struct Tried {
+    /// Whether the formula is true.
     pub verdict: bool,
+    /// How many assignments were looked at.
     pub leaves: usize,
 }
 
@@ -46,7 +50,9 @@ impl<T> Copied<T> {
 pub struct Solved {
     /// Nothing if it stopped.
     pub verdict: Option<bool>,
+    /// How many variables were settled.
     pub settled: usize,
+    /// How many variables were expanded.
     pub expanded: usize,
     /// The variable that it stopped at, 0 with a verdict.
     pub variable: usize,
@@ -72,8 +78,11 @@ impl Display for Solved {
 /// How many variables a run began with, and its counts so far.
 #[derive(Clone, Copy, Debug, PartialEq, Eq, Hash)]
 pub struct Counts {
+    /// How many variables the run's first sheet has.
     pub started: usize,
+    /// How many variables were settled so far.
     pub settled: usize,
+    /// How many variables were expanded so far.
     pub expanded: usize,
 }
 
@@ -81,9 +90,21 @@ pub struct Counts {
 #[derive(Clone, Copy, Debug, PartialEq, Eq, Hash)]
 pub enum Guarded<T> {
     /// The sheet is true, by a run with these counts: no child is to blame.
-    True { settled: usize, expanded: usize },
+    True {
+        /// How many variables were settled.
+        settled: usize,
+        /// How many variables were expanded.
+        expanded: usize,
+    },
     /// The run on the whole sheet stopped: there is no verdict.
-    Stopped { variable: usize, settled: usize, expanded: usize },
+    Stopped {
+        /// The variable that it stopped at.
+        variable: usize,
+        /// How many variables were settled.
+        settled: usize,
+        /// How many variables were expanded.
+        expanded: usize,
+    },
     /// The sheet is false.
     Kept {
         /// The sheet of the children kept, or its length where the caller has it in an output.
@@ -106,27 +127,36 @@ impl<T> Guarded<T> {
     }
 }
 
+/// A quantifier, or the side that owns its variables.
 #[derive(Clone, Copy, Debug, PartialEq, Eq, Hash)]
 pub enum Quantifier {
+    /// There is a value; its owner wants the formula true.
     Exists,
+    /// All values; its owner wants the formula false.
     ForAll,
 }
 
 /// Whose turn is next, and with which values its owner gets the outcome wanted.
 #[derive(Clone, Copy, Debug, PartialEq, Eq, Hash)]
 pub struct Forced {
+    /// The quantifier of the first variable without a value.
     pub turn: Quantifier,
+    /// What its owner can do.
     pub outcome: Outcome,
 }
 
 /// With which values the owner of a turn gets the outcome wanted: true for exists, false for all.
 #[derive(Clone, Copy, Debug, PartialEq, Eq, Hash)]
 pub enum Outcome {
+    /// With none.
     Neither,
+    /// With 0 alone.
     Zero,
+    /// With 1 alone.
     One,
+    /// With each.
     Both,
-    /// The variable that a value's run stopped at.
+    /// It isn't known: the variable that a value's run stopped at.
     Stopped(usize),
 }
 
@@ -134,13 +164,17 @@ pub enum Outcome {
 #[derive(Clone, Copy, Debug, PartialEq, Eq, Hash)]
 #[repr(u8)]
 pub enum Operation {
+    /// As Settle does.
     Settle = 0,
+    /// As Expand does.
     Expand = 1,
 }
 
 /// A step of a list, on the sheet that the steps before it left.
 #[derive(Clone, Copy, Debug, PartialEq, Eq, Hash)]
 pub struct Step {
+    /// What is done.
     pub operation: Operation,
+    /// To which variable.
     pub variable: usize,
 }

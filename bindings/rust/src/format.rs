@@ -16,8 +16,10 @@ pub enum Format {
 pub const TRIAL_VARIABLES: usize = 20;
 
 impl Format {
+    /// Both formats.
     pub const ALL: [Format; 2] = [Format::Narrow, Format::Wide];
 
+    /// What it is called.
     pub const fn name(self) -> &'static str {
         match self {
             Format::Narrow => "narrow",
@@ -41,6 +43,7 @@ impl Format {
         }
     }
 
+    /// The most nodes of a sheet.
     pub const fn most_nodes(self) -> usize {
         match self {
             Format::Narrow => 4096,
@@ -67,6 +70,13 @@ impl Format {
     pub(crate) fn number(self, sheet: &[u8], at: usize) -> usize {
         let digits = &sheet[at..at + self.width()];
         digits.iter().rev().fold(0, |value, &digit| value << 8 | usize::from(digit))
+    }
+
+    /// Writes a number. One that doesn't fit is written as the highest that does, which is above
+    /// all limits, so that Check refuses it where it stands.
+    pub(crate) fn push_number(self, number: usize, bytes: &mut Vec<u8>) {
+        let highest = usize::MAX >> (usize::BITS as usize - 8 * self.width());
+        bytes.extend_from_slice(&number.min(highest).to_le_bytes()[..self.width()]);
     }
 
     /// The length of the longest sheet. No output and no work buffer needs to be longer.

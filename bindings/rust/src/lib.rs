@@ -34,11 +34,14 @@
 //! In this repository the crate links what `rt staticlib capi` wrote. Elsewhere PLUMANCHOR_LIB_DIR
 //! names the folder with `libplumanchor.a`, which `make install` puts into `PREFIX/lib`.
 
+#![warn(missing_docs)]
+
 mod answer;
 mod calls;
 mod format;
 pub mod packed;
 mod refusal;
+mod row;
 mod sheet;
 
 pub use answer::{
@@ -48,4 +51,5 @@ pub use answer::{
 pub use calls::DECLARED;
 pub use format::{Format, TRIAL_VARIABLES};
 pub use refusal::{refusals, PairRefusal, Reason, Refusal};
+pub use row::{Kind, Row};
 pub use sheet::Sheet;

@@ -130,6 +130,7 @@ table! {
 }
 
 impl Reason {
+    /// Its number.
     pub fn number(self) -> u8 {
         self as u8
     }
@@ -192,6 +193,7 @@ impl Error for Refusal {}
 pub struct PairRefusal {
     /// 1 for the first sheet, 2 for the second.
     pub sheet: u8,
+    /// Why it is refused.
     pub refusal: Refusal,
 }
 

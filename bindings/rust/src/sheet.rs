@@ -3,9 +3,11 @@
 use crate::answer::{Copied, Counts, Forced, Guarded, Sizes, Solved, Step, Tried};
 use crate::format::Format;
 use crate::refusal::Refusal;
+use crate::row::{Kind, Row};
 use std::cmp::Ordering;
+use std::hash::{Hash, Hasher};
 
-/// Bytes that Check accepts, with their format.
+/// Bytes that Check accepts, with their format. Sheets are equal if both are.
 ///
 /// They are checked where they come in, by [`Sheet::new`]; what an operation writes is proved to be
 /// a sheet. So refusals 1 to 8 never come from a method. Outputs and work buffers are as long as
@@ -26,7 +28,7 @@ use std::cmp::Ordering;
 /// assert_eq!(refusal.reason(), Some(Reason::WrongLength));
 /// # Ok::<(), plumanchor::Refusal>(())
 /// ```
-#[derive(Clone, Debug, PartialEq, Eq, Hash)]
+#[derive(Clone, Debug)]
 pub struct Sheet {
     format: Format,
     bytes: Vec<u8>,
@@ -50,6 +52,38 @@ impl Sheet {
         Ok(Sheet { format, bytes, room: None })
     }
 
+    /// The sheet of a prefix, outermost variable first, and of the nodes in preorder: each operator
+    /// in front of its children.
+    ///
+    /// ```
+    /// use plumanchor::{Format, Kind, Row, Sheet};
+    ///
+    /// // For all 1 there is a 2 that differs from it.
+    /// let prefix = [Row::new(Kind::ForAll, 1), Row::new(Kind::Exists, 2)];
+    /// let nodes = [
+    ///     Row::new(Kind::Or, 2),
+    ///     Row::new(Kind::And, 2),
+    ///     Row::new(Kind::Positive, 1),
+    ///     Row::new(Kind::Negative, 2),
+    ///     Row::new(Kind::And, 2),
+    ///     Row::new(Kind::Negative, 1),
+    ///     Row::new(Kind::Positive, 2),
+    /// ];
+    /// let sheet = Sheet::from_rows(Format::Wide, &prefix, &nodes)?;
+    /// assert_eq!(sheet.solve()?.verdict, Some(true));
+    /// assert!(sheet.prefix().eq(prefix) && sheet.nodes().eq(nodes));
+    /// # Ok::<(), plumanchor::Refusal>(())
+    /// ```
+    pub fn from_rows(format: Format, prefix: &[Row], nodes: &[Row]) -> Result<Sheet, Refusal> {
+        let rows = || prefix.iter().chain(nodes);
+        let mut bytes = Vec::with_capacity(format.length(rows().count()));
+        format.push_number(prefix.len(), &mut bytes);
+        format.push_number(nodes.len(), &mut bytes);
+        bytes.extend(rows().map(|row| row.kind as u8));
+        rows().for_each(|row| format.push_number(row.argument, &mut bytes));
+        Sheet::new(format, bytes)
+    }
+
     /// The same sheet, and operations on it have outputs and work buffers of so many bytes, or of
     /// the longest sheet's if that is less. Sheets that they make have the same room.
     ///
@@ -65,14 +99,17 @@ impl Sheet {
         Sheet { room: Some(room), ..self }
     }
 
+    /// The format.
     pub fn format(&self) -> Format {
         self.format
     }
 
+    /// The bytes.
     pub fn bytes(&self) -> &[u8] {
         &self.bytes
     }
 
+    /// The bytes, taken out.
     pub fn into_bytes(self) -> Vec<u8> {
         self.bytes
     }
@@ -82,6 +119,26 @@ impl Sheet {
         let [variables, nodes] =
             [0, self.format.width()].map(|at| self.format.number(&self.bytes, at));
         Sizes { variables, nodes }
+    }
+
+    /// The quantifiers, outermost first.
+    pub fn prefix(&self) -> impl Iterator<Item = Row> + '_ {
+        (0..self.sizes().variables).map(|at| self.row(at))
+    }
+
+    /// The rows of the tree, in preorder.
+    pub fn nodes(&self) -> impl Iterator<Item = Row> + '_ {
+        let Sizes { variables, nodes } = self.sizes();
+        (variables..variables + nodes).map(|at| self.row(at))
+    }
+
+    /// A row by its number, quantifiers first.
+    fn row(&self, at: usize) -> Row {
+        let Sizes { variables, nodes } = self.sizes();
+        let (format, header) = (self.format, self.format.header());
+        let kind = Kind::from_byte(self.bytes[header + at]).expect("the kind of a sheet's row");
+        let argument = header + variables + nodes + format.width() * at;
+        Row { kind, argument: format.number(&self.bytes, argument) }
     }
 
     /// The verdict of trying all values.
@@ -320,6 +377,20 @@ impl Sheet {
         let mut bytes = sheet.bytes;
         bytes.truncate(format.length(variables + nodes));
         Sheet { format, bytes, room: self.room }
+    }
+}
+
+impl PartialEq for Sheet {
+    fn eq(&self, other: &Sheet) -> bool {
+        (self.format, &self.bytes) == (other.format, &other.bytes)
+    }
+}
+
+impl Eq for Sheet {}
+
+impl Hash for Sheet {
+    fn hash<H: Hasher>(&self, to: &mut H) {
+        (self.format, &self.bytes).hash(to);
     }
 }
 
