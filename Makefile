@@ -66,7 +66,12 @@ $(shared): $(static) install/exports.map Makefile
 
 library: $(shared)
 
-# All that is installed, as it is below PREFIX. What is in share/ goes there as it is: the manual page and the completions.
+# What the tool writes of itself, if it has the commands for it: the command's words, and the file below share/.
+written := $(if $(wildcard tools/src/commands/manual.rs),manual:man/man1/plumanchor.1) \
+  $(if $(wildcard tools/src/commands/completion.rs),completion-bash:bash-completion/completions/plumanchor \
+  completion-zsh:zsh/site-functions/_plumanchor completion-fish:fish/vendor_completions.d/plumanchor.fish)
+
+# All that is installed, as it is below PREFIX.
 stage: built $(shared)
 	@rm -rf $(staged)
 	@install -D -m 755 install/plumanchor $(staged)/bin/plumanchor
@@ -80,10 +85,12 @@ stage: built $(shared)
 	@install -D -m 644 bindings/python/plumanchor.py $(staged)/share/plumanchor/python/plumanchor.py
 	@install -d $(staged)/lib/pkgconfig $(staged)/share/plumanchor $(staged)/share/doc/plumanchor
 	@sed 's/@VERSION@/$(version)/' install/plumanchor.pc > $(staged)/lib/pkgconfig/plumanchor.pc
-	@! [[ -d share ]] || cp -R share $(staged)
+	@for text in $(written); do file=$(staged)/share/$${text#*:}; words=$${text%%:*}; mkdir -p "$${file%/*}"; \
+	  $(tool) $${words//-/ } > "$$file"; done
 	@install -m 644 README.md CHANGELOG.md $(staged)/share/doc/plumanchor
 	@install/told $(version) > $(staged)/share/doc/plumanchor/BUILD
-	@cd $(staged) && { find . ! -type d -printf '%P\n'; echo $(list); } | LC_ALL=C sort > .list && mv .list $(list)
+	@{ find $(staged) ! -type d -printf '%P\n'; echo $(list); } | LC_ALL=C sort > build/installed
+	@install -m 644 build/installed $(staged)/$(list)
 	@chmod -R u=rwX,go=rX $(staged)
 
 # File by file, so that folders that are there stay as they are. What only an earlier installation had goes.

@@ -135,6 +135,21 @@ fn library_is_tidy(installed: &Path) {
     assert_eq!(shown, declared);
 }
 
+/// The manual page and the completions are there, if the tool writes them.
+fn texts_are_there(installed: &Path) {
+    for (command, file) in [
+        ("manual", "man/man1/plumanchor.1"),
+        ("completion", "bash-completion/completions/plumanchor"),
+        ("completion", "zsh/site-functions/_plumanchor"),
+        ("completion", "fish/vendor_completions.d/plumanchor.fish"),
+    ] {
+        if root(&format!("tools/src/commands/{command}.rs")).exists() {
+            let text = std::fs::read_to_string(installed.join("share").join(file)).expect(file);
+            assert!(text.contains("plumanchor"), "{file}");
+        }
+    }
+}
+
 /// The commit and the gate's last line are told, or that it wasn't run.
 fn build_is_told(told: &str) {
     let lines: Vec<&str> = told.lines().collect();
@@ -163,6 +178,7 @@ fn what_is_installed_works_and_goes() {
     command_works(&installed, &beside);
     python_works(&installed);
     library_is_tidy(&installed);
+    texts_are_there(&installed);
     let told = std::fs::read_to_string(installed.join("share/doc/plumanchor/BUILD"));
     build_is_told(&told.expect("what was built"));
 
