@@ -10,21 +10,9 @@ pub struct Format {
     pub proved: plumanchor::Format,
 }
 
-pub static NARROW: Format = Format {
-    name: "narrow",
-    width: 2,
-    most_variables: 256,
-    most_nodes: 4096,
-    proved: plumanchor::Format::Narrow,
-};
+pub static NARROW: Format = Format::of(plumanchor::Format::Narrow);
 
-pub static WIDE: Format = Format {
-    name: "wide",
-    width: 4,
-    most_variables: 1024,
-    most_nodes: 8192,
-    proved: plumanchor::Format::Wide,
-};
+pub static WIDE: Format = Format::of(plumanchor::Format::Wide);
 
 /// Every format of sheets.
 pub static FORMATS: [&Format; 2] = [&WIDE, &NARROW];
@@ -33,6 +21,16 @@ pub static FORMATS: [&Format; 2] = [&WIDE, &NARROW];
 pub static DEFAULT: &Format = &WIDE;
 
 impl Format {
+    const fn of(proved: plumanchor::Format) -> Format {
+        Format {
+            name: proved.name(),
+            width: proved.width(),
+            most_variables: proved.most_variables(),
+            most_nodes: proved.most_nodes(),
+            proved,
+        }
+    }
+
     /// Where the kinds begin.
     pub fn header(&self) -> usize {
         2 * self.width

@@ -12,6 +12,8 @@
 //! | `answers` | `&mut [usize]` | `size_t *`, `size_t` |
 //! | `number` | `usize` | `size_t` |
 
+#![allow(unsafe_code)]
+
 use crate::answer::{Copied, Counts, Forced, Guarded, Sizes, Solved, Tried};
 use crate::format::Format;
 use crate::packed;
