@@ -16,7 +16,7 @@
 
 use crate::answer::{Copied, Counts, Forced, Guarded, Sizes, Solved, Tried};
 use crate::format::Format;
-use crate::packed;
+use crate::packed::{self, Pack};
 use crate::refusal::{PairRefusal, Refusal};
 use std::cmp::Ordering;
 
@@ -90,28 +90,31 @@ macro_rules! call {
     };
 }
 
-/// Operations with a function for narrow sheets and one for wide ones: a method of `Format` each,
-/// with what it makes of the number returned.
+/// Operations with a function for narrow sheets and one for wide ones, whose answers are packed: a
+/// method of `Format` each, with what takes the answer apart.
 macro_rules! operations {
     ($(
         $(#[$doc:meta])*
-        $visible:vis fn $name:ident($($parameter:ident: $kind:tt),*) -> $answer:ty
-            = $unpacked:path, [$narrow:ident, $wide:ident] -> $raw:ty;
+        pub fn $name:ident($($parameter:ident: $kind:tt),*) -> $answer:ty
+            = $unpacked:path, [$narrow:ident, $wide:ident];
     )*) => {
         $(
-            declare!($narrow -> $raw, [] $($kind)*);
-            declare!($wide -> $raw, [] $($kind)*);
+            declare!($narrow -> u64, [] $($kind)*);
+            declare!($wide -> u64, [] $($kind)*);
         )*
 
         impl Format {
             $(
                 $(#[$doc])*
-                $visible fn $name(self, $($parameter: lent!($kind)),*) -> $answer {
+                pub fn $name(self, $($parameter: lent!($kind)),*) -> $answer {
                     let entry = match self {
                         Format::Narrow => $narrow,
                         Format::Wide => $wide,
                     };
-                    $unpacked(call!(entry, [] $($parameter: $kind,)*))
+                    let packed = call!(entry, [] $($parameter: $kind,)*);
+                    let answer = $unpacked(packed);
+                    debug_assert_eq!(answer.pack(), packed, stringify!($name));
+                    answer
                 }
             )*
         }
@@ -121,9 +124,11 @@ macro_rules! operations {
         #[doc(hidden)]
         pub const DECLARED: &[(&str, &[&str], &str)] = &[
             $(
-                (stringify!($narrow), &[$(stringify!($kind)),*], stringify!($raw)),
-                (stringify!($wide), &[$(stringify!($kind)),*], stringify!($raw)),
+                (stringify!($narrow), &[$(stringify!($kind)),*], "u64"),
+                (stringify!($wide), &[$(stringify!($kind)),*], "u64"),
             )*
+            ("plumanchor_part", &PART, "usize"),
+            ("plumanchor_part_wide", &PART, "usize"),
             ("plumanchor_resume", &RESUME, "u64"),
         ];
     };
@@ -132,36 +137,32 @@ macro_rules! operations {
 operations! {
     /// Check: whether the bytes are a sheet, and its sizes.
     pub fn check(sheet: bytes) -> Result<Sizes, Refusal>
-        = packed::sizes, [plumanchor_check, plumanchor_check_wide] -> u64;
+        = packed::sizes, [plumanchor_check, plumanchor_check_wide];
 
     /// Trial: the verdict of trying all values, for up to
     /// [`TRIAL_VARIABLES`](crate::TRIAL_VARIABLES) variables.
     pub fn trial(sheet: bytes) -> Result<Tried, Refusal>
-        = packed::tried, [plumanchor_trial, plumanchor_trial_wide] -> u64;
-
-    /// How many rows the subtree at a node has: 0 if the sheet or the node is bad.
-    fn part_rows(sheet: bytes, node: number) -> usize
-        = usize::from, [plumanchor_part, plumanchor_part_wide] -> usize;
+        = packed::tried, [plumanchor_trial, plumanchor_trial_wide];
 
     /// Tidy: the tidied sheet to the front of the output, zeros behind it. Answers with its length.
     pub fn tidy(sheet: bytes, output: output) -> Result<usize, Refusal>
-        = packed::written, [plumanchor_tidy, plumanchor_tidy_wide] -> u64;
+        = packed::written, [plumanchor_tidy, plumanchor_tidy_wide];
 
     /// Settle the variable `x`, in the same way.
     pub fn settle(sheet: bytes, x: number, output: output) -> Result<usize, Refusal>
-        = packed::written, [plumanchor_settle, plumanchor_settle_wide] -> u64;
+        = packed::written, [plumanchor_settle, plumanchor_settle_wide];
 
     /// Expand the variable `x`, in the same way; the output must have room for the raw sheet.
     pub fn expand(sheet: bytes, x: number, output: output) -> Result<usize, Refusal>
-        = packed::written, [plumanchor_expand, plumanchor_expand_wide] -> u64;
+        = packed::written, [plumanchor_expand, plumanchor_expand_wide];
 
     /// Outer: expands a universal `x` one block out, in the same way.
     pub fn outer(sheet: bytes, x: number, output: output) -> Result<Copied<usize>, Refusal>
-        = packed::copied, [plumanchor_outer, plumanchor_outer_wide] -> u64;
+        = packed::copied, [plumanchor_outer, plumanchor_outer_wide];
 
     /// Quote: how many node rows the raw sheet of the expansion of `x` has.
     pub fn quote(sheet: bytes, x: number) -> Result<usize, Refusal>
-        = packed::quoted, [plumanchor_quote, plumanchor_quote_wide] -> u64;
+        = packed::quoted, [plumanchor_quote, plumanchor_quote_wide];
 
     /// Execute: Expand if the raw sheet has at most so many node rows as the ceiling.
     pub fn execute(
@@ -170,28 +171,28 @@ operations! {
         ceiling: number,
         output: output
     ) -> Result<usize, Refusal>
-        = packed::written, [plumanchor_execute, plumanchor_execute_wide] -> u64;
+        = packed::written, [plumanchor_execute, plumanchor_execute_wide];
 
     /// Reduce: universal reduction of a tidy AND of clauses, in the same way as Tidy.
     pub fn reduce(sheet: bytes, output: output) -> Result<usize, Refusal>
-        = packed::written, [plumanchor_reduce, plumanchor_reduce_wide] -> u64;
+        = packed::written, [plumanchor_reduce, plumanchor_reduce_wide];
 
     /// Sort: the sheet with all children in order, in the same way.
     pub fn sort(sheet: bytes, output: output) -> Result<usize, Refusal>
-        = packed::written, [plumanchor_sort, plumanchor_sort_wide] -> u64;
+        = packed::written, [plumanchor_sort, plumanchor_sort_wide];
 
     /// Conversion: the rows of a sheet of the other format as a sheet of this one, in the same way.
     pub fn convert(sheet: bytes, output: output) -> Result<usize, Refusal>
-        = packed::written, [plumanchor_narrow, plumanchor_widen] -> u64;
+        = packed::written, [plumanchor_narrow, plumanchor_widen];
 
     /// QDIMACS in: the sheet that a text says, in the same way.
     pub fn qdimacs(text: bytes, output: output) -> Result<usize, Refusal>
-        = packed::written, [plumanchor_qdimacs, plumanchor_qdimacs_wide] -> u64;
+        = packed::written, [plumanchor_qdimacs, plumanchor_qdimacs_wide];
 
     /// Solve, in two work buffers: the first then holds the sheet reached and zeros, the second
     /// only zeros.
     pub fn solve(sheet: bytes, first: output, second: output) -> Result<Solved, Refusal>
-        = packed::solved, [plumanchor_solve, plumanchor_solve_wide] -> u64;
+        = packed::solved, [plumanchor_solve, plumanchor_solve_wide];
 
     /// Guards: of a false sheet whose root is AND, the children to blame, as a sheet at the front
     /// of the output.
@@ -201,7 +202,7 @@ operations! {
         first: output,
         second: output
     ) -> Result<Guarded<usize>, Refusal>
-        = packed::guarded, [plumanchor_guards, plumanchor_guards_wide] -> u64;
+        = packed::guarded, [plumanchor_guards, plumanchor_guards_wide];
 
     /// Force: with a value for each of the first variables of the prefix, whose turn is next, and
     /// with which values its owner gets the outcome wanted.
@@ -211,7 +212,7 @@ operations! {
         first: output,
         second: output
     ) -> Result<Forced, Refusal>
-        = packed::forced, [plumanchor_force, plumanchor_force_wide] -> u64;
+        = packed::forced, [plumanchor_force, plumanchor_force_wide];
 
     /// Steps: settles (operation 0) or expands (any other) each variable in turn. As many records
     /// are followed as the shortest of the four arrays has; what each step answers is in `numbers`,
@@ -227,7 +228,7 @@ operations! {
         first: output,
         second: output
     ) -> Result<usize, Refusal>
-        = packed::written, [plumanchor_steps, plumanchor_steps_wide] -> u64;
+        = packed::written, [plumanchor_steps, plumanchor_steps_wide];
 
     /// Compare: how sheet `a` is filed beside sheet `b`, in work buffers as long as they are.
     pub fn compare(
@@ -236,7 +237,7 @@ operations! {
         first: output,
         second: output
     ) -> Result<Ordering, PairRefusal>
-        = packed::compared, [plumanchor_compare, plumanchor_compare_wide] -> u64;
+        = packed::compared, [plumanchor_compare, plumanchor_compare_wide];
 }
 
 impl Format {
@@ -251,7 +252,11 @@ impl Format {
     /// assert!(Format::Narrow.part(&sheet, 1).is_empty());
     /// ```
     pub fn part(self, sheet: &[u8], node: usize) -> &[u8] {
-        match self.part_rows(sheet, node) {
+        let entry = match self {
+            Format::Narrow => plumanchor_part,
+            Format::Wide => plumanchor_part_wide,
+        };
+        match call!(entry, [] sheet: bytes, node: number,) {
             0 => &[],
             rows => {
                 let start = self.header() + self.number(sheet, 0) + node;
@@ -273,10 +278,14 @@ impl Format {
         let narrow = usize::from(self == Format::Narrow);
         let answer = call!(plumanchor_resume, [] started: number, settled: number,
             expanded: number, sheet: bytes, narrow: number, first: output, second: output,);
+        debug_assert_eq!(packed::solved(answer).pack(), answer, "resume");
         packed::resumed(answer, counts)
     }
 }
 
+declare!(plumanchor_part -> usize, [] bytes number);
+declare!(plumanchor_part_wide -> usize, [] bytes number);
 declare!(plumanchor_resume -> u64, [] number number number bytes number output output);
 
+const PART: [&str; 2] = ["bytes", "number"];
 const RESUME: [&str; 7] = ["number", "number", "number", "bytes", "number", "output", "output"];

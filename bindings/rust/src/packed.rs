@@ -120,3 +120,92 @@ pub fn compared(answer: u64) -> Result<Ordering, PairRefusal> {
         _ => Ordering::Greater,
     })
 }
+
+/// An answer as the library packs it, which the functions above take apart. Calls compare the two
+/// where assertions are on, so that no part of an answer is overlooked.
+pub(crate) trait Pack {
+    fn pack(&self) -> u64;
+}
+
+fn pack(number: u8, word: u8, low: usize, high: usize) -> u64 {
+    u64::from(number) | u64::from(word) << 8 | (low as u64) << 16 | (high as u64) << 32
+}
+
+impl<T: Pack> Pack for Result<T, Refusal> {
+    fn pack(&self) -> u64 {
+        match self {
+            Ok(answer) => answer.pack(),
+            Err(refusal) => pack(refusal.number, 0, refusal.place, 0),
+        }
+    }
+}
+
+impl Pack for Sizes {
+    fn pack(&self) -> u64 {
+        pack(0, 0, self.variables, self.nodes)
+    }
+}
+
+impl Pack for Tried {
+    fn pack(&self) -> u64 {
+        pack(0, self.verdict.into(), 0, self.leaves)
+    }
+}
+
+/// A length, or raw rows.
+impl Pack for usize {
+    fn pack(&self) -> u64 {
+        pack(0, 0, 0, *self)
+    }
+}
+
+impl Pack for Copied<usize> {
+    fn pack(&self) -> u64 {
+        pack(0, 0, self.sheet, self.count | self.lowest << 16)
+    }
+}
+
+impl Pack for Solved {
+    fn pack(&self) -> u64 {
+        let word = self.verdict.map_or(2, u8::from);
+        pack(0, word, self.settled, self.expanded | self.variable << 16)
+    }
+}
+
+impl Pack for Guarded<usize> {
+    fn pack(&self) -> u64 {
+        match *self {
+            Guarded::True { settled, expanded } => pack(0, 1, settled, expanded),
+            Guarded::Stopped { variable, settled, expanded } => {
+                pack(0, 2, settled, expanded | variable << 16)
+            }
+            Guarded::Kept { sheet, stops } => pack(0, 0, stops, sheet),
+        }
+    }
+}
+
+impl Pack for Forced {
+    fn pack(&self) -> u64 {
+        let turn = match self.turn {
+            Quantifier::Exists => 1,
+            Quantifier::ForAll => 2,
+        };
+        let (word, variable) = match self.outcome {
+            Outcome::Neither => (0, 0),
+            Outcome::Zero => (1, 0),
+            Outcome::One => (2, 0),
+            Outcome::Both => (3, 0),
+            Outcome::Stopped(variable) => (4, variable),
+        };
+        pack(0, word, turn, variable)
+    }
+}
+
+impl Pack for Result<Ordering, PairRefusal> {
+    fn pack(&self) -> u64 {
+        match self {
+            Ok(order) => pack(0, (*order as i8 + 1) as u8, 0, 0),
+            Err(PairRefusal { sheet, refusal }) => pack(refusal.number, *sheet, refusal.place, 0),
+        }
+    }
+}
