@@ -2,6 +2,7 @@
 
 mod check;
 mod compare;
+mod completion;
 mod convert;
 mod draw;
 mod execute;
@@ -9,6 +10,8 @@ mod expand;
 mod explain;
 mod force;
 mod guards;
+mod help;
+mod manual;
 mod outer;
 mod part;
 mod quote;
@@ -46,4 +49,7 @@ pub static COMMANDS: &[Command] = &[
     compare::COMMAND,
     force::COMMAND,
     guards::COMMAND,
+    help::COMMAND,
+    manual::COMMAND,
+    completion::COMMAND,
 ];

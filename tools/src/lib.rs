@@ -8,13 +8,19 @@
 mod arguments;
 mod command;
 mod commands;
+mod completions;
 mod dot;
 mod format;
 mod formula;
+mod help;
 mod input;
+mod json;
+mod manual;
 mod names;
+mod options;
 mod picture;
 mod qcir;
+mod qdimacs;
 mod refusal;
 mod relevant;
 mod rule;
@@ -22,9 +28,10 @@ mod sheet;
 mod words;
 
 use arguments::{Arguments, Misuse};
-use command::{Answer, Failure};
-use commands::COMMANDS;
-use std::io::Read;
+use command::{Answer, Command, Failure};
+use options::{JSON, QUIET};
+use std::ffi::OsString;
+use std::io::{stderr, Read, Write};
 
 /// Exit status, standard output and standard error of a call.
 #[derive(Debug, PartialEq, Eq)]
@@ -34,48 +41,53 @@ pub struct Ended {
     pub message: String,
 }
 
-/// Carries out a command line.
-pub fn call(words: Vec<String>, standard_input: impl Read + 'static) -> Ended {
-    let (output, note, failure) = match answer(words, Box::new(standard_input)) {
-        Ok(Answer { output, note, refusal }) => (output, note, refusal.map(Failure::Refused)),
-        Err(failure) => (Vec::new(), String::new(), Some(failure)),
-    };
-    let status = failure.as_ref().map_or(0, Failure::status);
-    let message = failure.map_or(note, |failure| format!("plumanchor: {failure}\n"));
-    Ended { status, output, message }
+/// Says something on standard error. Where that can't be written there is nobody to tell.
+pub fn tell(message: &str) {
+    let _ = stderr().write_all(message.as_bytes());
 }
 
-fn answer(mut words: Vec<String>, standard_input: Box<dyn Read>) -> Result<Answer, Failure> {
+/// Carries out a command line.
+pub fn call(words: Vec<OsString>, standard_input: impl Read + 'static) -> Ended {
+    let answer = answer(words, Box::new(standard_input))
+        .unwrap_or_else(|failure| Answer { refusal: Some(failure), ..Answer::default() });
+    let Answer { output, note, refusal, status, .. } = answer;
+    let usual = refusal.as_ref().map_or(0, Failure::status);
+    let message = refusal.map_or(note, |failure| format!("plumanchor: {failure}\n"));
+    Ended { status: status.unwrap_or(usual), output, message }
+}
+
+fn answer(mut words: Vec<OsString>, standard_input: Box<dyn Read>) -> Result<Answer, Failure> {
     if words.is_empty() {
         return Err(Misuse::new("which command?").into());
     }
     let rest = words.split_off(1);
-    let name = &words[0];
-    if name == "--help" && rest.is_empty() {
-        return Ok(help().into());
+    match (words[0].to_str(), &rest[..]) {
+        (Some("--help" | "-h"), []) => return Ok(help::whole().into()),
+        (Some("--version" | "-V"), []) => {
+            return Ok(format!("plumanchor {}\n", env!("CARGO_PKG_VERSION")).into());
+        }
+        _ => {}
     }
-    if name == "--version" && rest.is_empty() {
-        return Ok(format!("plumanchor {}\n", env!("CARGO_PKG_VERSION")).into());
+    let command = help::named(&words[0].to_string_lossy())?;
+    let asks = |word: &&OsString| *word == "--help" || *word == "-h";
+    if rest.iter().take_while(|word| *word != "--").any(|word| asks(&word)) {
+        return Ok(help::of(command).into());
     }
-    let command = COMMANDS.iter().find(|command| command.name == name);
-    let command = command.ok_or_else(|| {
-        Misuse::new(format!("no command '{name}'; a sheet is solved by 'plumanchor solve SHEET'"))
-    })?;
-    if rest.iter().any(|word| word == "--help") {
-        return Ok(command.help.to_string().into());
-    }
-    (command.run)(Arguments::new(rest, command.options, standard_input)?)
+    carried_out(command, Arguments::new(rest, &command.choices(), standard_input)?)
 }
 
-fn help() -> String {
-    let mut text = String::from(
-        "Usage: plumanchor < SHEET              solve the sheet: the proved program, one line\n       \
-         plumanchor COMMAND [ARGUMENTS]   everything else\n\nCommands:\n",
-    );
-    for command in COMMANDS {
-        text += &format!("  {:<10} {}\n", command.name, command.purpose);
+/// A command's answer, or its failure with the file that it is about.
+fn carried_out(command: &Command, mut arguments: Arguments) -> Result<Answer, Failure> {
+    let as_object = arguments.has(&JSON);
+    let quiet = arguments.has(&QUIET);
+    let answer = (command.run)(&mut arguments);
+    let Arguments { file, taken_for, told, .. } = arguments;
+    let about = |failure: Failure| failure.about(file.as_deref(), taken_for);
+    let mut answer = answer.map_err(about)?;
+    answer.refusal = answer.refusal.map(about);
+    answer.note = if quiet { String::new() } else { told + &answer.note };
+    if as_object {
+        answer.output = json::object(&answer.fields).into_bytes();
     }
-    text + "\n'plumanchor COMMAND --help' tells more, 'plumanchor --version' the version. A sheet is a file, or\n\
-            '-' or nothing for standard input; '--from FORMAT' says what it is written in. Only the result is\n\
-            on standard output. The exit status is 0 with an answer, 1 for a refused input, 2 for wrong use.\n"
+    Ok(answer)
 }

@@ -5,9 +5,13 @@ use crate::formula::{Formula, Row};
 use std::collections::VecDeque;
 use std::ops::Range;
 
-/// An operator shows so many boxes below it, and a row of literals so many of
+/// A picture shows so many boxes; an operator so many below it, and a row of literals so many of
 /// them, before the rest is folded.
-const MOST_BELOW: usize = 12;
+#[derive(Clone, Copy)]
+pub struct Most {
+    pub boxes: usize,
+    pub below: usize,
+}
 
 pub enum Content {
     Operator(Row),
@@ -31,18 +35,18 @@ pub fn children(ends: &[usize], operator: usize) -> impl Iterator<Item = usize> 
     std::iter::successors(next(operator + 1), move |&child| next(ends[child]))
 }
 
-/// The boxes of a tree, level by level, and folded once there are `most`.
-pub fn shapes(formula: &Formula, most: usize) -> Vec<Shape> {
+/// The boxes of a tree, level by level, and folded beyond `most`.
+pub fn shapes(formula: &Formula, most: Most) -> Vec<Shape> {
     let (matrix, ends) = (&formula.matrix, formula.ends());
-    let mut shapes = vec![shape(matrix, 0, matrix.len(), None)];
+    let mut shapes = vec![shape(matrix, 0..matrix.len(), None, most.below)];
     let mut operators = VecDeque::from([0]);
     while let Some(operator) = operators.pop_front() {
         let (mut at, end) = (operator + 1, ends[operator]);
         let mut below = 0;
         while at < end {
-            let mut next = shape(matrix, at, end, Some(operator));
+            let mut next = shape(matrix, at..end, Some(operator), most.below);
             // A fold is a box itself, so literals that are all the rest are shown in its place.
-            if (below == MOST_BELOW || shapes.len() >= most) && next.rows.end < end {
+            if (below >= most.below || shapes.len() >= most.boxes) && next.rows.end < end {
                 next = Shape { rows: at..end, content: Content::Folded, ..next };
             }
             at = match next.content {
@@ -59,12 +63,13 @@ pub fn shapes(formula: &Formula, most: usize) -> Vec<Shape> {
     shapes
 }
 
-/// The operator at a row, or the literals from there on that are its siblings.
-fn shape(matrix: &[Row], at: usize, end: usize, parent: Option<usize>) -> Shape {
+/// The operator at the first row, or the literals from there on that are its siblings.
+fn shape(matrix: &[Row], rows: Range<usize>, parent: Option<usize>, most: usize) -> Shape {
+    let (at, end) = (rows.start, rows.end);
     if !matrix[at].is_literal() {
         return Shape { rows: at..at + 1, parent, content: Content::Operator(matrix[at]) };
     }
     let literals = matrix[at..end].iter().take_while(|row| row.is_literal()).count();
-    let content = Content::Literals(literals.min(MOST_BELOW));
+    let content = Content::Literals(literals.min(most.max(1)));
     Shape { rows: at..at + literals, parent, content }
 }

@@ -1,5 +1,6 @@
 //! Refusals in words.
 
+use crate::format::Format;
 use crate::formula::row_at;
 use crate::sheet::Sheet;
 use plumanchor::refusals;
@@ -12,12 +13,17 @@ pub struct Refusal {
     pub place: usize,
     evidence: Option<String>,
     is_of_text: bool,
+    /// What the bytes were taken for, if they were not said to be that.
+    taken_for: Option<&'static str>,
 }
 
 impl Refusal {
     pub fn new(number: u8, place: usize, sheet: &Sheet) -> Refusal {
         let evidence = match number {
-            refusals::SIZE_OUTSIDE => sizes(sheet).map(|(v, n)| format!("V = {v}, N = {n}")),
+            refusals::SIZE_OUTSIDE => sizes(sheet).map(|(v, n)| {
+                let Format { most_variables, most_nodes, .. } = sheet.format;
+                format!("V = {v}, at most {most_variables}; N = {n}, 1 to {most_nodes}")
+            }),
             refusals::WRONG_LENGTH => sizes(sheet).map(|(v, n)| {
                 let (asked, length) = (sheet.format.length(v + n), sheet.bytes.len());
                 format!("V = {v} and N = {n} ask for {asked} bytes, and there are {length}")
@@ -26,12 +32,12 @@ impl Refusal {
                 .map(|row| format!("row {place}, counted from 0: {row}")),
             _ => None,
         };
-        Refusal { number, place, evidence, is_of_text: false }
+        Refusal { number, place, evidence, is_of_text: false, taken_for: None }
     }
 
     /// A text's refusal, which has no place.
     pub fn of_text(number: u8) -> Refusal {
-        Refusal { number, place: 0, evidence: None, is_of_text: true }
+        Refusal { number, place: 0, evidence: None, is_of_text: true, taken_for: None }
     }
 
     /// What the number means.
@@ -48,7 +54,7 @@ impl Refusal {
             refusals::UNBOUND => "the literal's variable is not bound",
             refusals::NOT_ONE_TREE if self.evidence.is_none() => "the rows end before the tree does",
             refusals::NOT_ONE_TREE => "the tree has ended before the row",
-            refusals::NOT_TIDY => "the operator in the row is not tidy",
+            refusals::NOT_TIDY => "the operator in the row is not tidy, so 'tidy' the sheet first",
             refusals::NOT_IN_PREFIX => "the variable is not in the prefix",
             refusals::WRONG_BLOCK if self.evidence.is_some() => "the variable is not universal and one block out",
             refusals::WRONG_BLOCK => "the variable is not in the innermost block",
@@ -76,6 +82,21 @@ impl Refusal {
     pub fn with_evidence(self, evidence: String) -> Refusal {
         Refusal { evidence: Some(evidence), ..self }
     }
+
+    /// The same, for want of room, with how many bytes a sheet needs and how many there are.
+    pub fn lacking(self, needed: usize, room: usize) -> Refusal {
+        if self.number != refusals::NO_ROOM {
+            return self;
+        }
+        self.with_evidence(format!("it takes {needed} bytes, and a buffer has {room}"))
+    }
+
+    /// The same, where the form is at fault, with what the bytes were taken for.
+    pub fn taken_for(self, what: &'static str) -> Refusal {
+        let form = [refusals::BAD_HEADER, refusals::BAD_LISTS, refusals::BEYOND_HEADER];
+        let at_fault = self.number <= refusals::NOT_ONE_TREE || form.contains(&self.number);
+        Refusal { taken_for: Some(what).filter(|_| at_fault), ..self }
+    }
 }
 
 fn sizes(sheet: &Sheet) -> Option<(usize, usize)> {
@@ -86,8 +107,11 @@ fn sizes(sheet: &Sheet) -> Option<(usize, usize)> {
 impl Display for Refusal {
     fn fmt(&self, to: &mut Formatter) -> fmt::Result {
         write!(to, "refused {}: {}", self.number, self.meaning())?;
-        match &self.evidence {
-            Some(evidence) => write!(to, " ({evidence})"),
+        if let Some(evidence) = &self.evidence {
+            write!(to, " ({evidence})")?;
+        }
+        match self.taken_for {
+            Some(what) => write!(to, "; taken for {what}, --from says otherwise"),
             None => Ok(()),
         }
     }

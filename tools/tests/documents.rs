@@ -10,12 +10,14 @@ use std::path::Path;
 const ROOT: &str = concat!(env!("CARGO_MANIFEST_DIR"), "/..");
 
 /// Pages that speak of the repository as it is.
-const PAGES: [&str; 7] = [
+const PAGES: [&str; 9] = [
     "README.md",
     "CONTRIBUTING.md",
     "bindings/README.md",
     "docs/ARCHITECTURE.md",
     "docs/DECISIONS.md",
+    "docs/BENCHMARKS.md",
+    "docs/MANUAL.md",
     "docs/TOOL.md",
     "docs/landings/README.md",
 ];

@@ -23,7 +23,7 @@ fn last_line(text: &str) -> &str {
 fn agrees(sheet: &[u8], room: usize) -> String {
     let (room_word, line) = (room.to_string(), expected_line(sheet, room));
     for command in ["explain", "solve"] {
-        let ended = called(&[command, "--room", &room_word], sheet);
+        let ended = called(&[command, "--from", "wide", "--room", &room_word], sheet);
         assert_eq!(last_line(&text(ended.output)), line, "{command}");
         assert_eq!(ended.status, u8::from(line.starts_with("refused")), "{}", ended.message);
     }

@@ -42,7 +42,7 @@ fn a_refusal_is_told_in_words() {
     ] {
         let (status, output, told) = call(&["force", values, &example(name)]);
         assert_eq!((status, output.as_str()), (1, ""), "{values}");
-        assert!(told.starts_with(&format!("plumanchor: {message}")), "{told}");
+        assert!(told.contains(&format!("{name}.sheet: {message}")), "{told}");
     }
 }
 

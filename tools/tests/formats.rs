@@ -86,14 +86,15 @@ fn narrow_examples_have_their_lines() {
     }
 }
 
-/// A quote of each format, and the other format's bytes refused.
+/// A quote of each format, which is told by the sizes, and the other format's bytes refused.
 #[test]
 fn quotes_of_both_formats() {
     let (narrow, wide) = (example_bytes("narrow/equal-after"), example_bytes("equal-after"));
     assert_eq!(answered(&["quote", "1", "--from", "narrow"], &narrow), b"15\n");
     assert_eq!(answered(&["quote", "1"], &wide), b"15\n");
     assert_eq!(answered(&["quote", "1", "--from", "wide"], &wide), b"15\n");
-    assert_eq!(called(&["quote", "1"], &narrow).status, 1);
+    assert_eq!(answered(&["quote", "1"], &narrow), b"15\n");
+    assert_eq!(called(&["quote", "1", "--from", "wide"], &narrow).status, 1);
     assert_eq!(called(&["quote", "1", "--from", "narrow"], &wide).status, 1);
 }
 

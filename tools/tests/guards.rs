@@ -120,8 +120,8 @@ fn of_equal_guards_the_one_kept_is_named() {
 #[test]
 fn a_true_sheet_blames_none() {
     let ended = called(&["guards", "-"], &literals(4, &[1, 2]));
-    assert_eq!((ended.status, ended.output.len()), (0, 0));
-    assert!(ended.message.starts_with("true "), "{ended:?}");
+    assert_eq!((ended.status, ended.output.len()), (1, 0));
+    assert!(ended.message.starts_with("plumanchor: true "), "{ended:?}");
 }
 
 #[test]

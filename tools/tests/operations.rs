@@ -9,7 +9,7 @@ use outside::reference::{Answer, Operation};
 
 /// A call's standard output if it has an answer, else the number refused with.
 fn outcome(arguments: &[&str], sheet: &[u8]) -> Result<Vec<u8>, u8> {
-    let ended = called(arguments, sheet);
+    let ended = called(&[arguments, &["--from", "wide"]].concat(), sheet);
     match ended.status {
         0 => Ok(ended.output),
         1 => {

@@ -17,7 +17,7 @@ fn a_sheet_is_sorted() {
     }
     let ended = called(&["sort", &example("cut-short")], &[]);
     assert_eq!((ended.status, ended.output.len()), (1, 0));
-    assert!(ended.message.starts_with("plumanchor: refused 3: "), "{ended:?}");
+    assert!(ended.message.contains("cut-short.sheet: refused 3: "), "{ended:?}");
 }
 
 #[test]
@@ -32,7 +32,7 @@ fn two_sheets_are_compared() {
     }
     let ended = called(&["compare", &after, &example("cut-short")], &[]);
     assert_eq!(ended.status, 1);
-    assert!(ended.message.starts_with("plumanchor: refused 3: "), "{ended:?}");
+    assert!(ended.message.contains("cut-short.sheet: refused 3: "), "{ended:?}");
 }
 
 #[test]

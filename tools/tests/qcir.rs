@@ -149,8 +149,51 @@ fn too_large_a_circuit_is_refused_with_its_size() {
     };
     // s(0) = 1 and s(n+1) = 2 s(n) + 5, so s(n) = 6 * 2^n - 5.
     assert_eq!(rows(&doubled(9)).1.len(), 1 + 6 * (1 << 9) - 5);
-    refused(&doubled(40), 3, &format!("has {} nodes, and", 6 * (1u64 << 40) - 5));
-    refused(&doubled(200), 3, "at least 340282366920938463463374607431768211455 nodes");
+    // Shared gates that make the tree too large are variables, if these are few enough.
+    defined(&doubled(40), &format!("as a tree it has {} nodes, and", 6 * (1u64 << 40) - 5));
+    defined(&doubled(200), "at least 340282366920938463463374607431768211455 nodes");
+    refused(&doubled(600), 3, "with variables for 1196 shared gates it has ");
+    refused(&doubled(600), 3, "; the largest gate is 'g");
+}
+
+/// A circuit that is taken with variables for its shared gates, which is said.
+fn defined(text: &str, told: &str) {
+    let ended = called(&["convert", "--from", "qcir"], text.as_bytes());
+    let found = ended.message.contains(told) && ended.message.contains("keeps the truth");
+    assert!(ended.status == 0 && found, "{}", ended.message);
+    assert!(FORMAT.check(&ended.output).is_ok());
+}
+
+/// A random circuit below a chain of gates that each use the one before twice.
+#[test]
+fn large_circuits_keep_their_truth() {
+    let mut seen = [0; 2];
+    cases(300, |rng| {
+        let mut circuit = Circuit::random(rng);
+        for at in 0..14 {
+            let block = rng.below(circuit.blocks.len());
+            let (name, variable) = (format!("h{at}"), circuit.blocks[block].1.clone());
+            let inputs = match rng.below(3) {
+                0 => vec![variable, format!("-{}", circuit.output), circuit.output.clone()],
+                _ => vec![circuit.output.clone(), variable],
+            };
+            let kind = if inputs.len() == 3 { "ite" } else { "xor" };
+            circuit.gates.push((name.clone(), kind, inputs));
+            circuit.output = if rng.one_in(2) { format!("-{name}") } else { name };
+        }
+        circuit.gates.iter_mut().for_each(|gate| {
+            gate.2.iter_mut().for_each(|input| *input = input.replace("--", ""));
+        });
+        let expected = circuit.is_true(&mut HashMap::new());
+        let ended = called(&["solve", "--from", "qcir"], circuit.text().as_bytes());
+        assert!(ended.message.contains("shared gates are variables"), "{}", ended.message);
+        let line = text(ended.output);
+        if !line.starts_with("stopped") {
+            assert!(line.starts_with(&expected.to_string()), "{line}{}", circuit.text());
+            seen[usize::from(expected)] += 1;
+        }
+    });
+    assert!(seen.iter().all(|&count| count > 20), "{seen:?}");
 }
 
 /// A random circuit, and its truth by trying all values of all variables.
@@ -244,13 +287,12 @@ fn circuits_keep_their_truth() {
         let circuit = Circuit::random(rng);
         let expected = circuit.is_true(&mut HashMap::new());
         let ended = called(&["convert", "--from", "qcir"], circuit.text().as_bytes());
-        if ended.status == 1 {
-            assert!(ended.message.contains("as a tree it has"), "{}", ended.message);
-            return;
-        }
         let formula = FORMAT.parse(&ended.output).expect("a sheet");
-        assert_eq!(truth::is_true(&formula), expected, "{}", circuit.text());
-        let line = text(answered(&["solve", "--from", "qcir"], circuit.text().as_bytes()));
+        if ended.message.is_empty() {
+            assert_eq!(truth::is_true(&formula), expected, "{}", circuit.text());
+        }
+        let quietly = ["solve", "--quiet", "--from", "qcir"];
+        let line = text(answered(&quietly, circuit.text().as_bytes()));
         assert!(line.starts_with(&expected.to_string()), "{line}{}", circuit.text());
         seen[usize::from(expected)] += 1;
     });

@@ -3,9 +3,9 @@
 
 mod common;
 
-use common::{answered, called, spawned, text, READING};
+use common::{answered, called, example, spawned, text, READING};
 use outside::examples::text_examples;
-use outside::generate::{cases, clause_set, damage_text, qdimacs_text, Limits};
+use outside::generate::{self, cases, clause_set, damage_text, qdimacs_text, Limits};
 use outside::reference::{Answer, Format, Reading};
 
 /// The sheet that the reference reads, or the number that it refuses with.
@@ -72,6 +72,8 @@ fn sheets_and_lines_are_the_references() {
                 Err(number) => {
                     assert_eq!(status, 1);
                     assert!(ended.message.starts_with(&format!("plumanchor: refused {number}: ")));
+                    let where_told = number == 2 || ended.message.contains(" (line ");
+                    assert!(where_told, "{}", ended.message);
                 }
             }
         }
@@ -94,9 +96,59 @@ fn a_long_text_is_read_whole() {
     assert_eq!(text(bad.output), "refused 0 0 16\n");
 }
 
+/// Clauses as they are, and any other tree with a variable for each AND below an OR.
 #[test]
-fn qdimacs_is_only_read() {
-    let ended = called(&["convert", "--to", "qdimacs"], &common::example_bytes("press-line"));
-    assert_eq!((ended.status, ended.output.len()), (2, 0));
-    assert!(ended.message.contains("only read"), "{}", ended.message);
+fn sheets_as_texts() {
+    let written = |name: &str| text(answered(&["convert", "--to", "qdimacs", &example(name)], &[]));
+    let equal = "p cnf 4 5\na 2 0\ne 1 3 4 0\n3 4 0\n-3 1 0\n-3 2 0\n-4 -1 0\n-4 -2 0\n";
+    assert_eq!(written("equal-after"), equal);
+    assert_eq!(written("and-of-nothing"), "p cnf 0 0\n");
+    assert_eq!(written("or-of-nothing"), "p cnf 0 1\n0\n");
+    let file = format!("{}/../examples/press-line.qdimacs", env!("CARGO_MANIFEST_DIR"));
+    let clauses = answered(&["convert", &file], &[]);
+    let again = answered(&["convert", "--to", "qdimacs"], &clauses);
+    assert_eq!(answered(&["convert", "--from", "qdimacs"], &again), clauses);
+}
+
+#[test]
+fn texts_written_keep_the_truth() {
+    let mut seen = [0; 2];
+    cases(1_500, |rng| {
+        let sheet = generate::sheet(rng, Limits::small(READING.format));
+        let written = answered(&["convert", "--to", "qdimacs", "--from", "wide"], &sheet);
+        let solved = |given: &[u8]| text(called(&["solve", "--renumber"], given).output);
+        let lines = [&sheet, &written].map(|given| solved(given));
+        let words = lines.each_ref().map(|line| line.split(' ').next().expect("a word"));
+        if !words.contains(&"stopped") {
+            assert_eq!(words[0], words[1], "{}", text(written.clone()));
+            seen[usize::from(words[0] == "true")] += 1;
+        }
+    });
+    assert!(seen.iter().all(|&count| count > 300), "{seen:?}");
+}
+
+/// Numbers above a sheet's limits, under an option, with the line of the same text in low ones.
+#[test]
+fn high_numbers_are_renumbered() {
+    cases(500, |rng| {
+        let sheet = READING.format.encode(&clause_set(rng, Limits::small(READING.format)));
+        let low = text(answered(&["convert", "--to", "qdimacs", "--from", "wide"], &sheet));
+        let (header, lists) = low.split_once('\n').expect("a header");
+        let high: String = lists.split_inclusive([' ', '\n']).map(raised).collect();
+        let clauses = header.rsplit(' ').next().expect("a count");
+        let high = format!("p cnf 5000 {clauses}\n{high}");
+        let solved = |given: &str| text(called(&["solve", "--renumber"], given.as_bytes()).output);
+        assert_eq!(solved(&high).split(' ').next(), solved(&low).split(' ').next(), "{high}");
+    });
+}
+
+/// A word with 2,000 added to the variable in it.
+fn raised(word: &str) -> String {
+    match word.trim_end().parse::<i64>() {
+        Ok(number) if number != 0 => {
+            let higher = number.signum() * (number.abs() + 2000);
+            word.replacen(&number.to_string(), &higher.to_string(), 1)
+        }
+        _ => word.to_string(),
+    }
 }

@@ -32,7 +32,7 @@ fn a_refusal_is_told_in_words() {
     ] {
         let (status, output, told) = refused(x, name);
         assert_eq!((status, output.as_str()), (1, ""));
-        assert!(told.starts_with(&format!("plumanchor: {message}")), "{told}");
+        assert!(told.contains(&format!("{name}.sheet: {message}")), "{told}");
     }
     let unbound = common::READING.format.sheet_of(0, &[(3, 5)]);
     let (status, output, message) = call(&["quote", "5"], &unbound);

@@ -150,7 +150,7 @@ fn a_refused_sheet_is_explained() {
         (vec![1; 3], "refused 1: the sheet is shorter than its two sizes".to_string()),
         (
             format.sheet_of(v + 1, &vec![(1, 1); v + 2]),
-            format!("refused 2: a size is outside its limits (V = {}, N = 1)", v + 1),
+            format!("refused 2: a size is outside its limits (V = {}, at most {v}; N = 1", v + 1),
         ),
         (with(1, (3, 1)), "(row 1, counted from 0: kind 3, the literal 1)".to_string()),
         (with(1, (1, v + 1)), format!("(row 1, counted from 0: kind 1, exists {})", v + 1)),

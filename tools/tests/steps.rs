@@ -40,9 +40,10 @@ fn lists_are_the_references() {
         for sheet in [damage(rng, READING.format, &sheet), sheet] {
             let mut steps = list(rng);
             let room = rng.between(sheet.len().saturating_sub(1), 3 * sheet.len());
+            let room = room.min(READING.format.longest_sheet());
             let (mut first, mut second) = (vec![0; room], vec![0; room]);
             let whole = READING.steps(&sheet, &mut steps, &mut first, &mut second);
-            let asked = ["steps", &written(&steps), "--room", &room.to_string()];
+            let asked = ["steps", &written(&steps), "--from=wide", "--room", &room.to_string()];
             let ended = called(&asked, &sheet);
             match whole {
                 Answer::Refused(number, _) => {

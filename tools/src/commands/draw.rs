@@ -1,13 +1,14 @@
 //! `plumanchor draw [SHEET]`.
 
-use crate::arguments::{Arguments, Misuse};
+use crate::arguments::{is_variable, Arguments, Misuse};
 use crate::command::{Answer, Command, Failure};
 use crate::dot::Drawing;
 use crate::format::DEFAULT;
 use crate::formula::Formula;
 use crate::input::{self, Input};
 use crate::names::Names;
-use crate::picture::shapes;
+use crate::options::{Choice, FROM, NAMES, RENUMBER};
+use crate::picture::{shapes, Most};
 use crate::relevant::Relevant;
 use crate::sheet::Sheet;
 use crate::words::count;
@@ -17,30 +18,39 @@ use std::process::{Command as Program, Stdio};
 pub const COMMAND: Command = Command {
     name: "draw",
     purpose: "a picture of the sheet",
-    help: "Usage: plumanchor draw [OPTIONS] [SHEET] > PICTURE\n\n\
-           Draws the prefix as a strip on top and the tree below it. Literals have the colour of their\n\
-           quantifier. Large sheets are folded: '... 812 more' stands for 812 rows. Graphviz does the\n\
-           layout, so its program 'dot' must be installed.\n\n  \
-             --to svg|dot    a picture for browsers, the default; or Graphviz's own language\n  \
-             --expand X      mark the rows that expanding variable X would copy\n  \
-             --most BOXES    fold what is beyond so many boxes, 60 if not given\n  \
-             --from FORMAT   what the sheet is written in\n  \
-             --names FILE    call variables by names: a number and a name a line\n",
-    options: &["from", "to", "expand", "most", "names"],
+    words: "[SHEET] > PICTURE",
+    about: "Draws the prefix as a strip on top and the tree below it. Literals have the colour of their\n\
+           quantifier. Large sheets are folded: '... 812 more' stands for 812 rows. An operator shows\n\
+           the first 12 of what is below it, and the picture some 60 boxes; with '--most' there is\n\
+           only that limit. Graphviz does the layout, so its program 'dot' must be installed, unless\n\
+           its own language is asked for.\n",
+    options: &[&FROM, &RENUMBER, &NAMES, &TO, &EXPAND, &MOST],
     run,
 };
 
-const MOST_BOXES: usize = 60;
+static TO: Choice =
+    Choice::of("to", "KIND", "svg, for browsers, if not given; or dot, Graphviz's language")
+        .among(&["svg", "dot"]);
+static EXPAND: Choice =
+    Choice::of("expand", "X", "mark the rows that expanding variable X would copy");
+static MOST: Choice =
+    Choice::of("most", "BOXES", "fold what is beyond so many boxes, and nothing else");
 
-fn run(mut arguments: Arguments) -> Result<Answer, Failure> {
-    let svg = match arguments.option("to").as_deref() {
+/// A picture has so many boxes, and an operator so many below it, before the rest is folded.
+const USUAL: Most = Most { boxes: 60, below: 12 };
+
+fn run(arguments: &mut Arguments) -> Result<Answer, Failure> {
+    let svg = match arguments.option(&TO)?.as_deref() {
         None | Some("svg") => true,
         Some("dot") => false,
         Some(other) => return Err(Misuse::new(format!("no picture as '{other}'")).into()),
     };
-    let most = arguments.number_option("most")?.unwrap_or(MOST_BOXES);
-    let expanded = arguments.number_option("expand")?;
-    let Input { sheet, names } = input::input(arguments, DEFAULT)?;
+    let asked = arguments.number_option(&MOST)?;
+    let most = asked.map_or(USUAL, |boxes| Most { boxes, below: boxes });
+    let word = arguments.option(&EXPAND)?;
+    word.as_deref().map(is_variable).transpose()?;
+    let Input { sheet, names, .. } = input::input(arguments, DEFAULT)?;
+    let expanded = word.map(|word| names.variable(&word)).transpose()?;
     let text = drawing(&sheet, &names, expanded, most)?;
     Ok(if svg { laid_out(&text)?.into() } else { text.into() })
 }
@@ -49,7 +59,7 @@ fn drawing(
     sheet: &Sheet,
     names: &Names,
     expanded: Option<usize>,
-    most: usize,
+    most: Most,
 ) -> Result<String, Failure> {
     let formula = &sheet.formula()?;
     let Formula { prefix, matrix } = formula;

@@ -2,20 +2,23 @@
 
 use crate::arguments::Arguments;
 use crate::command::{Answer, Command, Failure};
-use crate::input;
+use crate::input::{self, Input};
+use crate::options::{FROM, NAMES, RENUMBER};
 
 pub const COMMAND: Command = Command {
     name: "execute",
     purpose: "expand a variable if it costs no more than a ceiling",
-    help: "Usage: plumanchor execute X CEILING [--from FORMAT] [SHEET] > EXPANDED\n\n\
-           As 'expand X', but refused if the raw sheet has more node rows than CEILING.\n",
-    options: &["from"],
+    words: "X CEILING [SHEET] > EXPANDED",
+    about: "As 'expand X', but refused if the raw sheet has more node rows than CEILING.\n",
+    options: &[&FROM, &RENUMBER, &NAMES],
     run,
 };
 
-fn run(mut arguments: Arguments) -> Result<Answer, Failure> {
-    let x = arguments.number("variable")?;
+fn run(arguments: &mut Arguments) -> Result<Answer, Failure> {
+    let word = arguments.asked("variable")?;
     let ceiling = arguments.number("ceiling")?;
-    let sheet = input::sheet(arguments)?;
-    Ok(sheet.execute(x, ceiling, sheet.format.longest())?.bytes.into())
+    let (x, Input { sheet, .. }) = input::with_variable(arguments, &word)?;
+    let room = sheet.format.longest();
+    let executed = sheet.execute(x, ceiling, room);
+    Ok(executed.map_err(|refusal| input::lacking(refusal, &sheet, x, room))?.bytes.into())
 }

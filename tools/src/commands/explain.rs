@@ -1,46 +1,49 @@
 //! `plumanchor explain [SHEET]`.
 
-use crate::arguments::{Arguments, Misuse};
+use super::solve::lacking;
+use crate::arguments::{keep, Arguments, Misuse};
 use crate::command::{Answer, Command, Failure};
 use crate::format::DEFAULT;
 use crate::formula::{Row, POSITIVE};
 use crate::input::{self, Input};
+use crate::json::Field;
 use crate::names::Names;
+use crate::options::{Choice, FROM, JSON, NAMES, RENUMBER, ROOM};
 use crate::refusal::Refusal;
 use crate::rule::{next_move, Move, Reason};
 use crate::sheet::Sheet;
 use crate::words::count;
 use plumanchor::{refusals, Solved};
+use std::ffi::OsStr;
 use std::path::Path;
+
+static SHEETS: Choice = Choice::of("sheets", "DIR", "keep the sheet after each step in a folder");
 
 pub const COMMAND: Command = Command {
     name: "explain",
     purpose: "the run step by step, and the program's line",
-    help: "Usage: plumanchor explain [OPTIONS] [SHEET]\n\n\
-           Writes which variable is settled or expanded in each step and why, with the rows and\n\
+    words: "[SHEET]",
+    about: "Writes which variable is settled or expanded in each step and why, with the rows and\n\
            variables that are left; the last line is the program's. Each step is made by the proved\n\
-           Settle or Expand, and the line is compared with the proved Solve's.\n\n  \
-             --from FORMAT   what the sheet is written in; the run is that of the program's format\n  \
-             --names FILE    call variables by names: a number and a name a line\n  \
-             --room BYTES    the length of the work buffers, if not the program's\n  \
-             --sheets DIR    keep the sheet after each step in a folder\n",
-    options: &["from", "names", "room", "sheets"],
+           Settle or Expand, and the line is compared with the proved Solve's. The run is that of the\n\
+           program's format.\n",
+    options: &[&FROM, &RENUMBER, &NAMES, &ROOM, &SHEETS, &JSON],
     run,
 };
 
-fn run(mut arguments: Arguments) -> Result<Answer, Failure> {
-    let room = arguments.number_option("room")?;
-    let folder = arguments.option("sheets");
+fn run(arguments: &mut Arguments) -> Result<Answer, Failure> {
+    let asked = arguments.number_option(&ROOM)?;
+    let folder = arguments.file_option(&SHEETS);
+    let room = input::within(DEFAULT.longest(), asked)?;
     let carried = input::of_run(arguments)?
-        .and_then(|Input { sheet, names }| Ok((sheet.carried(DEFAULT)?, names)));
+        .and_then(|Input { sheet, names, .. }| Ok((sheet.carried(DEFAULT)?, names)));
     let (sheet, names) = match carried {
         Ok(carried) => carried,
-        Err(refusal) => return Ok(Answer::of_run(String::new(), Err(refusal))),
+        Err(failure) => return Ok(Answer::of_run("", &Names::default(), Err(failure))),
     };
-    let room = sheet.room(room);
-    let solved = match sheet.solve(room) {
+    let solved = match sheet.solve(room).map_err(|refusal| lacking(refusal, &sheet, room)) {
         Ok(solved) => solved,
-        refused => return Ok(Answer::of_run(String::new(), refused)),
+        Err(refusal) => return Ok(Answer::of_run("", &names, Err(refusal.into()))),
     };
     let wrong =
         |what: String| Failure::Contradicted(format!("{what}, and Solve says {}", solved.line()));
@@ -49,18 +52,26 @@ fn run(mut arguments: Arguments) -> Result<Answer, Failure> {
         return Err(wrong(format!("the steps end with {}", run.solved.line())));
     }
     if let Some(folder) = folder {
-        keep(&folder, &run.sheets)?;
+        kept(&folder, &run.sheets)?;
     }
-    Ok(Answer::of_run(run.text, Ok(solved)))
+    let mut answer = Answer::of_run(&run.text, &names, Ok(solved));
+    let steps: Vec<String> = run.text.lines().map(str::to_string).collect();
+    answer.fields.push(Field::texts("steps", &steps));
+    Ok(answer)
+}
+
+/// The rows of the largest sheet on the way, raw ones too.
+pub fn most_rows(sheet: &Sheet, room: usize) -> Result<usize, Refusal> {
+    Ok(Run::whole(sheet, room, &Names::default())?.most_rows)
 }
 
 /// Writes the sheets on the way to a folder, numbered by their steps.
-fn keep(folder: &str, sheets: &[(String, Sheet)]) -> Result<(), Misuse> {
-    let unwritten = |error| Misuse::new(format!("{folder}: {error}"));
+fn kept(folder: &OsStr, sheets: &[(String, Sheet)]) -> Result<(), Misuse> {
+    let unwritten = |error| Misuse::new(format!("{}: {error}", folder.to_string_lossy()));
     std::fs::create_dir_all(folder).map_err(unwritten)?;
     for (step, (what, sheet)) in sheets.iter().enumerate() {
         let file = Path::new(folder).join(format!("{step:04}-{what}.sheet"));
-        std::fs::write(file, &sheet.bytes).map_err(unwritten)?;
+        keep(file.as_os_str(), &sheet.bytes)?;
     }
     Ok(())
 }
@@ -70,6 +81,8 @@ fn keep(folder: &str, sheets: &[(String, Sheet)]) -> Result<(), Misuse> {
 struct Run<'a> {
     names: &'a Names,
     room: usize,
+    /// The rows of the largest sheet so far, raw ones too.
+    most_rows: usize,
     text: String,
     solved: Solved,
     sheets: Vec<(String, Sheet)>,
@@ -82,7 +95,8 @@ impl<'a> Run<'a> {
         let text =
             format!("Tidied: {} of {} stay.\n", held.check()?.1, count(sheet.check()?.1, "row"));
         let sheets = vec![("tidied".to_string(), held.clone())];
-        let mut run = Run { names, room, text, solved: Solved::default(), sheets };
+        let most_rows = held.check()?.1;
+        let mut run = Run { names, room, most_rows, text, solved: Solved::default(), sheets };
         while let Some(next) = run.step(&held)? {
             held = next;
         }
@@ -123,7 +137,7 @@ impl<'a> Run<'a> {
         self.solved.settled += 1;
         let what = format!("Settle {} = {}", self.names.of(row.argument), u8::from(value));
         self.tell(&what, row, &why, &next)?;
-        self.sheets.push((format!("settle-{}", row.argument), next.clone()));
+        self.sheets.push((format!("settle-{}", self.names.of(row.argument)), next.clone()));
         Ok(next)
     }
 
@@ -136,9 +150,10 @@ impl<'a> Run<'a> {
             next => next?,
         };
         self.solved.expanded += 1;
+        self.most_rows = self.most_rows.max(raw);
         let what = format!("Expand {}", self.names.of(row.argument));
         self.tell(&what, row, &format!("{raw} raw rows"), &next)?;
-        self.sheets.push((format!("expand-{}", row.argument), next.clone()));
+        self.sheets.push((format!("expand-{}", self.names.of(row.argument)), next.clone()));
         Ok(Some(next))
     }
 

@@ -2,10 +2,14 @@
 
 use crate::arguments::Arguments;
 use crate::command::{Answer, Command, Failure};
+use crate::format::DEFAULT;
 use crate::formula::{Formula, Row, AND};
-use crate::input;
+use crate::input::{self, Input};
+use crate::json::Field;
+use crate::options::{FROM, JSON, NAMES, QUIET, RENUMBER, ROOM};
 use crate::refusal::Refusal;
 use crate::sheet::Sheet;
+use crate::tell;
 use plumanchor::Guarded;
 use std::sync::mpsc::{channel, Receiver, RecvTimeoutError};
 use std::time::{Duration, Instant};
@@ -13,22 +17,24 @@ use std::time::{Duration, Instant};
 pub const COMMAND: Command = Command {
     name: "guards",
     purpose: "the guards to blame for a false sheet",
-    help: "Usage: plumanchor guards [--from FORMAT] [--room BYTES] [SHEET] > KEPT\n\n\
-           For a false sheet whose root is AND: leaves out each of its children in turn, for good if\n\
+    words: "[SHEET] > KEPT",
+    about: "For a false sheet whose root is AND: leaves out each of its children in turn, for good if\n\
            Solve still says false of the others, and writes the sheet of those kept. Their numbers,\n\
-           counted from 1, stand on standard error. A child whose run stops for want of room is kept\n\
-           and counted. If the sheet is true, or Solve stops on it as it is, only that is said. It\n\
-           takes as many runs of Solve as there are children, and one more. The output and the two\n\
-           work buffers have the program's length, or BYTES each.\n",
-    options: &["from", "room"],
+           counted from 1, or what a circuit calls them, stand on standard error, and with '--json' on\n\
+           standard output in place of the sheet. A child whose run stops for want of room is kept and\n\
+           counted. A sheet that is true, or on which Solve stops as it is, has no such guards: that is\n\
+           said, and the exit status is 1. It takes as many runs of Solve as there are children, and\n\
+           one more.\n",
+    options: &[&FROM, &RENUMBER, &NAMES, &ROOM, &JSON],
     run,
 };
 
-fn run(mut arguments: Arguments) -> Result<Answer, Failure> {
-    let asked = arguments.number_option("room")?;
-    let sheet = input::sheet(arguments)?;
-    let room = sheet.room(asked);
-    let found = watched(sheet.bytes.len(), || -> Result<_, Refusal> {
+fn run(arguments: &mut Arguments) -> Result<Answer, Failure> {
+    let asked = arguments.number_option(&ROOM)?;
+    let Input { sheet, names, guards, .. } = input::input(arguments, DEFAULT)?;
+    let room = input::within(sheet.room(None), asked)?;
+    let length = Some(sheet.bytes.len()).filter(|_| !arguments.has(&QUIET));
+    let found = watched(length, || -> Result<_, Refusal> {
         let found = sheet.guards(room)?;
         let places = match &found {
             Guarded::Kept { sheet: kept, stops } => places(&sheet, kept, *stops, room)?,
@@ -36,25 +42,32 @@ fn run(mut arguments: Arguments) -> Result<Answer, Failure> {
         };
         Ok((found, places))
     });
-    let (output, note) = match found? {
+    let found = found.map_err(|refusal| refusal.lacking(sheet.bytes.len(), room))?;
+    let (kept, stops, places) = match found {
         (Guarded::True { settled, expanded }, _) => {
-            (Vec::new(), format!("true {settled} {expanded}: no guard is to blame\n"))
+            let line = format!("true {settled} {expanded}: no guard is to blame");
+            return Err(Failure::Unusable(line));
         }
         (Guarded::Stopped { variable, settled, expanded }, _) => {
-            let counts = format!("stopped {settled} {expanded} at variable {variable}");
-            (Vec::new(), format!("{counts}: no verdict, so no guard is blamed\n"))
+            let line = format!("stopped {settled} {expanded} {}", names.of(variable));
+            return Err(Failure::Unusable(format!("{line}: no verdict, so no guard is blamed")));
         }
-        (Guarded::Kept { sheet: kept, stops }, places) => {
-            let note = kept_note(children(&sheet).len(), &places, stops);
-            (kept.bytes, note)
-        }
+        (Guarded::Kept { sheet: kept, stops }, places) => (kept, stops, places),
     };
-    Ok(Answer { output, note, refusal: None })
+    let all = children(&sheet).len();
+    let called = |at: &usize| guards.get(*at).cloned().unwrap_or_else(|| (at + 1).to_string());
+    let kept_names: Vec<String> = places.iter().map(called).collect();
+    let fields = vec![
+        Field::texts("kept", &kept_names),
+        Field::number("of", all),
+        Field::number("stopped", stops),
+    ];
+    let note = kept_note(all, &kept_names, stops);
+    Ok(Answer { output: kept.bytes, note, fields, ..Answer::default() })
 }
 
-fn kept_note(all: usize, kept: &[usize], stops: usize) -> String {
-    let numbers: Vec<String> = kept.iter().map(|at| (at + 1).to_string()).collect();
-    let note = format!("kept {} of {all} guards: {}\n", kept.len(), numbers.join(" "));
+fn kept_note(all: usize, kept: &[String], stops: usize) -> String {
+    let note = format!("kept {} of {all} guards: {}\n", kept.len(), kept.join(" "));
     if stops == 0 {
         return note;
     }
@@ -128,8 +141,10 @@ fn says_false_without(
     Ok(solved.verdict == Some(false))
 }
 
-/// Makes the call; if it takes longer than a second, says so now and then.
-fn watched<T>(length: usize, call: impl FnOnce() -> T) -> T {
+/// Makes the call; if it takes longer than a second, says so now and then, of a sheet of so many
+/// bytes, or of none.
+fn watched<T>(length: Option<usize>, call: impl FnOnce() -> T) -> T {
+    let Some(length) = length else { return call() };
     let (done, wait) = channel::<()>();
     std::thread::scope(|scope| {
         scope.spawn(move || watch(&wait, length));
@@ -145,7 +160,7 @@ fn watch(wait: &Receiver<()>, length: usize) {
     // The call is over when its end of the channel is dropped.
     while wait.recv_timeout(pause) == Err(RecvTimeoutError::Timeout) {
         let seconds = start.elapsed().as_secs();
-        eprintln!("plumanchor: guards of a sheet of {length} bytes: {seconds} s so far");
+        tell(&format!("plumanchor: guards of a sheet of {length} bytes: {seconds} s so far\n"));
         pause = Duration::from_secs(5);
     }
 }

@@ -3,18 +3,21 @@
 use crate::arguments::Arguments;
 use crate::command::{Answer, Command, Failure};
 use crate::input;
+use crate::json::Field;
+use crate::options::{FROM, JSON, RENUMBER};
 
 pub const COMMAND: Command = Command {
     name: "part",
     purpose: "the kinds of the rows of a subtree",
-    help: "Usage: plumanchor part NODE [--from FORMAT] [SHEET]\n\n\
-           Writes the kinds of the rows that the subtree at a node covers, in preorder. Nodes count\n\
+    words: "NODE [SHEET]",
+    about:
+        "Writes the kinds of the rows that the subtree at a node covers, in preorder. Nodes count\n\
            from 0, the root. Kinds: 3 a variable, 4 its negation, 5 AND, 6 OR.\n",
-    options: &["from"],
+    options: &[&FROM, &RENUMBER, &JSON],
     run,
 };
 
-fn run(mut arguments: Arguments) -> Result<Answer, Failure> {
+fn run(arguments: &mut Arguments) -> Result<Answer, Failure> {
     let node = arguments.number("node")?;
     let sheet = input::sheet(arguments)?;
     let (_, nodes) = sheet.check()?;
@@ -23,6 +26,10 @@ fn run(mut arguments: Arguments) -> Result<Answer, Failure> {
             let most = nodes - 1;
             Err(Failure::Unusable(format!("node {node} is not there: nodes are 0 to {most}")))
         }
-        kinds => Ok((kinds.iter().map(u8::to_string).collect::<Vec<_>>().join(" ") + "\n").into()),
+        kinds => {
+            let words: Vec<String> = kinds.iter().map(u8::to_string).collect();
+            let numbers = kinds.iter().map(|&kind| usize::from(kind));
+            Ok(Answer::of_words(words.join(" "), vec![Field::numbers("kinds", numbers)]))
+        }
     }
 }

@@ -6,22 +6,23 @@ use crate::format::DEFAULT;
 use crate::formula::{Formula, Row};
 use crate::input::{self, Input};
 use crate::names::Names;
+use crate::options::{FROM, NAMES, RENUMBER};
 use crate::words::count;
 
 pub const COMMAND: Command = Command {
     name: "show",
     purpose: "the formula as people write it",
-    help: "Usage: plumanchor show [--from FORMAT] [--names FILE] [SHEET]\n\n\
-           Writes the prefix block by block, outermost first, and the tree: an operator's children\n\
+    words: "[SHEET]",
+    about: "Writes the prefix block by block, outermost first, and the tree: an operator's children\n\
            stand below it, indented, in their order; literals that follow one another share a line,\n\
            and a line that ends with a comma goes on in the next. From depth 20 on the depth is\n\
            written as a number. FILE has a number and a name a line, as 'convert --to names' writes.\n",
-    options: &["from", "names"],
+    options: &[&FROM, &RENUMBER, &NAMES],
     run,
 };
 
-fn run(arguments: Arguments) -> Result<Answer, Failure> {
-    let Input { sheet, names } = input::input(arguments, DEFAULT)?;
+fn run(arguments: &mut Arguments) -> Result<Answer, Failure> {
+    let Input { sheet, names, .. } = input::input(arguments, DEFAULT)?;
     Ok(text(&sheet.formula()?, &names).into())
 }
 

@@ -3,18 +3,22 @@
 use crate::arguments::Arguments;
 use crate::command::{Answer, Command, Failure};
 use crate::input;
+use crate::json::Field;
+use crate::options::{FROM, JSON, RENUMBER};
 
 pub const COMMAND: Command = Command {
     name: "trial",
     purpose: "decide a sheet of at most 20 variables by trying values",
-    help: "Usage: plumanchor trial [--from FORMAT] [SHEET]\n\n\
-           Writes the verdict, true or false, and how many leaves were tried. No tidying, settling\n\
+    words: "[SHEET]",
+    about:
+        "Writes the verdict, true or false, and how many leaves were tried. No tidying, settling\n\
            or expanding: a second way to the verdict, for sheets of at most 20 variables.\n",
-    options: &["from"],
+    options: &[&FROM, &RENUMBER, &JSON],
     run,
 };
 
-fn run(arguments: Arguments) -> Result<Answer, Failure> {
+fn run(arguments: &mut Arguments) -> Result<Answer, Failure> {
     let (verdict, leaves) = input::sheet(arguments)?.trial()?;
-    Ok(format!("{verdict} {leaves}\n").into())
+    let fields = vec![Field::flag("answer", verdict), Field::number("leaves", leaves)];
+    Ok(Answer::of_words(format!("{verdict} {leaves}"), fields))
 }

@@ -3,7 +3,7 @@
 use super::statement::{self, Gate, Signed, Statement};
 use super::Fault;
 use crate::format::Format;
-use crate::formula::{Row, EXISTS};
+use crate::formula::{Row, AND, EXISTS};
 use crate::names::Names;
 use std::collections::HashMap;
 
@@ -36,6 +36,8 @@ pub struct Circuit {
     variables: Vec<Variable>,
     pub output: Said<Literal>,
     pub gates: Vec<Said<Gate<Literal>>>,
+    /// What the gates are called.
+    names: Vec<String>,
 }
 
 /// The statements so far, in the order that the format gives them: free,
@@ -45,23 +47,71 @@ struct Lines {
     variables: Vec<Variable>,
     output: Option<Said<Signed>>,
     gates: Vec<Said<Gate<Signed>>>,
+    names: Vec<String>,
     meanings: HashMap<String, Target>,
 }
 
 impl Circuit {
-    pub fn read(text: &str) -> Result<Circuit, Fault> {
-        let mut lines = text.lines().map(str::trim).zip(1..);
-        header(lines.next().map_or("", |first| first.0))?;
+    pub fn read(text: &[u8]) -> Result<Circuit, Fault> {
+        let (first, below) = text.split_at(text.iter().take_while(|&&byte| byte != b'\n').count());
+        header(&String::from_utf8_lossy(first))?;
+        let (statements, last_line) = statements(below)?;
         let mut read = Lines::default();
-        let mut last = 1;
-        for (words, line) in lines {
-            last = line;
-            if !words.is_empty() && !words.starts_with('#') {
-                let statement = statement::read(words).map_err(|why| Fault::new(line, why))?;
-                read.take(statement, line).map_err(|why| Fault::new(line, why))?;
-            }
+        for Said { line, what } in statements {
+            let statement = statement::read(&what).map_err(|why| Fault::new(line, why))?;
+            read.take(statement, line).map_err(|why| Fault::new(line, why))?;
         }
-        read.resolved(last)
+        read.resolved(last_line)
+    }
+
+    /// What a literal is called, or its negation.
+    fn called(&self, literal: &Literal, negated: bool) -> String {
+        let name = match literal.target {
+            Target::Variable(at) => &self.variables[at].name,
+            Target::Gate(at) => &self.names[at],
+        };
+        let sign = if literal.negated != negated { "-" } else { "" };
+        format!("{sign}{name}")
+    }
+
+    pub fn gate_name(&self, gate: usize) -> &str {
+        &self.names[gate]
+    }
+
+    /// A name for the variable that stands for a gate or its negation: the gate's, or one that
+    /// nothing else has.
+    pub fn new_name(&self, gate: usize, negated: bool) -> String {
+        if !negated {
+            return self.names[gate].clone();
+        }
+        let mut name = format!("not_{}", self.names[gate]);
+        while self
+            .variables
+            .iter()
+            .map(|variable| &variable.name)
+            .chain(&self.names)
+            .any(|known| *known == name)
+        {
+            name.push('_');
+        }
+        name
+    }
+
+    pub fn output_name(&self) -> [String; 1] {
+        [self.called(&self.output.what, false)]
+    }
+
+    /// What the children of an output are called that is AND.
+    pub fn guards(&self) -> Vec<String> {
+        let Literal { target: Target::Gate(output), negated } = self.output.what else {
+            return Vec::new();
+        };
+        match &self.gates[output].what {
+            Gate::Operator(kind, inputs) if (*kind == AND) != negated => {
+                inputs.iter().map(|input| self.called(input, negated)).collect()
+            }
+            _ => Vec::new(),
+        }
     }
 
     /// The prefix. Variables that are called by numbers of the format keep them;
@@ -87,6 +137,34 @@ impl Circuit {
 fn own_number(name: &str, most: usize) -> Option<usize> {
     let number: usize = name.parse().ok()?;
     (1..=most).contains(&number).then_some(number).filter(|number| number.to_string() == name)
+}
+
+/// The statements below the header, each with its first line, and the text's last line. A comment
+/// ends with its line and may have any bytes; a list goes on until it is closed.
+fn statements(below: &[u8]) -> Result<(Vec<Said<String>>, usize), Fault> {
+    let mut statements: Vec<Said<String>> = Vec::new();
+    let (mut open, mut last_line) = (false, 1);
+    for (bytes, line) in below.split(|&byte| byte == b'\n').zip(1..) {
+        if bytes.is_empty() {
+            continue;
+        }
+        last_line = line;
+        let code = bytes.split(|&byte| byte == b'#').next().unwrap_or_default();
+        let words = std::str::from_utf8(code);
+        let words = words.map_err(|_| Fault::new(line, "bytes that are no text"))?.trim();
+        if words.is_empty() {
+            continue;
+        }
+        match statements.last_mut().filter(|_| open) {
+            Some(said) => said.what += &format!(" {words}"),
+            None => statements.push(Said { line, what: words.to_string() }),
+        }
+        open = (open || words.contains('(')) && !words.contains(')');
+    }
+    match statements.last().filter(|_| open) {
+        Some(said) => Err(Fault::new(said.line, "the list is not closed")),
+        None => Ok((statements, last_line)),
+    }
 }
 
 fn header(line: &str) -> Result<(), Fault> {
@@ -120,7 +198,8 @@ impl Lines {
                 Err("gates come after the output".into())
             }
             Statement::Gate(name, what) => {
-                self.define(name, Target::Gate(self.gates.len()))?;
+                self.define(name.clone(), Target::Gate(self.gates.len()))?;
+                self.names.push(name);
                 self.gates.push(Said { line, what });
                 Ok(())
             }
@@ -160,6 +239,6 @@ impl Lines {
         for Said { line, what } in &self.gates {
             gates.push(Said { line: *line, what: what.try_map(|input| meaning(*line, input))? });
         }
-        Ok(Circuit { variables: self.variables, output, gates })
+        Ok(Circuit { variables: self.variables, output, gates, names: self.names })
     }
 }

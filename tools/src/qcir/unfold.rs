@@ -5,25 +5,10 @@
 use super::circuit::{Circuit, Literal, Said, Target};
 use super::statement::Gate;
 use super::Fault;
-use crate::format::Format;
 use crate::formula::{Row, AND, NEGATIVE, OR, POSITIVE};
 
-/// The node rows of the circuit's output, in preorder.
-pub fn rows(circuit: &Circuit, prefix: &[Row], format: &Format) -> Result<Vec<Row>, Fault> {
-    let size = size(circuit)?;
-    if size > format.most_nodes as u128 {
-        let at_least = if size == u128::MAX { "at least " } else { "" };
-        let (name, most) = (format.name, format.most_nodes);
-        let why = format!(
-            "as a tree it has {at_least}{size} nodes, and a {name} sheet has at most {most}"
-        );
-        return Err(Fault::new(circuit.output.line, why));
-    }
-    Ok(unfolded(circuit, prefix, size as usize))
-}
-
 /// How many rows the output's tree has; the highest number stands for all above.
-fn size(circuit: &Circuit) -> Result<u128, Fault> {
+pub fn size(circuit: &Circuit) -> Result<u128, Fault> {
     let mut sizes = vec![0u128; circuit.gates.len()];
     for gate in uses_first(&circuit.gates)? {
         let of = |literal: &Literal| match literal.target {
@@ -52,7 +37,7 @@ enum Visit {
 
 /// The gates in an order in which each comes after all that it uses; a gate that
 /// uses itself, through others or not, has none.
-fn uses_first(gates: &[Said<Gate<Literal>>]) -> Result<Vec<usize>, Fault> {
+pub fn uses_first(gates: &[Said<Gate<Literal>>]) -> Result<Vec<usize>, Fault> {
     let mut visits = vec![Visit::New; gates.len()];
     let mut order = Vec::new();
     for start in 0..gates.len() {
@@ -84,12 +69,13 @@ fn uses_first(gates: &[Said<Gate<Literal>>]) -> Result<Vec<usize>, Fault> {
 }
 
 /// What is still to be written.
-enum Piece {
+pub enum Piece {
     Row(Row),
     Literal(Literal),
 }
 
-fn unfolded(circuit: &Circuit, prefix: &[Row], size: usize) -> Vec<Row> {
+/// The node rows of the circuit's output, in preorder, which are so many.
+pub fn rows(circuit: &Circuit, prefix: &[Row], size: usize) -> Vec<Row> {
     let mut rows = Vec::with_capacity(size);
     let mut pieces = vec![Piece::Literal(circuit.output.what)];
     while let Some(piece) = pieces.pop() {
@@ -109,7 +95,7 @@ fn unfolded(circuit: &Circuit, prefix: &[Row], size: usize) -> Vec<Row> {
 }
 
 /// A gate, or its negation, by its inputs.
-fn written_out(gate: &Gate<Literal>, negated: bool) -> Vec<Piece> {
+pub fn written_out(gate: &Gate<Literal>, negated: bool) -> Vec<Piece> {
     let negate = |literal: &Literal, by: bool| {
         Piece::Literal(Literal { negated: literal.negated != by, ..*literal })
     };

@@ -31,7 +31,7 @@ pub fn spawned(arguments: &[&str], input: &[u8]) -> Ended {
 
 /// The same within this process, for calls by the thousand.
 pub fn called(arguments: &[&str], input: &[u8]) -> Ended {
-    let words = arguments.iter().map(|word| word.to_string()).collect();
+    let words = arguments.iter().map(|word| word.into()).collect();
     plumanchor_tool::call(words, Cursor::new(input.to_vec()))
 }
 
