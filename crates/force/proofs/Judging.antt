@@ -10,7 +10,7 @@ use native.Mathlib.Omega.{arith}
 use lib.ListN.{length, drop, length-append, length-drop, length-map}
 use Rattle.formula.specs.Tree.{Prefix, Tree, Formula}
 use Rattle.formula.specs.Solve.{State, End, ended, stopped, solve}
-use Rattle.formula.specs.Force.{tried, judged}
+use Rattle.formula.specs.Force.{given, tried, judged}
 use Rattle.formula.proofs.Force.{prefix-given}
 use Rattle.sheet.specs.Format.{Bytes, Format, row, sheet-length, fits}
 use Rattle.sheet.specs.Sheet.{binding, formula, formula-rows}
@@ -27,6 +27,7 @@ use Rattle.rows.specs.Formulas.{prefix-in, matrix-in, formula-in, Readable}
 use Rattle.rows.specs.declared.Layout.{Layout}
 use Rattle.rows.proofs.Formulas.{length-prefix, formula-written}
 use Rattle.rows.proofs.Limits.{limits}
+use Rattle.checking.specs.Sheets.{Sheet}
 use Rattle.checking.proofs.CheckedSheets.{sheet-right, sheet-readable, sheet-formula-in}
 use Rattle.prefixes.specs.Places.{binding-at}
 use Rattle.raw.specs.Formulas.{Raw}
@@ -51,6 +52,50 @@ unfolding solved
 ended-ending (ended w) s {v} h = let k : v ≡ w = cc in ap ended k
 ended-ending (stopped y) s h = let z : _≡_ {A = ℕ} 0 1 = cc in absurd (omega arith)
 
+-- a sheet under values for its first variables
+
+module _ {s : Layout} {b : Bytes} (h : Sheet (s .format) b s) where
+  abbrev G : Format
+  G = format-in s
+
+  abbrev q : Prefix
+  q = prefix-in s b
+
+  same-formula : formula-in s b ≡ formula G b
+  same-formula = sheet-formula-in h
+
+  within : Within G (formula-in s b)
+  within = subst (Within G) (sym same-formula) (accepted-within G b (h .tests-pass))
+
+  pub has-entries : Numbered s b
+  unfolding binding-at formula-in
+  has-entries i l =
+      omega (
+        arith,
+        numbered-at G q i (binding (row 0 0)) (within .is-numbered) (omega (arith, length-prefix b (sheet-readable h))),
+        limits (s .format) .few-variables,
+      )
+
+  small : Small q
+  unfolding formula-in
+  small v l = omega (arith, binds-numbered G q v (within .is-numbered) l, limits (s .format) .few-variables)
+
+  -- its rows behind those of the values, with constants for their literals
+  pub given-raw : (bs : List Bool) {table : List ℕ} → table ≡ moves bs q → behind-raw (length bs) table (formula-in s b) ≡ given bs (formula G b)
+  unfolding behind-raw formula-in
+  given-raw bs e =
+      ap (λ (u : List ℕ). behind-raw (length bs) u (formula-in s b)) e ∙
+      ap₂ (λ (r : Prefix) (u : Tree). record { prefix = r; matrix = u }) (sym (prefix-given bs q (matrix-in s b)))
+      (moves-given bs q (matrix-in s b) (within .is-distinct) small) ∙
+      ap (λ (f : Formula). given bs f) same-formula
+
+  pub given-count : (bs : List Bool) → length ((given bs (formula G b)) .prefix) ≡ s .variables - length bs
+  unfolding formula-in
+  given-count bs =
+      ap (λ (f : Formula). length ((given bs f) .prefix)) (sym same-formula) ∙
+      ap length (prefix-given bs q (matrix-in s b)) ∙ length-drop (length bs) q ∙
+      ap (λ (n : ℕ). n - length bs) (length-prefix b (sheet-readable h))
+
 module _ {s : Layout} {b vs : Bytes} {len : ℕ} (j : Judgeable s b vs len) where
   abbrev F : Format
   F = format-in s
@@ -61,24 +106,8 @@ module _ {s : Layout} {b vs : Bytes} {len : ℕ} (j : Judgeable s b vs len) wher
   pub readable : Readable s b
   readable = sheet-readable (j .checked)
 
-  same-formula : formula-in s b ≡ formula F b
-  same-formula = sheet-formula-in (j .checked)
-
-  within : Within F (formula-in s b)
-  within = subst (Within F) (sym same-formula) (accepted-within F b (j .checked .tests-pass))
-
   pub numbered : Numbered s b
-  unfolding binding-at formula-in
-  numbered i h =
-      omega (
-        arith,
-        numbered-at F p i (binding (row 0 0)) (within .is-numbered) (omega (arith, length-prefix b readable)),
-        limits (s .format) .few-variables,
-      )
-
-  small : Small p
-  unfolding formula-in
-  small v h = omega (arith, binds-numbered F p v (within .is-numbered) h, limits (s .format) .few-variables)
+  numbered = has-entries (j .checked)
 
   -- the sheet left is no longer than the one given
   left-short : (k : ℕ) → size (layout-behind s k) ≤ len
@@ -108,13 +137,7 @@ module _ {s : Layout} {b vs : Bytes} {len : ℕ} (j : Judgeable s b vs len) wher
     count-moves = length-append (values-of vs) (c ∷ []) ∙ omega (arith, length-map vs value-of)
 
     raw-is : {table : List ℕ} → table ≡ moves bs p → behind-raw k table (formula-in s b) ≡ g
-    unfolding behind-raw formula-in
-    raw-is {table} e =
-        ap (λ (u : List ℕ). behind-raw k u (formula-in s b)) e ∙
-        ap₂ (λ (q : Prefix) (u : Tree). record { prefix = q; matrix = u })
-        (ap (λ (n : ℕ). drop n p) (sym count-moves) ∙ sym (prefix-given bs p (matrix-in s b)))
-        (moves-given bs p (matrix-in s b) (within .is-distinct) small) ∙
-        ap (λ (f : Formula). tried (values-of vs) c f) same-formula
+    raw-is {table} e = ap (λ (n : ℕ). behind-raw n table (formula-in s b)) (sym count-moves) ∙ given-raw (j .checked) bs e
 
     module _ {table : List ℕ} (filled : table ≡ moves bs p) {old new : Bytes} (second : Bytes) (same : length new ≡ length old)
         (shorter : len ≡ room old second) {t : Layout} (at : t ≡ layout-behind s k)
@@ -123,11 +146,7 @@ module _ {s : Layout} {b vs : Bytes} {len : ℕ} (j : Judgeable s b vs len) wher
       rows-are = w .all-rows ∙ ap formula-rows (raw-is filled)
 
       prefix-count : length (g .prefix) ≡ s .variables - k
-      unfolding formula-in
-      prefix-count =
-          ap (λ (f : Formula). length ((tried (values-of vs) c f) .prefix)) (sym same-formula) ∙
-          ap length (prefix-given bs p (matrix-in s b)) ∙ length-drop (length bs) p ∙
-          omega (arith, count-moves, length-prefix b readable)
+      prefix-count = given-count (j .checked) bs ∙ ap (λ (n : ℕ). s .variables - n) count-moves
 
       written : formula-in (layout-behind s k) new ≡ g
       written = formula-written (layout-behind s k) new g rows-are prefix-count

@@ -53,7 +53,7 @@ pub enum Forced {
 }
 
 // Whether every byte is 0 or 1.
-fn are_values(values: &[u8]) -> bool
+pub fn are_values(values: &[u8]) -> bool
     ensures { λ r. ⌜ r ≡ are-values (now (values .entry)) ⌝ }
 {
     let mut i: usize = 0;
