@@ -35,7 +35,7 @@ use Rattle.elimination.proofs.Admitting.{sheet-steppable}
 use Rattle.expand.specs.Inner.ExpandPlan.{ExpandPlanned}
 use Rattle.response.specs.Inner.ResponsePlan.{in-room, Passes, ResponsePlans}
 use Rattle.response.specs.declared.plan.ResponsePlan.the-variants.{Refused, Constant, Copy}
-use Rattle.response.proofs.Part.{rows-taken, few-taken}
+use Rattle.response.proofs.Selection.{rows-taken, few-taken}
 use Rattle.response.proofs.Functions.{unsettled-occurs}
 
 -- Response's own tests

@@ -41,9 +41,9 @@ use Rattle.elimination.specs.Steps.{Steppable, Named}
 use Rattle.elimination.specs.Survey.{FoundPart}
 use Rattle.elimination.specs.declared.survey.Survey.{Survey}
 use Rattle.elimination.proofs.RawSheets.{raw-room, prefix-without, written-raw, written-sheet, written-layout}
-use Rattle.response.specs.Inner.Function.{constant-kind, PartReady, PartCuts, ByCopy}
-use Rattle.response.specs.declared.function.Part.{Part}
-use Rattle.response.proofs.Part.{rows-taken, few-taken}
+use Rattle.response.specs.Inner.Function.{constant-kind, SelectionReady, SelectionCuts, ByCopy}
+use Rattle.response.specs.declared.function.Selection.{Selection}
+use Rattle.response.proofs.Selection.{rows-taken, few-taken}
 
 -- a raw function u of n rows, behind the prefix without the row of x
 module _ {s : Layout} {b : Bytes} {x i : ℕ} (st : Steppable s b) (nm : Named s b x i) {o : Option Bool}
@@ -143,14 +143,14 @@ module _ {s : Layout} {b : Bytes} {x : ℕ} {table : List ℕ} {w : Survey} {len
   abbrev q : Op
   q = quantifier-of (prefix-in s b) x
 
-  abbrev part : Part
+  abbrev part : Selection
   part = record { relevant = w .to .relevant; end = w .to .end; layout = raw-layout s (w .to .relevant .rows) }
 
   chosen-is : of x ≡ chosen t
   chosen-is = sym (ap chosen is ∙ chosen-putting x (k .named .few) (eqb (w .to .joint) 6))
 
-  pub part-ready : (out : Bytes) → Room (raw-layout s (w .to .relevant .rows)) (length out) → PartReady s b t part out
-  part-ready out room =
+  pub selection-ready : (out : Bytes) → Room (raw-layout s (w .to .relevant .rows)) (length out) → SelectionReady s b t part out
+  selection-ready out room =
       record {
         readable = k .from .readable;
         part-is = found k .part-is ∙ ap (λ (L : Literals). relevant-subtree L 0 m) chosen-is;
@@ -160,8 +160,8 @@ module _ {s : Layout} {b : Bytes} {x : ℕ} {table : List ℕ} {w : Survey} {len
         room = room;
       }
 
-  pub part-cuts : w .to .relevant .all ≡ false → PartCuts s b t part (take (w .cuts) table)
-  part-cuts h =
+  pub selection-cuts : w .to .relevant .all ≡ false → SelectionCuts s b t part (take (w .cuts) table)
+  selection-cuts h =
       let at = w .to .relevant .operator in
       found k .cuts-are h ∙ ap (λ (L : Literals). cuts L (suc at) (kids (subtree-in s b at))) chosen-is
 

@@ -1,5 +1,5 @@
 -- Laws of the function as it is written, and of what is decided.
-mod Part
+mod Selection
 mod Writing
 pub mod Functions
 mod Deciding

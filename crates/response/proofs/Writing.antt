@@ -1,4 +1,4 @@
--- What is written of the relevant subtree, by parts, and the room for it.
+-- What is written of the relevant subtree, piece by piece, and the room for it.
 -- Assumes nothing.
 use mathlib.Core.Path.{_≡_, refl, sym, ap, _∙_, subst₂}
 use mathlib.Core.Bool.{true, false}
@@ -29,28 +29,28 @@ use Rattle.substitution.proofs.Changed.{one-row}
 use Rattle.raw.specs.Expansions.{Climbs, runs-in}
 use Rattle.raw.proofs.Cuts.{slice-take, Stands, climbs-from, Parted, parted}
 use Rattle.raw.proofs.Source.{nodes-copied}
-use Rattle.response.specs.Inner.Function.{part-rows, PartReady, PartCuts}
-use Rattle.response.specs.declared.function.Part.{Part}
-use Rattle.response.proofs.Part.{own-part, own-tree, Placed, placed, own-few, own-operator, rows-taken, few-taken, whole-rows, some-rows}
+use Rattle.response.specs.Inner.Function.{selected-rows, SelectionReady, SelectionCuts}
+use Rattle.response.specs.declared.function.Selection.{Selection}
+use Rattle.response.proofs.Selection.{own-part, own-tree, Placed, placed, own-few, own-operator, rows-taken, few-taken, whole-rows, some-rows}
 
 -- Every child is relevant.
-pub record Whole (s : Layout) (b : Bytes) (t : List ℕ) (p : Part) : Type 0 where
+pub record Whole (s : Layout) (b : Bytes) (t : List ℕ) (p : Selection) : Type 0 where
   pub inside : p .relevant .operator < p .end
   pub end-in : p .end ≤ s .nodes
   pub room : p .layout .variables + (p .end - p .relevant .operator) ≤ total (p .layout)
-  pub written : copied t (s .variables + p .relevant .operator) (s .variables + p .end) (rows-in s b) ≡ part-rows s b t
+  pub written : copied t (s .variables + p .relevant .operator) (s .variables + p .end) (rows-in s b) ≡ selected-rows s b t
 
 -- Not every child is relevant.
-pub record Some (s : Layout) (b : Bytes) (t cs : List ℕ) (p : Part) : Type 0 where
+pub record Some (s : Layout) (b : Bytes) (t cs : List ℕ) (p : Selection) : Type 0 where
   pub operator-in : p .relevant .operator < s .nodes
   pub some-cuts : 1 ≤ length cs
   pub climbs : Climbs 0 (drop 1 cs) (s .nodes)
   pub fits-children : Fits s (p .relevant .children)
   pub room : suc (p .layout .variables) + length (runs-in s b (drop 1 cs)) ≤ total (p .layout)
   pub written : {k : ℕ} → k ≡ (top (subtree-in s b (p .relevant .operator))) .kind
-      → row k (p .relevant .children) ∷ map (changed-row t) (runs-in s b (drop 1 cs)) ≡ part-rows s b t
+      → row k (p .relevant .children) ∷ map (changed-row t) (runs-in s b (drop 1 cs)) ≡ selected-rows s b t
 
-module _ {s : Layout} {b : Bytes} {t : List ℕ} {p : Part} {out : Bytes} (r : PartReady s b t p out) where
+module _ {s : Layout} {b : Bytes} {t : List ℕ} {p : Selection} {out : Bytes} (r : SelectionReady s b t p out) where
   abbrev L : Literals
   L = chosen t
 
@@ -64,12 +64,12 @@ module _ {s : Layout} {b : Bytes} {t : List ℕ} {p : Part} {out : Bytes} (r : P
   taken = strategy.relevant-subtree L (matrix-in s b)
 
   -- the output is ready for a copy
-  pub part-copy : CopyReady s b (p .layout) out
-  part-copy = record { source = r .readable .room; room = r .room; same-format = r .same-format }
+  pub selection-copy : CopyReady s b (p .layout) out
+  selection-copy = record { source = r .readable .room; room = r .room; same-format = r .same-format }
 
   -- as many rows as the layout has nodes
-  pub part-length : length (part-rows s b t) ≡ p .layout .nodes
-  part-length =
+  pub selection-length : length (selected-rows s b t) ≡ p .layout .nodes
+  selection-length =
       length-tree-rows _ ∙ rows-replace (changed t) (one-row t) taken ∙ sym (rows-taken L 0 (matrix-in s b)) ∙
       ap (λ (q : Relevant). q .rows) (sym (r .part-is)) ∙ sym (r .nodes-are)
 
@@ -131,7 +131,7 @@ module _ {s : Layout} {b : Bytes} {t : List ℕ} {p : Part} {out : Bytes} (r : P
             omega (
               arith,
               r .end-is,
-              part-length,
+              selection-length,
               ap length (sym written),
               ap length here,
               length-map (tree-rows u) (changed-row t),
@@ -140,12 +140,12 @@ module _ {s : Layout} {b : Bytes} {t : List ℕ} {p : Part} {out : Bytes} (r : P
         written = written;
       }
     where
-      written : copied t (s .variables + op) (s .variables + p .end) (rows-in s b) ≡ part-rows s b t
+      written : copied t (s .variables + op) (s .variables + p .end) (rows-in s b) ≡ selected-rows s b t
       written =
           here ∙ whole-rows t op u (ap (λ (q : Relevant). q .all) (sym own-here) ∙ h) ∙
           ap (λ w. tree-rows (replace (changed t) w)) (sym taken-here)
 
-  pub some : p .relevant .all ≡ false → {cs : List ℕ} → PartCuts s b t p cs → Some s b t cs p
+  pub some : p .relevant .all ≡ false → {cs : List ℕ} → SelectionCuts s b t p cs → Some s b t cs p
   some h {cs} c =
       record {
         operator-in = omega (arith, sizes, rows-positive u);
@@ -161,7 +161,7 @@ module _ {s : Layout} {b : Bytes} {t : List ℕ} {p : Part} {out : Bytes} (r : P
               ap (λ (q : Relevant). q .children) own-here,
               ap (λ (q : Relevant). q .rows) own-here,
             ));
-        room = omega (arith, part-length, ap length (sym (written refl)), length-map (runs-in s b (drop 1 cs)) (changed-row t));
+        room = omega (arith, selection-length, ap length (sym (written refl)), length-map (runs-in s b (drop 1 cs)) (changed-row t));
         written = written;
       }
     where
@@ -182,7 +182,7 @@ module _ {s : Layout} {b : Bytes} {t : List ℕ} {p : Part} {out : Bytes} (r : P
       climbing : Climbs 0 (getD cs 0 0 ∷ drop 1 cs) (s .nodes)
       climbing = subst₂ (λ l n. Climbs 0 l n) (drop-cons cs 0 0 (omega (arith, q .two))) (length-nodes b (r .readable)) (q .climbs)
 
-      written : {k : ℕ} → k ≡ (top u) .kind → row k (p .relevant .children) ∷ map (changed-row t) (runs-in s b (drop 1 cs)) ≡ part-rows s b t
+      written : {k : ℕ} → k ≡ (top u) .kind → row k (p .relevant .children) ∷ map (changed-row t) (runs-in s b (drop 1 cs)) ≡ selected-rows s b t
       written e =
           some-rows t op u (ap (λ (q : Relevant). q .all) (sym own-here) ∙ h) (q .holding) e (ap (λ (q : Relevant). q .children) own-here) ∙
           ap (λ w. tree-rows (replace (changed t) w)) (sym taken-here)

@@ -26,19 +26,19 @@ ghost use Rattle.sheet.specs.Strategy.{response};
 ghost use Rattle.rows.specs.Layouts.{format-in};
 ghost use Rattle.rows.specs.Formulas.{formula-in, layout-for};
 ghost use Rattle.substitution.specs.Output.{Laid};
-ghost use Rattle.response.specs.Inner.Function.{constant-kind, part-rows, PartReady, PartCuts, ByConstant, ByCopy};
+ghost use Rattle.response.specs.Inner.Function.{constant-kind, selected-rows, SelectionReady, SelectionCuts, ByConstant, ByCopy};
 
 // What is copied: the relevant subtree, the node row behind its operator's subtree, and the layout that it is written in.
-pub struct Part {
+pub struct Selection {
     pub relevant: Relevant,
     pub end: usize,
     pub layout: Layout,
 }
 
 // For a single literal, or where every child is relevant: writes the subtree, changed by the table.
-fn write_whole(b: &[u8], s: Layout, table: &[u16], p: Part, out: &mut [u8]) -> usize
-    requires { ⌜ PartReady s (now b) (now table) p (now out) × (p .relevant .all ≡ true) ⌝ }
-    ensures { λ next. ⌜ Laid (p .layout) (now (out .entry)) (now (out .exit)) (p .layout .variables) next (part-rows s (now (b .entry)) (now (table .entry))) ⌝ }
+fn write_whole(b: &[u8], s: Layout, table: &[u16], p: Selection, out: &mut [u8]) -> usize
+    requires { ⌜ SelectionReady s (now b) (now table) p (now out) × (p .relevant .all ≡ true) ⌝ }
+    ensures { λ next. ⌜ Laid (p .layout) (now (out .entry)) (now (out .exit)) (p .layout .variables) next (selected-rows s (now (b .entry)) (now (table .entry))) ⌝ }
 {
     let t = p.layout;
     let v = s.variables;
@@ -54,9 +54,16 @@ fn write_whole(b: &[u8], s: Layout, table: &[u16], p: Part, out: &mut [u8]) -> u
 }
 
 // Where not every child is relevant: writes the operator, and below it the relevant children, changed by the table.
-fn write_some(b: &[u8], s: Layout, table: &[u16], cuts: &[u16], p: Part, out: &mut [u8]) -> usize
-    requires { ⌜ PartReady s (now b) (now table) p (now out) × (p .relevant .all ≡ false) × PartCuts s (now b) (now table) p (now cuts) ⌝ }
-    ensures { λ next. ⌜ Laid (p .layout) (now (out .entry)) (now (out .exit)) (p .layout .variables) next (part-rows s (now (b .entry)) (now (table .entry))) ⌝ }
+fn write_some(
+    b: &[u8],
+    s: Layout,
+    table: &[u16],
+    cuts: &[u16],
+    p: Selection,
+    out: &mut [u8],
+) -> usize
+    requires { ⌜ SelectionReady s (now b) (now table) p (now out) × (p .relevant .all ≡ false) × SelectionCuts s (now b) (now table) p (now cuts) ⌝ }
+    ensures { λ next. ⌜ Laid (p .layout) (now (out .entry)) (now (out .exit)) (p .layout .variables) next (selected-rows s (now (b .entry)) (now (table .entry))) ⌝ }
 {
     let t = p.layout;
     let head = Head {
@@ -69,9 +76,16 @@ fn write_some(b: &[u8], s: Layout, table: &[u16], cuts: &[u16], p: Part, out: &m
 }
 
 // Writes the relevant subtree of the literals that the table changes, changed by it, as the node rows of a layout.
-fn write_part(b: &[u8], s: Layout, table: &[u16], cuts: &[u16], p: Part, out: &mut [u8]) -> usize
-    requires { ⌜ PartReady s (now b) (now table) p (now out) × (p .relevant .all ≡ false → PartCuts s (now b) (now table) p (now cuts)) ⌝ }
-    ensures { λ next. ⌜ Laid (p .layout) (now (out .entry)) (now (out .exit)) (p .layout .variables) next (part-rows s (now (b .entry)) (now (table .entry))) ⌝ }
+fn write_selection(
+    b: &[u8],
+    s: Layout,
+    table: &[u16],
+    cuts: &[u16],
+    p: Selection,
+    out: &mut [u8],
+) -> usize
+    requires { ⌜ SelectionReady s (now b) (now table) p (now out) × (p .relevant .all ≡ false → SelectionCuts s (now b) (now table) p (now cuts)) ⌝ }
+    ensures { λ next. ⌜ Laid (p .layout) (now (out .entry)) (now (out .exit)) (p .layout .variables) next (selected-rows s (now (b .entry)) (now (table .entry))) ⌝ }
 {
     if p.relevant.all {
         return write_whole(b, s, table, p, out);
@@ -103,13 +117,13 @@ pub fn function_into(
         nodes: w.to.relevant.rows,
     };
     let relevant = w.to.relevant;
-    let p = Part {
+    let p = Selection {
         relevant: relevant,
         end: w.to.end,
         layout: t,
     };
     write_prefix(b, s, w.to.row, out, t);
-    write_part(b, s, &table, &cuts[..w.cuts], p, out);
+    write_selection(b, s, &table, &cuts[..w.cuts], p, out);
     tidy_in_place(out, t)
 }
 

@@ -22,18 +22,18 @@ use Rattle.elimination.specs.Steps.{Steppable, Named}
 use Rattle.elimination.specs.Expanding.{Prepared}
 use Rattle.elimination.specs.declared.settling.Put.{Put}
 use Rattle.elimination.specs.declared.survey.Survey.{Survey}
-use Rattle.response.specs.declared.function.Part.{Part}
+use Rattle.response.specs.declared.function.Selection.{Selection}
 
 -- AND of nothing is true, OR of nothing false
 abbrev pub constant-kind : Bool → ℕ
 constant-kind c = cond c 5 6
 
 -- the rows of the relevant subtree of the literals that a table changes, changed by it
-abbrev pub part-rows : Layout → Bytes → List ℕ → List Row
-part-rows s b t = tree-rows (replace (changed t) (strategy.relevant-subtree (chosen t) (matrix-in s b)))
+abbrev pub selected-rows : Layout → Bytes → List ℕ → List Row
+selected-rows s b t = tree-rows (replace (changed t) (strategy.relevant-subtree (chosen t) (matrix-in s b)))
 
 -- the relevant subtree is found, and has its place behind the prefix of a layout of the same format
-pub record PartReady (s : Layout) (b : Bytes) (t : List ℕ) (p : Part) (out : Bytes) : Type 0 where
+pub record SelectionReady (s : Layout) (b : Bytes) (t : List ℕ) (p : Selection) (out : Bytes) : Type 0 where
   pub readable : Readable s b
   pub part-is : p .relevant ≡ relevant-subtree (chosen t) 0 (matrix-in s b)
   pub end-is : p .end ≡ p .relevant .operator + rows (subtree-in s b (p .relevant .operator))
@@ -42,8 +42,8 @@ pub record PartReady (s : Layout) (b : Bytes) (t : List ℕ) (p : Part) (out : B
   pub room : Room (p .layout) (length out)
 
 -- the cuts of its operator's children
-abbrev pub PartCuts : Layout → Bytes → List ℕ → Part → List ℕ → Type 0
-PartCuts s b t p cs = cs ≡ cuts (chosen t) (suc (p .relevant .operator)) (kids (subtree-in s b (p .relevant .operator)))
+abbrev pub SelectionCuts : Layout → Bytes → List ℕ → Selection → List ℕ → Type 0
+SelectionCuts s b t p cs = cs ≡ cuts (chosen t) (suc (p .relevant .operator)) (kids (subtree-in s b (p .relevant .operator)))
 
 -- the function is the constant that Settle puts in, and its sheet fits len bytes
 pub record ByConstant (s : Layout) (b : Bytes) (p : Put) (len : ℕ) : Type 0 where

@@ -7,7 +7,7 @@ use lib.ListN.{length, length-replicate}
 use lib.Seq.{length-take-le}
 use Rattle.raw.proofs.Raws.{room-on, laid-to}
 use Rattle.substitution.specs.Changes.{putting, putting-in}
-use Rattle.response.proofs.Functions.{room, prefix-ready, raw-written, sheet-written, layout-written, part-ready, part-cuts, new, raw-copy, copy-counted}
+use Rattle.response.proofs.Functions.{room, prefix-ready, raw-written, sheet-written, layout-written, selection-ready, selection-cuts, new, raw-copy, copy-counted}
 use borrow.Author.Needs.{needs}
 use Rattle.response.proofs.function.function_into.Statement.{statement}
 use Rattle.response.proofs.function.function_into.Tie as tie
@@ -28,14 +28,14 @@ start-from-fill c = start (c .before .before)
 abbrev fill-from-prefix : tie.After-write-prefix → tie.After-fill
 fill-from-prefix c = filled (c .before .before)
 
-abbrev prefix-asked : tie.After-write-part-arg → tie.After-slice-known2
+abbrev prefix-asked : tie.After-write-selection-arg → tie.After-slice-known2
 prefix-asked c = c .before .before
 
-abbrev prefix-written : tie.After-write-part-arg → tie.After-write-prefix
+abbrev prefix-written : tie.After-write-selection-arg → tie.After-write-prefix
 prefix-written c = prefix-asked c .before .before
 
-abbrev part-written : tie.After-tidy-in-place-arg → tie.After-write-part
-part-written c = c .before .before .before
+abbrev selection-written : tie.After-tidy-in-place-arg → tie.After-write-selection
+selection-written c = c .before .before .before
 
 -- the table puts the value of a positive literal in
 table-is : (c : tie.After-fill) → let a = start-from-fill c .args in c .fill .last .0 ≡ putting (a .x) (eqb (a .w .to .joint) 6)
@@ -66,16 +66,16 @@ write-prefix-requires c κs =
       omega arith,
     )
 
-slice-aggregate-write-part : tie.Need-slice-aggregate-write-part
-slice-aggregate-write-part c = search needs
+slice-aggregate-write-selection : tie.Need-slice-aggregate-write-selection
+slice-aggregate-write-selection c = search needs
 
-slice-aggregate-write-part-2 : tie.Need-slice-aggregate-write-part-2
-slice-aggregate-write-part-2 c =
+slice-aggregate-write-selection-2 : tie.Need-slice-aggregate-write-selection-2
+slice-aggregate-write-selection-2 c =
     let a = start-from-fill (fill-from-prefix (prefix-written c)) in
     sym (length-take-le (a .args .w .cuts) (a .args .cuts .now) (a .pre .prepared .few-cuts))
 
-write-part-requires : tie.Need-write-part-requires
-write-part-requires c κs =
+write-selection-requires : tie.Need-write-selection-requires
+write-selection-requires c κs =
     let first = prefix-written (c .before) in
     let table = fill-from-prefix first in
     let a = start-from-fill table in
@@ -83,22 +83,22 @@ write-part-requires c κs =
     let is = table-is table in
     let len = length (start-from-fill table .args .out .now) in
     let same = first .write-prefix .kept .1 .1 .1 .0 in (
-      part-ready k is _
+      selection-ready k is _
           (room-on (room (k .from) (k .named) (k .unsettled) (new k is) (raw-copy k is) (copy-counted k is) len (k .has-room)) same),
-      part-cuts k is,
+      selection-cuts k is,
     )
 
 tidy-in-place-requires : tie.Need-tidy-in-place-requires
 tidy-in-place-requires c κs =
-    let part = part-written c in
+    let part = selection-written c in
     let first = prefix-written (part .before .before) in
     let table = fill-from-prefix first in
     let k = start-from-fill table .pre in
     let is = table-is table in
     let len = length (start-from-fill table .args .out .now) in
     raw-written (k .from) (k .named) (k .unsettled) (new k is) (raw-copy k is) (copy-counted k is) len (k .has-room) refl
-    (part .write-part .kept .1 .1 .1 .1 .1 .0 ∙ first .write-prefix .kept .1 .1 .1 .0) refl
-    (laid-to (first .write-prefix .ensures .1) (first .write-prefix .ensures .0)) (part .write-part .ensures)
+    (part .write-selection .kept .1 .1 .1 .1 .1 .0 ∙ first .write-prefix .kept .1 .1 .1 .0) refl
+    (laid-to (first .write-prefix .ensures .1) (first .write-prefix .ensures .0)) (part .write-selection .ensures)
 
 same-length : tie.Need-same-length
 same-length c = search needs
@@ -107,19 +107,19 @@ returns : tie.Need-returns
 returns c =
     let tidied = c .before .before in
     let e = tidied .tidy-in-place .ensures in
-    let part = part-written (tidied .before) in
+    let part = selection-written (tidied .before) in
     let first = prefix-written (part .before .before) in
     let table = fill-from-prefix first in
     let k = start-from-fill table .pre in
     let is = table-is table in
     let len = length (start-from-fill table .args .out .now) in
-    let same = part .write-part .kept .1 .1 .1 .1 .1 .0 ∙ first .write-prefix .kept .1 .1 .1 .0 in
+    let same = part .write-selection .kept .1 .1 .1 .1 .1 .0 ∙ first .write-prefix .kept .1 .1 .1 .0 in
     let front = laid-to (first .write-prefix .ensures .1) (first .write-prefix .ensures .0) in (
       sheet-written (k .from) (k .named) (k .unsettled) (new k is) (raw-copy k is) (copy-counted k is) len (k .has-room) refl same refl front
-          (part .write-part .ensures) (e .0),
+          (part .write-selection .ensures) (e .0),
       (
         layout-written (k .from) (k .named) (k .unsettled) (new k is) (raw-copy k is) (copy-counted k is) len (k .has-room) refl same refl front
-            (part .write-part .ensures) (e .1 .0),
+            (part .write-selection .ensures) (e .1 .0),
         e .1 .1,
       ),
     )
@@ -132,9 +132,9 @@ function-into-spec =
     fill-requires
     sub-t16
     write-prefix-requires
-    slice-aggregate-write-part
-    slice-aggregate-write-part-2
-    write-part-requires
+    slice-aggregate-write-selection
+    slice-aggregate-write-selection-2
+    write-selection-requires
     tidy-in-place-requires
     same-length
     returns)

@@ -8,7 +8,7 @@ use Rattle.substitution.specs.Changes.{changed-row}
 use Rattle.substitution.specs.Output.{Laid}
 use Rattle.raw.specs.Expansions.{Climbs, runs-in}
 use Rattle.raw.proofs.Plans.{rest-of}
-use Rattle.response.proofs.Writing.{Some, part-copy, some}
+use Rattle.response.proofs.Writing.{Some, selection-copy, some}
 use borrow.Author.Needs.{needs}
 use Rattle.response.proofs.function.write_some.Statement.{statement}
 use Rattle.response.proofs.function.write_some.Tie as tie
@@ -48,7 +48,7 @@ write-below-requires c κs =
     let cs = a .args .cuts .now in (
       record {
         readable = a .pre .0 .readable;
-        ready = part-copy (a .pre .0);
+        ready = selection-copy (a .pre .0);
         climbs = subst (λ l. Climbs 0 l (a .args .s .nodes)) (sym (rest-of 1 cs)) (w .climbs);
         room = omega (arith, w .room, ap (λ l. length (runs-in (a .args .s) (a .args .b .now) l)) (rest-of 1 cs));
       },

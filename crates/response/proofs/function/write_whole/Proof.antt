@@ -2,7 +2,7 @@
 use mathlib.Core.Path.{subst}
 use native.Mathlib.Omega.{arith}
 use Rattle.substitution.specs.Output.{Laid}
-use Rattle.response.proofs.Writing.{Whole, part-copy, whole}
+use Rattle.response.proofs.Writing.{Whole, selection-copy, whole}
 use borrow.Author.Needs.{needs}
 use Rattle.response.proofs.function.write_whole.Statement.{statement}
 use Rattle.response.proofs.function.write_whole.Tie as tie
@@ -36,7 +36,7 @@ write-copy-requires : tie.Need-write-copy-requires
 write-copy-requires c κs =
     let a = start (asked c) in
     let w = all-taken a in (
-      part-copy (a .pre .0),
+      selection-copy (a .pre .0),
       record { ordered = omega (arith, w .inside); inside = omega (arith, w .end-in) },
       omega (arith, w .room),
     )

@@ -1,7 +1,7 @@
--- `response::function::write_part` meets its contract. Assumes nothing.
+-- `response::function::write_selection` meets its contract. Assumes nothing.
 use borrow.Author.Needs.{needs}
-use Rattle.response.proofs.function.write_part.Statement.{statement}
-use Rattle.response.proofs.function.write_part.Tie as tie
+use Rattle.response.proofs.function.write_selection.Statement.{statement}
+use Rattle.response.proofs.function.write_selection.Tie as tie
 
 -- places in the code, each from a later one
 abbrev known : tie.After-slice-known → tie.After-shared-slice-known2
@@ -30,7 +30,7 @@ same-length-2 c = search needs
 returns-2 : tie.Need-returns-2
 returns-2 c = search needs
 
-pub write-part-spec : {M : Type 1} → statement M
-write-part-spec =
+pub write-selection-spec : {M : Type 1} → statement M
+write-selection-spec =
     tie.close
     (tie.spec write-whole-requires same-length returns write-some-requires same-length-2 returns-2)
