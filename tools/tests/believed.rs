@@ -8,7 +8,7 @@ use std::path::Path;
 const ROOT: &str = concat!(env!("CARGO_MANIFEST_DIR"), "/..");
 
 /// The public functions whose contracts are read, besides all that C may call.
-const ENTRIES: [&str; 21] = [
+const ENTRIES: [&str; 23] = [
     "checking::check",
     "part::part",
     "trial::trial",
@@ -17,6 +17,8 @@ const ENTRIES: [&str; 21] = [
     "expand::expand",
     "expand::execute",
     "expand::quote::quote",
+    "response::response",
+    "claim::claim",
     "outer::outer",
     "reduce::reduce",
     "sort_compare::sort::sort",
