@@ -8,7 +8,7 @@ use std::path::Path;
 const ROOT: &str = concat!(env!("CARGO_MANIFEST_DIR"), "/..");
 
 /// The public functions whose contracts are read, besides all that C may call.
-const ENTRIES: [&str; 23] = [
+const ENTRIES: [&str; 24] = [
     "checking::check",
     "part::part",
     "trial::trial",
@@ -19,6 +19,7 @@ const ENTRIES: [&str; 23] = [
     "expand::quote::quote",
     "response::response",
     "claim::claim",
+    "certify::certify",
     "outer::outer",
     "reduce::reduce",
     "sort_compare::sort::sort",
