@@ -56,7 +56,7 @@ extern "C" {
 #define PLUMANCHOR_LOW(answer) ((unsigned)((answer) >> 16 & 0xffff))
 #define PLUMANCHOR_HIGH(answer) ((uint32_t)((answer) >> 32))
 
-/* Refusal numbers: 1 to 25 of documents 01 and 02; 26 and 27 are ours. */
+/* Refusal numbers: 1 to 25 of documents 01 and 02; 26 to 29 are ours. */
 enum plumanchor_refusal {
     PLUMANCHOR_ACCEPTED = 0,
     PLUMANCHOR_TOO_SHORT = 1,        /* shorter than the two sizes */
@@ -86,6 +86,8 @@ enum plumanchor_refusal {
     PLUMANCHOR_WRONG_COUNTS = 25,    /* counts that don't add up */
     PLUMANCHOR_NOT_A_STRATEGY = 26,  /* not a strategy over the sheet's prefix */
     PLUMANCHOR_READS_BEYOND = 27,    /* a function that reads what it may not */
+    PLUMANCHOR_WRONG_ANSWERS = 28,   /* not as many answers as lists of values */
+    PLUMANCHOR_BAD_ANSWER = 29,      /* an answer other than 0, 1 and 2 */
 };
 
 /* The kinds of rows: a quantifier, a literal, an operator. */
@@ -551,6 +553,10 @@ static inline const char *plumanchor_refusal_text(unsigned refusal) {
         return "the second sheet is no strategy of that side over the first sheet's prefix";
     case PLUMANCHOR_READS_BEYOND:
         return "the function of the pair in the row reads what it may not";
+    case PLUMANCHOR_WRONG_ANSWERS:
+        return "there are not as many answers as lists of values";
+    case PLUMANCHOR_BAD_ANSWER:
+        return "an answer is neither 0 nor 1 nor 2";
     default:
         return "a refusal that this version has no words for";
     }

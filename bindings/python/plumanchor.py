@@ -66,7 +66,7 @@ TRIAL_VARIABLES = 20
 
 
 class Reason(enum.IntEnum):
-    """Why a call is refused, by the number of documents 01 and 02 (26 and 27 are ours); `text` says it in words."""
+    """Why a call is refused, by the number of documents 01 and 02 (26 to 29 are ours); `text` says it in words."""
 
     text: str
 
@@ -103,6 +103,8 @@ class Reason(enum.IntEnum):
     WRONG_COUNTS = 25, "settled, expanded and variables left don't add up to the starting count"
     NOT_A_STRATEGY = 26, "the second sheet is no strategy of that side over the first sheet's prefix"
     READS_BEYOND = 27, "the function of the pair in the row reads what it may not"
+    WRONG_ANSWERS = 28, "there are not as many answers as lists of values"
+    BAD_ANSWER = 29, "an answer is neither 0 nor 1 nor 2"
 
 
 class Refused(Exception):

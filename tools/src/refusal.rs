@@ -74,6 +74,8 @@ impl Refusal {
             refusals::WRONG_COUNTS => "settled, expanded and variables left don't add up to the starting count",
             refusals::NOT_A_STRATEGY => "the second sheet is no strategy of that side over the first sheet's prefix",
             refusals::READS_BEYOND => "the function of the pair in the row reads what it may not",
+            refusals::WRONG_ANSWERS => "there are not as many answers as lists of values",
+            refusals::BAD_ANSWER => "an answer is neither 0 nor 1 nor 2",
             _ => "see documents 01 and 02",
         }
     }

@@ -8,7 +8,7 @@ use std::path::Path;
 const ROOT: &str = concat!(env!("CARGO_MANIFEST_DIR"), "/..");
 
 /// The public functions whose contracts are read, besides all that C may call.
-const ENTRIES: [&str; 24] = [
+const ENTRIES: [&str; 26] = [
     "checking::check",
     "part::part",
     "trial::trial",
@@ -28,6 +28,8 @@ const ENTRIES: [&str; 24] = [
     "solve::line::line_for",
     "force::force",
     "guards::guards",
+    "decide::decide",
+    "join::join",
     "resume::resume",
     "conversion::to_wide",
     "conversion::to_narrow",

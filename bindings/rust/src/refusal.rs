@@ -8,7 +8,7 @@ use std::fmt::{self, Display, Formatter};
 /// words.
 macro_rules! table {
     ($($(#[$doc:meta])* $name:ident = $number:literal, $variant:ident, $text:literal;)*) => {
-        /// Why a call is refused, by the number of documents 01 and 02; 26 and 27 are ours.
+        /// Why a call is refused, by the number of documents 01 and 02; 26 to 29 are ours.
         #[derive(Clone, Copy, Debug, PartialEq, Eq, PartialOrd, Ord, Hash)]
         #[non_exhaustive]
         #[repr(u8)]
@@ -127,6 +127,12 @@ table! {
 
     /// A function that reads what it may not.
     READS_BEYOND = 27, ReadsBeyond, "the function of the pair in the row reads what it may not";
+
+    /// Not as many answers as lists of values.
+    WRONG_ANSWERS = 28, WrongAnswers, "there are not as many answers as lists of values";
+
+    /// An answer other than 0, 1 and 2.
+    BAD_ANSWER = 29, BadAnswer, "an answer is neither 0 nor 1 nor 2";
 }
 
 impl Reason {
