@@ -157,7 +157,7 @@ fn constants_and_words_are_those_of_rust() {
         assert!(refusal.reason().is_none_or(|reason| reason.number() == number));
         expected += &format!("{number} {}\n", refusal.text());
     }
-    assert_eq!(Reason::from_number(28), None);
+    assert_eq!(Reason::from_number(30), None);
     for mut program in programs(&folder, "unpack", &[]) {
         assert_eq!(output(program.arg("constants"), ""), expected);
     }
