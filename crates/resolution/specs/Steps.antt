@@ -36,10 +36,14 @@ follows-at o p heads codes k c m n =
     (ltb m k && ltb n k) &&
     follows o p (resolvent (coded c) (step-constraint heads codes m) (step-constraint heads codes n)) (step-constraint heads codes k)
 
+-- step k with the pivot c follows from the two steps that it names
+abbrev pub follows-named : Op → Prefix → List ℕ → List ℕ → ℕ → ℕ → Bool
+follows-named o p heads codes k c = follows-at o p heads codes k c (head-word heads k 1) (head-word heads k 2)
+
 -- step k with the first word w: an initial one is left to another test
 unfoldable pub derived-by : Op → Prefix → List ℕ → List ℕ → ℕ → ℕ → Bool
 derived-by o p heads codes k zero = true
-derived-by o p heads codes k (suc w) = follows-at o p heads codes k (code-of w) (head-word heads k 1) (head-word heads k 2)
+derived-by o p heads codes k (suc w) = follows-named o p heads codes k (code-of w)
 
 abbrev pub derived-at : Op → Prefix → List ℕ → List ℕ → ℕ → Bool
 derived-at o p heads codes k = derived-by o p heads codes k (head-word heads k 0)

@@ -9,9 +9,8 @@ ghost use mathlib.Core.Path.{_≡_};
 ghost use Prim.Native.Nat.{_+_, _*_, _≤_, _<_};
 ghost use lib.ListN.{length};
 ghost use Rattle.formula.specs.Tree.{Op, Prefix};
-ghost use Rattle.sheet.specs.Certificates.{head-word};
 ghost use Rattle.resolution.specs.Ranks.{Ranks};
-ghost use Rattle.resolution.specs.Steps.{follows-at, derived-at, Told, FirstUnderived};
+ghost use Rattle.resolution.specs.Steps.{follows-named, derived-at, Told, FirstUnderived};
 
 pub mod following;
 pub mod marks;
@@ -20,8 +19,7 @@ pub mod words;
 // Whether step `k` follows, by the pivot of the code `c`, from the two steps that it names, which are earlier ones.
 fn follows_by(heads: &[u32], codes: &[u32], own: &[u16], other: &[u16], k: usize, c: usize) -> bool
     requires { ⌜ (4 * k + 4 ≤ length (now heads)) × (c < 4096) × (2048 ≤ length (now own)) × (2048 ≤ length (now other)) ⌝ }
-    ensures { λ r. ⌜ Told (λ o p. follows-at o p (now (heads .entry)) (now (codes .entry)) k c (head-word (now (heads .entry)) k 1)
-        (head-word (now (heads .entry)) k 2)) (now (own .entry)) (now (other .entry)) r ⌝ }
+    ensures { λ r. ⌜ Told (λ o p. follows-named o p (now (heads .entry)) (now (codes .entry)) k c) (now (own .entry)) (now (other .entry)) r ⌝ }
 {
     let m = head_word(heads, k, 1);
     let n = head_word(heads, k, 2);
