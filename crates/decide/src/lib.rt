@@ -17,7 +17,7 @@ ghost use Rattle.sheet.specs.Truthful.{truth-of, TruthfulDecide};
 ghost use Rattle.rows.specs.Formats.{format-of};
 ghost use Rattle.rows.specs.Layouts.{format-in};
 ghost use Rattle.checking.specs.Sheets.{Sheet};
-ghost use Rattle.decide.specs.Answers.{outcome-of, answer-of, deciding-of};
+ghost use Rattle.decide.specs.Answers.{outcome-of, answer-of, decide-left};
 
 pub mod running;
 pub mod search;
@@ -54,7 +54,7 @@ fn decide_checked(
     stack: &mut [u8],
 ) -> DecideAnswer
     requires { ⌜ Sheet (s .format) (now sheet) s ⌝ }
-    ensures { λ r. ⌜ deciding-of r (now (first .exit)) (now (second .exit)) (now (stack .exit)) ≡ decide-call (format-in s) (now (sheet .entry)) budget (now (first .entry)) (now (second .entry)) (now (stack .entry)) ⌝ }
+    ensures { λ r. ⌜ decide-left r first second stack ≡ decide-call (format-in s) (now (sheet .entry)) budget (now (first .entry)) (now (second .entry)) (now (stack .entry)) ⌝ }
 {
     if shorter(first.len(), second.len()) < sheet.len() {
         return DecideAnswer::Refused(NO_ROOM, 0);
@@ -77,8 +77,8 @@ pub fn decide(
     second: &mut [u8],
     stack: &mut [u8],
 ) -> DecideAnswer
-    ensures { λ r. ⌜ deciding-of r (now (first .exit)) (now (second .exit)) (now (stack .exit)) ≡ decide-call (format-of f) (now (sheet .entry)) budget (now (first .entry)) (now (second .entry)) (now (stack .entry)) ⌝ }
-    ensures { λ r. ⌜ TruthfulDecide (truth-of (format-of f) (now (sheet .entry))) (deciding-of r (now (first .exit)) (now (second .exit)) (now (stack .exit))) ⌝ }
+    ensures { λ r. ⌜ decide-left r first second stack ≡ decide-call (format-of f) (now (sheet .entry)) budget (now (first .entry)) (now (second .entry)) (now (stack .entry)) ⌝ }
+    ensures { λ r. ⌜ TruthfulDecide (truth-of (format-of f) (now (sheet .entry))) (decide-left r first second stack) ⌝ }
 {
     let c = checking::check(sheet, f);
     match c {
