@@ -1,6 +1,7 @@
 // Chains of members: the members of one bucket are found without a walk over the others. A member is a tree, given by its row and its hash
 // in one number; members are numbered in the order in which they are added, and a member's hash gives its bucket. The tables may hold
 // anything at first: an entry is used only if the member that it names exists and is in that bucket.
+#![tactic(auto)]
 ghost use Rattle.std.specs.Prelude.{◌≡◌, ◌+◌, ◌^◌, ◌≤◌, ◌<◌, length, get_or, set};
 ghost use Rattle.buckets.specs.Chains.{entry_of, BUCKETS, bucket, last, Head, Linked, Room};
 
@@ -11,7 +12,7 @@ pub mod hash;
 pub const BUCKETS: usize = 1024;
 
 // A link of a chain: to the member of this number, or to none at its end.
-#[derive(Drop)]
+#[derive(Clone, Copy)]
 pub enum Link {
     End,
     Member(usize),

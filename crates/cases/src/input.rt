@@ -4,7 +4,7 @@ use crate::ROOM;
 use crate::operations::run;
 
 // A call's letter and numbers, which stand before its list.
-#[derive(Drop)]
+#[derive(Clone, Copy)]
 struct Call {
     operation: u8,
     number: usize,

@@ -14,6 +14,7 @@
 //
 // A capital makes the same call on a wide sheet (N11), and its line begins with "wide". W converts a narrow sheet to the wide format, N a
 // wide one to the narrow format.
+#![tactic(auto)]
 mod answers;
 mod copies;
 mod input;

@@ -17,7 +17,7 @@ use rows::Layout;
 use subtrees::nodes::{argument_at, children_at, kind_at};
 
 // A claim: the sheet's layout, the verdict, and how many steps are to be tested.
-#[derive(Drop)]
+#[derive(Clone, Copy)]
 pub struct Claim {
     pub layout: Layout,
     pub verdict: bool,

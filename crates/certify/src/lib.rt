@@ -1,4 +1,5 @@
 // Certify: a derivation on words, judged step by step against a sheet.
+#![tactic(auto)]
 ghost use Rattle.std.specs.Prelude.{◌≡◌, [], ◌/◌, length};
 ghost use Rattle.formula.specs.Certificates.{valid_steps, ends_empty, certified};
 ghost use Rattle.sheet.specs.Check.{accepted};
@@ -22,7 +23,7 @@ pub mod initial;
 pub mod ranks;
 
 // What Certify answers: the verdict; or how many steps are valid, if they show none; or a refusal's number and place.
-#[derive(Drop)]
+#[derive(Clone, Copy)]
 pub enum Certified {
     Certain(bool),
     Uncertain(usize),

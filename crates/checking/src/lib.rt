@@ -1,4 +1,5 @@
 // Check: refusals 1 to 8 of document 01, in its order.
+#![tactic(auto)]
 ghost use Rattle.std.specs.Prelude.{◌≡◌, false, [], ◌≤◌, ◌<◌, length, get_or, drop};
 ghost use Rattle.sheet.specs.Format.{row};
 ghost use Rattle.sheet.specs.Check.{check};
@@ -21,21 +22,21 @@ use rows::{
 };
 
 // What Check answers: the sheet's layout, which has V and N, or a refusal's number and place.
-#[derive(Drop)]
+#[derive(Clone, Copy)]
 pub enum Checked {
     Accepted(Layout),
     Refused(usize, usize),
 }
 
 // What an operation that writes a sheet answers: the new sheet's length, or a refusal's number and place.
-#[derive(Drop)]
+#[derive(Clone, Copy)]
 pub enum Written {
     Accepted(usize),
     Refused(usize, usize),
 }
 
 // Where the debt walk ended: the row reached, and the debt left.
-#[derive(Drop)]
+#[derive(Clone, Copy)]
 pub struct Reached {
     pub row: usize,
     pub owed: usize,

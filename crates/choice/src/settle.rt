@@ -11,7 +11,7 @@ use prefixes::bound_at;
 use rows::Layout;
 
 // The variable to settle: its prefix row, its number and the value that goes in; or none may be settled.
-#[derive(Drop)]
+#[derive(Clone, Copy)]
 pub enum SettleChoice {
     Settle(usize, usize, bool),
     Nothing,

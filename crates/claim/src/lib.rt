@@ -1,5 +1,6 @@
 // Claim (Strategy 1): the claim that a strategy of any origin wins, written as a sheet of one quantifier. It has the truth that the side
 // wants exactly if the strategy wins.
+#![tactic(auto)]
 ghost use Rattle.std.specs.Prelude.{◌≡◌};
 ghost use Rattle.sheet.specs.Strategy.{claim_call};
 ghost use Rattle.sheet.specs.Truthful.{TruthfulClaim};
@@ -21,14 +22,14 @@ pub mod plan;
 pub mod write;
 
 // The side whose strategy it is.
-#[derive(Drop)]
+#[derive(Clone, Copy)]
 pub enum Side {
     Exists,
     ForAll,
 }
 
 // Refused for the first sheet (1), the strategy's (2) or the output (0) with number and place; or the length of the claim's sheet.
-#[derive(Drop)]
+#[derive(Clone, Copy)]
 pub enum Claimed {
     Refused(usize, usize, usize),
     Written(usize),

@@ -22,7 +22,7 @@ use subtrees::ends::fill_ends;
 use subtrees::nodes::children_at;
 
 // A refusal's number and place; or how many pairs there are.
-#[derive(Drop)]
+#[derive(Clone, Copy)]
 pub enum ClaimPlan {
     Refused(usize, usize),
     Claims(usize),

@@ -19,7 +19,7 @@ use substitution::write::{write_row, write_rows};
 use substitution::{Span, Target};
 
 // A strategy's sheet: its layout, and whether its side is the existential one.
-#[derive(Drop)]
+#[derive(Clone, Copy)]
 pub struct Strategy {
     pub layout: Layout,
     pub exists: bool,

@@ -12,7 +12,7 @@ use rows::{AND, Layout, OR};
 use subtrees::nodes::{children_at, kind_at};
 
 // How many names there are, how many clauses, and how many rows these have.
-#[derive(Drop)]
+#[derive(Clone, Copy)]
 pub struct Size {
     pub names: usize,
     pub clauses: usize,

@@ -18,7 +18,7 @@ use substitution::{Span, Target};
 use subtrees::nodes::{argument_at, children_at, kind_at};
 
 // A node row, whether it is a conjunct, and the row of the output that is written next.
-#[derive(Drop)]
+#[derive(Clone, Copy)]
 pub struct Place {
     pub row: usize,
     pub conjunct: bool,
@@ -27,7 +27,7 @@ pub struct Place {
 }
 
 // A child of an operator, whether it has a clause of its own, and the row of the output that is written next.
-#[derive(Drop)]
+#[derive(Clone, Copy)]
 pub struct Child {
     pub row: usize,
     pub operator: usize,

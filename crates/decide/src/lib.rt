@@ -1,5 +1,6 @@
 // Decide: Solve, and where a run stops a split on the first row of the sheet reached, each half decided in the same way. Work buffers and
 // waiting sheets are lent, so it takes no memory of its own beyond a frame for each open split.
+#![tactic(auto)]
 ghost use Rattle.std.specs.Prelude.{◌≡◌};
 ghost use Rattle.sheet.specs.Decide.{decide_answer, decide_call};
 ghost use Rattle.sheet.specs.Truthful.{truth_of, TruthfulDecide};
@@ -21,7 +22,7 @@ pub mod search;
 pub mod waiting;
 
 // Refused with number and place; ended with a verdict, no place left on the stack, or the budget spent, each with the number of runs.
-#[derive(Drop)]
+#[derive(Clone, Copy)]
 pub enum DecideAnswer {
     Refused(usize, usize),
     Ended(Verdict, usize),

@@ -11,7 +11,7 @@ use rows::{Format, Layout};
 use solve::{Solved, Verdict, run_raw};
 
 // How a run ended: with a verdict, or with a sheet of this layout at the front of the first buffer.
-#[derive(Drop)]
+#[derive(Clone, Copy)]
 pub enum Ran {
     Ended(Verdict),
     Stopped(Layout),

@@ -18,7 +18,7 @@ use rows::fit::shorter;
 use solve::Verdict;
 
 // A verdict, no place left for a sheet that must wait, or the budget spent.
-#[derive(Drop)]
+#[derive(Clone, Copy)]
 pub enum Outcome {
     Decided(Verdict),
     NoPlace,
@@ -26,7 +26,7 @@ pub enum Outcome {
 }
 
 // What was found, and the number of runs.
-#[derive(Drop)]
+#[derive(Clone, Copy)]
 pub struct Decision {
     pub outcome: Outcome,
     pub runs: usize,

@@ -12,14 +12,14 @@ use subtrees::ends::fill_ends;
 use tidiness::first_fault;
 
 // A variable and its prefix row.
-#[derive(Drop)]
+#[derive(Clone, Copy)]
 pub struct Binding {
     pub row: usize,
     pub variable: usize,
 }
 
 // A refusal's number and place; or the sheet's layout and the variable with its row.
-#[derive(Drop)]
+#[derive(Clone, Copy)]
 pub enum Admission {
     Refused(usize, usize),
     Admitted(Layout, Binding),

@@ -14,7 +14,7 @@ use substitution::table::fill;
 use tidying::tidy_in_place;
 
 // A variable with its prefix row and the value that is put in for it.
-#[derive(Drop)]
+#[derive(Clone, Copy)]
 pub struct Put {
     pub row: usize,
     pub variable: usize,

@@ -12,7 +12,7 @@ use subtrees::relevant::Relevant;
 
 // What is expanded: the relevant subtree of the literals, the row of the first literal, and how many node rows the raw sheet has. And
 // where: the prefix row that goes, how many variables the raw sheet has, and the kind of the operator that joins the copies.
-#[derive(Drop)]
+#[derive(Clone, Copy)]
 pub struct Draft {
     pub relevant: Presence,
     pub first: usize,
@@ -23,7 +23,7 @@ pub struct Draft {
 }
 
 // The expansion, and how many cuts its relevant subtree's children have.
-#[derive(Drop)]
+#[derive(Clone, Copy)]
 pub struct Survey {
     pub cuts: usize,
     pub to: Expansion,

@@ -13,7 +13,7 @@ use rows::refusals::WRONG_BLOCK;
 use rows::{Format, Layout, NUMBERS, ROWS};
 
 // A refusal's number and place; or the sheet's layout and what is written.
-#[derive(Drop)]
+#[derive(Clone, Copy)]
 pub enum ExpandPlan {
     Refused(usize, usize),
     Expands(Layout, Survey),

@@ -14,7 +14,7 @@ use relevance::variable::Candidate;
 use rows::Layout;
 
 // Outside the innermost block; or inside, with the relevant subtree and the raw sheet's node rows.
-#[derive(Drop)]
+#[derive(Clone, Copy)]
 pub enum Price {
     Outside,
     Inside(Candidate),

@@ -12,7 +12,7 @@ use rows::refusals::WRONG_BLOCK;
 use rows::{Format, Layout, NUMBERS, ROWS};
 
 // Refused with number and place; or the node rows of the raw sheet.
-#[derive(Drop)]
+#[derive(Clone, Copy)]
 pub enum Quoted {
     Refused(usize, usize),
     Rows(usize),

@@ -11,7 +11,7 @@ use rows::{Layout, NUMBERS};
 use solve::{Solved, Verdict, run_raw};
 
 // How a value's run ended.
-#[derive(Drop)]
+#[derive(Clone, Copy)]
 pub enum Judged {
     Stopped(usize),
     Ended(Verdict),

@@ -1,5 +1,6 @@
 // Force (N9): given values for the first variables of the prefix, whose turn is next and with which values its owner forces the outcome
 // wanted. Each of 0 and 1 is judged by a run of Solve on the sheet so reduced, which is written to the first buffer.
+#![tactic(auto)]
 ghost use Rattle.std.specs.Prelude.{◌≡◌, ◌<◌};
 ghost use Rattle.std.specs.Bool.{beq};
 ghost use Rattle.formula.specs.Force.{which};
@@ -28,14 +29,14 @@ pub mod judge;
 pub mod moves;
 
 // Whose turn is next: the owner of the first row without a value.
-#[derive(Drop)]
+#[derive(Clone, Copy)]
 pub enum Turn {
     Exists,
     ForAll,
 }
 
 // With which values the owner forces the outcome wanted, or the variable at which a value's run stopped.
-#[derive(Drop)]
+#[derive(Clone, Copy)]
 pub enum Outcome {
     Neither,
     Zero,
@@ -45,7 +46,7 @@ pub enum Outcome {
 }
 
 // Refused with number and place, or the turn and its outcome.
-#[derive(Drop)]
+#[derive(Clone, Copy)]
 pub enum Forced {
     Refused(usize, usize),
     Answered(Turn, Outcome),

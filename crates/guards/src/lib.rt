@@ -1,5 +1,6 @@
 // Guards: the children of a root AND that are to blame for its falsity (N10). Each in turn is left out, for good if Solve still says
 // false of the others. A try's rows are written from the sheet into the first work buffer, where the run is entered.
+#![tactic(auto)]
 ghost use Rattle.std.specs.Prelude.{◌≡◌, ◌≤◌, length};
 ghost use Rattle.sheet.specs.Trace.{room};
 ghost use Rattle.sheet.specs.Guards.{guards_call};
@@ -27,7 +28,7 @@ pub mod sift;
 
 // Refused with number and place; the initial run's own answer, stopped at a variable or true, with the number settled and the number
 // expanded; or the length of the sheet of the kept children and how many runs stopped.
-#[derive(Drop)]
+#[derive(Clone, Copy)]
 pub enum Guarded {
     Refused(usize, usize),
     Stopped(usize, usize, usize),

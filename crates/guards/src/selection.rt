@@ -12,7 +12,7 @@ use substitution::write::{write_row, write_rows};
 use substitution::{Span, Target};
 
 // How many children are selected, how many rows they have, and the row from which on every child is selected.
-#[derive(Drop)]
+#[derive(Clone, Copy)]
 pub struct Selection {
     pub guards: usize,
     pub rows: usize,

@@ -12,7 +12,7 @@ use solve::{Solved, Verdict, run_raw};
 use subtrees::nodes::children_at;
 
 // What a run said.
-#[derive(Drop)]
+#[derive(Clone, Copy)]
 pub enum Word {
     False,
     True,
@@ -21,7 +21,7 @@ pub enum Word {
 
 // The state of the sifting: the row of the next child, how many children aren't tried yet, how many are kept, how many rows these have, and
 // how many of them are kept because their run stopped.
-#[derive(Drop)]
+#[derive(Clone, Copy)]
 pub struct Sieve {
     pub at: usize,
     pub left: usize,

@@ -1,4 +1,5 @@
 // Join: the verdict of 2 to the k answers, one for every list of values of the first k variables, by their quantifiers.
+#![tactic(auto)]
 ghost use Rattle.std.specs.Prelude.{◌≡◌, cond, suc, ◌^◌, ◌≤◌, eqb};
 ghost use Rattle.formula.specs.Tree.{and, or};
 ghost use Rattle.formula.specs.Join.{weigh};
@@ -18,7 +19,7 @@ use rows::refusals::{BAD_ANSWER, TOO_MANY_VALUES, WRONG_ANSWERS};
 use rows::{Format, Layout};
 
 // What is known of a truth.
-#[derive(Drop)]
+#[derive(Clone, Copy)]
 pub enum Known {
     False,
     True,
@@ -26,7 +27,7 @@ pub enum Known {
 }
 
 // Refused with number and place, or what the answers come to.
-#[derive(Drop)]
+#[derive(Clone, Copy)]
 pub enum JoinAnswer {
     Refused(usize, usize),
     Joined(Known),

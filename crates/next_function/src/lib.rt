@@ -1,5 +1,6 @@
 // The function of the variable that Solve takes next: the lowest-numbered one that may be settled, or else the cheapest of the innermost
 // block. It is written as a sheet of its own, before the step is made.
+#![tactic(auto)]
 ghost use Rattle.std.specs.Prelude.{◌≤◌, length};
 ghost use Rattle.rows.specs.Tables.{ROWS};
 ghost use Rattle.subtrees.specs.Ends.{Indexed};
@@ -18,7 +19,7 @@ use rows::{Layout, NUMBERS, ROWS, most_variables};
 use subtrees::ends::fill_ends;
 
 // The variable with its prefix row, and the layout of its function's sheet.
-#[derive(Drop)]
+#[derive(Clone, Copy)]
 pub struct NextFunction {
     pub row: usize,
     pub variable: usize,

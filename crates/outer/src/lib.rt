@@ -1,5 +1,6 @@
 // Expansion of a universal variable one block out (N6): the subtree that its literals and those of all depending variables choose gives
 // way to two copies of it, of which the second has new variables, and the tree is tidied.
+#![tactic(auto)]
 ghost use Rattle.std.specs.Prelude.{◌≡◌, length};
 ghost use Rattle.sheet.specs.Sheet.{sheet};
 ghost use Rattle.sheet.specs.Operations.{padded};
@@ -24,7 +25,7 @@ pub mod writing;
 
 // Refused with number and place; or the new sheet's length, how many variables are copied, and the lowest (old) number among them, 0 if
 // there is none.
-#[derive(Drop)]
+#[derive(Clone, Copy)]
 pub enum Stepped {
     Refused(usize, usize),
     Copied(usize, usize, usize),

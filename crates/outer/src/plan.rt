@@ -21,7 +21,7 @@ use rows::{Format, Layout, NUMBERS, ROWS, most_variables};
 use sets::WORDS;
 
 // The variable and the sheet's layout; how many variables are copied, and the lowest of them; what is written.
-#[derive(Drop)]
+#[derive(Clone, Copy)]
 pub struct Copying {
     pub variable: usize,
     pub from: Layout,
@@ -31,7 +31,7 @@ pub struct Copying {
 }
 
 // A refusal's number and place; or what is written.
-#[derive(Drop)]
+#[derive(Clone, Copy)]
 pub enum OuterPlan {
     Refused(usize, usize),
     Copies(Copying),

@@ -1,4 +1,5 @@
 // The program: solves the wide sheet on standard input and writes one line ("Solve, Trial, Part"; N11).
+#![tactic(auto)]
 use checking::Checked;
 use rows::Format;
 

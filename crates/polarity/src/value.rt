@@ -14,14 +14,14 @@ use rows::Layout;
 const VALUE: [[u8; 2]; 2] = [[1, 0], [0, 1]];
 
 // A variable's value, if it may be settled.
-#[derive(Drop)]
+#[derive(Clone, Copy)]
 pub enum Settling {
     Take(bool),
     Not,
 }
 
 // Which signs a variable's literals have, and which its unit literals.
-#[derive(Drop)]
+#[derive(Clone, Copy)]
 pub struct Signs {
     pub positive: bool,
     pub negative: bool,

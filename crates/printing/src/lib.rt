@@ -1,4 +1,5 @@
 // What the programs write to standard output: a blank and a number, a word, the program's line.
+#![tactic(auto)]
 use solve::line::{Line, Word};
 
 // Writes a blank and a number of 64 bits.

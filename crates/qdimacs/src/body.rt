@@ -19,7 +19,7 @@ use rows::{AND, Format, Layout, NUMBERS, most_nodes};
 
 // The words below the header, scanned: where the clauses begin, how many they are, how many words they take, and the highest number
 // that a variable may have.
-#[derive(Drop)]
+#[derive(Clone, Copy)]
 pub struct Body {
     pub from: usize,
     pub clauses: usize,

@@ -15,7 +15,7 @@ use words::token::{NEGATIVE, NONE, Token, ZERO, next_token};
 
 // What is known of the clauses: whether all words are whole numbers, whether the last clause is still open, how many clauses are ended, and
 // how many words there are, the zeros that end clauses among them.
-#[derive(Drop)]
+#[derive(Clone, Copy)]
 pub struct Clauses {
     pub whole: bool,
     pub ongoing: bool,

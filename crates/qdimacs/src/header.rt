@@ -9,7 +9,7 @@ use words::token::{CNF, NONE, P, POSITIVE, ZERO, next_token};
 
 // Whether the header is as it should be, and its numbers of variables and of clauses; a number too large for 64 bits is read as the largest
 // one.
-#[derive(Drop)]
+#[derive(Clone, Copy)]
 pub struct Header {
     pub well_formed: bool,
     pub variables: usize,

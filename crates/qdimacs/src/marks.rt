@@ -15,7 +15,7 @@ pub const BOUND: u8 = 1;
 pub const FREE: u8 = 2;
 
 // Whether a number is bound twice, and how many bindings there are.
-#[derive(Drop)]
+#[derive(Clone, Copy)]
 pub struct Bound {
     pub twice: bool,
     pub count: usize,

@@ -13,7 +13,7 @@ pub const CLAUSE: u8 = 3;
 pub const WRONG: u8 = 4;
 
 // Whether all quantifier lines are as they should be, and where the clauses begin.
-#[derive(Drop)]
+#[derive(Clone, Copy)]
 pub struct Cut {
     pub ordered: bool,
     pub at: usize,

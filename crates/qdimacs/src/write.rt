@@ -21,7 +21,7 @@ use words::literal::{kind_of, variable_of};
 use words::token::{NONE, POSITIVE, Token, ZERO, next_token};
 
 // How far the clauses are written: the next word, the next row, and whether a clause begins there.
-#[derive(Drop)]
+#[derive(Clone, Copy)]
 pub struct ListPlace {
     pub at: usize,
     pub row: usize,

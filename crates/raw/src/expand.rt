@@ -17,7 +17,7 @@ use subtrees::relevant::Relevant;
 
 // An expansion: whether a chosen literal occurs, the relevant subtree, the node row at which its subtree ends, the prefix row that goes,
 // the kind of the operator that joins the copies, and the raw sheet's layout.
-#[derive(Drop)]
+#[derive(Clone, Copy)]
 pub struct Expansion {
     pub occurs: bool,
     pub relevant: Relevant,

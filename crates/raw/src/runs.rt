@@ -10,7 +10,7 @@ use substitution::write::{write_copy, write_row};
 use substitution::{Span, Target};
 
 // The operator's row above a copy: its kind and how many children it has, and the row of the output that it is written to.
-#[derive(Drop)]
+#[derive(Clone, Copy)]
 pub struct Head {
     pub kind: u8,
     pub children: usize,

@@ -1,5 +1,6 @@
 // A text with the offset of its next unread byte (N1). Thin: each function takes the reader apart, and the work is done on the text and
 // the offset.
+#![tactic(auto)]
 ghost use Rattle.std.specs.Prelude.{◌≡◌, ◌≤◌, length, drop};
 ghost use Rattle.sheet.specs.Qdimacs.{qdimacs_call};
 ghost use Rattle.sheet.specs.Truthful.{TruthfulText};
@@ -14,14 +15,14 @@ use rows::refusals::BAD_HEADER;
 use rows::{Format, most_variables};
 use words::cursor::end_of;
 
-#[derive(Drop)]
+#[derive(Clone, Copy)]
 pub struct Reader<'a> {
     pub text: &'a [u8],
     pub at: usize,
 }
 
 // A header, and where the lines below it begin.
-#[derive(Drop)]
+#[derive(Clone, Copy)]
 pub struct Headed {
     pub header: Header,
     pub to: usize,

@@ -10,7 +10,7 @@ use subtrees::ends::fill_ends;
 use tidiness::first_fault;
 
 // A refusal's number and place; or the layout of the sheet that is reduced.
-#[derive(Drop)]
+#[derive(Clone, Copy)]
 pub enum ReducePlan {
     Refused(usize, usize),
     Reduces(Layout),

@@ -11,7 +11,7 @@ use subtrees::nodes::children_at;
 pub const CUTS: usize = ROWS + 1;
 
 // The cuts so far: how many, and whether the run at hand holds chosen literals.
-#[derive(Drop)]
+#[derive(Clone, Copy)]
 struct Runs {
     cuts: usize,
     holding: bool,

@@ -13,14 +13,14 @@ use subtrees::nodes::children_at;
 use subtrees::relevant::Relevant;
 
 // The node rows of a subtree: its own row, and the row behind it.
-#[derive(Drop)]
+#[derive(Clone, Copy)]
 struct Span {
     from: usize,
     to: usize,
 }
 
 // The relevant ones among subtrees side by side: the rows that they have, and how many they are.
-#[derive(Drop)]
+#[derive(Clone, Copy)]
 struct Share {
     rows: usize,
     children: usize,

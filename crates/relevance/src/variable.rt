@@ -13,14 +13,14 @@ use rows::Layout;
 use subtrees::relevant::Relevant;
 
 // Whether a literal stands in the matrix, and if so the relevant subtree.
-#[derive(Drop)]
+#[derive(Clone, Copy)]
 pub enum Presence {
     Absent,
     Present(Relevant),
 }
 
 // A variable that may be expanded: its prefix row, its number, its relevant subtree if it has a literal, and the raw sheet's node rows.
-#[derive(Drop)]
+#[derive(Clone, Copy)]
 pub struct Candidate {
     pub row: usize,
     pub variable: usize,

@@ -9,7 +9,7 @@ pub const CODES: usize = 4096;
 pub const MARKS: usize = 64;
 
 // A part of the codes, the words of one constraint, and a code that is left out, or 4,096 for none.
-#[derive(Drop)]
+#[derive(Clone, Copy)]
 pub struct Part {
     pub from: usize,
     pub to: usize,

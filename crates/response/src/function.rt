@@ -21,7 +21,7 @@ use subtrees::relevant::Relevant;
 use tidying::tidy_in_place;
 
 // What is copied: the relevant subtree, the node row behind its operator's subtree, and the layout that it is written in.
-#[derive(Drop)]
+#[derive(Clone, Copy)]
 pub struct Selection {
     pub relevant: Relevant,
     pub end: usize,

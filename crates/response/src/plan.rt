@@ -19,7 +19,7 @@ use rows::refusals::NO_ROOM;
 use rows::{Format, Layout, ROWS};
 
 // A refusal's number and place; or the sheet's layout and the constant that Settle puts in, or what is copied of the sheet.
-#[derive(Drop)]
+#[derive(Clone, Copy)]
 pub enum ResponsePlan {
     Refused(usize, usize),
     Constant(Layout, Put),

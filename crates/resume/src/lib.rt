@@ -1,5 +1,6 @@
 // Resume: a stopped run goes on under the wide limits. The sheet reached is widened into the first work buffer, Solve runs there, and the
 // counts given are added to its own.
+#![tactic(auto)]
 ghost use Rattle.std.specs.Prelude.{◌≡◌, ◌+◌, eqb};
 ghost use Rattle.sheet.specs.Format.{wide};
 ghost use Rattle.sheet.specs.Resume.{add_to_answer};
@@ -17,7 +18,7 @@ use rows::{Format, Layout};
 use solve::{Solved, run_raw};
 
 // How many variables a run began with, and how many of them it settled and expanded.
-#[derive(Drop)]
+#[derive(Clone, Copy)]
 pub struct Counts {
     pub started: usize,
     pub settled: usize,

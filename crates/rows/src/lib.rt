@@ -1,4 +1,5 @@
 // Rows of a sheet by their number, at either width: what all code above reads sheets through.
+#![tactic(auto)]
 ghost use Rattle.std.specs.Prelude.{◌≡◌, ◌+◌, ◌^◌, ◌≤◌, ◌<◌, length, take, drop};
 ghost use Rattle.sheet.specs.Format.{number};
 ghost use Rattle.rows.specs.Formats.{format_of};
@@ -29,14 +30,14 @@ pub const ROWS: usize = 8192;
 pub const NUMBERS: usize = 1025;
 
 // The two formats: document 01's own sheets, of 16-bit numbers, and wide ones (N11), of 32-bit numbers.
-#[derive(Drop)]
+#[derive(Clone, Copy)]
 pub enum Format {
     Narrow,
     Wide,
 }
 
 // How a sheet's rows lie in its bytes: its format, variables, nodes.
-#[derive(Drop)]
+#[derive(Clone, Copy)]
 pub struct Layout {
     pub format: Format,
     pub variables: usize,

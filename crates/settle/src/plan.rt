@@ -10,7 +10,7 @@ use rows::refusals::{NO_ROOM, NOT_SETTLED};
 use rows::{Format, Layout, ROWS};
 
 // A refusal's number and place; or the sheet's layout and what is put in.
-#[derive(Drop)]
+#[derive(Clone, Copy)]
 pub enum SettlePlan {
     Refused(usize, usize),
     Settles(Layout, Put),

@@ -1,5 +1,6 @@
 // Solve: tidy, then settle or expand until the sheet is decided or the next raw sheet doesn't fit ("Solve"). The two lent buffers
 // hold all sheets: the first the one reached, the second the one that the step at hand writes.
+#![tactic(auto)]
 ghost use Rattle.std.specs.Prelude.{◌≡◌};
 ghost use Rattle.sheet.specs.Operations.{solve_call};
 ghost use Rattle.sheet.specs.Truthful.{truth_of, TruthfulSolve};
@@ -21,14 +22,14 @@ pub mod line;
 pub mod step;
 pub mod verdicts;
 
-#[derive(Drop)]
+#[derive(Clone, Copy)]
 pub enum Verdict {
     True,
     False,
 }
 
 // Refused with number and place; stopped at a variable, or ended with a verdict, both with the number settled and the number expanded.
-#[derive(Drop)]
+#[derive(Clone, Copy)]
 pub enum Solved {
     Refused(usize, usize),
     Stopped(usize, usize, usize),
@@ -36,7 +37,7 @@ pub enum Solved {
 }
 
 // The state of a run: the layout of the sheet reached, the number settled and the number expanded.
-#[derive(Drop)]
+#[derive(Clone, Copy)]
 pub struct State {
     pub sheet: Layout,
     pub settled: usize,

@@ -6,7 +6,7 @@ ghost use Rattle.solve.specs.Lines.{word_of, written_line};
 
 use crate::{Solved, Verdict};
 
-#[derive(Drop)]
+#[derive(Clone, Copy)]
 pub enum Word {
     True,
     False,
@@ -15,7 +15,7 @@ pub enum Word {
 }
 
 // A word; settled; expanded; then 0, the variable stopped at, or the refusal number.
-#[derive(Drop)]
+#[derive(Clone, Copy)]
 pub struct Line {
     pub word: Word,
     pub settled: usize,

@@ -21,7 +21,7 @@ use rows::{Layout, NUMBERS, ROWS, most_variables};
 use subtrees::ends::fill_ends;
 
 // Decided, stopped at a variable, or on to the next state.
-#[derive(Drop)]
+#[derive(Clone, Copy)]
 pub enum Step {
     Ended(Verdict),
     Stopped(usize),

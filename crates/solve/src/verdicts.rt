@@ -8,7 +8,7 @@ use crate::Verdict;
 use rows::{AND, Layout, NEGATIVE};
 use subtrees::nodes::{argument_at, kind_at};
 
-#[derive(Drop)]
+#[derive(Clone, Copy)]
 pub enum Decision {
     Decided(Verdict),
     Open,

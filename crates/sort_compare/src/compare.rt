@@ -21,7 +21,7 @@ use tree_order::table::sort_rows;
 
 // Refused for the first sheet (1) or the second (2) with number and place; or whether the first is before the second, equal to it or after
 // it.
-#[derive(Drop)]
+#[derive(Clone, Copy)]
 pub enum Compared {
     Refused(usize, usize, usize),
     Before,

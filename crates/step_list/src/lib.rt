@@ -1,5 +1,6 @@
 // A whole list of steps (N2), thin over the single calls. The sheet held is at the front of the first buffer; each call writes to the
 // second, and a sheet that it writes there is copied back.
+#![tactic(auto)]
 ghost use Rattle.std.specs.Prelude.{◌≡◌, ◌≤◌, length};
 ghost use Rattle.sheet.specs.Calls.{perform};
 ghost use Rattle.sheet.specs.Steps.{single};
@@ -16,14 +17,14 @@ use rows::refusals::NO_ROOM;
 
 pub mod numbers;
 
-#[derive(Drop)]
+#[derive(Clone, Copy)]
 pub enum Operation {
     Settle,
     Expand,
 }
 
 // A step record: its operation, any number as its variable, and the place for its answer.
-#[derive(Drop)]
+#[derive(Clone, Copy)]
 pub struct Step {
     pub operation: Operation,
     pub variable: usize,
@@ -31,7 +32,7 @@ pub struct Step {
 }
 
 // Before the first turn: the outcome of the tests of the whole list, how many turns are taken, and the length of the sheet held.
-#[derive(Drop)]
+#[derive(Clone, Copy)]
 pub struct Begun {
     pub answer: Written,
     pub turns: usize,
@@ -39,7 +40,7 @@ pub struct Begun {
 }
 
 // After a turn: the record, filled, and the length of the sheet held.
-#[derive(Drop)]
+#[derive(Clone, Copy)]
 pub struct Turn {
     pub step: Step,
     pub held: usize,

@@ -17,7 +17,7 @@ use rows::fit::shorter;
 const PART: usize = 64;
 
 // After a part of the list: its records, and the length of the sheet held.
-#[derive(Drop)]
+#[derive(Clone, Copy)]
 pub struct Part {
     pub steps: [Step; PART],
     pub held: usize,

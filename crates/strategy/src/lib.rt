@@ -1,5 +1,6 @@
 // Strategy (Strategy 1): Solve's run, and the functions with which the side that it lets win does win, as a sheet. Only the winner's
 // functions are wanted, and the winner is known at the end: so Solve runs first, and its steps are made once more to write them.
+#![tactic(auto)]
 ghost use Rattle.std.specs.Prelude.{◌≡◌, length, replicate};
 ghost use Rattle.sheet.specs.Strategy.{strategy_call};
 ghost use Rattle.sheet.specs.Trace.{room};
@@ -29,7 +30,7 @@ pub mod walk;
 
 // Refused with number and place; stopped at a variable, as Solve; ended with a verdict, with the number settled, the number expanded and
 // the length of the strategy's sheet, or its node rows if it doesn't fit.
-#[derive(Drop)]
+#[derive(Clone, Copy)]
 pub enum StrategyAnswer {
     Refused(usize, usize),
     Stopped(usize, usize, usize),
@@ -38,7 +39,7 @@ pub enum StrategyAnswer {
 }
 
 // The length of the strategy's sheet, or its node rows if it doesn't fit.
-#[derive(Drop)]
+#[derive(Clone, Copy)]
 pub enum Outcome {
     Written(usize),
     TooLong(usize),

@@ -18,14 +18,14 @@ use solve::verdicts::{Decision, decide};
 use substitution::Target;
 
 // The side whose pairs are drafted, exists or for all, and the row that is written next.
-#[derive(Drop)]
+#[derive(Clone, Copy)]
 pub struct Draft {
     pub exists: bool,
     pub to: Target,
 }
 
 // The sheet is decided; or the next state, and the row behind the pair of the step's variable.
-#[derive(Drop)]
+#[derive(Clone, Copy)]
 pub enum Turn {
     Decided,
     Next(State, usize),

@@ -1,4 +1,5 @@
 // Copies rows from one sheet to another with a table that says what each variable's literals become. The output has the same format.
+#![tactic(auto)]
 use rows::Layout;
 
 pub mod change;
@@ -12,14 +13,14 @@ pub const PUT_FALSE: u16 = 1025;
 pub const PUT_TRUE: u16 = 1026;
 
 // The rows `from` to `to` of a sheet.
-#[derive(Drop)]
+#[derive(Clone, Copy)]
 pub struct Span {
     pub from: usize,
     pub to: usize,
 }
 
 // The row of an output that is written next.
-#[derive(Drop)]
+#[derive(Clone, Copy)]
 pub struct Target {
     pub layout: Layout,
     pub at: usize,

@@ -1,4 +1,5 @@
 // Tidiness: the first operator at fault ("Tidy sheets", refusal 9).
+#![tactic(auto)]
 ghost use Rattle.std.specs.Prelude.{◌≡◌, cond, ◌<◌};
 ghost use Rattle.formula.specs.Tidy.{is_tidy, first_fault};
 ghost use Rattle.rows.specs.Formulas.{matrix_in};
@@ -13,7 +14,7 @@ use rows::{Layout, ROWS};
 use subtrees::nodes::{argument_at, kind_at};
 
 // Subtrees that stand side by side: the node row of the first, and how many are left.
-#[derive(Drop)]
+#[derive(Clone, Copy)]
 struct Siblings {
     at: usize,
     left: usize,

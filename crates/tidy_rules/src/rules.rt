@@ -21,7 +21,7 @@ use rows::{Layout, NEGATIVE, from_byte};
 
 // A child: its row, its parent's kind, its entry of the table of operators, and how many members are before it. For a literal, `kind` is
 // its own.
-#[derive(Drop)]
+#[derive(Clone, Copy)]
 pub struct Child {
     pub at: usize,
     pub kind: u8,
@@ -30,7 +30,7 @@ pub struct Child {
 }
 
 // The first `owed` trees from row `from` on: the children of an operator of this kind, whose own row is before them.
-#[derive(Drop)]
+#[derive(Clone, Copy)]
 pub struct Children {
     pub sheet: Layout,
     pub from: usize,
@@ -39,7 +39,7 @@ pub struct Children {
 }
 
 // What the rules make of a child: it decides the operator, or this is the number of members now.
-#[derive(Drop)]
+#[derive(Clone, Copy)]
 pub enum Judgement {
     Decides,
     Members(usize),
@@ -47,7 +47,7 @@ pub enum Judgement {
 
 // What the rules make of all children, which end before row `end`: they decide the operator; or `count` members are left, and the operator
 // over them has this hash.
-#[derive(Drop)]
+#[derive(Clone, Copy)]
 pub enum RulesOutcome {
     Decided {
         end: usize,

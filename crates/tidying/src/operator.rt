@@ -15,7 +15,7 @@ use tidy_rules::GONE;
 use tidy_rules::rules::{Children, RulesOutcome, gather};
 
 // A row of a sheet.
-#[derive(Drop)]
+#[derive(Clone, Copy)]
 pub struct OperatorPlace {
     pub sheet: Layout,
     pub row: usize,
@@ -23,7 +23,7 @@ pub struct OperatorPlace {
 
 // An operator of this kind at a row. Its children end before row `end`, `left` members are left of them, and `hash` is the operator's hash
 // over these members.
-#[derive(Drop)]
+#[derive(Clone, Copy)]
 pub struct Node {
     pub sheet: Layout,
     pub row: usize,

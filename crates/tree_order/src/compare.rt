@@ -8,7 +8,7 @@ ghost use Rattle.tree_order.specs.Tables.{row_in, picked_rows, Numbers};
 use rows::read::{argument_at, kind_at};
 use rows::{Layout, NEGATIVE};
 
-#[derive(Drop)]
+#[derive(Clone, Copy)]
 pub enum Order {
     Before,
     Same,

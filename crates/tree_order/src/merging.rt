@@ -12,7 +12,7 @@ use crate::compare::{Order, compare_rows};
 use rows::Layout;
 
 // Where the next tree of each run is and how many are left, and where the next merged tree goes.
-#[derive(Drop)]
+#[derive(Clone, Copy)]
 pub struct Runs {
     pub left: usize,
     pub lefts: usize,

@@ -1,4 +1,5 @@
 // Trial: decides a formula by trying values, 0 first, along its semantic tree.
+#![tactic(auto)]
 ghost use Rattle.std.specs.Prelude.{◌≡◌, ◌+◌, ◌^◌, ◌≤◌, ◌<◌, length, get_or};
 ghost use Rattle.std.specs.Bool.{beq};
 ghost use Rattle.formula.specs.Truth.{eval};
@@ -20,14 +21,14 @@ use rows::{Format, Layout};
 use subtrees::nodes::{argument_at, children_at, kind_at};
 
 // What Trial answers: the verdict and the leaves tried, or a refusal's number and place.
-#[derive(Drop)]
+#[derive(Clone, Copy)]
 pub enum Tried {
     Answered(bool, u64),
     Refused(usize, usize),
 }
 
 // A verdict and the leaves tried.
-#[derive(Drop)]
+#[derive(Clone, Copy)]
 struct TurnOutcome {
     verdict: bool,
     leaves: u64,

@@ -27,7 +27,7 @@ pub const POSITIVE: u8 = 7;
 pub const NEGATIVE: u8 = 8;
 
 // A word's class, its magnitude if it is a number (the largest of 64 bits if it is larger), and where it ends.
-#[derive(Drop)]
+#[derive(Clone, Copy)]
 pub struct Token {
     pub class: u8,
     pub magnitude: usize,
