@@ -2,6 +2,7 @@
 // in one number; members are numbered in the order in which they are added, and a member's hash gives its bucket. The tables may hold
 // anything at first: an entry is used only if the member that it names exists and is in that bucket.
 #![tactic(auto)]
+
 ghost use Rattle.std.specs.Prelude.{◌≡◌, ◌+◌, ◌^◌, ◌≤◌, ◌<◌, length, get_or, set};
 ghost use Rattle.buckets.specs.Chains.{entry_of, BUCKETS, bucket, last, Head, Linked, Room};
 

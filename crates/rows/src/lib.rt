@@ -1,5 +1,6 @@
 // Rows of a sheet by their number, at either width: what all code above reads sheets through.
 #![tactic(auto)]
+
 ghost use Rattle.std.specs.Prelude.{◌≡◌, ◌+◌, ◌^◌, ◌≤◌, ◌<◌, length, take, drop};
 ghost use Rattle.sheet.specs.Format.{number};
 ghost use Rattle.rows.specs.Formats.{format_of};

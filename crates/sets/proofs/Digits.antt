@@ -123,15 +123,15 @@ digit_not (suc n) w (suc k) h l =
     half p = omega (arith, p, h)
 
 -- digits counted
-pub ones_in : (d w : ℕ) → w < 2 ^ d → ones_in d w ≡ ones w
+pub ones_in_lem : (d w : ℕ) → w < 2 ^ d → ones_in d w ≡ ones w
 unfolding ones_in ones
-ones_in zero w h = ap ones (sym (none w h))
+ones_in_lem zero w h = ap ones (sym (none w h))
   where
     none : (w : ℕ) → w < 1 → w ≡ 0
     none w h = omega arith
-ones_in (suc d) w h =
+ones_in_lem (suc d) w h =
     let p = pow-suc 2 d in
-    ap (λ (n : ℕ). w % 2 + n) (ones_in d (w / 2) (omega arith)) ∙ sym (ones_step w)
+    ap (λ (n : ℕ). w % 2 + n) (ones_in_lem d (w / 2) (omega arith)) ∙ sym (ones_step w)
 
 -- the lowest that is set
 pub record Trails (w n r : ℕ) : Type 0 where

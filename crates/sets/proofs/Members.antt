@@ -14,7 +14,7 @@ use lib.Seq.{get_or-set_same, get_or-set_other}
 use lib.Pow.{shr-shr}
 use borrow.Author.Tests.{eqb-true, eqb-false, eq-eqb, ne_eqb, leb-true, leb-false, ltb-true, ltb-false}
 use Rattle.sets.specs.Sets.{digit, holds, amount, members, size, IsFirst, left_in}
-use Rattle.sets.proofs.Digits.{digit_is, digit-none, digit_set, digit_and, digit_not, ones_in, Trails, trails}
+use Rattle.sets.proofs.Digits.{digit_is, digit-none, digit_set, digit_and, digit_not, ones_in_lem, Trails, trails}
 
 -- the word and the digit of a number
 pub holds_at : (ws : List ℕ) (i k : ℕ) → k < 64 → holds ws (64 * i + k) ≡ digit (get_or ws i 0) k
@@ -145,7 +145,7 @@ members-next ws i h =
     ap (λ (n : ℕ). members ws n 0) (more i) ∙ members-split ws (64 * i) 64 0 ∙
     ap (λ (n : ℕ). members ws (64 * i) 0 + members ws 64 n) (start i) ∙
     ap (λ (n : ℕ). members ws (64 * i) 0 + n)
-    (members_word ws i 64 0 (omega arith) ∙ ap (ones_in 64) (whole (get_or ws i 0)) ∙ ones_in 64 (get_or ws i 0) h)
+    (members_word ws i 64 0 (omega arith) ∙ ap (ones_in 64) (whole (get_or ws i 0)) ∙ ones_in_lem 64 (get_or ws i 0) h)
   where
     more : (i : ℕ) → 64 * (i + 1) ≡ 64 * i + 64
     more i = omega arith

@@ -1,5 +1,6 @@
 // Sets of variable numbers as 64-bit words, 64 numbers to a word: membership, size and lowest member.
 #![tactic(auto)]
+
 ghost use Rattle.std.specs.Prelude.{◌≡◌, ◌&&◌, ◌||◌, ℕ, ◌+◌, ◌*◌, ◌≤◌, ◌<◌, eqb, length};
 ghost use Rattle.sets.specs.Sets.{holds, IsFirst, IsLowest, left_in, size};
 

@@ -9,101 +9,91 @@ use borrow.Author.Rules.{rules}
 use Rattle.buckets.proofs.add.Statement.{statement}
 use Rattle.buckets.proofs.add.Tie as tie
 
--- places in the code, each from a later one
-abbrev begun : tie.After-slice-known3 → tie.Start
-begun c = c.before.before.before
+bucket_of-k-requires : tie.Need-bucket_of-k-requires
+bucket_of-k-requires c κs = search rules
 
-abbrev bucket_found : tie.After-first → tie.After-bucket-of
-bucket_found c = c.before.before.before
-
-bucket_of_requires : tie.Need-bucket-of-requires
-bucket_of_requires c κs = search rules
-
-first_requires : tie.Need-first-requires
-first_requires c κs =
-    let k = c.before.before.bucket_of in
-    let a = begun c.before.before.before in
-    (omega (arith, k.ensures.1, a.pre.0.all_heads), omega arith, a.pre.2.heads k.result k.ensures.1)
-
-abbrev start : tie.After-first → tie.Start
-start f = begun (bucket_found f).before
+first-requires : tie.Need-first-requires
+first-requires c κs =
+    let k = c.bucket_of-k in
+    let a = c in
+    (omega (arith, k.ensures.1, a.requires.0.all_heads), omega arith, a.requires.2.heads k.result k.ensures.1)
 
 -- the entry of the first of the bucket's chain
-within : (f : tie.After-first) → entry_of f.first.result ≤ (start f).args.n
-within f = omega (arith, ap entry_of f.first.ensures, last_within (start f).args.members.now f.before.before.before.bucket_of.result (start f).args.n)
+within : (f : tie.After-first) → entry_of f.first.result ≤ f.args.n
+within f = omega (arith, ap entry_of f.first.ensures, last_within f.args.members.now f.bucket_of-k.result f.args.n)
 
-entry_of_requires : tie.Need-entry-of-requires
-entry_of_requires c κs = omega (arith, within c, (start c).requires.0.countable)
+entry_of-requires : tie.Need-entry_of-requires
+entry_of-requires c κs = omega (arith, within c, c.requires.0.countable)
 
-cast_links : tie.Need-overflow-cast-links
-cast_links c = let f = c.before in omega (arith, within f, (start f).requires.0.countable, c.entry_of.ensures)
+overflow_cast-links : tie.Need-overflow_cast-links
+overflow_cast-links c = let f = c in omega (arith, within f.before, f.requires.0.countable, c.entry_of.ensures)
 
-mul_links : tie.Need-overflow-mul-links
-mul_links c = search rules
+offset_bounds-links-n : tie.Need-offset_bounds-links-n
+offset_bounds-links-n c = search rules
 
-slice_write_links : tie.Need-slice-write-links
-slice_write_links c = search rules
+bounds-links-n : tie.Need-bounds-links-n
+bounds-links-n c = search rules
 
-cast_members : tie.Need-overflow-cast-members
-cast_members c = search rules
+overflow_cast-members : tie.Need-overflow_cast-members
+overflow_cast-members c = search rules
 
-mul_members : tie.Need-overflow-mul-members
-mul_members c = search rules
+offset_bounds-members-n : tie.Need-offset_bounds-members-n
+offset_bounds-members-n c = search rules
 
-slice_write_members : tie.Need-slice-write-members
-slice_write_members c = search rules
+bounds-members-n : tie.Need-bounds-members-n
+bounds-members-n c = search rules
 
-entry_of_requires_2 : tie.Need-entry-of-requires-2
-entry_of_requires_2 c κs = search rules
+entry_of-requires-2 : tie.Need-entry_of-requires-2
+entry_of-requires-2 c κs = search rules
 
-cast_heads : tie.Need-overflow-cast-heads
-cast_heads c = search rules
+overflow_cast-heads : tie.Need-overflow_cast-heads
+overflow_cast-heads c = search rules
 
-mul_heads : tie.Need-overflow-mul-heads
-mul_heads c = search rules
+offset_bounds-heads-k : tie.Need-offset_bounds-heads-k
+offset_bounds-heads-k c = search rules
 
-slice_write_heads : tie.Need-slice-write-heads
-slice_write_heads c = search rules
+bounds-heads-k : tie.Need-bounds-heads-k
+bounds-heads-k c = search rules
 
-same_length : tie.Need-same-length
-same_length c = search rules
+shape_of-heads : tie.Need-shape_of-heads
+shape_of-heads c = search rules
 
-same_length_2 : tie.Need-same-length-2
-same_length_2 c = search rules
+shape_of-links : tie.Need-shape_of-links
+shape_of-links c = search rules
 
-same_length_3 : tie.Need-same-length-3
-same_length_3 c = search rules
+shape_of-members : tie.Need-shape_of-members
+shape_of-members c = search rules
 
 returns : tie.Need-returns
 returns c =
-    let entry = c.before in
-    let f = entry.before in
-    let k = f.before.before.before.bucket_of in
-    let a = start f in (
+    let entry = c in
+    let f = entry in
+    let k = f.bucket_of-k in
+    let a = f in (
       refl,
-      linked_more a.args.m a.pre.2 (omega arith) (omega arith) (omega (arith, k.ensures.1, k.ensures.0))
+      linked_more a.args.m a.requires.2 (omega arith) (omega arith) (omega (arith, k.ensures.1, k.ensures.0))
           (entry.entry_of.ensures ∙ ap entry_of (f.first.ensures ∙ ap (λ j. last a.args.members.now j a.args.n) k.ensures.0))
-          (ap₂ (set a.args.heads.now) k.ensures.0 c.entry-of2.ensures) refl refl,
+          (ap₂ (set a.args.heads.now) k.ensures.0 c.entry_of-2.ensures) refl refl,
     )
 
 pub add_spec : {M : Type 1} → statement M
 add_spec =
     tie.close
     (tie.spec
-    bucket_of_requires
-    first_requires
-    entry_of_requires
-    cast_links
-    mul_links
-    slice_write_links
-    cast_members
-    mul_members
-    slice_write_members
-    entry_of_requires_2
-    cast_heads
-    mul_heads
-    slice_write_heads
-    same_length
-    same_length_2
-    same_length_3
+    bucket_of-k-requires
+    first-requires
+    entry_of-requires
+    overflow_cast-links
+    offset_bounds-links-n
+    bounds-links-n
+    overflow_cast-members
+    offset_bounds-members-n
+    bounds-members-n
+    entry_of-requires-2
+    overflow_cast-heads
+    offset_bounds-heads-k
+    bounds-heads-k
+    shape_of-heads
+    shape_of-links
+    shape_of-members
     returns)

@@ -6,20 +6,25 @@ use borrow.Author.Rules.{rules}
 use Rattle.buckets.proofs.entry_of.Statement.{statement}
 use Rattle.buckets.proofs.entry_of.Tie as tie
 
-enum_told : tie.Need-enum-told
-enum_told c = search rules
+enum_told-1 : tie.Need-enum_told-1
+enum_told-1 c = search rules
 
-enum_known_l : tie.Need-enum-known-l
-enum_known_l c = search rules
+enum_known-l : tie.Need-enum_known-l
+enum_known-l c = search rules
 
-add_result : tie.Need-overflow-add-result
-add_result c = let m = c.before in omega (arith, ap entry_of m.l.given.1, m.before.before.requires)
+overflow_add-result : tie.Need-overflow_add-result
+overflow_add-result c = let m = c in omega (arith, ap entry_of m.in-Member.is, m.requires)
 
-returns : tie.Need-returns
-returns c = search rules
+returns-in-End : tie.Need-returns-in-End
+returns-in-End c = search rules
 
-returns_2 : tie.Need-returns-2
-returns_2 c = omega (arith, ap entry_of c.before.l.given.1)
+returns-in-Member : tie.Need-returns-in-Member
+returns-in-Member c = omega (arith, ap entry_of c.in-Member.is)
 
 pub entry_of_spec : {M : Type 1} → statement M
-entry_of_spec = tie.close (tie.spec enum_told enum_known_l add_result returns returns_2)
+entry_of_spec = tie.close (tie.spec
+    enum_told-1
+    enum_known-l
+    overflow_add-result
+    returns-in-End
+    returns-in-Member)

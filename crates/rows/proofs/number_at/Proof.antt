@@ -5,23 +5,29 @@ use native.Mathlib.Omega.{arith}
 use Rattle.rows.proofs.number_at.Statement.{statement}
 use Rattle.rows.proofs.number_at.Tie as tie
 
-enum_told : tie.Need-enum-told
-enum_told c = search rules
+enum_told-1 : tie.Need-enum_told-1
+enum_told-1 c = search rules
 
-pair_at_requires : tie.Need-pair-at-requires
-pair_at_requires c κs = rw c.enum_told.given.1 at c.before.before.before.requires
+pair_at-requires : tie.Need-pair_at-requires
+pair_at-requires c κs = rw c.in-Narrow.is at c.requires
 
-enum_told_2 : tie.Need-enum-told-2
-enum_told_2 c = search rules
+enum_told-in-Wide : tie.Need-enum_told-in-Wide
+enum_told-in-Wide c = search rules
 
-quad_at_requires : tie.Need-quad-at-requires
-quad_at_requires c κs = rw c.enum-told2.given.1 at c.before.before.before.requires
+quad_at-requires : tie.Need-quad_at-requires
+quad_at-requires c κs = rw c.in-Wide.is at c.requires
 
-returns : tie.Need-returns
-returns c = rw c.before.enum_told.given.1 (c.pair-at.ensures.0, omega (arith, c.pair-at.ensures.1))
+returns-in-Narrow : tie.Need-returns-in-Narrow
+returns-in-Narrow c = rw c.in-Narrow.is (c.pair_at.ensures.0, omega (arith, c.pair_at.ensures.1))
 
-returns_2 : tie.Need-returns-2
-returns_2 c = rw c.before.enum-told2.given.1 c.quad_at.ensures
+returns-in-Wide : tie.Need-returns-in-Wide
+returns-in-Wide c = rw c.in-Wide.is c.quad_at.ensures
 
 pub number_at_spec : {M : Type 1} → statement M
-number_at_spec = tie.close (tie.spec enum_told pair_at_requires enum_told_2 quad_at_requires returns returns_2)
+number_at_spec = tie.close (tie.spec
+    enum_told-1
+    pair_at-requires
+    enum_told-in-Wide
+    quad_at-requires
+    returns-in-Narrow
+    returns-in-Wide)

@@ -5,30 +5,37 @@ use Rattle.sets.proofs.Members.{holds-set}
 use Rattle.sets.proofs.add.Statement.{statement}
 use Rattle.sets.proofs.add.Tie as tie
 
-mul_set : tie.Need-overflow-mul-set
-mul_set c = search rules
+offset_bounds-set-i : tie.Need-offset_bounds-set-i
+offset_bounds-set-i c = search rules
 
-slice_read_set : tie.Need-slice-read-set
-slice_read_set c = search rules
+bounds-set-i : tie.Need-bounds-set-i
+bounds-set-i c = search rules
 
-shl_set : tie.Need-overflow-shl-set
-shl_set c = search rules
+overflow_shl-set : tie.Need-overflow_shl-set
+overflow_shl-set c = search rules
 
-mul_set_2 : tie.Need-overflow-mul-set-2
-mul_set_2 c = search rules
+offset_bounds-set-i-2 : tie.Need-offset_bounds-set-i-2
+offset_bounds-set-i-2 c = search rules
 
-slice_write_set : tie.Need-slice-write-set
-slice_write_set c = search rules
+bounds-set-i-2 : tie.Need-bounds-set-i-2
+bounds-set-i-2 c = search rules
 
-same_length : tie.Need-same-length
-same_length c = search rules
+shape_of-set : tie.Need-shape_of-set
+shape_of-set c = search rules
 
 returns : tie.Need-returns
 returns c =
-    let a = c.before in
+    let a = c in
     (length-set a.args.set.now _ _, λ u. holds-set a.args.set.now a.args.v a.requires u)
 
 pub add_spec : {M : Type 1} → statement M
 add_spec =
     tie.close
-    (tie.spec mul_set slice_read_set shl_set mul_set_2 slice_write_set same_length returns)
+    (tie.spec
+    offset_bounds-set-i
+    bounds-set-i
+    overflow_shl-set
+    offset_bounds-set-i-2
+    bounds-set-i-2
+    shape_of-set
+    returns)

@@ -9,67 +9,67 @@ use Rattle.sets.proofs.Members.{members-next}
 use Rattle.sets.proofs.count.Statement.{statement}
 use Rattle.sets.proofs.count.Tie as tie
 
-abbrev invariant-loop : tie.invariant-loop
-invariant-loop set sum₀ i₀ sum i = (i ≤ length set) × (sum ≤ 64 * i) × (sum ≡ members set (64 * i) 0)
+abbrev invariant-loop-i : tie.invariant-loop-i
+invariant-loop-i set sum₀ i₀ sum i = (i ≤ length set) × (sum ≤ 64 * i) × (sum ≡ members set (64 * i) 0)
 
-abbrev decreases-loop : tie.decreases-loop
-decreases-loop set sum₀ i₀ sum i = length set - i
+abbrev decreases-loop-i : tie.decreases-loop-i
+decreases-loop-i set sum₀ i₀ sum i = length set - i
 
-loop_holds : tie.Need-loop-init invariant-loop decreases-loop
+loop-i-init : tie.Need-loop-i-init invariant-loop-i decreases-loop-i
 unfolding amount
-loop_holds c = (omega arith, omega arith, omega arith)
+loop-i-init c = (omega arith, omega arith, omega arith)
 
-mul_sum : tie.Need-overflow-mul-sum invariant-loop decreases-loop
-mul_sum c = omega arith
+offset_bounds-set-i : tie.Need-offset_bounds-set-i invariant-loop-i decreases-loop-i
+offset_bounds-set-i c = omega arith
 
-shared_slice_read_sum : tie.Need-shared-slice-read-sum invariant-loop decreases-loop
-shared_slice_read_sum c = omega arith
+bounds-set-i : tie.Need-bounds-set-i invariant-loop-i decreases-loop-i
+bounds-set-i c = omega arith
 
-few : (c : tie.After-shared-slice-known invariant-loop decreases-loop) →
-    ones (get_or c.before.before.before.args.set.now c.before.before.loop.i 0) ≤ 64
-few c = ones-le 64 _ (omega (arith, c.shared-slice-known.given c.before.before.loop.i))
+few : (c : tie.After-shared_slice_known-1 invariant-loop-i decreases-loop-i) →
+    ones (get_or c.args.set.now c.loop-i.i 0) ≤ 64
+few c = ones-le 64 _ (omega (arith, c.shared_slice_known-1.given c.loop-i.i))
 
-cast_sum : tie.Need-overflow-cast-sum invariant-loop decreases-loop
-cast_sum c = omega (arith, few c)
+overflow_cast-sum : tie.Need-overflow_cast-sum invariant-loop-i decreases-loop-i
+overflow_cast-sum c = omega (arith, few c)
 
-add_sum : tie.Need-overflow-add-sum invariant-loop decreases-loop
-add_sum c = omega (arith, few c, c.before.before.before.requires)
+overflow_add-sum : tie.Need-overflow_add-sum invariant-loop-i decreases-loop-i
+overflow_add-sum c = omega (arith, few c, c.requires)
 
-add_i : tie.Need-overflow-add-i invariant-loop decreases-loop
-add_i c = omega arith
+overflow_add-i : tie.Need-overflow_add-i invariant-loop-i decreases-loop-i
+overflow_add-i c = omega arith
 
-loop_less : tie.Need-loop-smaller invariant-loop decreases-loop
-loop_less c = omega arith
+loop-i-smaller : tie.Need-loop-i-smaller invariant-loop-i decreases-loop-i
+loop-i-smaller c = omega arith
 
-loop_again : tie.Need-loop-preserved invariant-loop decreases-loop
-loop_again c =
-    let l = c.before.before.loop in
-    let ws = c.before.before.before.args.set.now in (
+loop-i-preserved : tie.Need-loop-i-preserved invariant-loop-i decreases-loop-i
+loop-i-preserved c =
+    let l = c.loop-i in
+    let ws = c.args.set.now in (
       omega arith,
       omega (arith, few c, l.invariant.1),
       ap (λ (n : ℕ). n + ones (get_or ws l.i 0)) l.invariant.2 ∙
-          sym (members-next ws l.i (omega (arith, c.shared-slice-known.given l.i))),
+          sym (members-next ws l.i (omega (arith, c.shared_slice_known-1.given l.i))),
     )
 
-returns : tie.Need-returns invariant-loop decreases-loop
+returns : tie.Need-returns invariant-loop-i decreases-loop-i
 unfolding size
 returns c =
-    let l = c.before.loop in
-    let ws = c.before.before.args.set.now in
+    let l = c.loop-i in
+    let ws = c.args.set.now in
     l.invariant.2 ∙ ap (λ (n : ℕ). members ws (64 * n) 0) (omega (arith, l.invariant.0))
 
 pub count_spec : {M : Type 1} → statement M
 count_spec =
     tie.close
     (tie.spec
-    invariant-loop
-    decreases-loop
-    loop_holds
-    mul_sum
-    shared_slice_read_sum
-    cast_sum
-    add_sum
-    add_i
-    loop_less
-    loop_again
+    invariant-loop-i
+    decreases-loop-i
+    loop-i-init
+    offset_bounds-set-i
+    bounds-set-i
+    overflow_cast-sum
+    overflow_add-sum
+    overflow_add-i
+    loop-i-smaller
+    loop-i-preserved
     returns)

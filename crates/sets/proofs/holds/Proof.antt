@@ -5,18 +5,22 @@ use Rattle.sets.specs.Sets.{digit, holds}
 use Rattle.sets.proofs.holds.Statement.{statement}
 use Rattle.sets.proofs.holds.Tie as tie
 
-mul_result : tie.Need-overflow-mul-result
-mul_result c = search rules
+offset_bounds-set-v : tie.Need-offset_bounds-set-v
+offset_bounds-set-v c = search rules
 
-shared_slice_read_result : tie.Need-shared-slice-read-result
-shared_slice_read_result c = search rules
+bounds-set-v : tie.Need-bounds-set-v
+bounds-set-v c = search rules
 
-shr_result : tie.Need-overflow-shr-result
-shr_result c = search rules
+overflow_shr-result : tie.Need-overflow_shr-result
+overflow_shr-result c = search rules
 
 returns : tie.Need-returns
 unfolding holds digit
 returns c = refl
 
 pub holds_spec : {M : Type 1} → statement M
-holds_spec = tie.close (tie.spec mul_result shared_slice_read_result shr_result returns)
+holds_spec = tie.close (tie.spec
+    offset_bounds-set-v
+    bounds-set-v
+    overflow_shr-result
+    returns)

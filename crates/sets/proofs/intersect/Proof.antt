@@ -7,74 +7,74 @@ use Rattle.sets.proofs.Members.{Both, both-next, both_hold}
 use Rattle.sets.proofs.intersect.Statement.{statement}
 use Rattle.sets.proofs.intersect.Tie as tie
 
-abbrev invariant-loop : tie.invariant-loop
-invariant-loop first second set₀ i₀ set i = Both first second i set₀ set
+abbrev invariant-loop-i : tie.invariant-loop-i
+invariant-loop-i first second set₀ i₀ set i = Both first second i set₀ set
 
-abbrev decreases-loop : tie.decreases-loop
-decreases-loop first second set₀ i₀ set i = length first - i
+abbrev decreases-loop-i : tie.decreases-loop-i
+decreases-loop-i first second set₀ i₀ set i = length first - i
 
-loop_holds : tie.Need-loop-init invariant-loop decreases-loop
-loop_holds c = record { within = omega arith; same_length = refl; are = λ k l. absurd (omega arith) }
+loop-i-init : tie.Need-loop-i-init invariant-loop-i decreases-loop-i
+loop-i-init c = record { within = omega arith; same_length = refl; are = λ k l. absurd (omega arith) }
 
-mul_set : tie.Need-overflow-mul-set invariant-loop decreases-loop
-mul_set c = omega arith
+offset_bounds-first-i : tie.Need-offset_bounds-first-i invariant-loop-i decreases-loop-i
+offset_bounds-first-i c = omega arith
 
-shared_slice_read_set : tie.Need-shared-slice-read-set invariant-loop decreases-loop
-shared_slice_read_set c = omega arith
+bounds-first-i : tie.Need-bounds-first-i invariant-loop-i decreases-loop-i
+bounds-first-i c = omega arith
 
-mul_set_2 : tie.Need-overflow-mul-set-2 invariant-loop decreases-loop
-mul_set_2 c = omega arith
+offset_bounds-second-i : tie.Need-offset_bounds-second-i invariant-loop-i decreases-loop-i
+offset_bounds-second-i c = omega arith
 
-shared_slice_read_set_2 : tie.Need-shared-slice-read-set-2 invariant-loop decreases-loop
-shared_slice_read_set_2 c = omega arith
+bounds-second-i : tie.Need-bounds-second-i invariant-loop-i decreases-loop-i
+bounds-second-i c = omega arith
 
-mul_set_3 : tie.Need-overflow-mul-set-3 invariant-loop decreases-loop
-mul_set_3 c = omega arith
+offset_bounds-set-i : tie.Need-offset_bounds-set-i invariant-loop-i decreases-loop-i
+offset_bounds-set-i c = omega arith
 
-slice_write_set : tie.Need-slice-write-set invariant-loop decreases-loop
-slice_write_set c = omega arith
+bounds-set-i : tie.Need-bounds-set-i invariant-loop-i decreases-loop-i
+bounds-set-i c = omega arith
 
-add_i : tie.Need-overflow-add-i invariant-loop decreases-loop
-add_i c = omega arith
+overflow_add-i : tie.Need-overflow_add-i invariant-loop-i decreases-loop-i
+overflow_add-i c = omega arith
 
-loop_less : tie.Need-loop-smaller invariant-loop decreases-loop
-loop_less c = omega arith
+loop-i-smaller : tie.Need-loop-i-smaller invariant-loop-i decreases-loop-i
+loop-i-smaller c = omega arith
 
-loop_again : tie.Need-loop-preserved invariant-loop decreases-loop
-loop_again c =
-    let head = c.before.before.before in
-    let a = head.before in
-    let inside = c.before.before.loop-test.true in
-    both-next a.args.first.now a.args.second.now head.loop.i (omega (arith, inside, head.loop.invariant.same_length, a.requires.1)) a.requires.1 refl
-    head.loop.invariant
+loop-i-preserved : tie.Need-loop-i-preserved invariant-loop-i decreases-loop-i
+loop-i-preserved c =
+    let head = c in
+    let a = head in
+    let inside = c.loop-i-test.true in
+    both-next a.args.first.now a.args.second.now head.loop-i.i (omega (arith, inside, head.loop-i.invariant.same_length, a.requires.1)) a.requires.1 refl
+    head.loop-i.invariant
 
-same_length : tie.Need-same-length invariant-loop decreases-loop
-same_length c = c.before.loop.invariant.same_length
+shape_of-set : tie.Need-shape_of-set invariant-loop-i decreases-loop-i
+shape_of-set c = c.loop-i.invariant.same_length
 
-returns : tie.Need-returns invariant-loop decreases-loop
+returns : tie.Need-returns invariant-loop-i decreases-loop-i
 returns c =
-    let inv = c.before.loop.invariant in
-    let a = c.before.before in
-    let over = c.loop-test.false in (
+    let inv = c.loop-i.invariant in
+    let a = c in
+    let over = c.loop-i-test.false in (
       inv.same_length,
-      both_hold a.args.first.now a.args.second.now c.before.loop.i a.requires.0 a.requires.1 (omega (arith, over, inv.same_length, a.requires.1)) inv,
+      both_hold a.args.first.now a.args.second.now c.loop-i.i a.requires.0 a.requires.1 (omega (arith, over, inv.same_length, a.requires.1)) inv,
     )
 
 pub intersect_spec : {M : Type 1} → statement M
 intersect_spec =
     tie.close
     (tie.spec
-    invariant-loop
-    decreases-loop
-    loop_holds
-    mul_set
-    shared_slice_read_set
-    mul_set_2
-    shared_slice_read_set_2
-    mul_set_3
-    slice_write_set
-    add_i
-    loop_less
-    loop_again
-    same_length
+    invariant-loop-i
+    decreases-loop-i
+    loop-i-init
+    offset_bounds-first-i
+    bounds-first-i
+    offset_bounds-second-i
+    bounds-second-i
+    offset_bounds-set-i
+    bounds-set-i
+    overflow_add-i
+    loop-i-smaller
+    loop-i-preserved
+    shape_of-set
     returns)

@@ -6,51 +6,51 @@ use Rattle.rows.proofs.Sealing.{Cleared, cleared_none, cleared_byte, cleared_all
 use Rattle.rows.proofs.bytes.clear.Statement.{statement}
 use Rattle.rows.proofs.bytes.clear.Tie as tie
 
-abbrev invariant-loop : tie.invariant-loop
-invariant-loop b₀ from i₀ b i = Cleared b₀ from b i
+abbrev invariant-loop-i : tie.invariant-loop-i
+invariant-loop-i b₀ from i₀ b i = Cleared b₀ from b i
 
-abbrev decreases-loop : tie.decreases-loop
-decreases-loop b₀ from i₀ b i = length b₀ - from - i
+abbrev decreases-loop-i : tie.decreases-loop-i
+decreases-loop-i b₀ from i₀ b i = length b₀ - from - i
 
-loop_holds : tie.Need-loop-init invariant-loop decreases-loop
-loop_holds c = cleared_none _ _ c.requires
+loop-i-init : tie.Need-loop-i-init invariant-loop-i decreases-loop-i
+loop-i-init c = cleared_none _ _ c.requires
 
-sub_loop : tie.Need-overflow-sub-loop invariant-loop decreases-loop
-sub_loop c = omega arith
+overflow_sub-b : tie.Need-overflow_sub-b invariant-loop-i decreases-loop-i
+overflow_sub-b c = omega arith
 
-add_b : tie.Need-overflow-add-b invariant-loop decreases-loop
-add_b c = omega arith
+overflow_add-b : tie.Need-overflow_add-b invariant-loop-i decreases-loop-i
+overflow_add-b c = omega arith
 
-slice_write_b : tie.Need-slice-write-b invariant-loop decreases-loop
-slice_write_b c = omega arith
+bounds-b-from : tie.Need-bounds-b-from invariant-loop-i decreases-loop-i
+bounds-b-from c = omega arith
 
-add_i : tie.Need-overflow-add-i invariant-loop decreases-loop
-add_i c = omega arith
+overflow_add-i : tie.Need-overflow_add-i invariant-loop-i decreases-loop-i
+overflow_add-i c = omega arith
 
-loop_less : tie.Need-loop-smaller invariant-loop decreases-loop
-loop_less c = omega arith
+loop-i-smaller : tie.Need-loop-i-smaller invariant-loop-i decreases-loop-i
+loop-i-smaller c = omega arith
 
-loop_again : tie.Need-loop-preserved invariant-loop decreases-loop
-loop_again c = cleared_byte _ _ c.before.before.requires c.loop-test.true c.before.loop.invariant
+loop-i-preserved : tie.Need-loop-i-preserved invariant-loop-i decreases-loop-i
+loop-i-preserved c = cleared_byte _ _ c.requires c.loop-i-test.true c.loop-i.invariant
 
-same_length : tie.Need-same-length invariant-loop decreases-loop
-same_length c = c.before.loop.invariant.same_length
+shape_of-b : tie.Need-shape_of-b invariant-loop-i decreases-loop-i
+shape_of-b c = c.loop-i.invariant.same_length
 
-returns : tie.Need-returns invariant-loop decreases-loop
-returns c = cleared_all _ _ c.before.before.requires c.loop-test.false c.before.loop.invariant
+returns : tie.Need-returns invariant-loop-i decreases-loop-i
+returns c = cleared_all _ _ c.requires c.loop-i-test.false c.loop-i.invariant
 
 pub clear_spec : {M : Type 1} → statement M
 clear_spec =
     tie.close
     (tie.spec
-    invariant-loop
-    decreases-loop
-    loop_holds
-    sub_loop
-    add_b
-    slice_write_b
-    add_i
-    loop_less
-    loop_again
-    same_length
+    invariant-loop-i
+    decreases-loop-i
+    loop-i-init
+    overflow_sub-b
+    overflow_add-b
+    bounds-b-from
+    overflow_add-i
+    loop-i-smaller
+    loop-i-preserved
+    shape_of-b
     returns)

@@ -6,47 +6,47 @@ use Rattle.rows.proofs.CopyFront.{Copied, copied_none, copied_byte, copied_all}
 use Rattle.rows.proofs.bytes.copy_front.Statement.{statement}
 use Rattle.rows.proofs.bytes.copy_front.Tie as tie
 
-abbrev invariant-loop : tie.invariant-loop
-invariant-loop sheet out₀ i₀ out i = Copied sheet out₀ out i
+abbrev invariant-loop-i : tie.invariant-loop-i
+invariant-loop-i sheet out₀ i₀ out i = Copied sheet out₀ out i
 
-abbrev decreases-loop : tie.decreases-loop
-decreases-loop sheet out₀ i₀ out i = length sheet - i
+abbrev decreases-loop-i : tie.decreases-loop-i
+decreases-loop-i sheet out₀ i₀ out i = length sheet - i
 
-loop_holds : tie.Need-loop-init invariant-loop decreases-loop
-loop_holds c = copied_none _ _ c.requires
+loop-i-init : tie.Need-loop-i-init invariant-loop-i decreases-loop-i
+loop-i-init c = copied_none _ _ c.requires
 
-shared_slice_read_out : tie.Need-shared-slice-read-out invariant-loop decreases-loop
-shared_slice_read_out c = omega arith
+bounds-sheet-i : tie.Need-bounds-sheet-i invariant-loop-i decreases-loop-i
+bounds-sheet-i c = omega arith
 
-slice_write_out : tie.Need-slice-write-out invariant-loop decreases-loop
-slice_write_out c = omega arith
+bounds-out-i : tie.Need-bounds-out-i invariant-loop-i decreases-loop-i
+bounds-out-i c = omega arith
 
-add_i : tie.Need-overflow-add-i invariant-loop decreases-loop
-add_i c = omega arith
+overflow_add-i : tie.Need-overflow_add-i invariant-loop-i decreases-loop-i
+overflow_add-i c = omega arith
 
-loop_less : tie.Need-loop-smaller invariant-loop decreases-loop
-loop_less c = omega arith
+loop-i-smaller : tie.Need-loop-i-smaller invariant-loop-i decreases-loop-i
+loop-i-smaller c = omega arith
 
-loop_again : tie.Need-loop-preserved invariant-loop decreases-loop
-loop_again c = copied_byte _ _ c.before.before.before.requires c.before.loop-test.true c.before.before.loop.invariant
+loop-i-preserved : tie.Need-loop-i-preserved invariant-loop-i decreases-loop-i
+loop-i-preserved c = copied_byte _ _ c.requires c.loop-i-test.true c.loop-i.invariant
 
-same_length : tie.Need-same-length invariant-loop decreases-loop
-same_length c = c.before.loop.invariant.same_length
+shape_of-out : tie.Need-shape_of-out invariant-loop-i decreases-loop-i
+shape_of-out c = c.loop-i.invariant.same_length
 
-returns : tie.Need-returns invariant-loop decreases-loop
-returns c = copied_all _ _ c.before.before.requires c.loop-test.false c.before.loop.invariant
+returns : tie.Need-returns invariant-loop-i decreases-loop-i
+returns c = copied_all _ _ c.requires c.loop-i-test.false c.loop-i.invariant
 
 pub copy_front_spec : {M : Type 1} → statement M
 copy_front_spec =
     tie.close
     (tie.spec
-    invariant-loop
-    decreases-loop
-    loop_holds
-    shared_slice_read_out
-    slice_write_out
-    add_i
-    loop_less
-    loop_again
-    same_length
+    invariant-loop-i
+    decreases-loop-i
+    loop-i-init
+    bounds-sheet-i
+    bounds-out-i
+    overflow_add-i
+    loop-i-smaller
+    loop-i-preserved
+    shape_of-out
     returns)

@@ -5,59 +5,59 @@ use Rattle.rows.proofs.Sealing.{Moved, moved_none, moved_byte, moved_all}
 use Rattle.rows.proofs.bytes.move_down.Statement.{statement}
 use Rattle.rows.proofs.bytes.move_down.Tie as tie
 
-abbrev invariant-loop : tie.invariant-loop
-invariant-loop b₀ to from count i₀ b i = Moved b₀ to from count b i
+abbrev invariant-loop-i : tie.invariant-loop-i
+invariant-loop-i b₀ to from count i₀ b i = Moved b₀ to from count b i
 
-abbrev decreases-loop : tie.decreases-loop
-decreases-loop b₀ to from count i₀ b i = count - i
+abbrev decreases-loop-i : tie.decreases-loop-i
+decreases-loop-i b₀ to from count i₀ b i = count - i
 
-loop_holds : tie.Need-loop-init invariant-loop decreases-loop
-loop_holds c = moved_none _ _ _ _ c.requires.0 c.requires.1
+loop-i-init : tie.Need-loop-i-init invariant-loop-i decreases-loop-i
+loop-i-init c = moved_none _ _ _ _ c.requires.0 c.requires.1
 
-add_b : tie.Need-overflow-add-b invariant-loop decreases-loop
-add_b c = omega arith
+overflow_add-b : tie.Need-overflow_add-b invariant-loop-i decreases-loop-i
+overflow_add-b c = omega arith
 
-slice_read_b : tie.Need-slice-read-b invariant-loop decreases-loop
-slice_read_b c = omega arith
+bounds-b-from : tie.Need-bounds-b-from invariant-loop-i decreases-loop-i
+bounds-b-from c = omega arith
 
-add_b_2 : tie.Need-overflow-add-b-2 invariant-loop decreases-loop
-add_b_2 c = omega arith
+overflow_add-b-in-loop-i : tie.Need-overflow_add-b-in-loop-i invariant-loop-i decreases-loop-i
+overflow_add-b-in-loop-i c = omega arith
 
-slice_write_b : tie.Need-slice-write-b invariant-loop decreases-loop
-slice_write_b c = omega arith
+bounds-b-to : tie.Need-bounds-b-to invariant-loop-i decreases-loop-i
+bounds-b-to c = omega arith
 
-add_i : tie.Need-overflow-add-i invariant-loop decreases-loop
-add_i c = omega arith
+overflow_add-i : tie.Need-overflow_add-i invariant-loop-i decreases-loop-i
+overflow_add-i c = omega arith
 
-loop_less : tie.Need-loop-smaller invariant-loop decreases-loop
-loop_less c = omega arith
+loop-i-smaller : tie.Need-loop-i-smaller invariant-loop-i decreases-loop-i
+loop-i-smaller c = omega arith
 
-loop_again : tie.Need-loop-preserved invariant-loop decreases-loop
-loop_again c =
-    let a = c.before.before.before in
-    moved_byte _ _ _ _ a.requires.0 a.requires.1 c.before.loop-test.true c.before.before.loop.invariant
+loop-i-preserved : tie.Need-loop-i-preserved invariant-loop-i decreases-loop-i
+loop-i-preserved c =
+    let a = c in
+    moved_byte _ _ _ _ a.requires.0 a.requires.1 c.loop-i-test.true c.loop-i.invariant
 
-same_length : tie.Need-same-length invariant-loop decreases-loop
-same_length c = c.before.loop.invariant.same_length
+shape_of-b : tie.Need-shape_of-b invariant-loop-i decreases-loop-i
+shape_of-b c = c.loop-i.invariant.same_length
 
-returns : tie.Need-returns invariant-loop decreases-loop
+returns : tie.Need-returns invariant-loop-i decreases-loop-i
 returns c =
-    let a = c.before.before in
-    moved_all _ _ _ _ a.requires.0 a.requires.1 c.loop-test.false c.before.loop.invariant
+    let a = c in
+    moved_all _ _ _ _ a.requires.0 a.requires.1 c.loop-i-test.false c.loop-i.invariant
 
 pub move_down_spec : {M : Type 1} → statement M
 move_down_spec =
     tie.close
     (tie.spec
-    invariant-loop
-    decreases-loop
-    loop_holds
-    add_b
-    slice_read_b
-    add_b_2
-    slice_write_b
-    add_i
-    loop_less
-    loop_again
-    same_length
+    invariant-loop-i
+    decreases-loop-i
+    loop-i-init
+    overflow_add-b
+    bounds-b-from
+    overflow_add-b-in-loop-i
+    bounds-b-to
+    overflow_add-i
+    loop-i-smaller
+    loop-i-preserved
+    shape_of-b
     returns)

@@ -3,43 +3,43 @@ use borrow.Author.Rules.{rules}
 use Rattle.rows.proofs.bytes.put_number.Statement.{statement}
 use Rattle.rows.proofs.bytes.put_number.Tie as tie
 
-enum_told : tie.Need-enum-told
-enum_told c = search rules
+enum_told-1 : tie.Need-enum_told-1
+enum_told-1 c = search rules
 
-put_pair_requires : tie.Need-put-pair-requires
-put_pair_requires c κs = let told = c.before in rw told.enum_told.given.1 at told.before.before.before.requires
+put_pair-requires : tie.Need-put_pair-requires
+put_pair-requires c κs = let told = c in rw told.in-Narrow.is at told.requires
 
-enum_told_2 : tie.Need-enum-told-2
-enum_told_2 c = search rules
+enum_told-in-Wide : tie.Need-enum_told-in-Wide
+enum_told-in-Wide c = search rules
 
-put_quad_requires : tie.Need-put-quad-requires
-put_quad_requires c κs = let told = c.before in rw told.enum-told2.given.1 at told.before.before.before.requires
+put_quad-requires : tie.Need-put_quad-requires
+put_quad-requires c κs = let told = c in rw told.in-Wide.is at told.requires
 
-same_length : tie.Need-same-length
-same_length c = search rules
+shape_of-b-in-Narrow : tie.Need-shape_of-b-in-Narrow
+shape_of-b-in-Narrow c = search rules
 
-returns : tie.Need-returns
-returns c =
-    let pair = c.before.before in
-    rw pair.before.before.enum_told.given.1 pair.put-pair.ensures
+returns-in-Narrow : tie.Need-returns-in-Narrow
+returns-in-Narrow c =
+    let pair = c in
+    rw pair.in-Narrow.is pair.put_pair.ensures
 
-same_length_2 : tie.Need-same-length-2
-same_length_2 c = search rules
+shape_of-b-in-Wide : tie.Need-shape_of-b-in-Wide
+shape_of-b-in-Wide c = search rules
 
-returns_2 : tie.Need-returns-2
-returns_2 c =
-    let quad = c.before.before in
-    rw quad.before.before.enum-told2.given.1 quad.put-quad.ensures
+returns-in-Wide : tie.Need-returns-in-Wide
+returns-in-Wide c =
+    let quad = c in
+    rw quad.in-Wide.is quad.put_quad.ensures
 
 pub put_number_spec : {M : Type 1} → statement M
 put_number_spec =
     tie.close
     (tie.spec
-    enum_told
-    put_pair_requires
-    enum_told_2
-    put_quad_requires
-    same_length
-    returns
-    same_length_2
-    returns_2)
+    enum_told-1
+    put_pair-requires
+    enum_told-in-Wide
+    put_quad-requires
+    shape_of-b-in-Narrow
+    returns-in-Narrow
+    shape_of-b-in-Wide
+    returns-in-Wide)

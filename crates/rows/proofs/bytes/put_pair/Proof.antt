@@ -6,27 +6,34 @@ use Rattle.rows.proofs.Stores.{stored_pair}
 use Rattle.rows.proofs.bytes.put_pair.Statement.{statement}
 use Rattle.rows.proofs.bytes.put_pair.Tie as tie
 
-cast_b : tie.Need-overflow-cast-b
-cast_b c = search rules
+overflow_cast-b : tie.Need-overflow_cast-b
+overflow_cast-b c = search rules
 
-slice_write_b : tie.Need-slice-write-b
-slice_write_b c = search rules
+bounds-b-at : tie.Need-bounds-b-at
+bounds-b-at c = search rules
 
-cast_b_2 : tie.Need-overflow-cast-b-2
-cast_b_2 c = search rules
+overflow_cast-b-2 : tie.Need-overflow_cast-b-2
+overflow_cast-b-2 c = search rules
 
-add_b : tie.Need-overflow-add-b
-add_b c = search rules
+overflow_add-b : tie.Need-overflow_add-b
+overflow_add-b c = search rules
 
-slice_write_b_2 : tie.Need-slice-write-b-2
-slice_write_b_2 c = simp length-set (omega arith)
+bounds-b-at-2 : tie.Need-bounds-b-at-2
+bounds-b-at-2 c = simp length-set (omega arith)
 
-same_length : tie.Need-same-length
-same_length c = search rules
+shape_of-b : tie.Need-shape_of-b
+shape_of-b c = search rules
 
 returns : tie.Need-returns
 returns c = stored_pair _ _ _ c.requires
 
 pub put_pair_spec : {M : Type 1} → statement M
 put_pair_spec =
-    tie.close (tie.spec cast_b slice_write_b cast_b_2 add_b slice_write_b_2 same_length returns)
+    tie.close (tie.spec
+    overflow_cast-b
+    bounds-b-at
+    overflow_cast-b-2
+    overflow_add-b
+    bounds-b-at-2
+    shape_of-b
+    returns)

@@ -4,28 +4,29 @@ use Rattle.rows.proofs.Stores.{stored_quad}
 use Rattle.rows.proofs.bytes.put_quad.Statement.{statement}
 use Rattle.rows.proofs.bytes.put_quad.Tie as tie
 
--- places in the code, each from a later one
-abbrev pair_put : tie.After-put-pair-arg2 → tie.After-put-pair
-pair_put c = c.before.before.before
+put_pair-requires : tie.Need-put_pair-requires
+put_pair-requires c κs = search rules
 
-put_pair_requires : tie.Need-put-pair-requires
-put_pair_requires c κs = search rules
+overflow_add-at : tie.Need-overflow_add-at
+overflow_add-at c = search rules
 
-add_put_pair : tie.Need-overflow-add-put-pair
-add_put_pair c = search rules
+put_pair-requires-2 : tie.Need-put_pair-requires-2
+put_pair-requires-2 c κs = search rules
 
-put_pair_requires_2 : tie.Need-put-pair-requires-2
-put_pair_requires_2 c κs = search rules
-
-same_length : tie.Need-same-length
-same_length c = search rules
+shape_of-b : tie.Need-shape_of-b
+shape_of-b c = search rules
 
 returns : tie.Need-returns
 returns c =
-    let high = c.before.before in
-    let low = pair_put high.before in
-    let a = low.before.before.before in
-    stored_quad a.args.b.now a.args.at a.args.value a.pre low.put-pair.ensures high.put-pair2.ensures
+    let high = c in
+    let low = high in
+    let a = low in
+    stored_quad a.args.b.now a.args.at a.args.value a.requires low.put_pair.ensures high.put_pair-2.ensures
 
 pub put_quad_spec : {M : Type 1} → statement M
-put_quad_spec = tie.close (tie.spec put_pair_requires add_put_pair put_pair_requires_2 same_length returns)
+put_quad_spec = tie.close (tie.spec
+    put_pair-requires
+    overflow_add-at
+    put_pair-requires-2
+    shape_of-b
+    returns)

@@ -8,24 +8,27 @@ use Rattle.rows.proofs.Layouts.{row_in, argument_within}
 use Rattle.rows.proofs.read.argument_at.Statement.{statement}
 use Rattle.rows.proofs.read.argument_at.Tie as tie
 
-argument_place_requires : tie.Need-argument-place-requires
-argument_place_requires c κs =
-    let a = c.before in
+argument_place-requires : tie.Need-argument_place-requires
+argument_place-requires c κs =
+    let a = c in
     omega (arith, argument_within a.args.b.now a.requires.0 a.args.r a.requires.1, a.well_formed)
 
-number_at_requires : tie.Need-number-at-requires
-number_at_requires c κs =
-    let a = c.before.before in
+number_at-requires : tie.Need-number_at-requires
+number_at-requires c κs =
+    let a = c in
     omega (arith, argument_within a.args.b.now a.requires.0 a.args.r a.requires.1, c.argument_place.ensures)
 
 returns : tie.Need-returns
 returns c =
-    let a = c.before.before.before in (
+    let a = c in (
       c.number_at.ensures.0 ∙
-          ap (λ i. number (take (width a.args.s) (drop i a.args.b.now))) c.before.argument_place.ensures ∙
+          ap (λ i. number (take (width a.args.s) (drop i a.args.b.now))) c.argument_place.ensures ∙
           sym (ap (λ (r : Row). r.argument) (row_in a.args.b.now a.requires.0 a.args.r a.requires.1)),
       c.number_at.ensures.1,
     )
 
 pub argument_at_spec : {M : Type 1} → statement M
-argument_at_spec = tie.close (tie.spec argument_place_requires number_at_requires returns)
+argument_at_spec = tie.close (tie.spec
+    argument_place-requires
+    number_at-requires
+    returns)
