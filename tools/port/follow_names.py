@@ -15,7 +15,7 @@ import sys
 
 WORD = re.compile(r"[^\s(){}.;,@\"«»`\[\]\\]+")
 SPEC = re.compile(r"tie\.spec((?:\s+[^\s()]+)+)")
-RENAMED = {"pre": "requires", "inv": "invariant", "taken": "true", "left": "false"}
+RENAMED = {"pre": "requires", "inv": "invariant", "taken": "true", "left": "false", "last": "new", "kept": "auto", "good": "type_inv"}
 
 
 def plain(name):
@@ -65,7 +65,7 @@ class Function:
         self.final = {k: last[armed[new][0]][1] if new in armed else new for k, new in self.new.items()}
         self.at = {}
         for (nold, nnew), (pold, pnew) in zip(entry["needs"], entry["asked_at"]):
-            self.at[nnew] = key(pold)
+            self.at[nnew] = (key(pold), pnew)
 
     def above(self, old, n):
         while n and old:
@@ -174,13 +174,15 @@ class Turner:
         if best:
             segs = best[1]
         else:
-            if k in f.callee and rest[:1] in (["kept"], ["auto"]):
+            if k not in f.fields and k[0].isupper() and k[0].lower() + k[1:] in f.fields:
+                k = k[0].lower() + k[1:]
+            if k in f.callee and rest[:1] in (["kept"], ["auto"], ["last"], ["new"]):
                 i, n = 1, 0
                 while i < len(rest) and rest[i] == "1":
                     n, i = n + 1, i + 1
                 names = f.e["params"].get(f.callee[k], [])
                 if i < len(rest) and rest[i] == "0" and n < len(names):
-                    rest = ["auto", names[n]] + rest[i + 1:]
+                    rest = [RENAMED.get(rest[0], rest[0]), names[n]] + rest[i + 1:]
             segs = [f.fields.get(k, RENAMED.get(segs[0], segs[0]))] + [RENAMED.get(s, s) if j == 0 else s for j, s in enumerate(rest)]
         return ".".join([var] + segs)
 
@@ -292,6 +294,37 @@ class Turner:
         return self.f.final.get(key(w), w)
 
 
+def drop_not(text):
+    """The law that a negation's test is told by, where today's names tell the test without the negation."""
+    out, at = [], 0
+    while True:
+        m = re.compile(r"(?<![\w-])not[-_](true|false) ").search(text, at)
+        if not m:
+            return "".join(out) + text[at:]
+        spans, i = [], m.end()
+        for _ in range(2):
+            while i < len(text) and text[i].isspace():
+                i += 1
+            start = i
+            if i < len(text) and text[i] == "(":
+                i = closing(text, i) + 1
+                _, i = segments(text, i)
+            else:
+                w = WORD.match(text, i)
+                if not w:
+                    break
+                _, i = segments(text, w.end())
+            spans.append((start, i))
+        second = text[spans[1][0] : spans[1][1]] if len(spans) == 2 else ""
+        inner = second[1:-1] if second.startswith("(") and closing(second, 0) == len(second) - 1 else second
+        if re.fullmatch(r"[^\s()]+\.if-not-[^\s().]+\.(true|false)", inner):
+            out.append(text[at : m.start()] + inner)
+            at = spans[1][1]
+        else:
+            out.append(text[at : m.end()])
+            at = m.end()
+
+
 def align(ours, news):
     """Pairs our needs with those of today, in order: equal names first, then by place in a run of the same length."""
     a = [plain(n) for n in ours]
@@ -365,7 +398,7 @@ def rewrite(path, entry, say):
             old = f.at.get(local.get(name))
             v = re.search(rf"^{re.escape(name)} (?!:)([^\s=]+)", chunk, re.M)
             if v and old:
-                t.env[v[1]] = (old, f.new[old])
+                t.env[v[1]] = old
         elif name in lemmas:
             old = lemmas[name]
             if old in f.new:
@@ -375,7 +408,7 @@ def rewrite(path, entry, say):
                     t.env[w] = (old, f.final[old])
         # the signature and the clauses, but no comment or import
         out.append(chunk if chunk.startswith(("--", "use ")) else t.turn(chunk))
-    body = "\n".join(out)
+    body = drop_not("\n".join(out))
     order = [heads.get(plain(n), n) for n in frames] + [got.get(n, n) for _, n in news]
     args = "".join(" " + heads.get(plain(n), n) for n in frames)
     if fresh:

@@ -28,7 +28,7 @@ use Rattle.sheet.proofs.Truthful.{qdimacs_truthful, to_wide_truthful, to_narrow_
 use Rattle.rows.specs.Formats.{format_of}
 use Rattle.rows.specs.declared.Format.{Format}
 use Rattle.rows.proofs.Limits.{sound}
-use Rattle.outer.specs.Answers.{OuterWritten, outer-written}
+use Rattle.outer.specs.Answers.{OuterWritten, outer_written}
 use Rattle.outer.proofs.Telling.{alone_is}
 use Rattle.packing.specs.Packed.{packed_trial, packed_written, packed_solved, packed_guards}
 use Rattle.packing.specs.Copies.{packed_copied}
@@ -142,12 +142,12 @@ module _ (f : Format) (b : Bytes) where
             (told_sheet {w = record { answer = l.answer; output = l.first }} (steps_fit steps first second) (record { on_accepted = truthful.on_accepted })),
       )
 
-  pub outer_said : (x : ℕ) (out : Bytes) {o : Output} → o ≡ packed_copying (outer-written F b x out)
-      → (o ≡ packed_copying (outer-written F b x out)) × ToldCopied F t o.number o.output
+  pub outer_said : (x : ℕ) (out : Bytes) {o : Output} → o ≡ packed_copying (outer_written F b x out)
+      → (o ≡ packed_copying (outer_written F b x out)) × ToldCopied F t o.number o.output
   outer_said x out e = (
     e,
     subst (λ (o : Output). ToldCopied F t o.number o.output) (sym e)
-        (told_copied (outer-written F b x out) (outer_fits f b x out) (outer_truthful F (sound f) b x out (alone_is F b x out))),
+        (told_copied (outer_written F b x out) (outer_fits f b x out) (outer_truthful F (sound f) b x out (alone_is F b x out))),
   )
 
   pub trial_told : {n : ℕ} → n ≡ packed_trial (trial_call F b) → (n ≡ packed_trial (trial_call F b)) × ToldTrial t n

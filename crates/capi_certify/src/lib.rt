@@ -6,7 +6,7 @@ ghost use Rattle.sheet.specs.Format.{narrow, wide};
 ghost use Rattle.sheet.specs.Certificates.{certify_call};
 ghost use Rattle.sheet.specs.Truthful.{truth_of};
 ghost use Rattle.rows.specs.Formats.{format_of};
-ghost use Rattle.certify.specs.Answers.{certified-answer};
+ghost use Rattle.certify.specs.Answers.{certified_answer};
 ghost use Rattle.capi_certify.specs.Packed.{side_numbered, packed_certified};
 ghost use Rattle.capi_certify.specs.Told.{ToldCertify};
 
@@ -18,7 +18,7 @@ pub mod clausing;
 
 // What Certify answers: refusal number and place; or the verdict; or the word 2 and how many steps are valid.
 fn pack_certified(answer: Certified) -> u64
-    ensures { result ≡ packed_certified (certified-answer answer) }
+    ensures { result ≡ packed_certified (certified_answer answer) }
 {
     match answer {
         Certified::Certain(verdict) => pack(0, verdict as usize, 0, 0),

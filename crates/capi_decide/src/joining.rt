@@ -3,7 +3,7 @@ ghost use Rattle.std.specs.Prelude.{◌≡◌};
 ghost use Rattle.sheet.specs.Format.{narrow, wide};
 ghost use Rattle.sheet.specs.Join.{join_call};
 ghost use Rattle.rows.specs.Formats.{format_of};
-ghost use Rattle.join.specs.Answers.{known_in, join-answer};
+ghost use Rattle.join.specs.Answers.{known_in, join_answer};
 ghost use Rattle.capi_decide.specs.Packed.{known_word, packed_joined};
 ghost use Rattle.capi_decide.specs.Told.{ToldJoin};
 
@@ -24,7 +24,7 @@ fn word_for(known: Known) -> usize
 
 // What Join answers: refusal number and place, or the word.
 fn pack_joined(answer: JoinAnswer) -> u64
-    ensures { result ≡ packed_joined (join-answer answer) }
+    ensures { result ≡ packed_joined (join_answer answer) }
 {
     match answer {
         JoinAnswer::Refused(number, place) => pack(number, 0, place, 0),

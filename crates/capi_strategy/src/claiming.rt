@@ -3,7 +3,7 @@ ghost use Rattle.std.specs.Prelude.{◌≡◌};
 ghost use Rattle.sheet.specs.Format.{narrow, wide};
 ghost use Rattle.sheet.specs.Strategy.{claim_call};
 ghost use Rattle.rows.specs.Formats.{format_of};
-ghost use Rattle.claim.specs.Answers.{side_of, claimed-answer};
+ghost use Rattle.claim.specs.Answers.{side_of, claimed_answer};
 ghost use Rattle.packing.specs.Returned.{returned};
 ghost use Rattle.capi_strategy.specs.Claims.{side_of_kind, packed_claimed};
 ghost use Rattle.capi_strategy.specs.Returned.{packed_claiming};
@@ -25,7 +25,7 @@ fn named_side(kind: usize) -> Side
 
 // What Claim answers: refusal number, the sheet refused as the word, and place; or the length of the claim's sheet.
 fn pack_claimed(answer: Claimed) -> u64
-    ensures { result ≡ packed_claimed (claimed-answer answer) }
+    ensures { result ≡ packed_claimed (claimed_answer answer) }
 {
     match answer {
         Claimed::Refused(which, number, place) => pack(number, which, place, 0),

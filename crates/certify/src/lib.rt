@@ -8,7 +8,7 @@ ghost use Rattle.sheet.specs.Truthful.{truth_of, TruthfulCertify};
 ghost use Rattle.rows.specs.Formats.{format_of};
 ghost use Rattle.rows.specs.Formulas.{prefix_in, formula_in};
 ghost use Rattle.resolution.specs.Steps.{FirstUnderived};
-ghost use Rattle.certify.specs.Answers.{certified-answer};
+ghost use Rattle.certify.specs.Answers.{certified_answer};
 ghost use Rattle.certify.specs.Inner.Judging.{Judged};
 
 use crate::initial::{Claim, first_unsettled};
@@ -74,7 +74,7 @@ fn ends_empty(heads: &[u32], codes: &[u32], n: usize) -> bool
 // Judges the steps for a sheet that Check accepts.
 fn judge(sheet: &[u8], s: Layout, verdict: bool, heads: &[u32], codes: &[u32]) -> Certified
     requires { Judged s sheet.now }
-    ensures { certified-answer result ≡ accepted (certified (side_for verdict) (formula_in s sheet.now) (steps_said heads.now codes.now)) }
+    ensures { certified_answer result ≡ accepted (certified (side_for verdict) (formula_in s sheet.now) (steps_said heads.now codes.now)) }
 {
     let n = count_valid(sheet, s, verdict, heads, codes);
     let all = heads.len() / 4;
@@ -90,8 +90,8 @@ fn judge(sheet: &[u8], s: Layout, verdict: bool, heads: &[u32], codes: &[u32]) -
 // Judges a derivation of a verdict, true by cubes and false by clauses, from a sheet: certain, or uncertain with the number of the first step
 // that isn't valid (of all steps, if only the last constraint isn't empty), or refused with number and place, 1 to 8. Any words are taken.
 pub fn certify(sheet: &[u8], f: Format, verdict: bool, heads: &[u32], codes: &[u32]) -> Certified
-    ensures result_value { certified-answer result ≡ certify_call (format_of f) sheet.now (side_for verdict) heads.now codes.now }
-    ensures truthful_certify { TruthfulCertify (truth_of (format_of f) sheet.now) (certified-answer result) }
+    ensures result_value { certified_answer result ≡ certify_call (format_of f) sheet.now (side_for verdict) heads.now codes.now }
+    ensures truthful_certify { TruthfulCertify (truth_of (format_of f) sheet.now) (certified_answer result) }
 {
     let checked = checking::check(sheet, f);
     match checked {

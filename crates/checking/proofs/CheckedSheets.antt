@@ -19,7 +19,7 @@ use Rattle.rows.proofs.Formulas.{formula_read, accepted_readable}
 use Rattle.rows.proofs.Limits.{limits}
 use Rattle.checking.specs.declared.Checked.{Checked}
 use Rattle.checking.specs.declared.Checked.TheVariants.{Accepted, Refused}
-use Rattle.checking.specs.Answers.{checked-as, checked_answer}
+use Rattle.checking.specs.Answers.{checked_as, checked_answer}
 use Rattle.checking.specs.Sheets.{Sheet}
 use Rattle.checking.specs.Inner.Stages.{Sized, sizes, size_answer}
 use Rattle.checking.proofs.Tests.{never_both}
@@ -28,18 +28,18 @@ pub never_accepted : {B : Type 0} {k p : ℕ} {s : Layout} → Refused k p ≡ A
 never_accepted h = let z : ◌≡◌ {A = ℕ} 0 1 = cc in absurd (omega arith)
 
 -- an answer with the format taken off
-pub answer_as : (f : Format) (x : Answer Sizes) → checked_answer (checked-as f x) ≡ x
+pub answer_as : (f : Format) (x : Answer Sizes) → checked_answer (checked_as f x) ≡ x
 answer_as f (accepted z) = refl
 answer_as f (refused n p) = refl
 
-pub accepted_as : (f : Format) (x : Answer Sizes) {s : Layout} {r : Checked} → r ≡ Accepted s → r ≡ checked-as f x
+pub accepted_as : (f : Format) (x : Answer Sizes) {s : Layout} {r : Checked} → r ≡ Accepted s → r ≡ checked_as f x
     → (accepted (sizes s) ≡ x) × (s.format ≡ f)
 accepted_as f (accepted z) {s} told h =
     let e : s ≡ record { format = f; variables = z.variables; nodes = z.nodes } = cc in
     (ap (λ t. accepted (sizes t)) e, ap (λ (t : Layout). t.format) e)
 accepted_as f (refused n p) told h = let z : ◌≡◌ {A = ℕ} 0 1 = cc in absurd (omega arith)
 
-pub refused_as : (f : Format) (x : Answer Sizes) {k p : ℕ} {r : Checked} → r ≡ Refused k p → r ≡ checked-as f x → refused k p ≡ x
+pub refused_as : (f : Format) (x : Answer Sizes) {k p : ℕ} {r : Checked} → r ≡ Refused k p → r ≡ checked_as f x → refused k p ≡ x
 refused_as f x told h = sym (ap checked_answer told) ∙ ap checked_answer h ∙ answer_as f x
 
 -- v and n are the sheet's sizes, and they are right
@@ -91,7 +91,7 @@ module _ (f : Format) (b : Bytes) (s : Layout) where
         }
 
 -- an accepted sheet: every test passes, and the layout is the sheet's own
-pub sheet_checked : {f : Format} {b : Bytes} {s : Layout} {r : Checked} → r ≡ Accepted s → r ≡ checked-as f (check (format_of f) b)
+pub sheet_checked : {f : Format} {b : Bytes} {s : Layout} {r : Checked} → r ≡ Accepted s → r ≡ checked_as f (check (format_of f) b)
     → Sheet f b s
 unfolding check
 sheet_checked {f} {b} {s} told h =
@@ -101,11 +101,11 @@ sheet_checked {f} {b} {s} told h =
     record { tests_pass = p.0; layout_is = right-layout f b s a.1 (right_sizes f b s (passed F b p.0).sizes p.1) }
 
 -- a refused one
-pub sheet_refused : (f : Format) (b : Bytes) {k p : ℕ} {r : Checked} → r ≡ Refused k p → r ≡ checked-as f (check (format_of f) b)
+pub sheet_refused : (f : Format) (b : Bytes) {k p : ℕ} {r : Checked} → r ≡ Refused k p → r ≡ checked_as f (check (format_of f) b)
     → refused k p ≡ check (format_of f) b
 sheet_refused f b told h = refused_as f (check (format_of f) b) told h
 
-pub refused_sheet : (f : Format) (b : Bytes) {k p : ℕ} {r : Checked} → r ≡ Refused k p → r ≡ checked-as f (check (format_of f) b)
+pub refused_sheet : (f : Format) (b : Bytes) {k p : ℕ} {r : Checked} → r ≡ Refused k p → r ≡ checked_as f (check (format_of f) b)
     → passes (check_tests (format_of f) b) ≡ false
 unfolding check
 refused_sheet f b {k} {p} told h = go (passes (check_tests (format_of f) b)) refl

@@ -1,12 +1,13 @@
 // Check: refusals 1 to 8 of document 01, in its order.
 #![tactic(auto)]
+
 ghost use Rattle.std.specs.Prelude.{◌≡◌, false, [], ◌≤◌, ◌<◌, length, get_or, drop};
 ghost use Rattle.sheet.specs.Format.{row};
 ghost use Rattle.sheet.specs.Check.{check};
 ghost use Rattle.rows.specs.Layouts.{total, rows_in, Room};
 ghost use Rattle.rows.specs.Formats.{format_of};
 ghost use Rattle.rows.specs.Tables.{NUMBERS};
-ghost use Rattle.checking.specs.Answers.{checked-as};
+ghost use Rattle.checking.specs.Answers.{checked_as};
 ghost use Rattle.checking.specs.declared.Checked.TheVariants.{Accepted};
 ghost use Rattle.checking.specs.Inner.Stages.{Sized, bound_in, size_answer, prefix_answer, node_answer, tree_answer};
 ghost use Rattle.checking.specs.Inner.Stages.{outside, quantifier, misnumbered, node, Marks, unbound, pay};
@@ -57,7 +58,7 @@ fn is_outside(f: Format, v: usize, n: usize) -> bool
 
 // The sizes: 1 shorter than the header, 2 a size outside its limits, 3 wrong length.
 fn check_sizes(sheet: &[u8], f: Format) -> Checked
-    ensures { result ≡ checked-as f (size_answer f sheet.now) }
+    ensures { result ≡ checked_as f (size_answer f sheet.now) }
 {
     if sheet.len() < header(f) {
         return Checked::Refused(TOO_SHORT, 0);
@@ -114,7 +115,7 @@ fn is_bound(bound: &[bool; NUMBERS], x: usize) -> bool
 // The prefix rows: 4 kind, 5 quantifier number, 6 bound twice. Accepted, the table marks the numbers bound.
 fn check_prefix(sheet: &[u8], s: Layout, bound: &mut [bool; NUMBERS]) -> Checked
     requires { Sized s (length sheet.now) × Marks bound.old [] }
-    ensures value { result ≡ checked-as s.format (prefix_answer s sheet.now) }
+    ensures value { result ≡ checked_as s.format (prefix_answer s sheet.now) }
     ensures marks { result ≡ Accepted s → Marks bound.new (bound_in s sheet.now) }
 {
     let f = s.format;
@@ -165,7 +166,7 @@ fn is_unbound(sheet: &[u8], s: Layout, r: usize, bound: &[bool; NUMBERS]) -> boo
 // The node rows: 4 kind, 7 literal unbound.
 fn check_nodes(sheet: &[u8], s: Layout, bound: &[bool; NUMBERS]) -> Checked
     requires { Sized s (length sheet.now) × Marks bound.now (bound_in s sheet.now) }
-    ensures { result ≡ checked-as s.format (node_answer s sheet.now) }
+    ensures { result ≡ checked_as s.format (node_answer s sheet.now) }
 {
     let end = s.variables + s.nodes;
     let mut r = s.variables;
@@ -204,7 +205,7 @@ pub fn walk(sheet: &[u8], s: Layout, from: usize) -> Reached
 // 8 not one tree, at the row where the debt walk ends.
 fn check_tree(sheet: &[u8], s: Layout) -> Checked
     requires { Sized s (length sheet.now) }
-    ensures { result ≡ checked-as s.format (tree_answer s sheet.now) }
+    ensures { result ≡ checked_as s.format (tree_answer s sheet.now) }
 {
     let end = s.variables + s.nodes;
     let reached = walk(sheet, s, s.variables);
@@ -219,7 +220,7 @@ fn check_tree(sheet: &[u8], s: Layout) -> Checked
 
 // Checks a sheet of a format: accepted with its layout, or refused with number and place.
 pub fn check(sheet: &[u8], f: Format) -> Checked
-    ensures { result ≡ checked-as f (check (format_of f) sheet.now) }
+    ensures { result ≡ checked_as f (check (format_of f) sheet.now) }
 {
     let c = check_sizes(sheet, f);
     let Checked::Accepted(s) = c else {

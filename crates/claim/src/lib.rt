@@ -8,7 +8,7 @@ ghost use Rattle.rows.specs.Formats.{format_of};
 ghost use Rattle.rows.specs.Layouts.{format_in};
 ghost use Rattle.checking.specs.Sheets.{Sheet};
 ghost use Rattle.pair_tests.specs.Pairs.{side};
-ghost use Rattle.claim.specs.Answers.{claimed-with, side_of};
+ghost use Rattle.claim.specs.Answers.{claimed_with, side_of};
 ghost use Rattle.claim.specs.Inner.Plans.{ClaimFitting};
 
 use crate::plan::{ClaimPlan, plan_claim};
@@ -54,7 +54,7 @@ fn claim_planned(
     out: &mut [u8],
 ) -> Claimed
     requires { ClaimFitting b.now s d.now strategy cuts.now }
-    ensures { claimed-with result out.new ≡ claim_call (format_in s) b.now (side strategy.exists) d.now out.old }
+    ensures { claimed_with result out.new ≡ claim_call (format_in s) b.now (side strategy.exists) d.now out.old }
 {
     let f = s.format;
     let t = strategy.layout;
@@ -67,7 +67,7 @@ fn claim_planned(
 // Claims by two sheets that Check accepts, of these layouts.
 fn claim_checked(b: &[u8], s: Layout, d: &[u8], t: Layout, exists: bool, out: &mut [u8]) -> Claimed
     requires { Sheet s.format b.now s × Sheet s.format d.now t }
-    ensures { claimed-with result out.new ≡ claim_call (format_in s) b.now (side exists) d.now out.old }
+    ensures { claimed_with result out.new ≡ claim_call (format_in s) b.now (side exists) d.now out.old }
 {
     let mut cuts = [0u16; ROWS];
     let p = plan_claim(b, s, d, t, exists, &mut cuts);
@@ -86,8 +86,8 @@ fn claim_checked(b: &[u8], s: Layout, d: &[u8], t: Layout, exists: bool, out: &m
 // Writes the claim that the strategy's sheet wins for a side of the sheet `b` to the front of `out`, with zeros behind it, and returns its
 // length; or refuses a sheet or the output, and alters nothing.
 pub fn claim(sheet: &[u8], f: Format, side: Side, strategy: &[u8], out: &mut [u8]) -> Claimed
-    ensures out_after { claimed-with result out.new ≡ claim_call (format_of f) sheet.now (side_of side) strategy.now out.old }
-    ensures truthful_claim { TruthfulClaim (format_of f) sheet.now (side_of side) strategy.now (claimed-with result out.new) }
+    ensures out_after { claimed_with result out.new ≡ claim_call (format_of f) sheet.now (side_of side) strategy.now out.old }
+    ensures truthful_claim { TruthfulClaim (format_of f) sheet.now (side_of side) strategy.now (claimed_with result out.new) }
 {
     let exists = is_exists(side);
     let c = check(sheet, f);

@@ -29,7 +29,7 @@ use Rattle.rows.proofs.Formulas.{length_prefix}
 use Rattle.prefixes.specs.Places.{binding_at, binding_in}
 use Rattle.solve.specs.declared.Verdict.{Verdict}
 use Rattle.solve.specs.declared.Verdict.TheVariants.{True, False}
-use Rattle.solve.specs.Answers.{verdict-of}
+use Rattle.solve.specs.Answers.{verdict_of}
 use Rattle.solve.specs.Inner.Running.{RawReady, solution}
 use Rattle.decide.specs.declared.search.Outcome as code
 use Rattle.decide.specs.Answers.{outcome_of}
@@ -77,13 +77,13 @@ module _ {t : Layout} {b : Bytes} (ok : Readable t b) (some : 0 < t.variables) {
   unfolding q
   ends_true k =
       is ∙ ap (same_op exists) first_owner ∙ ends_at_true q ∙
-      ap (λ (w : Verdict). ends_split q (decided (verdict-of w))) (sym k) ∙ ap (λ (x : code.Outcome). ends_split q (outcome_of x)) (sym e)
+      ap (λ (w : Verdict). ends_split q (decided (verdict_of w))) (sym k) ∙ ap (λ (x : code.Outcome). ends_split q (outcome_of x)) (sym e)
 
   pub ends_false : v ≡ False → not existential ≡ ends_split (owner (prefix_in t b)) (outcome_of o)
   unfolding q
   ends_false k =
       ap not (is ∙ ap (same_op exists) first_owner) ∙ ends_at_false q ∙
-      ap (λ (w : Verdict). ends_split q (decided (verdict-of w))) (sym k) ∙ ap (λ (x : code.Outcome). ends_split q (outcome_of x)) (sym e)
+      ap (λ (w : Verdict). ends_split q (decided (verdict_of w))) (sym k) ∙ ap (λ (x : code.Outcome). ends_split q (outcome_of x)) (sym e)
 
 -- both halves
 

@@ -5,7 +5,7 @@ use denote.Triple.Both.{Both}
 use Rattle.formula.specs.Decide.{Outcome as Said, decided, no_place, spent, Decision as Found}
 use Rattle.sheet.specs.Format.{Bytes}
 use Rattle.sheet.specs.Decide.{DecideAnswer as Answer, decide_refused, decide_ended, decide_no_place, decide_spent, Deciding}
-use Rattle.solve.specs.Answers.{verdict-of}
+use Rattle.solve.specs.Answers.{verdict_of}
 use Rattle.decide.specs.declared.DecideAnswer.{DecideAnswer}
 use Rattle.decide.specs.declared.DecideAnswer.TheVariants.{Refused, Ended}
 use Rattle.decide.specs.declared.DecideAnswer.TheVariants as answered
@@ -16,7 +16,7 @@ use Rattle.decide.specs.declared.search.Decision.{Decision}
 -- "ended with a verdict and the runs; no place (runs so far); budget spent"
 abbrev pub answer_of : DecideAnswer → Answer
 answer_of (Refused number place) = decide_refused number place
-answer_of (Ended v runs) = decide_ended (verdict-of v) runs
+answer_of (Ended v runs) = decide_ended (verdict_of v) runs
 answer_of (answered.NoPlace runs) = decide_no_place runs
 answer_of (answered.Spent runs) = decide_spent runs
 
@@ -33,7 +33,7 @@ decide_left r first second stack = deciding_of r first.exit.now second.exit.now 
 
 -- what a search found
 abbrev pub outcome_of : Outcome → Said
-outcome_of (Decided v) = decided (verdict-of v)
+outcome_of (Decided v) = decided (verdict_of v)
 outcome_of NoPlace = no_place
 outcome_of Spent = spent
 

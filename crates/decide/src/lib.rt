@@ -7,7 +7,7 @@ ghost use Rattle.sheet.specs.Truthful.{truth_of, TruthfulDecide};
 ghost use Rattle.rows.specs.Formats.{format_of};
 ghost use Rattle.rows.specs.Layouts.{format_in};
 ghost use Rattle.checking.specs.Sheets.{Sheet};
-ghost use Rattle.decide.specs.Answers.{outcome_of, answer_of, decide-left};
+ghost use Rattle.decide.specs.Answers.{outcome_of, answer_of, decide_left};
 
 use crate::search::{Decision, Outcome, seek};
 use checking::Checked;
@@ -53,7 +53,7 @@ fn decide_checked(
     stack: &mut [u8],
 ) -> DecideAnswer
     requires { Sheet s.format sheet.now s }
-    ensures { decide-left result first second stack ≡ decide_call (format_in s) sheet.now budget first.old second.old stack.old }
+    ensures { decide_left result first second stack ≡ decide_call (format_in s) sheet.now budget first.old second.old stack.old }
 {
     if shorter(first.len(), second.len()) < sheet.len() {
         return DecideAnswer::Refused(NO_ROOM, 0);
@@ -76,8 +76,8 @@ pub fn decide(
     second: &mut [u8],
     stack: &mut [u8],
 ) -> DecideAnswer
-    ensures stack_value { decide-left result first second stack ≡ decide_call (format_of f) sheet.now budget first.old second.old stack.old }
-    ensures truthful_decide { TruthfulDecide (truth_of (format_of f) sheet.now) (decide-left result first second stack) }
+    ensures stack_value { decide_left result first second stack ≡ decide_call (format_of f) sheet.now budget first.old second.old stack.old }
+    ensures truthful_decide { TruthfulDecide (truth_of (format_of f) sheet.now) (decide_left result first second stack) }
 {
     let c = checking::check(sheet, f);
     match c {

@@ -7,7 +7,7 @@ ghost use Rattle.formula.specs.Force.{owner};
 ghost use Rattle.sheet.specs.Trace.{room};
 ghost use Rattle.rows.specs.Formulas.{prefix_in, Readable};
 ghost use Rattle.solve.specs.Inner.Running.{RawReady};
-ghost use Rattle.decide.specs.Answers.{outcome_of, decision-of};
+ghost use Rattle.decide.specs.Answers.{outcome_of, decision_of};
 ghost use Rattle.decide.specs.Inner.Searching.{Branches, found, branched, one_more, both};
 
 use crate::running::{Ran, run_from};
@@ -34,7 +34,7 @@ pub struct Decision {
 
 // A decision after so many runs.
 fn after_runs(outcome: Outcome, runs: usize) -> Decision
-    ensures { decision-of result ≡ record { outcome = outcome_of outcome; runs = runs } }
+    ensures { decision_of result ≡ record { outcome = outcome_of outcome; runs = runs } }
 {
     Decision {
         outcome: outcome,
@@ -45,7 +45,7 @@ fn after_runs(outcome: Outcome, runs: usize) -> Decision
 // The run before a split is counted too.
 fn one_more(d: Decision) -> Decision
     requires { d.runs + 1 < 2 ^ 64 }
-    ensures { decision-of result ≡ one_more (decision-of d) }
+    ensures { decision_of result ≡ one_more (decision_of d) }
 {
     let o = d.outcome;
     after_runs(o, d.runs + 1)
@@ -54,7 +54,7 @@ fn one_more(d: Decision) -> Decision
 // The second half's outcome, and the runs of both.
 fn both(zero: Decision, one: Decision) -> Decision
     requires { zero.runs + one.runs < 2 ^ 64 }
-    ensures { decision-of result ≡ both (decision-of zero) (decision-of one) }
+    ensures { decision_of result ≡ both (decision_of zero) (decision_of one) }
 {
     let o = one.outcome;
     after_runs(o, zero.runs + one.runs)
@@ -87,7 +87,7 @@ pub fn seek(
     budget: usize,
 ) -> Decision
     requires { RawReady s first.old second.old }
-    ensures { decision-of result ≡ found s first.old second.old (length stack.old) budget }
+    ensures { decision_of result ≡ found s first.old second.old (length stack.old) budget }
 {
     if budget == 0 {
         return after_runs(Outcome::Spent, 0);
@@ -115,7 +115,7 @@ fn branch(
     budget: usize,
 ) -> Decision
     requires { Branches (room first.old second.old) t stack.old }
-    ensures { decision-of result ≡ branched (room first.old second.old) t stack.old budget }
+    ensures { decision_of result ≡ branched (room first.old second.old) t stack.old budget }
 {
     let place = shorter(first.len(), second.len());
     let u = write_half(stack, t, false, first);

@@ -4,7 +4,7 @@ ghost use Rattle.sheet.specs.Operations.{quote_call};
 ghost use Rattle.rows.specs.Formats.{format_of};
 ghost use Rattle.rows.specs.Layouts.{format_in};
 ghost use Rattle.elimination.specs.Admission.{Admitted};
-ghost use Rattle.expand.specs.Answers.{quoted-answer};
+ghost use Rattle.expand.specs.Answers.{quoted_answer};
 
 use crate::price::{Price, find_price};
 use elimination::admission::{Admission, Binding, admit};
@@ -21,7 +21,7 @@ pub enum Quoted {
 // Quotes a variable that tests 1 to 10 admit: 11 not in the innermost block.
 fn quote_admitted(sheet: &[u8], s: Layout, ends: &[u16], z: Binding) -> Quoted
     requires { Admitted sheet.now z.variable s z.row ends.now }
-    ensures { quoted-answer result ≡ quote_call (format_in s) sheet.now z.variable }
+    ensures { quoted_answer result ≡ quote_call (format_in s) sheet.now z.variable }
 {
     let mut ranges = [0u16; 2 * NUMBERS];
     let mut next = [0u16; ROWS];
@@ -34,7 +34,7 @@ fn quote_admitted(sheet: &[u8], s: Layout, ends: &[u16], z: Binding) -> Quoted
 
 // Quotes the expansion of `x`: the raw row count, or the refusal that Expand would give short of 13.
 pub fn quote(sheet: &[u8], f: Format, x: usize) -> Quoted
-    ensures { quoted-answer result ≡ quote_call (format_of f) sheet.now x }
+    ensures { quoted_answer result ≡ quote_call (format_of f) sheet.now x }
 {
     let mut ends = [0u16; ROWS];
     let a = admit(sheet, f, x, &mut ends);

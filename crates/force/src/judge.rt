@@ -3,7 +3,7 @@ ghost use Rattle.std.specs.Prelude.{◌≡◌};
 ghost use Rattle.formula.specs.Solve.{End, State};
 ghost use Rattle.sheet.specs.Operations.{solved};
 ghost use Rattle.sheet.specs.Trace.{room};
-ghost use Rattle.solve.specs.Answers.{solved-answer};
+ghost use Rattle.solve.specs.Answers.{solved_answer};
 ghost use Rattle.force.specs.Inner.Judging.{Judgeable, end_of, end_in};
 
 use crate::moves::{fill_moves, write_behind};
@@ -19,7 +19,7 @@ pub enum Judged {
 
 // The end of a run; a run is never refused.
 fn ending(r: Solved) -> Judged
-    ensures { (e : End) (s : State) → solved-answer r ≡ solved e s → end_of result ≡ e }
+    ensures { (e : End) (s : State) → solved_answer r ≡ solved e s → end_of result ≡ e }
 {
     match r {
         Solved::Refused(x, _) | Solved::Stopped(x, _, _) => Judged::Stopped(x),

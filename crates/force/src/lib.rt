@@ -12,8 +12,8 @@ ghost use Rattle.rows.specs.Layouts.{format_in};
 ghost use Rattle.rows.specs.Formulas.{Readable};
 ghost use Rattle.checking.specs.Sheets.{Sheet};
 ghost use Rattle.prefixes.specs.Places.{binding_in};
-ghost use Rattle.solve.specs.Answers.{verdict-of};
-ghost use Rattle.force.specs.Answers.{turn_of, outcome_of, forcing-of};
+ghost use Rattle.solve.specs.Answers.{verdict_of};
+ghost use Rattle.force.specs.Answers.{turn_of, outcome_of, forcing_of};
 ghost use Rattle.force.specs.Inner.Judging.{Judgeable, outcome_in};
 
 use crate::judge::{Judged, judge};
@@ -79,7 +79,7 @@ fn turn_at(b: &[u8], s: Layout, i: usize) -> Turn
 
 // Whether a verdict is the one wanted: true for exists, false for all.
 fn is_wanted(existential: bool, verdict: Verdict) -> bool
-    ensures { result ≡ beq existential (verdict-of verdict) }
+    ensures { result ≡ beq existential (verdict_of verdict) }
 {
     match verdict {
         Verdict::True => existential,
@@ -134,7 +134,7 @@ fn force_checked(
     second: &mut [u8],
 ) -> Forced
     requires { Sheet s.format sheet.now s }
-    ensures { forcing-of result first.new second.new ≡ force_call (format_in s) sheet.now values.now first.old second.old }
+    ensures { forcing_of result first.new second.new ≡ force_call (format_in s) sheet.now values.now first.old second.old }
 {
     if !are_values(values) {
         return Forced::Refused(BAD_VALUE, 0);
@@ -155,8 +155,8 @@ fn force_checked(
 // Answers for a sheet, with values for its first variables (a byte each, 0 or 1), whose turn is next and with which values its owner forces
 // the outcome wanted. Both work buffers then hold zeros; refused, they are left as they were.
 pub fn force(sheet: &[u8], f: Format, values: &[u8], first: &mut [u8], second: &mut [u8]) -> Forced
-    ensures second_after { forcing-of result first.new second.new ≡ force_call (format_of f) sheet.now values.now first.old second.old }
-    ensures truthful_force { TruthfulForce (format_of f) sheet.now values.now (forcing-of result first.new second.new) }
+    ensures second_after { forcing_of result first.new second.new ≡ force_call (format_of f) sheet.now values.now first.old second.old }
+    ensures truthful_force { TruthfulForce (format_of f) sheet.now values.now (forcing_of result first.new second.new) }
 {
     let c = checking::check(sheet, f);
     match c {

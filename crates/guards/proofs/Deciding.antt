@@ -28,7 +28,7 @@ use Rattle.checking.specs.Sheets.{Sheet}
 use Rattle.checking.proofs.CheckedSheets.{sheet_right, sheet-formula_in}
 use Rattle.subtrees.specs.Subtrees.{top}
 use Rattle.tidying.proofs.Raw.{length-copied, copied_formula}
-use Rattle.solve.specs.Answers.{solved-answer}
+use Rattle.solve.specs.Answers.{solved_answer}
 use Rattle.solve.specs.Inner.Running.{answered, solution, raw_call}
 use Rattle.solve.specs.declared.Solved.{Solved}
 use Rattle.guards.specs.declared.sift.Sieve.{Sieve}
@@ -149,7 +149,7 @@ module _ {s : Layout} {b : Bytes} (h : Sheet s.format b s) (first second : Bytes
       ap₂ (λ (n : ℕ) (f : Formula). solve (fits (format_in s) (min n (length second))) f) (length-copied h first l is)
       (copied_formula h first l is ∙ sym (sheet-formula_in h))
 
-  pub copied-said : (a : Solved) {first' second' : Bytes} → record { answer = solved-answer a; first = first'; second = second' } ≡ raw_call s copied second
+  pub copied-said : (a : Solved) {first' second' : Bytes} → record { answer = solved_answer a; first = first'; second = second' } ≡ raw_call s copied second
       → Said s b (room first second) a
   unfolding raw_call solving
   copied-said a e = ap (λ (x : Solving). x.answer) e ∙ ap answered copied-run

@@ -9,14 +9,14 @@ use Rattle.sheet.proofs.Guards.{guards-initial}
 use Rattle.rows.specs.Formats.{format_of}
 use Rattle.rows.specs.declared.Format.{Format}
 use Rattle.guards.specs.declared.Guarded.{Guarded}
-use Rattle.guards.specs.Answers.{guarded-answer, leaves}
+use Rattle.guards.specs.Answers.{guarded_answer, leaves}
 
 -- an answer r of a call, and what it leaves, as its contract has it
 module _ (f : Format) (sheet out first second out' first' second' : Bytes) (r : Guarded)
     (contract : leaves r out' first' second' ≡ guards_call (format_of f) sheet out first second) where
-  answers : guarded-answer r ≡ (guards_call (format_of f) sheet out first second).answer
+  answers : guarded_answer r ≡ (guards_call (format_of f) sheet out first second).answer
   answers = ap (λ (x : Guarding). x.answer) contract
 
-  pub starts_as_solve : Starts (guarded-answer r) (solve_call (format_of f) sheet first second).answer
+  pub starts_as_solve : Starts (guarded_answer r) (solve_call (format_of f) sheet first second).answer
   starts_as_solve =
       subst (λ (a : Guards). Starts a (solve_call (format_of f) sheet first second).answer) (sym answers) (guards-initial (format_of f) sheet out first second)

@@ -20,7 +20,7 @@ use Rattle.rows.specs.Formulas.{prefix_in, formula_in}
 use Rattle.rows.specs.declared.Layout.{Layout}
 use Rattle.rows.proofs.Formulas.{length_prefix, formula_written}
 use Rattle.tidying.proofs.Raw.{raw_rows}
-use Rattle.solve.specs.Answers.{solved-answer}
+use Rattle.solve.specs.Answers.{solved_answer}
 use Rattle.solve.specs.Inner.Running.{RawReady, answered, solution, raw_call}
 use Rattle.solve.specs.declared.Verdict as verdict
 use Rattle.solve.specs.declared.Solved.{Solved}
@@ -32,7 +32,7 @@ use Rattle.guards.specs.Inner.Sieves.{word_for, Says}
 use Rattle.guards.proofs.Writing.{part_size}
 
 -- an answer of a run, in a word
-pub word_says : (a : Solved) (e : End) (s : State) → solved-answer a ≡ solved e s → Says (word_for a) e
+pub word_says : (a : Solved) (e : End) (s : State) → solved_answer a ≡ solved e s → Says (word_for a) e
 unfolding solved
 word_says (answers.TheVariants.Refused n i) (ended v) s h = let z : ◌≡◌ {A = ℕ} 0 1 = cc in absurd (omega arith)
 word_says (answers.TheVariants.Refused n i) (stopped x) s h = let z : ◌≡◌ {A = ℕ} 0 1 = cc in absurd (omega arith)
@@ -80,7 +80,7 @@ module _ {s : Layout} {b : Bytes} {ends ks : List ℕ} {p : Selection} {most : �
       ap₂ (λ (m : ℕ) (f : Formula). solve (fits F m) f) same read
 
   pub part_said : (a : Solved) {w : Word} {first' second' : Bytes} → w ≡ word_for a
-      → record { answer = solved-answer a; first = first'; second = second' } ≡ raw_call t new second
+      → record { answer = solved_answer a; first = first'; second = second' } ≡ raw_call t new second
       → Says w (says (fits F most) (prefix_in s b) (guards_in s b ends ks p.rest))
   unfolding says raw_call solving
   part_said a e k =

@@ -8,7 +8,7 @@ ghost use Rattle.sheet.specs.Truthful.{TruthfulGuards};
 ghost use Rattle.rows.specs.Formats.{format_of};
 ghost use Rattle.rows.specs.Layouts.{format_in, size};
 ghost use Rattle.checking.specs.Sheets.{Sheet};
-ghost use Rattle.guards.specs.Answers.{guarded-answer, leaves};
+ghost use Rattle.guards.specs.Answers.{guarded_answer, leaves};
 ghost use Rattle.guards.specs.Inner.Sieves.{Siftable, Said, kept_call, found_call};
 
 use crate::selection::{Selection, write_selection};
@@ -39,7 +39,7 @@ pub enum Guarded {
 // After an initial run that said false: sifts the children, and writes the sheet of those kept.
 fn keep(sheet: &[u8], s: Layout, out: &mut [u8], first: &mut [u8], second: &mut [u8]) -> Guarded
     requires { Siftable s sheet.now (room first.old second.old) × (size s ≤ length out.old) }
-    ensures { record { answer = guarded-answer result; output = out.new } ≡ kept_call s sheet.now out.old (room first.old second.old) }
+    ensures { record { answer = guarded_answer result; output = out.new } ≡ kept_call s sheet.now out.old (room first.old second.old) }
 {
     let mut ends = [0u16; ROWS];
     let mut kept = [0u16; ROWS];
@@ -66,7 +66,7 @@ fn after_run(
     second: &mut [u8],
 ) -> Guarded
     requires { Siftable s sheet.now (room first.old second.old) × (size s ≤ length out.old) × Said s sheet.now (room first.old second.old) answer }
-    ensures { record { answer = guarded-answer result; output = out.new } ≡ found_call s sheet.now out.old (room first.old second.old) }
+    ensures { record { answer = guarded_answer result; output = out.new } ≡ found_call s sheet.now out.old (room first.old second.old) }
 {
     match answer {
         Solved::Refused(number, place) => Guarded::Refused(number, place),
@@ -87,7 +87,7 @@ fn after_run(
 // Runs Solve on the whole sheet, and sifts its children if it says false.
 fn find(sheet: &[u8], s: Layout, out: &mut [u8], first: &mut [u8], second: &mut [u8]) -> Guarded
     requires { Siftable s sheet.now (room first.old second.old) × (size s ≤ length out.old) }
-    ensures { record { answer = guarded-answer result; output = out.new } ≡ found_call s sheet.now out.old (room first.old second.old) }
+    ensures { record { answer = guarded_answer result; output = out.new } ≡ found_call s sheet.now out.old (room first.old second.old) }
 {
     copy_front(sheet, first);
     let answer = run_raw(first, second, s);

@@ -10,7 +10,7 @@ ghost use Rattle.rows.specs.Layouts.{format_in};
 ghost use Rattle.rows.specs.Formulas.{Readable};
 ghost use Rattle.prefixes.specs.Places.{binding_in};
 ghost use Rattle.checking.specs.Sheets.{Sheet};
-ghost use Rattle.join.specs.Answers.{known_in, join-answer};
+ghost use Rattle.join.specs.Answers.{known_in, join_answer};
 ghost use Rattle.join.specs.Inner.{Joinable, joined_from};
 
 use checking::Checked;
@@ -125,7 +125,7 @@ fn known_from(a: u8) -> Known
 // Joins for a sheet that Check accepts, of this layout: 22 k above V, 28 not 2 to the k answers, 29 an answer isn't 0, 1 or 2.
 fn join_checked(b: &[u8], s: Layout, k: usize, answers: &[u8]) -> JoinAnswer
     requires { Sheet s.format b.now s }
-    ensures { join-answer result ≡ join_call (format_in s) b.now k answers.now }
+    ensures { join_answer result ≡ join_call (format_in s) b.now k answers.now }
 {
     if s.variables < k {
         return JoinAnswer::Refused(TOO_MANY_VALUES, 0);
@@ -142,8 +142,8 @@ fn join_checked(b: &[u8], s: Layout, k: usize, answers: &[u8]) -> JoinAnswer
 // Answers for a sheet with the verdict of 2 to the k answers (a byte each: 0 false, 1 true, 2 unknown), in the order of the values of its
 // first k variables, those of the first one first.
 pub fn join(sheet: &[u8], f: Format, k: usize, answers: &[u8]) -> JoinAnswer
-    ensures result_value { join-answer result ≡ join_call (format_of f) sheet.now k answers.now }
-    ensures truthful_join { TruthfulJoin (format_of f) sheet.now k answers.now (join-answer result) }
+    ensures result_value { join_answer result ≡ join_call (format_of f) sheet.now k answers.now }
+    ensures truthful_join { TruthfulJoin (format_of f) sheet.now k answers.now (join_answer result) }
 {
     let c = checking::check(sheet, f);
     match c {

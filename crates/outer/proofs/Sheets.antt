@@ -45,7 +45,7 @@ use Rattle.elimination.proofs.Surveying as surveying
 use Rattle.renaming.specs.Prefixes.{rows_from}
 use Rattle.renaming.proofs.Depending.{numbers_left}
 use Rattle.renaming.proofs.Tables.{Numbers, rows-copied, second_is, two_tables, chosen_is, copying_is}
-use Rattle.outer.specs.Answers.{OuterWritten, outer-written}
+use Rattle.outer.specs.Answers.{OuterWritten, outer_written}
 use Rattle.outer.specs.Inner.Writing.{copied_rows, Writes, written_rows}
 use Rattle.outer.specs.Inner.OuterPlan.{plan_tests, copied_formula, OuterPlanned, Fitting}
 use Rattle.outer.specs.declared.plan.Copying.{Copying}
@@ -59,14 +59,14 @@ written : {w : OuterWritten} {a : Answer Copied} {out : Bytes} → a ≡ w.answe
 written e o = ap₂ (λ (a : Answer Copied) (out : Bytes). record { answer = a; output = out }) e o
 
 refused_call : {n i : ℕ} (F : Format) (b : Bytes) (x : ℕ) (out : Bytes) → refused n i ≡ answer (outer_tests F b x (length out)) x
-    → record { answer = refused n i; output = out } ≡ outer-written F b x out
+    → record { answer = refused n i; output = out } ≡ outer_written F b x out
 unfolding outer_answer outer_call
 refused_call F b x out h =
     let tests = outer_tests F b x (length out) in
     written (refused_alike tests x _ h) (write_refused tests x _ out h).1
 
 pub refused_plan : {n i : ℕ} (F : Format) (b : Bytes) (x : ℕ) (out : Bytes) → refused n i ≡ answer (plan_tests F b x) x
-    → record { answer = refused n i; output = out } ≡ outer-written F b x out
+    → record { answer = refused n i; output = out } ≡ outer_written F b x out
 refused_plan F b x out h =
     let room = copied_room_test F b x (length out) ∷ [] in
     refused_call F b x out
@@ -218,7 +218,7 @@ module _ {b : Bytes} {tables table : List ℕ} {w : Copying} (d : OuterPlanned b
 
   module _ (out : Bytes) {c : Bool} (is : c ≡ fits F (length out) e.layout.variables e.layout.nodes) where
     -- 13 the raw sheet doesn't fit
-    pub no_room : c ≡ false → record { answer = refused 13 0; output = out } ≡ outer-written F b x out
+    pub no_room : c ≡ false → record { answer = refused 13 0; output = out } ≡ outer_written F b x out
     unfolding answer
     no_room r =
         refused_call F b x out
@@ -248,7 +248,7 @@ module _ {b : Bytes} {tables table : List ℕ} {w : Copying} (d : OuterPlanned b
     pub copied-call : c ≡ true → {len : ℕ} {new : Bytes} → len ≡ length (sheet F (copied_formula b w))
         → new ≡ padded (length out) (sheet F (copied_formula b w))
         → record { answer = accepted (record { new_length = len; copied = w.copied; lowest = w.lowest }); output = new } ≡
-        outer-written F b x out
+        outer_written F b x out
     unfolding outer_answer outer_call
     copied-call r {len} l h =
         let tests = outer_tests F b x (length out) in

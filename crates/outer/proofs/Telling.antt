@@ -15,7 +15,7 @@ use Rattle.sheet.proofs.Truthful.{outer_truthful}
 use Rattle.rows.specs.Formats.{format_of}
 use Rattle.rows.specs.declared.Format.{Format}
 use Rattle.rows.proofs.Limits.{sound}
-use Rattle.outer.specs.Answers.{OuterWritten, lengths, length-alone, outer-written}
+use Rattle.outer.specs.Answers.{OuterWritten, lengths, length_alone, outer_written}
 
 lengths_answer : (ts : List Test) (c : Copied) → lengths (answer ts c) ≡ answer ts c.new_length
 unfolding answer
@@ -27,12 +27,12 @@ lengths_answer (t ∷ ts) c = by t.fails (lengths_answer ts c)
     by true e = refl
     by false e = e
 
-pub alone_is : (F : sheet.Format) (b : Bytes) (x : ℕ) (out : Bytes) → length-alone (outer-written F b x out) ≡ outer_call F b x out
+pub alone_is : (F : sheet.Format) (b : Bytes) (x : ℕ) (out : Bytes) → length_alone (outer_written F b x out) ≡ outer_call F b x out
 unfolding outer_answer outer_call write
 alone_is F b x out =
     ap (λ (a : Answer ℕ). record { answer = a; output = (outer_call F b x out).output }) (lengths_answer (outer_tests F b x (length out)) _)
 
-pub outer_told : (f : Format) (b : Bytes) (x : ℕ) (out : Bytes) {w : OuterWritten} → w ≡ outer-written (format_of f) b x out
-    → (w ≡ outer-written (format_of f) b x out) × TruthfulSheet (format_of f) (truth_of (format_of f) b) (length-alone w)
+pub outer_told : (f : Format) (b : Bytes) (x : ℕ) (out : Bytes) {w : OuterWritten} → w ≡ outer_written (format_of f) b x out
+    → (w ≡ outer_written (format_of f) b x out) × TruthfulSheet (format_of f) (truth_of (format_of f) b) (length_alone w)
 outer_told f b x out e =
-    (e, outer_truthful (format_of f) (sound f) b x out (ap length-alone e ∙ alone_is (format_of f) b x out))
+    (e, outer_truthful (format_of f) (sound f) b x out (ap length_alone e ∙ alone_is (format_of f) b x out))

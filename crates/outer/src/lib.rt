@@ -7,7 +7,7 @@ ghost use Rattle.sheet.specs.Operations.{padded};
 ghost use Rattle.sheet.specs.Truthful.{truth_of, TruthfulSheet};
 ghost use Rattle.rows.specs.Formats.{format_of};
 ghost use Rattle.rows.specs.Layouts.{format_in};
-ghost use Rattle.outer.specs.Answers.{outcome-answer, length-alone, outer-written};
+ghost use Rattle.outer.specs.Answers.{outcome_answer, length_alone, outer_written};
 ghost use Rattle.outer.specs.Inner.OuterPlan.{OuterPlanned, Fitting, copied_formula};
 
 use crate::plan::{Copying, OuterPlan, plan_outer};
@@ -48,7 +48,7 @@ fn outer_into(b: &[u8], tables: &[u16], cuts: &[u16], w: Copying, out: &mut [u8]
 // Carries out a plan: 13 the raw sheet doesn't fit; else it is written to `out` and tidied there.
 fn outer_planned(sheet: &[u8], tables: &[u16], cuts: &[u16], w: Copying, out: &mut [u8]) -> Stepped
     requires { OuterPlanned sheet.now tables.now cuts.now w }
-    ensures { record { answer = outcome-answer result; output = out.new } ≡ outer-written (format_in w.from) sheet.now w.variable out.old }
+    ensures { record { answer = outcome_answer result; output = out.new } ≡ outer_written (format_in w.from) sheet.now w.variable out.old }
 {
     let s = w.from;
     let f = s.format;
@@ -64,8 +64,8 @@ fn outer_planned(sheet: &[u8], tables: &[u16], cuts: &[u16], w: Copying, out: &m
 // length, the number of variables copied and the lowest of them are returned; or the call is refused with number and place, and `out`
 // is left as it was. The raw sheet is written to `out` and tidied there.
 pub fn outer(sheet: &[u8], f: Format, x: usize, out: &mut [u8]) -> Stepped
-    ensures out_after { record { answer = outcome-answer result; output = out.new } ≡ outer-written (format_of f) sheet.now x out.old }
-    ensures truthful_sheet { TruthfulSheet (format_of f) (truth_of (format_of f) sheet.now) (length-alone (record { answer = outcome-answer result; output = out.new })) }
+    ensures out_after { record { answer = outcome_answer result; output = out.new } ≡ outer_written (format_of f) sheet.now x out.old }
+    ensures truthful_sheet { TruthfulSheet (format_of f) (truth_of (format_of f) sheet.now) (length_alone (record { answer = outcome_answer result; output = out.new })) }
 {
     let mut tables = [0u16; 2 * NUMBERS];
     let mut cuts = [0u16; CUTS];

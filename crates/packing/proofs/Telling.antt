@@ -17,7 +17,7 @@ use Rattle.sheet.specs.Outer.{Copied}
 use Rattle.sheet.specs.Guards.{Guards, Guarding, guards_refused, guards_stopped, guards_true, guards_kept}
 use Rattle.sheet.specs.Force.{Panel, Forcing}
 use Rattle.sheet.specs.Truthful.{Holds, TruthfulSheet, TruthfulTrial, TruthfulSolve, TruthfulGuards, TruthfulForce}
-use Rattle.outer.specs.Answers.{OuterWritten, lengths, length-alone}
+use Rattle.outer.specs.Answers.{OuterWritten, lengths, length_alone}
 use Rattle.packing.specs.Packed.{packed, packed_trial, packed_written, packed_solved, packed_guards}
 use Rattle.packing.specs.Copies.{packed_copied}
 use Rattle.packing.specs.Panel.{packed_outcome, packed_forced}
@@ -92,7 +92,7 @@ pub told_solve : {F : Format} {t : Bool} {s : Solving} → ((n i : ℕ) → s.an
     → ToldSolve F t (packed_solved s.answer) s.first
 told_solve {s = s} known truthful = told_solved s.answer known truthful.on_ended truthful.on_stopped
 
-pub told_copied : {F : Format} {t : Bool} (w : OuterWritten) → FitsCopied w.answer → TruthfulSheet F t (length-alone w)
+pub told_copied : {F : Format} {t : Bool} (w : OuterWritten) → FitsCopied w.answer → TruthfulSheet F t (length_alone w)
     → ToldCopied F t (packed_copied w.answer) w.output
 told_copied w fits truthful =
     let n = packed_copied w.answer in

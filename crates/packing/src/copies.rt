@@ -1,6 +1,6 @@
 // The answer of the step one block out (N6).
 ghost use Rattle.std.specs.Prelude.{◌≡◌};
-ghost use Rattle.outer.specs.Answers.{outcome-answer};
+ghost use Rattle.outer.specs.Answers.{outcome_answer};
 ghost use Rattle.packing.specs.Copies.{packed_copied};
 
 use crate::pack;
@@ -8,7 +8,7 @@ use outer::Stepped;
 
 // Refusal number and place; or the new sheet's length, how many variables are copied and the lowest of their old numbers.
 pub fn pack_copied(answer: Stepped) -> u64
-    ensures { result ≡ packed_copied (outcome-answer answer) }
+    ensures { result ≡ packed_copied (outcome_answer answer) }
 {
     match answer {
         Stepped::Refused(number, place) => pack(number, 0, place, 0),

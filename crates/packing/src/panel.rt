@@ -1,7 +1,7 @@
 // Force's answer (N9).
 ghost use Rattle.std.specs.Prelude.{◌≡◌};
 ghost use Rattle.sheet.specs.Sheet.{quantifier_kind};
-ghost use Rattle.force.specs.Answers.{turn_of, outcome_of, forced-answer};
+ghost use Rattle.force.specs.Answers.{turn_of, outcome_of, forced_answer};
 ghost use Rattle.packing.specs.Panel.{packed_outcome, packed_forced};
 
 use crate::pack;
@@ -30,7 +30,7 @@ fn pack_outcome(turn: usize, outcome: force::Outcome) -> u64
 
 // What Force answers: refusal number and place; or a word for the outcome, the turn and the variable stopped at.
 pub fn pack_forced(answer: force::Forced) -> u64
-    ensures { result ≡ packed_forced (forced-answer answer) }
+    ensures { result ≡ packed_forced (forced_answer answer) }
 {
     match answer {
         force::Forced::Refused(number, place) => pack(number, 0, place, 0),

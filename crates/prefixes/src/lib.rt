@@ -1,5 +1,6 @@
 // The prefix of a sheet by the numbers of its rows: a variable's row, its quantifier, and the innermost block.
 #![tactic(auto)]
+
 ghost use Rattle.std.specs.Prelude.{◌≡◌, ◌^◌, ◌<◌};
 ghost use Rattle.formula.specs.Tree.{same_op, exists};
 ghost use Rattle.rows.specs.Formulas.{prefix_in, Readable};

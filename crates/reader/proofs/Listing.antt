@@ -16,7 +16,7 @@ use Rattle.sheet.specs.Texts.{header_fails}
 use Rattle.rows.specs.Formats.{format_of}
 use Rattle.rows.specs.declared.Format.{Format}
 use Rattle.rows.proofs.Limits.{limits}
-use Rattle.checking.specs.Answers.{written-answer}
+use Rattle.checking.specs.Answers.{written_answer}
 use Rattle.checking.specs.declared.Written.{Written}
 use Rattle.words.specs.Numbers.{Capped, largest}
 use Rattle.qdimacs.specs.declared.header.Header.{Header}
@@ -59,7 +59,7 @@ module _ (f : Format) (h : Header) (b out : Bytes) where
         rw (sym heads.well_formed_is ∙ formed, lt-ltb most (text_header t).variable_count many) refl)
 
     pub listed : {r : Written} {new : Bytes} → h.variables ≤ most → Answers (format_of f) b h out r new
-        → ListsRead (format_of f) h b out (record { answer = written-answer r; output = new })
+        → ListsRead (format_of f) h b out (record { answer = written_answer r; output = new })
     unfolding tokens_below
     listed {r} {new} fits answers =
         record {
@@ -77,6 +77,6 @@ module _ (f : Format) (h : Header) (b out : Bytes) where
 
 pub listed_from : (f : Format) (h : Header) (t : Bytes) (at : ℕ) (out : Bytes) → h.well_formed ≡ true → {r : Written} {new : Bytes}
     → h.variables ≤ (format_of f).most_variables → Answers (format_of f) (take (length t - at) (drop at t)) h out r new
-    → ListsRead (format_of f) h (drop at t) out (record { answer = written-answer r; output = new })
+    → ListsRead (format_of f) h (drop at t) out (record { answer = written_answer r; output = new })
 listed_from f h t at out formed {r} {new} fits answers =
     listed f h (drop at t) out formed fits (subst (λ (b : Bytes). Answers (format_of f) b h out r new) (unread_lent at t) answers)

@@ -1,6 +1,7 @@
 // Derivations on words: whether each derived step of a certificate follows from the two steps that it names, in a few walks over the codes of
 // the three constraints.
 #![tactic(auto)]
+
 ghost use Rattle.std.specs.Prelude.{◌≡◌, ◌+◌, ◌*◌, ◌≤◌, ◌<◌, length};
 ghost use Rattle.formula.specs.Tree.{Op, Prefix};
 ghost use Rattle.resolution.specs.Ranks.{Ranks};

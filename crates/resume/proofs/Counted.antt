@@ -16,7 +16,7 @@ use Rattle.rows.specs.declared.Layout.{Layout}
 use Rattle.rows.proofs.Formulas.{length_prefix}
 use Rattle.solve.specs.declared.Solved.{Solved}
 use Rattle.solve.specs.declared.Solved.TheVariants.{Refused, Stopped, Ended}
-use Rattle.solve.specs.Answers.{solved-answer}
+use Rattle.solve.specs.Answers.{solved_answer}
 use Rattle.resume.specs.Inner.Going.{Placed, wide_run, wide_call, Addable}
 
 -- two tests for the same thing
@@ -34,7 +34,7 @@ by_steps started settled expanded left h k =
     same_test (started - settled - expanded) left (settled + expanded + left) started (λ e. omega arith) (λ e. omega arith)
 
 -- an answer's counts are at most the variables, so that they may be added to counts that leave room for these
-few_counts : (r : Solved) (e : End) (s : State) (settled expanded : ℕ) → solved-answer r ≡ solved e s
+few_counts : (r : Solved) (e : End) (s : State) (settled expanded : ℕ) → solved_answer r ≡ solved e s
     → settled + s.settles < 2 ^ 64 → expanded + s.expands < 2 ^ 64 → Addable settled expanded r
 unfolding solved
 few_counts (Refused n i) e s settled expanded h k l = tt
@@ -50,7 +50,7 @@ few_counts (Ended w n m) (ended v) s settled expanded h k l =
     (omega arith, omega arith)
 
 pub addable : {s : Layout} {b : Bytes} (first second : Bytes) → Placed s b → (r : Solved) (started settled expanded : ℕ) {held cleared : Bytes}
-    → record { answer = solved-answer r; first = held; second = cleared } ≡ wide_call s b first second → settled + expanded + s.variables ≡ started → started < 2 ^ 64
+    → record { answer = solved_answer r; first = held; second = cleared } ≡ wide_call s b first second → settled + expanded + s.variables ≡ started → started < 2 ^ 64
     → Addable settled expanded r
 unfolding formula_in solving
 addable {s} {b} first second ok r started settled expanded h sum small =

@@ -6,7 +6,7 @@ ghost use Rattle.sheet.specs.Format.{wide};
 ghost use Rattle.sheet.specs.Resume.{add_to_answer};
 ghost use Rattle.sheet.specs.Truthful.{truth_of, TruthfulSolve};
 ghost use Rattle.rows.specs.Formats.{format_of};
-ghost use Rattle.solve.specs.Answers.{solved-answer};
+ghost use Rattle.solve.specs.Answers.{solved_answer};
 ghost use Rattle.resume.specs.Calls.{resume_with};
 ghost use Rattle.resume.specs.Inner.Going.{Widenable, wide_call, Addable, Placed, resumed};
 
@@ -42,7 +42,7 @@ fn adds_up(c: Counts, left: usize) -> bool
 // Solves the formula whose rows stand in `sheet` as a wide sheet, in the two work buffers.
 fn run_wide(sheet: &[u8], s: Layout, first: &mut [u8], second: &mut [u8]) -> Solved
     requires { Widenable s sheet.now first.old second.old }
-    ensures { record { answer = solved-answer result; first = first.new; second = second.new } ≡ wide_call s sheet.now first.old second.old }
+    ensures { record { answer = solved_answer result; first = first.new; second = second.new } ≡ wide_call s sheet.now first.old second.old }
 {
     let t = convert(sheet, s, Format::Wide, first);
     run_raw(first, second, t)
@@ -51,7 +51,7 @@ fn run_wide(sheet: &[u8], s: Layout, first: &mut [u8], second: &mut [u8]) -> Sol
 // An answer of Solve with the counts given added to its own.
 fn add_counts(answer: Solved, c: Counts) -> Solved
     requires { Addable c.settled c.expanded answer }
-    ensures { solved-answer result ≡ add_to_answer c.settled c.expanded (solved-answer answer) }
+    ensures { solved_answer result ≡ add_to_answer c.settled c.expanded (solved_answer answer) }
 {
     match answer {
         Solved::Refused(number, place) => Solved::Refused(number, place),
@@ -67,7 +67,7 @@ fn add_counts(answer: Solved, c: Counts) -> Solved
 // Goes on from a sheet that Check accepts, of this layout: 25 the counts don't add up, 13 a work buffer shorter than the widened sheet.
 fn resume_checked(sheet: &[u8], s: Layout, c: Counts, first: &mut [u8], second: &mut [u8]) -> Solved
     requires { Placed s sheet.now }
-    ensures { record { answer = solved-answer result; first = first.new; second = second.new } ≡ resumed s c sheet.now first.old second.old }
+    ensures { record { answer = solved_answer result; first = first.new; second = second.new } ≡ resumed s c sheet.now first.old second.old }
 {
     if !adds_up(c, s.variables) {
         return Solved::Refused(WRONG_COUNTS, 0);
@@ -84,8 +84,8 @@ fn resume_checked(sheet: &[u8], s: Layout, c: Counts, first: &mut [u8], second: 
 // far. The first work buffer then holds the sheet reached, a wide one, and zeros, the second only zeros; refused, both are left as they
 // were.
 pub fn resume(sheet: &[u8], f: Format, c: Counts, first: &mut [u8], second: &mut [u8]) -> Solved
-    ensures second_after { record { answer = solved-answer result; first = first.new; second = second.new } ≡ resume_with c sheet.now f first.old second.old }
-    ensures truthful_solve { TruthfulSolve wide (truth_of (format_of f) sheet.now) (record { answer = solved-answer result; first = first.new; second = second.new }) }
+    ensures second_after { record { answer = solved_answer result; first = first.new; second = second.new } ≡ resume_with c sheet.now f first.old second.old }
+    ensures truthful_solve { TruthfulSolve wide (truth_of (format_of f) sheet.now) (record { answer = solved_answer result; first = first.new; second = second.new }) }
 {
     let checked = checking::check(sheet, f);
     match checked {

@@ -19,11 +19,11 @@ use Rattle.solve.specs.declared.Verdict.{Verdict}
 use Rattle.solve.specs.declared.Verdict.TheVariants.{True, False}
 use Rattle.solve.specs.declared.Solved.{Solved}
 use Rattle.solve.specs.declared.Solved.TheVariants.{Refused, Stopped, Ended}
-use Rattle.solve.specs.Answers.{verdict-of, solved-answer}
+use Rattle.solve.specs.Answers.{verdict_of, solved_answer}
 use Rattle.solve.specs.Stops.{Stop}
 
 -- an answer r of a call of Solve on a format's sheet, as its contract has it
-module _ (F : Format) (sheet first second : Bytes) (r : Solved) (contract : solved-answer r ≡ (solve_call F sheet first second).answer) where
+module _ (F : Format) (sheet first second : Bytes) (r : Solved) (contract : solved_answer r ≡ (solve_call F sheet first second).answer) where
   -- a stop: the last of the states, which the answer shows, and what the first buffer then holds
   module _ (held : Bytes) (holds : held ≡ (solve_call F sheet first second).first) where
     pub stop-shown : {x settled expanded : ℕ} → r ≡ Stopped x settled expanded → Stop F sheet first second held settled expanded
@@ -31,7 +31,7 @@ module _ (F : Format) (sheet first second : Bytes) (r : Solved) (contract : solv
     stop-shown {x} {settled} {expanded} e = by (solve_shows F sheet first second)
       where
         told : is_stopped x settled expanded ≡ (solve_call F sheet first second).answer
-        told = ap solved-answer (sym e) ∙ contract
+        told = ap solved_answer (sym e) ∙ contract
 
         by : Shows F sheet first second → Stop F sheet first second held settled expanded
         by (no_state n i a l) = let k = told ∙ a in let z : ◌≡◌ {A = ℕ} 0 1 = cc in absurd (omega arith)
@@ -42,36 +42,36 @@ module _ (F : Format) (sheet first second : Bytes) (r : Solved) (contract : solv
 
 -- an answer is known by its words
 
-verdict-known : (v w : Verdict) → verdict-of v ≡ verdict-of w → v ≡ w
+verdict-known : (v w : Verdict) → verdict_of v ≡ verdict_of w → v ≡ w
 verdict-known True True e = refl
 verdict-known True False e = absurd (true≢false e)
 verdict-known False True e = absurd (true≢false (sym e))
 verdict-known False False e = refl
 
-ended_known : (r : Solved) (v : Verdict) (settled expanded : ℕ) → solved-answer r ≡ is_ended (verdict-of v) settled expanded
+ended_known : (r : Solved) (v : Verdict) (settled expanded : ℕ) → solved_answer r ≡ is_ended (verdict_of v) settled expanded
     → r ≡ Ended v settled expanded
 ended_known (Refused n i) v settled expanded e = let z : ◌≡◌ {A = ℕ} 0 1 = cc in absurd (omega arith)
 ended_known (Stopped x n m) v settled expanded e = let z : ◌≡◌ {A = ℕ} 0 1 = cc in absurd (omega arith)
 ended_known (Ended w n m) v settled expanded e =
-    let same : verdict-of w ≡ verdict-of v = cc in
+    let same : verdict_of w ≡ verdict_of v = cc in
     let k = verdict-known w v same in
     cc
 
-refused_known : (r : Solved) (n i : ℕ) → solved-answer r ≡ is_refused n i → r ≡ Refused n i
+refused_known : (r : Solved) (n i : ℕ) → solved_answer r ≡ is_refused n i → r ≡ Refused n i
 refused_known (Refused m j) n i e = cc
 refused_known (Stopped x s t) n i e = let z : ◌≡◌ {A = ℕ} 0 1 = cc in absurd (omega arith)
 refused_known (Ended w s t) n i e = let z : ◌≡◌ {A = ℕ} 0 1 = cc in absurd (omega arith)
 
 -- answers r and r' of two calls of Solve on a format's sheet, as their contracts have them
 module _ (F : Format) (sheet first second first' second' : Bytes) (r r' : Solved)
-    (contract : solved-answer r ≡ (solve_call F sheet first second).answer)
-    (contract' : solved-answer r' ≡ (solve_call F sheet first' second').answer) where
+    (contract : solved_answer r ≡ (solve_call F sheet first second).answer)
+    (contract' : solved_answer r' ≡ (solve_call F sheet first' second').answer) where
   -- whichever buffers they have, two verdicts are the same one, with the same counts
   pub one_word : {v v' : Verdict} {settled settled' expanded expanded' : ℕ} → r ≡ Ended v settled expanded → r' ≡ Ended v' settled' expanded'
       → r ≡ r'
   one_word {v} {v'} {settled} {settled'} {expanded} {expanded'} e e' =
-      let same = both_ended F sheet first second first' second' (sym contract ∙ ap solved-answer e) (sym contract' ∙ ap solved-answer e') in
-      e ∙ sym (ended_known r' v settled expanded (ap solved-answer e' ∙ sym same))
+      let same = both_ended F sheet first second first' second' (sym contract ∙ ap solved_answer e) (sym contract' ∙ ap solved_answer e') in
+      e ∙ sym (ended_known r' v settled expanded (ap solved_answer e' ∙ sym same))
 
   module _ (longer : length first ≤ length first') (longer' : length second ≤ length second') where
     both : Longer F sheet first second first' second'
@@ -81,13 +81,13 @@ module _ (F : Format) (sheet first second first' second' : Bytes) (r r' : Solved
     pub verdict-stays : {v : Verdict} {settled expanded : ℕ} → r ≡ Ended v settled expanded → r' ≡ Ended v settled expanded
     verdict-stays {v} {settled} {expanded} e =
         ended_known r' v settled expanded
-        (contract' ∙ (both.on_ended (verdict-of v) settled expanded (sym contract ∙ ap solved-answer e)).same_answer)
+        (contract' ∙ (both.on_ended (verdict_of v) settled expanded (sym contract ∙ ap solved_answer e)).same_answer)
 
     pub sheet-stays : (held held' : Bytes) → held ≡ (solve_call F sheet first second).first
         → held' ≡ (solve_call F sheet first' second').first → {v : Verdict} {settled expanded : ℕ} → r ≡ Ended v settled expanded
         → (f : Formula) × (held ≡ padded (length first) (sheet-of F f)) × (held' ≡ padded (length first') (sheet-of F f))
     sheet-stays held held' holds holds' {v} {settled} {expanded} e =
-        let same = both.on_ended (verdict-of v) settled expanded (sym contract ∙ ap solved-answer e) in
+        let same = both.on_ended (verdict_of v) settled expanded (sym contract ∙ ap solved_answer e) in
         (same.reached, holds ∙ same.in_first, holds' ∙ same.in_first')
 
     -- the second call makes exactly the first one's steps first
@@ -96,7 +96,7 @@ module _ (F : Format) (sheet first second first' second' : Bytes) (r r' : Solved
 
     -- refusals 1 to 8 stay; a refusal was one before, so no answer turns into one
     pub refusal-stays : {n i : ℕ} → r ≡ Refused n i → (n ≡ 13 → ⊥) → r' ≡ Refused n i
-    refusal-stays {n} {i} e k = refused_known r' n i (contract' ∙ both.on_refused n i (sym contract ∙ ap solved-answer e) k)
+    refusal-stays {n} {i} e k = refused_known r' n i (contract' ∙ both.on_refused n i (sym contract ∙ ap solved_answer e) k)
 
     pub refusal-was : {n i : ℕ} → r' ≡ Refused n i → r ≡ Refused n i
-    refusal-was {n} {i} e = refused_known r n i (contract ∙ both.was_refused n i (sym contract' ∙ ap solved-answer e))
+    refusal-was {n} {i} e = refused_known r n i (contract ∙ both.was_refused n i (sym contract' ∙ ap solved_answer e))

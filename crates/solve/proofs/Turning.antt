@@ -15,7 +15,7 @@ use Rattle.solve.specs.declared.State.{State}
 use Rattle.solve.specs.declared.Verdict.{Verdict}
 use Rattle.solve.specs.declared.Solved.TheVariants.{Stopped, Ended}
 use Rattle.solve.specs.declared.step.Step.TheVariants as taken
-use Rattle.solve.specs.Answers.{verdict-of, solved-answer}
+use Rattle.solve.specs.Answers.{verdict_of, solved_answer}
 use Rattle.solve.specs.Inner.Running.{Held, reached, begun, fits_in, Stepped, run_from, answered, shown, Goes}
 
 pub run_halt : (fits : Fits) (n : ℕ) (s : Reached) (e : End) → step fits s ≡ halt e → run fits (suc n) s ≡ record { end = e; state = s }
@@ -63,14 +63,14 @@ module _ {room : ℕ} {s₀ s : State} {b₀ b : Bytes} (u : Turn room s₀ s b�
       ap (shown (format_in s₀.sheet) (length b₀)) (sym (halted e h))
 
   pub turn_ended : (v : Verdict) {c new other : Bytes} → Stepped room s b c new other (taken.Ended v)
-      → Goes room s₀ b₀ new (solved-answer (Ended v s.settled s.expanded))
+      → Goes room s₀ b₀ new (solved_answer (Ended v s.settled s.expanded))
   unfolding solved
   turn_ended v k =
-      let e = ended (verdict-of v) in
+      let e = ended (verdict_of v) in
       record { answers = ap answered (sym (halted e k.0)); shows = still_shown e k.0 k.1 }
 
   pub turn_stopped : (x : ℕ) {c new other : Bytes} → Stepped room s b c new other (taken.Stopped x)
-      → Goes room s₀ b₀ new (solved-answer (Stopped x s.settled s.expanded))
+      → Goes room s₀ b₀ new (solved_answer (Stopped x s.settled s.expanded))
   unfolding solved
   turn_stopped x k =
       record { answers = ap answered (sym (halted (stopped x) k.0)); shows = still_shown (stopped x) k.0 k.1 }

@@ -7,7 +7,7 @@ ghost use Rattle.sheet.specs.Truthful.{truth_of, TruthfulSolve};
 ghost use Rattle.rows.specs.Formats.{format_of};
 ghost use Rattle.rows.specs.Layouts.{format_in};
 ghost use Rattle.checking.specs.Sheets.{Sheet};
-ghost use Rattle.solve.specs.Answers.{solved-answer, leaves};
+ghost use Rattle.solve.specs.Answers.{solved_answer, leaves};
 ghost use Rattle.solve.specs.Inner.Running.{RunReady, RawReady, Goes, run_call, raw_call};
 
 use crate::step::{Step, take_step};
@@ -47,7 +47,7 @@ pub struct State {
 // Takes steps from a state whose tidy sheet is in the first buffer, for as long as raw sheets fit `room` bytes.
 fn go(first: &mut [u8], second: &mut [u8], room: usize, start: State) -> Solved
     requires { RunReady room start first.old second.old }
-    ensures { Goes room start first.old first.new (solved-answer result) }
+    ensures { Goes room start first.old first.new (solved_answer result) }
 {
     let mut s = start;
     let mut ends = [0u16; ROWS];

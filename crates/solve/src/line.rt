@@ -1,7 +1,7 @@
 // The line that the program writes for an answer of Solve.
 ghost use Rattle.std.specs.Prelude.{◌≡◌};
 ghost use Rattle.sheet.specs.Operations.{verdict_word, line_of};
-ghost use Rattle.solve.specs.Answers.{verdict-of, solved-answer};
+ghost use Rattle.solve.specs.Answers.{verdict_of, solved_answer};
 ghost use Rattle.solve.specs.Lines.{word_of, written_line};
 
 use crate::{Solved, Verdict};
@@ -24,7 +24,7 @@ pub struct Line {
 }
 
 fn word_for(verdict: Verdict) -> Word
-    ensures { word_of result ≡ verdict_word (verdict-of verdict) }
+    ensures { word_of result ≡ verdict_word (verdict_of verdict) }
 {
     match verdict {
         Verdict::True => Word::True,
@@ -34,7 +34,7 @@ fn word_for(verdict: Verdict) -> Word
 
 // The line for an answer; a refused one has 0 0 before its number.
 pub fn line_for(answer: Solved) -> Line
-    ensures { written_line result ≡ line_of (solved-answer answer) }
+    ensures { written_line result ≡ line_of (solved_answer answer) }
 {
     match answer {
         Solved::Refused(number, place) => Line {

@@ -2,7 +2,7 @@
 ghost use Rattle.std.specs.Prelude.{◌≡◌};
 ghost use Rattle.formula.specs.Tidy.{verdict};
 ghost use Rattle.rows.specs.Formulas.{Readable, matrix_in};
-ghost use Rattle.solve.specs.Answers.{decision-of};
+ghost use Rattle.solve.specs.Answers.{decision_of};
 
 use crate::Verdict;
 use rows::{AND, Layout, NEGATIVE};
@@ -17,7 +17,7 @@ pub enum Decision {
 // The verdict, true for AND of nothing and false for OR of nothing, or that there is none yet.
 pub fn decide(b: &[u8], s: Layout) -> Decision
     requires { Readable s b.now }
-    ensures { decision-of result ≡ verdict (matrix_in s b.now) }
+    ensures { decision_of result ≡ verdict (matrix_in s b.now) }
 {
     let kind = kind_at(b, s, 0);
     if kind <= NEGATIVE {

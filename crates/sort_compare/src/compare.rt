@@ -8,7 +8,7 @@ ghost use Rattle.rows.specs.Formats.{format_of};
 ghost use Rattle.rows.specs.Layouts.{rows_in};
 ghost use Rattle.rows.specs.Formulas.{prefix_in, matrix_in, formula_in, Readable};
 ghost use Rattle.tree_order.specs.Rows.{ordering};
-ghost use Rattle.sort_compare.specs.Answers.{compared-answer, compared-with};
+ghost use Rattle.sort_compare.specs.Answers.{compared_answer, compared_with};
 ghost use Rattle.sort_compare.specs.Inner.{checked_answer, refuses};
 
 use checking::{Checked, check};
@@ -111,7 +111,7 @@ fn compare_sheets(first: &[u8], s: Layout, second: &[u8], t: Layout) -> Order
 }
 
 fn answer_of(o: Order) -> Compared
-    ensures { compared-answer result ≡ is_ordered (ordering o) }
+    ensures { compared_answer result ≡ is_ordered (ordering o) }
 {
     match o {
         Order::Before => Compared::Before,
@@ -130,7 +130,7 @@ fn compare_checked(
     second: &[u8],
 ) -> Compared
     requires { Readable s a.now × Readable t b.now }
-    ensures { compared-answer result ≡ checked_answer s t a.now b.now first.now second.now }
+    ensures { compared_answer result ≡ checked_answer s t a.now b.now first.now second.now }
 {
     if first.len() < a.len() {
         return Compared::Refused(1, NO_ROOM, 0);
@@ -143,7 +143,7 @@ fn compare_checked(
 
 // Decides, and touches nothing: the tests of the first sheet, of the second, and then of the buffers.
 fn judge(a: &[u8], b: &[u8], f: Format, first: &[u8], second: &[u8]) -> Compared
-    ensures { compared-answer result ≡ compare_answer (format_of f) a.now b.now first.now second.now }
+    ensures { compared_answer result ≡ compare_answer (format_of f) a.now b.now first.now second.now }
 {
     let c = check(a, f);
     match c {
@@ -159,7 +159,7 @@ fn judge(a: &[u8], b: &[u8], f: Format, first: &[u8], second: &[u8]) -> Compared
 }
 
 fn is_refused(r: Compared) -> bool
-    ensures { result ≡ refuses (compared-answer r) }
+    ensures { result ≡ refuses (compared_answer r) }
 {
     match r {
         Compared::Refused(_, _, _) => true,
@@ -172,7 +172,7 @@ fn is_refused(r: Compared) -> bool
 // Returns whether sheet `a` is before sheet `b`, equal to it or after it, and clears both work buffers; or refuses a sheet or its buffer,
 // and alters nothing.
 pub fn compare(a: &[u8], b: &[u8], f: Format, first: &mut [u8], second: &mut [u8]) -> Compared
-    ensures { compared-with result first.new second.new ≡ compare_call (format_of f) a.now b.now first.old second.old }
+    ensures { compared_with result first.new second.new ≡ compare_call (format_of f) a.now b.now first.old second.old }
 {
     let r = judge(a, b, f, first, second);
     if is_refused(r) {

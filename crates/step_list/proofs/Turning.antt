@@ -14,7 +14,7 @@ use Rattle.sheet.specs.Steps.{Operation, Step as Record, single, call_of, calls,
 use Rattle.sheet.proofs.Steps.{fill_at, reached-next, same_answer, same_held, accepted_short}
 use Rattle.checking.specs.declared.Written.{Written}
 use Rattle.checking.specs.declared.Written.TheVariants.{Accepted, Refused}
-use Rattle.checking.specs.Answers.{written-answer}
+use Rattle.checking.specs.Answers.{written_answer}
 use Rattle.step_list.specs.declared.Step.{Step}
 use Rattle.step_list.specs.declared.Turn.{Turn}
 use Rattle.step_list.specs.Inner.Records.{operation_of, step_of}
@@ -54,9 +54,9 @@ module _ (F : Format) (s : Step) (first second : Bytes) (held n : ℕ) (n-is : n
   length_out : length out ≡ length (replicate {A = ℕ} n 0)
   length_out = length-take-le n second room_second ∙ sym (length-replicate n 0)
 
-  module _ (a : Written) {out' second' : Bytes} (does : ◌≡◌ {A = operations.Written} (record { answer = written-answer a; output = out' }) call)
+  module _ (a : Written) {out' second' : Bytes} (does : ◌≡◌ {A = operations.Written} (record { answer = written_answer a; output = out' }) call)
       (kept : length out' ≡ length out) (second_is : second' ≡ (out' ++ drop n second)) where
-    told : written-answer a ≡ call.answer
+    told : written_answer a ≡ call.answer
     told = ap (λ (w : operations.Written). w.answer) does
 
     wrote : out' ≡ call.output
@@ -74,7 +74,7 @@ module _ (F : Format) (s : Step) (first second : Bytes) (held n : ℕ) (n-is : n
     pub can-keep : Kept first second' a
     can-keep = by a told
       where
-        by : (c : Written) → written-answer c ≡ call.answer → Kept first second' c
+        by : (c : Written) → written_answer c ≡ call.answer → Kept first second' c
         by (Refused k p) e = tt
         by (Accepted m) e =
             let l = short m e in (
@@ -95,7 +95,7 @@ module _ (F : Format) (s : Step) (first second : Bytes) (held n : ℕ) (n-is : n
           by a told k ∙ ap (λ (h : Held). h.sheet) (same_held F o x out (replicate n 0) length_out (given b)) ∙
           ap (λ (m : ℕ). (after F (call_of m (step_of s)) (given b)).sheet) n-is
         where
-          by : (c : Written) → written-answer c ≡ call.answer → Keeps held first second' first' held' c
+          by : (c : Written) → written_answer c ≡ call.answer → Keeps held first second' first' held' c
               → take held' first' ≡ (after F (single o x out) (given b)).sheet
           by (Refused k p) e z =
               ap₂ (λ (i : ℕ) (l : Bytes). take i l) z.0 z.1 ∙
@@ -108,7 +108,7 @@ module _ (F : Format) (s : Step) (first second : Bytes) (held n : ℕ) (n-is : n
       held_short : held ≤ room first second → held' ≤ room first second
       held_short l = by a told k
         where
-          by : (c : Written) → written-answer c ≡ call.answer → Keeps held first second' first' held' c → held' ≤ room first second
+          by : (c : Written) → written_answer c ≡ call.answer → Keeps held first second' first' held' c → held' ≤ room first second
           by (Refused k p) e z = omega (arith, z.0)
           by (Accepted m) e z = omega (arith, z.0, short m e, n-is)
 

@@ -6,7 +6,7 @@ use denote.Triple.Both.{Both}
 use Rattle.sheet.specs.Check.{Answer, refused, accepted}
 use Rattle.sheet.specs.Format.{Bytes, Format}
 use Rattle.sheet.specs.Steps.{Operation, settling, expanding, Step, Listed, steps_call}
-use Rattle.checking.specs.Answers.{written-answer}
+use Rattle.checking.specs.Answers.{written_answer}
 use Rattle.checking.specs.declared.Written.{Written}
 
 -- 0 settles, any other number expands
@@ -91,7 +91,7 @@ numbers_call F sheet operations variables numbers values first second =
 abbrev pub numbers_left : Written → Lent → Lent → Lent → Lent → Tabled
 numbers_left r numbers values first second =
     record {
-      answer = written-answer r;
+      answer = written_answer r;
       numbers = numbers.exit.now;
       values = values.exit.now;
       first = first.exit.now;
@@ -102,7 +102,7 @@ numbers_left r numbers values first second =
 abbrev pub listed_left : Written → Lent → Lent → Lent → Lent → Lent → Lent → Listed
 listed_left r operations variables numbers values first second =
     record {
-      answer = written-answer r;
+      answer = written_answer r;
       steps = numbered operations.entry.now variables.entry.now numbers.exit.now values.exit.now;
       first = first.exit.now;
       second = second.exit.now;

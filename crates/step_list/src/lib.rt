@@ -5,7 +5,7 @@ ghost use Rattle.std.specs.Prelude.{◌≡◌, ◌≤◌, length};
 ghost use Rattle.sheet.specs.Calls.{perform};
 ghost use Rattle.sheet.specs.Steps.{single};
 ghost use Rattle.rows.specs.Formats.{format_of};
-ghost use Rattle.checking.specs.Answers.{written-answer, wrote};
+ghost use Rattle.checking.specs.Answers.{written_answer, wrote};
 ghost use Rattle.step_list.specs.Inner.Records.{operation_of};
 ghost use Rattle.step_list.specs.Inner.Turns.{room, Begins, Kept, Keeps, Took, Follows, Finishes};
 
@@ -124,7 +124,7 @@ fn one(s: Step, f: Format, held: usize, first: &mut [u8], second: &mut [u8]) -> 
 // Makes the answer. Accepted, it leaves the sheet held and zeros in the first buffer, and zeros in the second.
 fn finish(b: Begun, held: usize, first: &mut [u8], second: &mut [u8]) -> Written
     requires { held ≤ length first.old }
-    ensures { Finishes held first.old second.old first.new second.new (written-answer result) b.answer }
+    ensures { Finishes held first.old second.old first.new second.new (written_answer result) b.answer }
 {
     let answer = b.answer;
     match answer {

@@ -3,7 +3,7 @@
 ghost use Rattle.std.specs.Prelude.{◌≡◌, length};
 ghost use Rattle.sheet.specs.Truthful.{truth_of, TruthfulSteps};
 ghost use Rattle.rows.specs.Formats.{format_of};
-ghost use Rattle.checking.specs.Answers.{written-answer};
+ghost use Rattle.checking.specs.Answers.{written_answer};
 ghost use Rattle.step_list.specs.Inner.Records.{operation_of};
 ghost use Rattle.step_list.specs.Inner.Parts.{Within, Loaded, Lendable, Parted, Stored};
 ghost use Rattle.step_list.specs.Numbers.{numbered_operation, answer_number, answer_value, numbers_left, numbers_call, listed_left};
@@ -35,7 +35,7 @@ fn operation_for(number: u8) -> Operation
 
 // The refusal number, 0 if accepted.
 fn number_of(answer: Written) -> usize
-    ensures { result ≡ answer_number (written-answer answer) }
+    ensures { result ≡ answer_number (written_answer answer) }
 {
     match answer {
         Written::Refused(number, place) => number,
@@ -45,7 +45,7 @@ fn number_of(answer: Written) -> usize
 
 // The new length, or the refusal's place.
 fn value_of(answer: Written) -> usize
-    ensures { result ≡ answer_value (written-answer answer) }
+    ensures { result ≡ answer_value (written_answer answer) }
 {
     match answer {
         Written::Refused(number, place) => place,

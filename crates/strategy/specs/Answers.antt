@@ -3,7 +3,7 @@
 use Rattle.sheet.specs.Format.{Bytes}
 use Rattle.sheet.specs.Strategy as strategies
 use Rattle.sheet.specs.Strategy.{strategy_refused, strategy_stopped, strategy_written, strategy_too_long, Winning}
-use Rattle.solve.specs.Answers.{verdict-of}
+use Rattle.solve.specs.Answers.{verdict_of}
 use Rattle.strategy.specs.declared.StrategyAnswer.{StrategyAnswer}
 use Rattle.strategy.specs.declared.StrategyAnswer.TheVariants.{Refused, Stopped, Written, TooLong}
 
@@ -12,8 +12,8 @@ use Rattle.strategy.specs.declared.StrategyAnswer.TheVariants.{Refused, Stopped,
 abbrev pub strategy_told : StrategyAnswer → strategies.StrategyAnswer
 strategy_told (Refused number place) = strategy_refused number place
 strategy_told (Stopped x settled expanded) = strategy_stopped x settled expanded
-strategy_told (Written v settled expanded length) = strategy_written (verdict-of v) settled expanded length
-strategy_told (TooLong v settled expanded rows) = strategy_too_long (verdict-of v) settled expanded rows
+strategy_told (Written v settled expanded length) = strategy_written (verdict_of v) settled expanded length
+strategy_told (TooLong v settled expanded rows) = strategy_too_long (verdict_of v) settled expanded rows
 
 -- with what the two work buffers and the output then hold
 abbrev pub leaves : StrategyAnswer → Bytes → Bytes → Bytes → Winning

@@ -8,7 +8,7 @@ ghost use Rattle.sheet.specs.Truthful.{TruthfulStrategy};
 ghost use Rattle.rows.specs.Formats.{format_of};
 ghost use Rattle.rows.specs.Layouts.{format_in};
 ghost use Rattle.checking.specs.Sheets.{Sheet};
-ghost use Rattle.solve.specs.Answers.{verdict-of};
+ghost use Rattle.solve.specs.Answers.{verdict_of};
 ghost use Rattle.strategy.specs.Answers.{leaves};
 ghost use Rattle.strategy.specs.Inner.Ending.{left_in, StrategyReady, StrategyDrafted, StrategyEnded};
 
@@ -113,7 +113,7 @@ fn write_strategy(
 
 // Whether the side that wins is exists.
 fn exists_wins(verdict: Verdict) -> bool
-    ensures { result ≡ verdict-of verdict }
+    ensures { result ≡ verdict_of verdict }
 {
     match verdict {
         Verdict::True => true,

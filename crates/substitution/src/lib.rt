@@ -1,5 +1,6 @@
 // Copies rows from one sheet to another with a table that says what each variable's literals become. The output has the same format.
 #![tactic(auto)]
+
 use rows::Layout;
 
 pub mod change;

@@ -1,6 +1,7 @@
 // Rows while they are tidied in place ("Tidy sheets"): an operator's argument holds how many rows its subtree covers, and rows that
 // have gone are a dead segment.
 #![tactic(auto)]
+
 pub mod dead;
 pub mod rules;
 pub mod same;

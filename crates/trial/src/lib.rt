@@ -9,7 +9,7 @@ ghost use Rattle.sheet.specs.Truthful.{truth_of, TruthfulTrial};
 ghost use Rattle.rows.specs.Formats.{format_of};
 ghost use Rattle.rows.specs.Formulas.{node_rows_in, matrix_in, Readable};
 ghost use Rattle.rows.specs.Tables.{NUMBERS};
-ghost use Rattle.trial.specs.Answers.{tried-answer};
+ghost use Rattle.trial.specs.Answers.{tried_answer};
 ghost use Rattle.jumps.specs.Jumps.{Rooms, signed, row_value, next, Jumps};
 ghost use Rattle.trial.specs.Inner.Turns.{values, tried, turns, semantic_tree, Playable, TurnsReady, Turned};
 
@@ -193,8 +193,8 @@ fn semantic_tree(sheet: &[u8], s: Layout) -> TurnOutcome
 
 // Decides a sheet by trying values: the verdict and the leaves tried, or refused with number and place, 1 to 8, then 14.
 pub fn trial(sheet: &[u8], f: Format) -> Tried
-    ensures result_value { tried-answer result ≡ trial_call (format_of f) sheet.now }
-    ensures truthful_trial { TruthfulTrial (truth_of (format_of f) sheet.now) (tried-answer result) }
+    ensures result_value { tried_answer result ≡ trial_call (format_of f) sheet.now }
+    ensures truthful_trial { TruthfulTrial (truth_of (format_of f) sheet.now) (tried_answer result) }
 {
     let checked = checking::check(sheet, f);
     match checked {

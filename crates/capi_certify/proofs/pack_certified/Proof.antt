@@ -1,7 +1,7 @@
 -- `capi_certify::pack_certified` packs an answer of Certify.
 -- Assumes nothing.
 use mathlib.Core.Path.{sym, ◌∙◌, ap}
-use Rattle.certify.specs.Answers.{certified-answer}
+use Rattle.certify.specs.Answers.{certified_answer}
 use Rattle.certify.specs.declared.Certified.{Certified}
 use Rattle.capi_certify.specs.Packed.{packed_certified}
 use borrow.Author.Rules.{rules}
@@ -31,15 +31,15 @@ pack_requires_3 c κs = search rules
 
 returns : tie.Need-returns
 unfolding packed_certified
-returns c = c.pack.ensures ∙ ap (λ (a : Certified). packed_certified (certified-answer a)) (sym c.before.before.answer.given.1)
+returns c = c.pack.ensures ∙ ap (λ (a : Certified). packed_certified (certified_answer a)) (sym c.before.before.answer.given.1)
 
 returns_2 : tie.Need-returns-2
 unfolding packed_certified
-returns_2 c = c.pack2.ensures ∙ ap (λ (a : Certified). packed_certified (certified-answer a)) (sym c.before.before.answer2.given.1)
+returns_2 c = c.pack2.ensures ∙ ap (λ (a : Certified). packed_certified (certified_answer a)) (sym c.before.before.answer2.given.1)
 
 returns_3 : tie.Need-returns-3
 unfolding packed_certified
-returns_3 c = c.pack3.ensures ∙ ap (λ (a : Certified). packed_certified (certified-answer a)) (sym c.before.before.answer3.given.1)
+returns_3 c = c.pack3.ensures ∙ ap (λ (a : Certified). packed_certified (certified_answer a)) (sym c.before.before.answer3.given.1)
 
 pub pack_certified_spec : {M : Type 1} → statement M
 pack_certified_spec =

@@ -5,7 +5,7 @@ use lib.ListN.{length}
 use Rattle.sheet.specs.Check.{accepted}
 use Rattle.rows.specs.Formulas.{layout_of}
 use Rattle.rows.specs.declared.Layout.{Layout}
-use Rattle.checking.specs.Answers.{checked-as}
+use Rattle.checking.specs.Answers.{checked_as}
 use Rattle.checking.specs.Inner.Stages.{Sized, sizes, size_answer, prefix_answer, node_answer}
 use Rattle.checking.proofs.Tests.{accepted_is}
 use Rattle.checking.proofs.CheckedSheets.{accepted_as, refused_as, accepted_sizes, right-layout, right-sized}
@@ -32,7 +32,7 @@ returns c =
     let told = c.enum_told.given.1 in
     let read = c.before.before in
     let a = read.before.before.args in
-    told ∙ ap (checked-as a.f) (sizes_refuse a.f a.sheet.now (refused_as a.f _ told read.check-sizes.ensures))
+    told ∙ ap (checked_as a.f) (sizes_refuse a.f a.sheet.now (refused_as a.f _ told read.check-sizes.ensures))
 
 -- the sizes read, and the layout that they make
 abbrev start : tie.After-c → tie.Start
@@ -78,13 +78,13 @@ returns_2 c =
     let told = c.enum-told3.given.1 in
     let p = c.before.before in
     let s = sized p in
-    told ∙ ap (checked-as (start s).args.f)
+    told ∙ ap (checked_as (start s).args.f)
     (prefix_refuses _ _ _ (own s) (read s).0 (refused_as _ _ told p.check-prefix.ensures.0))
 
 check_nodes_requires : tie.Need-check-nodes-requires
 check_nodes_requires c κs =
     let p = c.before.before.before in
-    (room (sized p), p.check-prefix.ensures.1 (p.check-prefix.ensures.0 ∙ ap (checked-as _) (accepted_is _ (bound c.before))))
+    (room (sized p), p.check-prefix.ensures.1 (p.check-prefix.ensures.0 ∙ ap (checked_as _) (accepted_is _ (bound c.before))))
 
 enum_told_4 : tie.Need-enum-told-4
 enum_told_4 c = search rules
@@ -104,7 +104,7 @@ returns_3 c =
     let told = c.enum-told5.given.1 in
     let m = c.before.before in
     let s = whole m in
-    told ∙ ap (checked-as (start s).args.f)
+    told ∙ ap (checked_as (start s).args.f)
     (nodes-refuse _ _ _ (own s) (read s).0 (bound (passed m)) (refused_as _ _ told m.check-nodes.ensures))
 
 check_tree_requires : tie.Need-check-tree-requires
@@ -120,7 +120,7 @@ returns_4 c =
     let m = c.before.before.before in
     let s = whole m in
     c.check-tree.ensures ∙
-    ap₂ checked-as (read s).1 (tree-decides _ _ _ (own s) (read s).0 (bound (passed m)) (noded c.before))
+    ap₂ checked_as (read s).1 (tree-decides _ _ _ (own s) (read s).0 (bound (passed m)) (noded c.before))
 
 pub check_spec : {M : Type 1} → statement M
 check_spec =

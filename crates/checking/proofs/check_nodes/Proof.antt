@@ -8,7 +8,7 @@ use Rattle.sheet.specs.Format.{row}
 use Rattle.rows.specs.Layouts.{total, rows_in}
 use Rattle.rows.specs.Formulas.{node_rows_in}
 use Rattle.rows.proofs.Layouts.{length-rows_in}
-use Rattle.checking.specs.Answers.{checked-as}
+use Rattle.checking.specs.Answers.{checked_as}
 use Rattle.checking.specs.Inner.Stages.{sizes, bound_in, node}
 use Rattle.checking.proofs.RowTests.{Noded, nodes-none, nodes-all, node-kind, node-unbound, node-turn}
 use Rattle.checking.proofs.check_nodes.Statement.{statement}
@@ -61,7 +61,7 @@ unfolding node_rows_in
 returns c =
     let k = c.before.before in
     let turn = k.before.before in
-    ap (checked-as _) (node-kind _ _ _ _ (more turn) turn.before.loop.invariant (kind_here k ∙ not-true _ c.if1.true))
+    ap (checked_as _) (node-kind _ _ _ _ (more turn) turn.before.loop.invariant (kind_here k ∙ not-true _ c.if1.true))
 
 returns_2 : tie.Need-returns-2 invariant-loop decreases-loop
 unfolding node_rows_in
@@ -69,7 +69,7 @@ returns_2 c =
     let u = c.before.before in
     let turn = u.before.before.before in
     let start = entry turn.before in
-    ap (checked-as _) (node-unbound _ _ _ _ (more turn) turn.before.loop.invariant (kind_here u.before ∙ not-false _ c.before.if1.false)
+    ap (checked_as _) (node-unbound _ _ _ _ (more turn) turn.before.loop.invariant (kind_here u.before ∙ not-false _ c.before.if1.false)
     start.args.bound.now start.pre.1 (sym u.is-unbound.ensures ∙ c.if2.true))
 
 add_r : tie.Need-overflow-add-r invariant-loop decreases-loop
@@ -88,7 +88,7 @@ loop_again c =
 
 returns_3 : tie.Need-returns-3 invariant-loop decreases-loop
 unfolding node_rows_in
-returns_3 c = ap (checked-as _) (nodes-all _ _ _ _ (omega (arith, all (entry c.before))) c.before.loop.invariant)
+returns_3 c = ap (checked_as _) (nodes-all _ _ _ _ (omega (arith, all (entry c.before))) c.before.loop.invariant)
 
 pub check_nodes_spec : {M : Type 1} → statement M
 check_nodes_spec =

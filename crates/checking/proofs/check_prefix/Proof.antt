@@ -9,7 +9,7 @@ use Rattle.sheet.specs.Format.{Row, row}
 use Rattle.rows.specs.Layouts.{format_in, rows_in}
 use Rattle.rows.proofs.Layouts.{length-rows_in}
 use Rattle.rows.proofs.Limits.{limits}
-use Rattle.checking.specs.Answers.{checked-as}
+use Rattle.checking.specs.Answers.{checked_as}
 use Rattle.checking.specs.Inner.Stages.{sizes, quantifier, misnumbered}
 use Rattle.checking.proofs.CheckedSheets.{never_accepted}
 use Rattle.checking.proofs.RowTests.{Prefixed, numbered_low, prefix_none, prefix_all, prefix-kind, prefix-number, prefix-twice, prefix-turn}
@@ -89,7 +89,7 @@ returns : tie.Need-returns invariant-loop decreases-loop
 returns c =
     let q = (numbered c.before).before in
     let turn = q.before.before in (
-      ap (checked-as _) (prefix-kind _ _ _ _ (enough (start turn.before)) turn.loop-test.taken turn.before.loop.inv
+      ap (checked_as _) (prefix-kind _ _ _ _ (enough (start turn.before)) turn.loop-test.taken turn.before.loop.inv
           (kind_here q ∙ not-true _ c.if1.true)),
       never_accepted,
     )
@@ -99,7 +99,7 @@ returns_2 c =
     let m = judged c.before in
     let q = m.before.before in
     let turn = q.before.before in (
-      ap (checked-as _) (prefix-number _ _ _ _ (enough (start turn.before)) turn.loop-test.taken turn.before.loop.inv
+      ap (checked_as _) (prefix-number _ _ _ _ (enough (start turn.before)) turn.loop-test.taken turn.before.loop.inv
           (kind_here q ∙ not-false _ c.before.if1.false) (number_here m ∙ c.if2.true)),
       never_accepted,
     )
@@ -110,7 +110,7 @@ returns_3 c =
     let m = t.before.before in
     let q = m.before.before in
     let turn = q.before.before in (
-      ap (checked-as _) (prefix-twice _ _ _ _ (enough (start turn.before)) turn.loop-test.true turn.before.loop.invariant
+      ap (checked_as _) (prefix-twice _ _ _ _ (enough (start turn.before)) turn.loop-test.true turn.before.loop.invariant
           (kind_here q ∙ not-false _ c.before.before.if1.false) (number_here m ∙ c.before.if2.false)
           (twice_here t ∙ c.if3.true)),
       never_accepted,
@@ -144,7 +144,7 @@ loop_again c =
 returns_4 : tie.Need-returns-4 invariant-loop decreases-loop
 returns_4 c =
     let p = prefix_all _ _ _ _ (enough (start c.before)) c.loop-test.false c.before.loop.invariant in
-    (ap (checked-as _) p.0, λ _. p.1)
+    (ap (checked_as _) p.0, λ _. p.1)
 
 pub check_prefix_spec : {M : Type 1} → statement M
 check_prefix_spec =

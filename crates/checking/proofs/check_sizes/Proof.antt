@@ -5,7 +5,7 @@ use native.Mathlib.Omega.{arith}
 use borrow.Author.Tests.{not-true, not-false}
 use Rattle.rows.specs.Formats.{format_of}
 use Rattle.rows.specs.declared.Format.{Format}
-use Rattle.checking.specs.Answers.{checked-as}
+use Rattle.checking.specs.Answers.{checked_as}
 use Rattle.checking.proofs.Sizes.{SizesRead, too_short, size_outside, wrong_length, right_length}
 use Rattle.checking.proofs.check_sizes.Statement.{statement}
 use Rattle.checking.proofs.check_sizes.Tie as tie
@@ -20,7 +20,7 @@ header_requires c κs = search rules
 returns : tie.Need-returns
 returns c =
     let a = c.before.before.before.args in
-    ap (checked-as _) (too_short a.f a.sheet.now (omega (arith, c.before.header.ensures)))
+    ap (checked_as _) (too_short a.f a.sheet.now (omega (arith, c.before.header.ensures)))
 
 variables_at_requires : tie.Need-variables-at-requires
 variables_at_requires c κs = search rules
@@ -50,13 +50,13 @@ read c =
 returns_2 : tie.Need-returns-2
 returns_2 c =
     let o = c.before.before in
-    ap (checked-as _) (size_outside (file o.before) _ _ _ (read o.before) (sym o.is-outside.ensures ∙ c.if2.true))
+    ap (checked_as _) (size_outside (file o.before) _ _ _ (read o.before) (sym o.is-outside.ensures ∙ c.if2.true))
 
 returns_3 : tie.Need-returns-3
 returns_3 c =
     let l = c.before.before in
     let o = l.before in
-    ap (checked-as _)
+    ap (checked_as _)
     (wrong_length (file o.before) _ _ _ (read o.before) (sym o.is-outside.ensures ∙ c.before.if2.false) l.sheet_length.ensures
     (not-true _ c.if3.true))
 
@@ -64,7 +64,7 @@ returns_4 : tie.Need-returns-4
 returns_4 c =
     let l = c.before.before in
     let o = l.before in
-    ap (checked-as _)
+    ap (checked_as _)
     (right_length (file o.before) _ _ _ (read o.before) (sym o.is-outside.ensures ∙ c.before.if2.false) l.sheet_length.ensures
     (not-false _ c.if3.false))
 

@@ -7,7 +7,7 @@ use lib.ListN.{length, length-drop}
 use Rattle.rows.specs.Layouts.{total, rows_in}
 use Rattle.rows.specs.Formulas.{node_rows_in}
 use Rattle.rows.proofs.Layouts.{length-rows_in}
-use Rattle.checking.specs.Answers.{checked-as}
+use Rattle.checking.specs.Answers.{checked_as}
 use Rattle.checking.proofs.Debt.{tree_owed, tree_early, tree_whole}
 use Rattle.checking.proofs.check_tree.Statement.{statement}
 use Rattle.checking.proofs.check_tree.Tie as tie
@@ -32,19 +32,19 @@ returns : tie.Need-returns
 unfolding node_rows_in
 returns c =
     let w = c.before.before in
-    ap (checked-as _) (tree_owed _ _ _ _ (end w.before.before.before) w.walk.result w.walk.ensures c.if1.true)
+    ap (checked_as _) (tree_owed _ _ _ _ (end w.before.before.before) w.walk.result w.walk.ensures c.if1.true)
 
 returns_2 : tie.Need-returns-2
 unfolding node_rows_in
 returns_2 c =
     let w = walked c.before in
-    ap (checked-as _) (tree_early _ _ _ _ (end w.before.before.before) w.walk.result w.walk.ensures c.before.before.if1.false c.if2.true)
+    ap (checked_as _) (tree_early _ _ _ _ (end w.before.before.before) w.walk.result w.walk.ensures c.before.before.if1.false c.if2.true)
 
 returns_3 : tie.Need-returns-3
 unfolding node_rows_in
 returns_3 c =
     let w = walked c.before in
-    ap (checked-as _) (tree_whole _ _ _ _ (end w.before.before.before) w.walk.result w.walk.ensures c.before.before.if1.false c.if2.false)
+    ap (checked_as _) (tree_whole _ _ _ _ (end w.before.before.before) w.walk.result w.walk.ensures c.before.before.if1.false c.if2.false)
 
 pub check_tree_spec : {M : Type 1} → statement M
 check_tree_spec = tie.close (tie.spec add_end walk_requires returns returns_2 returns_3)

@@ -6,7 +6,7 @@ use Rattle.sheet.specs.Format.{Bytes}
 use Rattle.sheet.specs.Trace.{room}
 use Rattle.rows.specs.Formulas.{formula_in}
 use Rattle.rows.specs.declared.Layout.{Layout}
-use Rattle.solve.specs.Answers.{verdict-of}
+use Rattle.solve.specs.Answers.{verdict_of}
 use Rattle.solve.specs.Inner.Running.{solution}
 use Rattle.decide.specs.declared.running.Ran.{Ran}
 use Rattle.decide.specs.declared.running.Ran.TheVariants.{Ended, Stopped}
@@ -21,5 +21,5 @@ pub record Stops (s : Layout) (first second first' : Bytes) (t : Layout) : Type 
   pub same_format : t.format ≡ s.format
 
 abbrev pub Runs : Layout → Bytes → Bytes → Bytes → Ran → Type 0
-Runs s first second first' (Ended v) = (solution s first second).end ≡ ended (verdict-of v)
+Runs s first second first' (Ended v) = (solution s first second).end ≡ ended (verdict_of v)
 Runs s first second first' (Stopped t) = Stops s first second first' t

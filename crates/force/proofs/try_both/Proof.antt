@@ -4,7 +4,7 @@ use mathlib.Core.Bool.{Bool, true, false}
 use Prim.Native.Nat.{ℕ, min}
 use Rattle.formula.specs.Solve.{End, ended}
 use Rattle.sheet.specs.Trace.{room}
-use Rattle.solve.specs.Answers.{verdict-of}
+use Rattle.solve.specs.Answers.{verdict_of}
 use borrow.Author.Rules.{rules}
 use Rattle.force.specs.Inner.Judging.{end_of, end_in}
 use Rattle.force.proofs.Judging.{readable}
@@ -44,7 +44,7 @@ between c = after_j2 c.before
 abbrev right : tie.Start → Bool → End
 right a v = end_in a.args.s a.args.sheet.now a.args.values.now v (room a.args.first.now a.args.second.now)
 
-zero_ended : (c : tie.After-j2) → ended (verdict-of c.j2.given.0.0) ≡ right (start (first_run c)) false
+zero_ended : (c : tie.After-j2) → ended (verdict_of c.j2.given.0.0) ≡ right (start (first_run c)) false
 zero_ended c = sym (ap end_of c.j2.given.1) ∙ (first_run c).judge.ensures
 
 -- the buffers are as long as they were

@@ -9,7 +9,7 @@ use Rattle.sheet.specs.Force.{values_of}
 use Rattle.rows.specs.Layouts.{format_in}
 use Rattle.rows.specs.declared.Layout.{Layout}
 use Rattle.checking.specs.Sheets.{Sheet}
-use Rattle.solve.specs.Answers.{verdict-of}
+use Rattle.solve.specs.Answers.{verdict_of}
 use Rattle.force.specs.declared.judge.Judged.{Judged}
 use Rattle.force.specs.declared.judge.Judged.TheVariants.{Stopped, Ended}
 
@@ -21,7 +21,7 @@ pub record Judgeable (s : Layout) (b vs : Bytes) (room : ℕ) : Type 0 where
 
 abbrev pub end_of : Judged → End
 end_of (Stopped x) = stopped x
-end_of (Ended v) = ended (verdict-of v)
+end_of (Ended v) = ended (verdict_of v)
 
 -- the end of a value's run, and what both runs come to
 abbrev pub end_in : Layout → Bytes → Bytes → Bool → ℕ → End

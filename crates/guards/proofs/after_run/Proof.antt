@@ -5,7 +5,7 @@ use Rattle.formula.specs.Solve.{Run}
 use Rattle.sheet.specs.Operations.{is_ended}
 use Rattle.sheet.specs.Trace.{room}
 use Rattle.sheet.proofs.Refusals.{solved-not_refused}
-use Rattle.solve.specs.Answers.{verdict-of, solved-answer}
+use Rattle.solve.specs.Answers.{verdict_of, solved_answer}
 use Rattle.solve.specs.Inner.Running.{answered}
 use Rattle.solve.specs.declared.Verdict.{Verdict}
 use Rattle.solve.specs.declared.Verdict.TheVariants.{True, False}
@@ -45,10 +45,10 @@ first_run a = initial a.args.s a.args.sheet.now (most a)
 
 -- what the initial run answered, if it ended with the verdict v
 ended_with : (c : tie.After-answer3) (v : Verdict) → c.answer3.given.0.0 ≡ v
-    → is_ended (verdict-of v) c.answer3.given.0.1.0 c.answer3.given.0.1.1.0 ≡ answered (first_run (start c))
+    → is_ended (verdict_of v) c.answer3.given.0.1.0 c.answer3.given.0.1.1.0 ≡ answered (first_run (start c))
 ended_with c v e =
     let told = c.answer3.given in
-    ap (λ (w : Verdict). is_ended (verdict-of w) told.0.1.0 told.0.1.1.0) (sym e) ∙ sym (ap solved-answer told.1) ∙ (start c).requires.2
+    ap (λ (w : Verdict). is_ended (verdict_of w) told.0.1.0 told.0.1.1.0) (sym e) ∙ sym (ap solved_answer told.1) ∙ (start c).requires.2
 
 enum_known_answer : tie.Need-enum-known-answer
 enum_known_answer c = search rules
@@ -77,7 +77,7 @@ keep_requires c κs = search rules
 returns : tie.Need-returns
 returns c =
     let a = called (entered c.before) in
-    absurd (solved-not_refused (first_run a).end (first_run a).state (sym a.pre.2 ∙ ap solved-answer c.before.answer.given.1))
+    absurd (solved-not_refused (first_run a).end (first_run a).state (sym a.pre.2 ∙ ap solved_answer c.before.answer.given.1))
 
 same_length : tie.Need-same-length
 same_length c = search rules
@@ -89,7 +89,7 @@ returns_2 c =
     let a = called named.before.before.before in
     let told = named.answer2.given in
     stopped_told a.args.s a.args.sheet.now (most a) told.0.0 told.0.1.0 told.0.1.1.0 a.args.out.now
-    (sym (ap solved-answer told.1) ∙ a.pre.2) (cleared.clear.ensures ∙ all_zeros a.args.out.now refl)
+    (sym (ap solved_answer told.1) ∙ a.pre.2) (cleared.clear.ensures ∙ all_zeros a.args.out.now refl)
 
 same_length_2 : tie.Need-same-length-2
 same_length_2 c = search rules

@@ -10,7 +10,7 @@ use Rattle.rows.specs.Layouts.{format_in, size}
 use Rattle.rows.specs.Formulas.{prefix_in, matrix_in, formula_in}
 use Rattle.rows.specs.declared.Layout.{Layout}
 use Rattle.checking.specs.Sheets.{Sheet}
-use Rattle.solve.specs.Answers.{solved-answer}
+use Rattle.solve.specs.Answers.{solved_answer}
 use Rattle.solve.specs.Inner.Running.{answered}
 use Rattle.solve.specs.declared.Verdict as verdict
 use Rattle.solve.specs.declared.Solved.{Solved}
@@ -73,7 +73,7 @@ abbrev pub initial : Layout → Bytes → ℕ → Run
 initial s b most = solve (fits (format_in s) most) (formula_in s b)
 
 abbrev pub Said : Layout → Bytes → ℕ → Solved → Type 0
-Said s b most a = solved-answer a ≡ answered (initial s b most)
+Said s b most a = solved_answer a ≡ answered (initial s b most)
 
 abbrev pub found : Layout → Bytes → ℕ → Finding
 found s b most = guarded (fits (format_in s) most) (formula_in s b)

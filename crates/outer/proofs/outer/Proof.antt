@@ -4,7 +4,7 @@ use Prim.Native.Nat.{ℕ}
 use borrow.Author.Rules.{rules}
 use Rattle.rows.specs.Formats.{format_of}
 use Rattle.rows.specs.declared.Format.{Format}
-use Rattle.outer.specs.Answers.{outer-written}
+use Rattle.outer.specs.Answers.{outer_written}
 use Rattle.outer.specs.Inner.OuterPlan.{OuterPlans}
 use Rattle.outer.specs.declared.plan.OuterPlan.TheVariants.{Copies}
 use Rattle.outer.proofs.Sheets.{refused_plan}
@@ -78,7 +78,7 @@ returns_2 c =
     let a = (start (plan_made told.before.before)).args in
     let is = planned told in
     outer_told a.f a.sheet.now a.x a.out.now
-    (carried.outer-planned.ensures ∙ ap₂ (λ (g : Format) (y : ℕ). outer-written (format_of g) a.sheet.now y a.out.now) is.0 is.1)
+    (carried.outer-planned.ensures ∙ ap₂ (λ (g : Format) (y : ℕ). outer_written (format_of g) a.sheet.now y a.out.now) is.0 is.1)
 
 pub outer_spec : {M : Type 1} → statement M
 outer_spec =

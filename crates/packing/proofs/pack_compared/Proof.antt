@@ -1,7 +1,7 @@
 -- `packing::pack_compared` packs an answer of Compare.
 -- Assumes nothing.
 use mathlib.Core.Path.{sym, ◌∙◌, ap}
-use Rattle.sort_compare.specs.Answers.{compared-answer}
+use Rattle.sort_compare.specs.Answers.{compared_answer}
 use Rattle.sort_compare.specs.declared.compare.Compared.{Compared}
 use Rattle.packing.specs.Order.{packed_compared}
 use borrow.Author.Rules.{rules}
@@ -34,19 +34,19 @@ pack_requires_4 c κs = search rules
 
 returns : tie.Need-returns
 unfolding packed_compared
-returns c = c.pack.ensures ∙ ap (λ (a : Compared). packed_compared (compared-answer a)) (sym c.before.before.answer.given.1)
+returns c = c.pack.ensures ∙ ap (λ (a : Compared). packed_compared (compared_answer a)) (sym c.before.before.answer.given.1)
 
 returns_2 : tie.Need-returns-2
 unfolding packed_compared
-returns_2 c = c.pack2.ensures ∙ ap (λ (a : Compared). packed_compared (compared-answer a)) (sym c.before.enum_told.given.1)
+returns_2 c = c.pack2.ensures ∙ ap (λ (a : Compared). packed_compared (compared_answer a)) (sym c.before.enum_told.given.1)
 
 returns_3 : tie.Need-returns-3
 unfolding packed_compared
-returns_3 c = c.pack3.ensures ∙ ap (λ (a : Compared). packed_compared (compared-answer a)) (sym c.before.enum-told2.given.1)
+returns_3 c = c.pack3.ensures ∙ ap (λ (a : Compared). packed_compared (compared_answer a)) (sym c.before.enum-told2.given.1)
 
 returns_4 : tie.Need-returns-4
 unfolding packed_compared
-returns_4 c = c.pack4.ensures ∙ ap (λ (a : Compared). packed_compared (compared-answer a)) (sym c.before.enum-told3.given.1)
+returns_4 c = c.pack4.ensures ∙ ap (λ (a : Compared). packed_compared (compared_answer a)) (sym c.before.enum-told3.given.1)
 
 pub pack_compared_spec : {M : Type 1} → statement M
 pack_compared_spec =

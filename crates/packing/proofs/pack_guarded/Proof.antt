@@ -1,7 +1,7 @@
 -- `packing::pack_guarded` packs an answer of Guards.
 -- Assumes nothing.
 use mathlib.Core.Path.{sym, ◌∙◌, ap}
-use Rattle.guards.specs.Answers.{guarded-answer}
+use Rattle.guards.specs.Answers.{guarded_answer}
 use Rattle.guards.specs.declared.Guarded.{Guarded}
 use Rattle.packing.specs.Packed.{packed_guards}
 use borrow.Author.Rules.{rules}
@@ -40,19 +40,19 @@ pack_requires_4 c κs = search rules
 
 returns : tie.Need-returns
 unfolding packed_guards
-returns c = c.pack.ensures ∙ ap (λ (a : Guarded). packed_guards (guarded-answer a)) (sym c.before.before.answer.given.1)
+returns c = c.pack.ensures ∙ ap (λ (a : Guarded). packed_guards (guarded_answer a)) (sym c.before.before.answer.given.1)
 
 returns_2 : tie.Need-returns-2
 unfolding packed_guards
-returns_2 c = c.pack2.ensures ∙ ap (λ (a : Guarded). packed_guards (guarded-answer a)) (sym c.before.before.answer2.given.1)
+returns_2 c = c.pack2.ensures ∙ ap (λ (a : Guarded). packed_guards (guarded_answer a)) (sym c.before.before.answer2.given.1)
 
 returns_3 : tie.Need-returns-3
 unfolding packed_guards
-returns_3 c = c.pack3.ensures ∙ ap (λ (a : Guarded). packed_guards (guarded-answer a)) (sym c.before.before.answer3.given.1)
+returns_3 c = c.pack3.ensures ∙ ap (λ (a : Guarded). packed_guards (guarded_answer a)) (sym c.before.before.answer3.given.1)
 
 returns_4 : tie.Need-returns-4
 unfolding packed_guards
-returns_4 c = c.pack4.ensures ∙ ap (λ (a : Guarded). packed_guards (guarded-answer a)) (sym c.before.before.answer4.given.1)
+returns_4 c = c.pack4.ensures ∙ ap (λ (a : Guarded). packed_guards (guarded_answer a)) (sym c.before.before.answer4.given.1)
 
 pub pack_guarded_spec : {M : Type 1} → statement M
 pack_guarded_spec =

@@ -1,7 +1,7 @@
 -- `packing::pack_quoted` packs an answer of Quote.
 -- Assumes nothing.
 use mathlib.Core.Path.{sym, ◌∙◌, ap}
-use Rattle.expand.specs.Answers.{quoted-answer}
+use Rattle.expand.specs.Answers.{quoted_answer}
 use Rattle.packing.specs.Packed.{packed_quote}
 use borrow.Author.Rules.{rules}
 use Rattle.packing.proofs.pack_quoted.Statement.{statement}
@@ -21,11 +21,11 @@ pack_requires_2 c κs = search rules
 
 returns : tie.Need-returns
 unfolding packed_quote
-returns c = c.pack.ensures ∙ ap (λ w. packed_quote (quoted-answer w)) (sym c.before.before.answer.given.1)
+returns c = c.pack.ensures ∙ ap (λ w. packed_quote (quoted_answer w)) (sym c.before.before.answer.given.1)
 
 returns_2 : tie.Need-returns-2
 unfolding packed_quote
-returns_2 c = c.pack2.ensures ∙ ap (λ w. packed_quote (quoted-answer w)) (sym c.before.before.answer2.given.1)
+returns_2 c = c.pack2.ensures ∙ ap (λ w. packed_quote (quoted_answer w)) (sym c.before.before.answer2.given.1)
 
 pub pack_quoted_spec : {M : Type 1} → statement M
 pack_quoted_spec =

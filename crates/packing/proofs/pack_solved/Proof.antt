@@ -2,7 +2,7 @@
 -- Assumes nothing.
 use mathlib.Core.Path.{sym, ◌∙◌, ap}
 use Prim.Native.Nat.{◌%◌}
-use Rattle.solve.specs.Answers.{solved-answer}
+use Rattle.solve.specs.Answers.{solved_answer}
 use Rattle.solve.specs.declared.Solved.{Solved}
 use Rattle.packing.specs.Packed.{packed, packed_solved}
 use borrow.Author.Rules.{rules}
@@ -38,11 +38,11 @@ pack_requires_3 c κs = search rules
 
 returns : tie.Need-returns
 unfolding packed_solved
-returns c = c.pack.ensures ∙ ap (λ (a : Solved). packed_solved (solved-answer a)) (sym c.before.before.answer.given.1)
+returns c = c.pack.ensures ∙ ap (λ (a : Solved). packed_solved (solved_answer a)) (sym c.before.before.answer.given.1)
 
 returns_2 : tie.Need-returns-2
 unfolding packed_solved
-returns_2 c = c.pack2.ensures ∙ ap (λ (a : Solved). packed_solved (solved-answer a)) (sym c.before.before.answer2.given.1)
+returns_2 c = c.pack2.ensures ∙ ap (λ (a : Solved). packed_solved (solved_answer a)) (sym c.before.before.answer2.given.1)
 
 returns_3 : tie.Need-returns-3
 unfolding packed_solved
@@ -50,7 +50,7 @@ returns_3 c =
     let told = c.before.before.before in
     c.pack3.ensures ∙
     ap (λ w. packed 0 w told.answer3.given.0.1.0 (told.answer3.given.0.1.1.0 % 65536)) c.before.word_for.ensures ∙
-    ap (λ (a : Solved). packed_solved (solved-answer a)) (sym told.answer3.given.1)
+    ap (λ (a : Solved). packed_solved (solved_answer a)) (sym told.answer3.given.1)
 
 pub pack_solved_spec : {M : Type 1} → statement M
 pack_solved_spec =

@@ -1,7 +1,7 @@
 -- `packing::pack_tried` packs an answer of Trial.
 -- Assumes nothing.
 use mathlib.Core.Path.{sym, ◌∙◌, ap}
-use Rattle.trial.specs.Answers.{tried-answer}
+use Rattle.trial.specs.Answers.{tried_answer}
 use Rattle.packing.specs.Packed.{packed_trial}
 use borrow.Author.Rules.{rules}
 use Rattle.packing.proofs.pack_tried.Statement.{statement}
@@ -24,11 +24,11 @@ pack_requires_2 c κs = search rules
 
 returns : tie.Need-returns
 unfolding packed_trial
-returns c = c.pack.ensures ∙ ap (λ w. packed_trial (tried-answer w)) (sym c.before.before.answer.given.1)
+returns c = c.pack.ensures ∙ ap (λ w. packed_trial (tried_answer w)) (sym c.before.before.answer.given.1)
 
 returns_2 : tie.Need-returns-2
 unfolding packed_trial
-returns_2 c = c.pack2.ensures ∙ ap (λ w. packed_trial (tried-answer w)) (sym c.before.before.answer2.given.1)
+returns_2 c = c.pack2.ensures ∙ ap (λ w. packed_trial (tried_answer w)) (sym c.before.before.answer2.given.1)
 
 pub pack_tried_spec : {M : Type 1} → statement M
 pack_tried_spec =

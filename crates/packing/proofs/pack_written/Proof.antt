@@ -1,7 +1,7 @@
 -- `packing::pack_written` packs an answer of an operation that writes a sheet.
 -- Assumes nothing.
 use mathlib.Core.Path.{sym, ◌∙◌, ap}
-use Rattle.checking.specs.Answers.{written-answer}
+use Rattle.checking.specs.Answers.{written_answer}
 use Rattle.packing.specs.Packed.{packed_written}
 use borrow.Author.Rules.{rules}
 use Rattle.packing.proofs.pack_written.Statement.{statement}
@@ -21,11 +21,11 @@ pack_requires_2 c κs = search rules
 
 returns : tie.Need-returns
 unfolding packed_written
-returns c = c.pack.ensures ∙ ap (λ w. packed_written (written-answer w)) (sym c.before.before.answer.given.1)
+returns c = c.pack.ensures ∙ ap (λ w. packed_written (written_answer w)) (sym c.before.before.answer.given.1)
 
 returns_2 : tie.Need-returns-2
 unfolding packed_written
-returns_2 c = c.pack2.ensures ∙ ap (λ w. packed_written (written-answer w)) (sym c.before.before.answer2.given.1)
+returns_2 c = c.pack2.ensures ∙ ap (λ w. packed_written (written_answer w)) (sym c.before.before.answer2.given.1)
 
 pub pack_written_spec : {M : Type 1} → statement M
 pack_written_spec =

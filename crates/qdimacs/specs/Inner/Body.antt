@@ -8,7 +8,7 @@ use Rattle.sheet.specs.Qdimacs.{text_header, tokens_below, qdimacs_call}
 use Rattle.sheet.specs.Texts.{header_fails, counts_fail}
 use Rattle.rows.specs.Layouts.{width, Fits, total, Room}
 use Rattle.rows.specs.declared.Layout.{Layout}
-use Rattle.checking.specs.Answers.{written-answer}
+use Rattle.checking.specs.Answers.{written_answer}
 use Rattle.checking.specs.declared.Written.{Written}
 use Rattle.words.specs.Numbers.{Capped, largest}
 use Rattle.qdimacs.specs.Inner.Lists.{between, clause_tokens, ends}
@@ -56,8 +56,8 @@ CallAnswers F t out a new = record { answer = a; output = new } ≡ qdimacs_call
 
 pub record CountedAnswers (F : Format) (b : Bytes) (k : Body) (out : Bytes) (r : Written) (new : Bytes) : Type 0 where
   pub answers : (t : Bytes) → Below F t b k.most → counts_fail (text_header t) (tokens_below t) ≡ false
-      → CallAnswers F t out (written-answer r) new
+      → CallAnswers F t out (written_answer r) new
 
 pub record Answers (F : Format) (b : Bytes) (h : Header) (out : Bytes) (r : Written) (new : Bytes) : Type 0 where
   pub answers : (t : Bytes) → Below F t b h.variables → Capped largest (text_header t).clause_count h.clauses
-      → CallAnswers F t out (written-answer r) new
+      → CallAnswers F t out (written_answer r) new

@@ -43,7 +43,7 @@ use Rattle.rows.specs.Formats.{format_of}
 use Rattle.rows.specs.declared.Format.{Format}
 use Rattle.rows.specs.contracts.Format as F
 use Rattle.rows.proofs.Format.TheLaws as F'
-use Rattle.checking.specs.Answers.{written-answer}
+use Rattle.checking.specs.Answers.{written_answer}
 use Rattle.checking.specs.declared.Written.{Written}
 use Rattle.checking.specs.contracts.Written as R
 use Rattle.checking.proofs.Written.TheLaws as R'
@@ -102,7 +102,7 @@ module _ {M : Type 1} {𝓤 : Ura M} (𝓛 : Logic 𝓤) (at_mem : Memory → SP
 
   -- what is said of the answer and of the last bytes
   abbrev Said : Written → List ℕ → Type 0
-  Said r zs = ListsRead (format_of f) h (unread d.at d.text.now) x.now (record { answer = written-answer r; output = zs })
+  Said r zs = ListsRead (format_of f) h (unread d.at d.text.now) x.now (record { answer = written_answer r; output = zs })
 
   abbrev Out : Fml
   Out = (MutSlice (named 1) κ₁ u8).own_val x (mut_slice_vals x)

@@ -49,7 +49,7 @@ use Rattle.rows.specs.declared.Format.{Format}
 use Rattle.rows.proofs.Limits.{sound as format-sound}
 use Rattle.rows.specs.contracts.Format as F
 use Rattle.rows.proofs.Format.TheLaws as F'
-use Rattle.checking.specs.Answers.{written-answer, wrote}
+use Rattle.checking.specs.Answers.{written_answer, wrote}
 use Rattle.checking.specs.declared.Written.{Written}
 use Rattle.checking.specs.contracts.Written as R
 use Rattle.checking.proofs.Written.TheLaws as R'
@@ -198,7 +198,7 @@ module _ {M : Type 1} {𝓤 : Ura M} (𝓛 : Logic 𝓤) (at_mem : Memory → SP
       owned ! Q.the_row (Is Q.the_row) (LL.makes Q.the_type Q'.the_plain 𝓛) h _ h-is $ fjoin ! $ move ! (1 ∷ 0 ∷ []) $ fjoin ! $ done !
 
   abbrev Said : Reader → Header → Written → List ℕ → Type 0
-  Said e h r zs = ListsRead (format_of f) h (unread e.at e.text.now) x₁.now (record { answer = written-answer r; output = zs })
+  Said e h r zs = ListsRead (format_of f) h (unread e.at e.text.now) x₁.now (record { answer = written_answer r; output = zs })
 
   abbrev Ensured : Reader → Header → Written → SProp 𝓤
   Ensured e h r = ensured 𝓛 lists-next.ended (lists-next.clauses 𝓛 at_mem run) (κ₀, (κ₁, tt)) (passed e h) tt r

@@ -4,7 +4,7 @@ use borrow.Author.Rules.{rules}
 use native.Mathlib.Omega.{arith}
 use Rattle.sheet.specs.Resume.{add_to_answer}
 use Rattle.solve.specs.declared.Solved.{Solved}
-use Rattle.solve.specs.Answers.{solved-answer}
+use Rattle.solve.specs.Answers.{solved_answer}
 use Rattle.resume.specs.Inner.Going.{Addable}
 use Rattle.resume.proofs.add_counts.Statement.{statement}
 use Rattle.resume.proofs.add_counts.Tie as tie
@@ -47,21 +47,21 @@ unfolding add_to_answer
 returns c =
     let told = c.before in
     let a = told.before.before.args in
-    ap (λ (r : Solved). add_to_answer a.c.settled a.c.expanded (solved-answer r)) (sym told.answer.given.1)
+    ap (λ (r : Solved). add_to_answer a.c.settled a.c.expanded (solved_answer r)) (sym told.answer.given.1)
 
 returns_2 : tie.Need-returns-2
 unfolding add_to_answer
 returns_2 c =
     let told = c.before.before.before in
     let a = told.before.before.args in
-    ap (λ (r : Solved). add_to_answer a.c.settled a.c.expanded (solved-answer r)) (sym told.answer2.given.1)
+    ap (λ (r : Solved). add_to_answer a.c.settled a.c.expanded (solved_answer r)) (sym told.answer2.given.1)
 
 returns_3 : tie.Need-returns-3
 unfolding add_to_answer
 returns_3 c =
     let told = c.before.before.before in
     let a = told.before.before.args in
-    ap (λ (r : Solved). add_to_answer a.c.settled a.c.expanded (solved-answer r)) (sym told.answer3.given.1)
+    ap (λ (r : Solved). add_to_answer a.c.settled a.c.expanded (solved_answer r)) (sym told.answer3.given.1)
 
 pub add_counts_spec : {M : Type 1} → statement M
 add_counts_spec =

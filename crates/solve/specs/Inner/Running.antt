@@ -19,7 +19,7 @@ use Rattle.elimination.specs.declared.settling.Put.{Put}
 use Rattle.solve.specs.declared.State.{State}
 use Rattle.solve.specs.declared.step.Step.{Step}
 use Rattle.solve.specs.declared.step.Step.TheVariants.{Ended, Stopped, Next}
-use Rattle.solve.specs.Answers.{verdict-of}
+use Rattle.solve.specs.Answers.{verdict_of}
 
 -- a buffer with a tidy formula's sheet of at most `most` bytes at its front, of layout s, and zeros behind it
 pub record Held (most : ℕ) (s : Layout) (b : Bytes) : Type 0 where
@@ -80,7 +80,7 @@ fits_in s most = fits (format_in s.sheet) most
 -- a step from state s, its sheet in the first buffer, leaves these buffers
 abbrev pub Stepped : ℕ → State → Bytes → Bytes → Bytes → Bytes → Step → Type 0
 Stepped most s first second first' second' (Ended v) =
-    (step (fits_in s most) (reached s first) ≡ halt (ended (verdict-of v))) × (first' ≡ first) × (second' ≡ second)
+    (step (fits_in s most) (reached s first) ≡ halt (ended (verdict_of v))) × (first' ≡ first) × (second' ≡ second)
 Stepped most s first second first' second' (Stopped x) =
     (step (fits_in s most) (reached s first) ≡ halt (stopped x)) × (first' ≡ first) × (second' ≡ second)
 Stepped most s first second first' second' (Next t) =

@@ -6,7 +6,7 @@ use Rattle.rows.specs.Formats.{format_of}
 use Rattle.rows.specs.declared.Layout.{Layout}
 use Rattle.checking.specs.Sheets.{Sheet}
 use Rattle.checking.proofs.CheckedSheets.{sheet_checked, sheet_refused}
-use Rattle.trial.proofs.Answers.{check-refuses, playable, many_refused, tree_answered}
+use Rattle.trial.proofs.Answers.{check_refuses, playable, many_refused, tree_answered}
 use Rattle.trial.proofs.trial.Statement.{statement}
 use Rattle.trial.proofs.trial.Tie as tie
 
@@ -51,7 +51,7 @@ returns_2 c =
     let told = c.before in
     let checked = told.before.before in
     let a = checked.before.before.args in
-    let e = check-refuses (format_of a.f) a.sheet.now (sheet_refused a.f a.sheet.now told.checked.given.1 checked.check.ensures) in
+    let e = check_refuses (format_of a.f) a.sheet.now (sheet_refused a.f a.sheet.now told.checked.given.1 checked.check.ensures) in
     (e, trial_truthful (format_of a.f) a.sheet.now e)
 
 returns_3 : tie.Need-returns-3

@@ -1,7 +1,7 @@
 -- `capi_decide::joining::pack_joined` packs an answer of Join.
 -- Assumes nothing.
 use mathlib.Core.Path.{sym, ◌∙◌, ap}
-use Rattle.join.specs.Answers.{join-answer}
+use Rattle.join.specs.Answers.{join_answer}
 use Rattle.join.specs.declared.JoinAnswer.{JoinAnswer}
 use Rattle.packing.specs.Packed.{packed}
 use Rattle.capi_decide.specs.Packed.{packed_joined}
@@ -26,13 +26,13 @@ pack_requires_2 c κs = search rules
 
 returns : tie.Need-returns
 unfolding packed_joined
-returns c = c.pack.ensures ∙ ap (λ (a : JoinAnswer). packed_joined (join-answer a)) (sym c.before.before.answer.given.1)
+returns c = c.pack.ensures ∙ ap (λ (a : JoinAnswer). packed_joined (join_answer a)) (sym c.before.before.answer.given.1)
 
 returns_2 : tie.Need-returns-2
 unfolding packed_joined
 returns_2 c =
     c.pack2.ensures ∙ ap (λ w. packed 0 w 0 0) c.before.word_for.ensures ∙
-    ap (λ (a : JoinAnswer). packed_joined (join-answer a)) (sym c.before.before.before.answer2.given.1)
+    ap (λ (a : JoinAnswer). packed_joined (join_answer a)) (sym c.before.before.before.answer2.given.1)
 
 pub pack_joined_spec : {M : Type 1} → statement M
 pack_joined_spec =

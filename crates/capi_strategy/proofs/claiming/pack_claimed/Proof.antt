@@ -1,7 +1,7 @@
 -- `capi_strategy::claiming::pack_claimed` packs an answer of Claim.
 -- Assumes nothing.
 use mathlib.Core.Path.{sym, ◌∙◌, ap}
-use Rattle.claim.specs.Answers.{claimed-answer}
+use Rattle.claim.specs.Answers.{claimed_answer}
 use Rattle.claim.specs.declared.Claimed.{Claimed}
 use Rattle.capi_strategy.specs.Claims.{packed_claimed}
 use borrow.Author.Rules.{rules}
@@ -22,11 +22,11 @@ pack_requires_2 c κs = search rules
 
 returns : tie.Need-returns
 unfolding packed_claimed
-returns c = c.pack.ensures ∙ ap (λ (a : Claimed). packed_claimed (claimed-answer a)) (sym c.before.before.answer.given.1)
+returns c = c.pack.ensures ∙ ap (λ (a : Claimed). packed_claimed (claimed_answer a)) (sym c.before.before.answer.given.1)
 
 returns_2 : tie.Need-returns-2
 unfolding packed_claimed
-returns_2 c = c.pack2.ensures ∙ ap (λ (a : Claimed). packed_claimed (claimed-answer a)) (sym c.before.before.answer2.given.1)
+returns_2 c = c.pack2.ensures ∙ ap (λ (a : Claimed). packed_claimed (claimed_answer a)) (sym c.before.before.answer2.given.1)
 
 pub pack_claimed_spec : {M : Type 1} → statement M
 pack_claimed_spec =

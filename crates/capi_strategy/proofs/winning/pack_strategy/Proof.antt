@@ -4,7 +4,7 @@ use mathlib.Core.Path.{sym, ◌∙◌, ap}
 use Prim.Native.Nat.{◌+◌}
 use borrow.Author.Rules.{rules}
 use native.Mathlib.Omega.{arith}
-use Rattle.solve.specs.Answers.{verdict-of}
+use Rattle.solve.specs.Answers.{verdict_of}
 use Rattle.strategy.specs.Answers.{strategy_told}
 use Rattle.strategy.specs.declared.StrategyAnswer.{StrategyAnswer}
 use Rattle.capi_strategy.specs.Strategies.{packed_counts, packed_strategy}
@@ -40,7 +40,7 @@ word_for_requires_2 : tie.Need-word-for-requires-2
 word_for_requires_2 c κs = search rules
 
 add_pack_counts : tie.Need-overflow-add-pack-counts
-add_pack_counts c = omega (arith, c.word-for2.ensures, word_few (verdict-of c.before.before.answer4.given.0.0))
+add_pack_counts c = omega (arith, c.word-for2.ensures, word_few (verdict_of c.before.before.answer4.given.0.0))
 
 pack_counts_requires_3 : tie.Need-pack-counts-requires-3
 pack_counts_requires_3 c κs = search rules

@@ -1,7 +1,7 @@
 -- `decide::running::run_from` meets its contract. Assumes nothing.
 use mathlib.Core.Path.{ap}
 use borrow.Author.Rules.{rules}
-use Rattle.solve.specs.Answers.{solved-answer}
+use Rattle.solve.specs.Answers.{solved_answer}
 use Rattle.decide.proofs.Reaching.{run_ended, not_refused, run-stopped}
 use Rattle.decide.proofs.running.run_from.Statement.{statement}
 use Rattle.decide.proofs.running.run_from.Tie as tie
@@ -46,7 +46,7 @@ returns : tie.Need-returns
 returns c =
     let told = c.before in
     let run = ran told.before.before in
-    run_ended (start run).pre run.run-raw.ensures (ap solved-answer told.r.given.1)
+    run_ended (start run).pre run.run-raw.ensures (ap solved_answer told.r.given.1)
 
 same_length_3 : tie.Need-same-length-3
 same_length_3 c = search rules
@@ -58,7 +58,7 @@ returns_2 : tie.Need-returns-2
 returns_2 c =
     let told = c.before.before.before in
     let run = ran told.before.before in
-    absurd (not_refused (start run).pre run.run-raw.ensures (ap solved-answer told.r2.given.1))
+    absurd (not_refused (start run).pre run.run-raw.ensures (ap solved_answer told.r2.given.1))
 
 same_length_5 : tie.Need-same-length-5
 same_length_5 c = search rules
@@ -70,7 +70,7 @@ returns_3 : tie.Need-returns-3
 returns_3 c =
     let told = c.before.before.before in
     let run = ran told.before.before in
-    run-stopped (start run).pre run.run-raw.ensures c.layout-at2.ensures (ap solved-answer told.r3.given.1)
+    run-stopped (start run).pre run.run-raw.ensures c.layout-at2.ensures (ap solved_answer told.r3.given.1)
 
 pub run_from_spec : {M : Type 1} → statement M
 run_from_spec =

@@ -20,7 +20,7 @@ use Rattle.rows.specs.Layouts.{size}
 use Rattle.rows.specs.Formulas.{prefix_in, formula_in}
 use Rattle.rows.specs.declared.Layout.{Layout}
 use Rattle.decide.specs.declared.running.Ran.{Ran}
-use Rattle.decide.specs.Answers.{decision-of}
+use Rattle.decide.specs.Answers.{decision_of}
 use Rattle.decide.specs.Inner.Waiting.{Waiting, SetAside}
 use Rattle.decide.specs.Inner.Running.{Stops, Runs}
 use Rattle.decide.specs.Inner.Searching.{Branches, branched, one_more}
@@ -212,7 +212,7 @@ branch_prefix t c = ap (λ (f : Formula). f.prefix) (branch_formula t c)
 
 -- what the first half comes to
 branch_decided : (t : ℕ) (c : branch-lts.After-seek (branch_callees t) (branch_at t) branch.Post) → let a = (branch_start t (branch_placed t (branch_asked t c))).args in
-    decision-of c.seek.result ≡ zeroth (room a.first.now a.second.now) a.t a.stack.now a.budget
+    decision_of c.seek.result ≡ zeroth (room a.first.now a.second.now) a.t a.stack.now a.budget
 branch_decided t c =
     let h = branch_asked t c in
     let s = branch_placed t h in

@@ -1,7 +1,7 @@
 -- `packing::copies::pack_copied` packs an answer of the step one block out.
 -- Assumes nothing.
 use mathlib.Core.Path.{sym, ◌∙◌, ap}
-use Rattle.outer.specs.Answers.{outcome-answer}
+use Rattle.outer.specs.Answers.{outcome_answer}
 use Rattle.outer.specs.declared.Stepped.{Stepped}
 use Rattle.packing.specs.Copies.{packed_copied}
 use borrow.Author.Rules.{rules}
@@ -28,11 +28,11 @@ pack_requires_2 c κs = search rules
 
 returns : tie.Need-returns
 unfolding packed_copied
-returns c = c.pack.ensures ∙ ap (λ (a : Stepped). packed_copied (outcome-answer a)) (sym c.before.before.answer.given.1)
+returns c = c.pack.ensures ∙ ap (λ (a : Stepped). packed_copied (outcome_answer a)) (sym c.before.before.answer.given.1)
 
 returns_2 : tie.Need-returns-2
 unfolding packed_copied
-returns_2 c = c.pack2.ensures ∙ ap (λ (a : Stepped). packed_copied (outcome-answer a)) (sym c.before.before.answer2.given.1)
+returns_2 c = c.pack2.ensures ∙ ap (λ (a : Stepped). packed_copied (outcome_answer a)) (sym c.before.before.answer2.given.1)
 
 pub pack_copied_spec : {M : Type 1} → statement M
 pack_copied_spec =

@@ -2,7 +2,7 @@
 -- Assumes nothing.
 use mathlib.Core.Path.{sym, ◌∙◌, ap}
 use Prim.Native.Nat.{ℕ}
-use Rattle.force.specs.Answers.{outcome_of, forced-answer}
+use Rattle.force.specs.Answers.{outcome_of, forced_answer}
 use Rattle.force.specs.declared.Forced.{Forced}
 use Rattle.packing.specs.Panel.{packed_outcome, packed_forced}
 use borrow.Author.Rules.{rules}
@@ -27,7 +27,7 @@ pack_outcome_requires c κs = search rules
 returns : tie.Need-returns
 unfolding packed_forced
 returns c =
-    c.pack.ensures ∙ ap (λ (a : Forced). packed_forced (forced-answer a)) (sym c.before.before.answer.given.1)
+    c.pack.ensures ∙ ap (λ (a : Forced). packed_forced (forced_answer a)) (sym c.before.before.answer.given.1)
 
 returns_2 : tie.Need-returns-2
 unfolding packed_forced
@@ -35,7 +35,7 @@ returns_2 c =
     let told = c.before.before.before in
     c.pack-outcome.ensures ∙
     ap (λ (k : ℕ). packed_outcome k (outcome_of told.answer2.given.0.1.0)) c.before.kind-of.ensures ∙
-    ap (λ (a : Forced). packed_forced (forced-answer a)) (sym told.answer2.given.1)
+    ap (λ (a : Forced). packed_forced (forced_answer a)) (sym told.answer2.given.1)
 
 pub pack_forced_spec : {M : Type 1} → statement M
 pack_forced_spec =

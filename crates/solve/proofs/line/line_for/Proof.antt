@@ -3,7 +3,7 @@ use mathlib.Core.Path.{sym, ap, ◌∙◌}
 use borrow.Author.Rules.{rules}
 use Rattle.sheet.specs.Operations.{Word, line, line_of}
 use Rattle.solve.specs.declared.Solved.{Solved}
-use Rattle.solve.specs.Answers.{solved-answer}
+use Rattle.solve.specs.Answers.{solved_answer}
 use Rattle.solve.proofs.line.line_for.Statement.{statement}
 use Rattle.solve.proofs.line.line_for.Tie as tie
 
@@ -21,18 +21,18 @@ word_for_requires c κs = search rules
 
 returns : tie.Need-returns
 unfolding line_of
-returns c = ap (λ (a : Solved). line_of (solved-answer a)) (sym c.before.answer.given.1)
+returns c = ap (λ (a : Solved). line_of (solved_answer a)) (sym c.before.answer.given.1)
 
 returns_2 : tie.Need-returns-2
 unfolding line_of
-returns_2 c = ap (λ (a : Solved). line_of (solved-answer a)) (sym c.before.answer2.given.1)
+returns_2 c = ap (λ (a : Solved). line_of (solved_answer a)) (sym c.before.answer2.given.1)
 
 returns_3 : tie.Need-returns-3
 unfolding line_of
 returns_3 c =
     let told = c.before.before in
     ap (λ (w : Word). line w told.answer3.given.0.1.0 told.answer3.given.0.1.1.0 0) c.word_for.ensures ∙
-    ap (λ (a : Solved). line_of (solved-answer a)) (sym told.answer3.given.1)
+    ap (λ (a : Solved). line_of (solved_answer a)) (sym told.answer3.given.1)
 
 pub line_for_spec : {M : Type 1} → statement M
 line_for_spec =

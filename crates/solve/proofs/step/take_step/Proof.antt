@@ -1,7 +1,7 @@
 -- `solve::step::take_step` meets its contract. Assumes nothing.
 use mathlib.Core.Path.{refl, sym, ap, ◌∙◌}
 use borrow.Author.Rules.{rules}
-use Rattle.solve.specs.Answers.{decision-of}
+use Rattle.solve.specs.Answers.{decision_of}
 use Rattle.solve.proofs.Holding.{readable}
 use Rattle.solve.proofs.Arriving.{decided_end}
 use Rattle.solve.proofs.step.take_step.Statement.{statement}
@@ -26,7 +26,7 @@ open_step_requires c κs =
     let told = c.before.before.before in
     let decided = told.before.before in
     let a = start decided.before.before in
-    (a.pre.0, sym decided.decide.ensures ∙ ap decision-of told.enum_told.given.1, a.pre.1)
+    (a.pre.0, sym decided.decide.ensures ∙ ap decision_of told.enum_told.given.1, a.pre.1)
 
 same_length : tie.Need-same-length
 same_length c = search rules
@@ -35,7 +35,7 @@ returns : tie.Need-returns
 returns c =
     let told = c.before in
     let decided = told.before.before in
-    (decided_end (start decided.before.before).requires.0 (sym decided.decide.ensures ∙ ap decision-of told.d.given.1), refl, refl)
+    (decided_end (start decided.before.before).requires.0 (sym decided.decide.ensures ∙ ap decision_of told.d.given.1), refl, refl)
 
 same_length_2 : tie.Need-same-length-2
 same_length_2 c = search rules

@@ -7,7 +7,7 @@ use lib.ListN.{length}
 use borrow.Author.Rules.{rules}
 use Rattle.rows.specs.Formats.{format_of}
 use Rattle.rows.proofs.Limits.{sound}
-use Rattle.checking.specs.Answers.{written-answer}
+use Rattle.checking.specs.Answers.{written_answer}
 use Rattle.step_list.specs.Numbers.{record_count}
 use Rattle.step_list.proofs.Arrays.{Filled, turned_none, turned-part}
 use Rattle.step_list.proofs.Numbering.{turns_few, held_short, equals-whole, says_truth}
@@ -204,10 +204,10 @@ returns c =
     let end = (ended c).finish in (
       equals-whole (format_of a.f) a.sheet.now a.operations.now a.variables.now a.numbers.now a.values.now a.first.now a.second.now
           _ _ g.begin.kept.1.1.1.0 g.begin.kept.1.1.1.1.0 _ (counted g) g.begin.result g.begin.ensures
-          l.loop.inv.1 all (written-answer end.result) end.ensures,
+          l.loop.inv.1 all (written_answer end.result) end.ensures,
       says_truth (format_of a.f) a.sheet.now a.operations.now a.variables.now a.numbers.now a.values.now a.first.now a.second.now
           _ _ g.begin.kept.1.1.1.0 g.begin.kept.1.1.1.1.0 _ (counted g) g.begin.result g.begin.ensures
-          l.loop.inv.1 all (sound a.f) _ (written-answer end.result) end.ensures,
+          l.loop.inv.1 all (sound a.f) _ (written_answer end.result) end.ensures,
     )
 
 pub follow_numbers_spec : {M : Type 1} → statement M

@@ -9,7 +9,7 @@ use lib.Seq.{length-take-le}
 use Rattle.sheet.specs.Format.{Bytes}
 use Rattle.sheet.specs.Trace.{room}
 use Rattle.solve.specs.Inner.Running.{Stepped}
-use Rattle.solve.specs.Answers.{verdict-of}
+use Rattle.solve.specs.Answers.{verdict_of}
 use Rattle.solve.specs.declared.step.Step.{Step}
 use Rattle.solve.proofs.Arriving.{few_rows, sheet-room, some_left}
 use Rattle.strategy.proofs.Walking.{never_ended}
@@ -180,7 +180,7 @@ returns_2 c =
     let t = step_taken c.before.before.before in
     let a = begun t in
     absurd
-    (never_ended a.args.s a.pre.0.run.held a.pre.1 (verdict-of c.before.k2.given.0.0) (stepped t _ c.before.k2.given.1).0)
+    (never_ended a.args.s a.pre.0.run.held a.pre.1 (verdict_of c.before.k2.given.0.0) (stepped t _ c.before.k2.given.1).0)
 
 same_length_9 : tie.Need-same-length-9
 same_length_9 c = search rules

@@ -1,7 +1,7 @@
 -- `strategy::walk::take_turn` meets its contract. Assumes nothing.
 use mathlib.Core.Path.{refl, sym, ap, ◌∙◌}
 use borrow.Author.Rules.{rules}
-use Rattle.solve.specs.Answers.{verdict-of, decision-of}
+use Rattle.solve.specs.Answers.{verdict_of, decision_of}
 use Rattle.solve.proofs.Holding.{readable}
 use Rattle.strategy.proofs.walk.take_turn.Statement.{statement}
 use Rattle.strategy.proofs.walk.take_turn.Tie as tie
@@ -48,7 +48,7 @@ open_turn_requires c κs =
     let told = left_open c in
     let d = told.before.before in
     let p = (start d).pre in
-    (p.0, sym d.decide.ensures ∙ ap decision-of told.enum_told.given.1, p.1)
+    (p.0, sym d.decide.ensures ∙ ap decision_of told.enum_told.given.1, p.1)
 
 same_length : tie.Need-same-length
 same_length c = search rules
@@ -57,7 +57,7 @@ returns : tie.Need-returns
 returns c =
     let told = c.before in
     let d = told.before.before in
-    ((verdict-of told.c.given.0.0, sym d.decide.ensures ∙ ap decision-of told.c.given.1), refl, refl)
+    ((verdict_of told.c.given.0.0, sym d.decide.ensures ∙ ap decision_of told.c.given.1), refl, refl)
 
 same_length_2 : tie.Need-same-length-2
 same_length_2 c = search rules
