@@ -183,8 +183,12 @@ class Turner:
                 names = f.e["params"].get(f.callee[k], [])
                 if i < len(rest) and rest[i] == "0" and n < len(names):
                     rest = [RENAMED.get(rest[0], rest[0]), names[n]] + rest[i + 1:]
-            segs = [f.fields.get(k, RENAMED.get(segs[0], segs[0]))] + [RENAMED.get(s, s) if j == 0 else s for j, s in enumerate(rest)]
-        return ".".join([var] + segs)
+            if k == "args":
+                return ".".join([var] + segs)
+            first = f.fields.get(k) or {"good": "well_formed"}.get(segs[0]) or RENAMED.get(segs[0], segs[0])
+            segs = [first] + [RENAMED.get(s, s) if j == 0 else s for j, s in enumerate(rest)]
+        out = ".".join([var] + segs)
+        return f"⟦{out}⟧" if re.fullmatch(r"[^.]+\.if-not-[^.]+\.(true|false)", out) else out
 
     def chain(self, var, old):
         """A place as an argument."""
@@ -212,6 +216,24 @@ class Turner:
                         out.append(self.path(got[0], segs[n:]) if segs[n:] else self.argument(got[0], old, text, to))
                         at = to
                         continue
+            b = re.compile(r"λ ([^.()]+)\. ").match(text, at)
+            if b and set(b[1].split()) & set(self.env):
+                stop, depth = b.end(), 0
+                while stop < len(text):
+                    if text[stop] in "([{":
+                        depth += 1
+                    elif text[stop] in ")]}":
+                        depth -= 1
+                        if depth < 0:
+                            break
+                    stop += 1
+                kept = dict(self.env)
+                for n in b[1].split():
+                    self.env.pop(n, None)
+                out.append(b[0] + self.turn(text[b.end() : stop]))
+                self.env = kept
+                at = stop
+                continue
             m = WORD.match(text, at)
             if not m:
                 out.append(ch)
@@ -245,6 +267,26 @@ class Turner:
                 old = self.f.above(self.env[w][0], n)
                 out.append(self.path(w, segs[n:]) if segs[n:] else self.argument(w, old, text, to))
                 at = to
+                continue
+            if w in self.lemmas:
+                out.append(w)
+                at = m.end()
+                to = at
+                while to < len(text) and text[to].isspace():
+                    to += 1
+                if to < len(text) and text[to] == "(":
+                    e = closing(text, to) + 1
+                    _, e = segments(text, e)
+                else:
+                    a = WORD.match(text, to)
+                    _, e = segments(text, a.end()) if a else (None, to)
+                got = self.resolve(text[to:e])
+                there = self.f.final.get(self.lemmas[w])
+                if got and there:
+                    n = self.f.steps(self.env[got[0]][1], there)
+                    if n is not None:
+                        out.append(text[at:to] + got[0] + ".before" * n)
+                        at = e
                 continue
             if w in self.helpers:
                 rest = text[m.end():]
@@ -317,12 +359,22 @@ def drop_not(text):
             spans.append((start, i))
         second = text[spans[1][0] : spans[1][1]] if len(spans) == 2 else ""
         inner = second[1:-1] if second.startswith("(") and closing(second, 0) == len(second) - 1 else second
-        if re.fullmatch(r"[^\s()]+\.if-not-[^\s().]+\.(true|false)", inner):
-            out.append(text[at : m.start()] + inner)
+        if re.fullmatch(r"⟦[^⟧]*⟧", inner):
+            out.append(text[at : m.start()] + inner[1:-1])
             at = spans[1][1]
         else:
             out.append(text[at : m.end()])
             at = m.end()
+
+
+def bring(text, module, name):
+    """The text with a name of a module brought in."""
+    if re.search(rf"^use [^\n]*[{{ ,]{re.escape(name)}[}},]", text, re.M):
+        return text
+    m = re.search(rf"^use {re.escape(module)}\.{{([^}}]*)}}", text, re.M)
+    if m:
+        return text[: m.end() - 1] + ", " + name + text[m.end() - 1 :]
+    return re.sub(r"^use ", f"use {module}.{{{name}}}\nuse ", text, count=1, flags=re.M)
 
 
 def align(ours, news):
@@ -409,6 +461,10 @@ def rewrite(path, entry, say):
         # the signature and the clauses, but no comment or import
         out.append(chunk if chunk.startswith(("--", "use ")) else t.turn(chunk))
     body = drop_not("\n".join(out))
+    if "⟦" in body:
+        body = re.sub(r"\(⟦([^⟧]*)⟧\)|⟦([^⟧]*)⟧", lambda m: f"(ap not {m[1] or m[2]})", body)
+        body = bring(body, "mathlib.Core.Path", "ap")
+        body = bring(body, "mathlib.Core.Bool", "not")
     order = [heads.get(plain(n), n) for n in frames] + [got.get(n, n) for _, n in news]
     args = "".join(" " + heads.get(plain(n), n) for n in frames)
     if fresh:

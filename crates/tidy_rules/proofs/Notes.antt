@@ -127,7 +127,7 @@ pub unseen : {R : List Row} {from at to : ℕ} {before after : List Row} {done :
     → some_child (λ t. same_variable t (lit s x)) (live rest) ≡ false
 unfolding notes note live grown some_child same_variable
 unseen none s x h q = refl
-unseen (gone rs ◂ rest) s x h q = unseen rest s x (onward h) q
+unseen {at = at} (gone rs ◂ rest) s x h q = unseen {at = at + size (gone rs)} rest s x (onward h) q
 unseen (operator o ks ◂ rest) s x h q = unseen rest s x (onward h) (λ j l. q (suc j) (omega arith))
 unseen {R} {at = at} (literal s' v ◂ rest) s x h q =
     or-none (go (eqb v x) refl) (unseen rest s x (onward h) (λ j l. q (suc j) (omega arith)))
@@ -154,7 +154,7 @@ pub seen : {R : List Row} {from at to : ℕ} {before after : List Row} {done : S
     → at_row R (row_of (get_or (notes at rest) j 0)) ≡ row (literal_kind s) x → some_child (like s x) (live rest) ≡ true
 unfolding notes note live grown some_child
 seen none s x h j l e = absurd (omega arith)
-seen (gone rs ◂ rest) s x h j l e = seen rest s x (onward h) j l e
+seen {at = at} (gone rs ◂ rest) s x h j l e = seen {at = at + size (gone rs)} rest s x (onward h) j l e
 seen {R} {at = at} (operator o ks ◂ rest) s x h zero l e =
     absurd (no_literal o ks s (ap (λ (r : Row). r.kind) (sym (stands_row (stands h)) ∙ sym (ap (at_row R) (row_operator at o ks)) ∙ e)))
 seen (operator o ks ◂ rest) s x h (suc j) l e = or_later (like s x (node o (live ks))) (seen rest s x (onward h) j (omega arith) e)
@@ -168,7 +168,7 @@ pub member_lives : {R : List Row} {from at to : ℕ} {before after : List Row} {
     → Here R from at to before done rest after → (j : ℕ) → j < length (notes at rest) → LiveAt R (row_of (get_or (notes at rest) j 0))
 unfolding notes note live grown
 member_lives none h j l = absurd (omega arith)
-member_lives (gone rs ◂ rest) h j l = member_lives rest (onward h) j l
+member_lives {at = at} (gone rs ◂ rest) h j l = member_lives {at = at + size (gone rs)} rest (onward h) j l
 member_lives {R} {at = at} (literal s v ◂ rest) h zero l =
     subst (LiveAt R) (sym (row-note at s v)) (record { before = _; segment = literal s v; after = _; stands = stands h; tree = _; holds = refl })
 member_lives (literal s v ◂ rest) h (suc j) l = member_lives rest (onward h) j (omega arith)
@@ -211,7 +211,7 @@ module _ (u : Tree) where
       → Here R from at to before done rest after → Fresh R (notes at rest) → some_child (λ t. same_tree t u) (live rest) ≡ false
   unfolding notes note live grown some_child hash
   unseen_duplicate none h q = refl
-  unseen_duplicate (gone rs ◂ rest) h q = unseen_duplicate rest (onward h) q
+  unseen_duplicate {at = at} (gone rs ◂ rest) h q = unseen_duplicate {at = at + size (gone rs)} rest (onward h) q
   unseen_duplicate (literal s v ◂ rest) h q =
       or-none (differs (literal s v) (lit s v) (stands h) refl (q 0 (omega arith))) (unseen_duplicate rest (onward h) (λ j l. q (suc j) (omega arith)))
   unseen_duplicate (operator o ks ◂ rest) h q =
@@ -224,7 +224,7 @@ pub seen_duplicate : {R : List Row} {from at to q : ℕ} {before after front bac
     → some_child (λ t. same_tree t u) (live rest) ≡ true
 unfolding notes note live grown some_child
 seen_duplicate none y u g e h j l d = absurd (omega arith)
-seen_duplicate (gone rs ◂ rest) y u g e h j l d = seen_duplicate rest y u g e (onward h) j l d
+seen_duplicate {at = at} (gone rs ◂ rest) y u g e h j l d = seen_duplicate {at = at + size (gone rs)} rest y u g e (onward h) j l d
 seen_duplicate {R} {at = at} {q = q} (literal s v ◂ rest) y u g e h zero l d =
     ap (λ b. b || some_child (λ t. same_tree t u) (live rest))
     (sym (subst (λ p. Same R p q true) (row-note at s v) d _ (literal s v) _ (stands h) _ refl _ y _ g u e))

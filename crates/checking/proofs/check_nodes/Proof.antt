@@ -14,96 +14,92 @@ use Rattle.checking.proofs.RowTests.{Noded, nodes-none, nodes-all, node-kind, no
 use Rattle.checking.proofs.check_nodes.Statement.{statement}
 use Rattle.checking.proofs.check_nodes.Tie as tie
 
-abbrev invariant-loop : tie.invariant-loop
-invariant-loop sheet s bound end r₀ r = Noded (rows_in s sheet) (bound_in s sheet) s.variables (sizes s) r
+abbrev invariant-loop-r : tie.invariant-loop-r
+invariant-loop-r sheet s bound end r₀ r = Noded (rows_in s sheet) (bound_in s sheet) s.variables (sizes s) r
 
-abbrev decreases-loop : tie.decreases-loop
-decreases-loop sheet s bound end r₀ r = end - r
+abbrev decreases-loop-r : tie.decreases-loop-r
+decreases-loop-r sheet s bound end r₀ r = end - r
 
--- places in the code, each from a later one
-abbrev entry : tie.At-loop invariant-loop decreases-loop → tie.Start invariant-loop decreases-loop
-entry c = c.before.before.before
+overflow_add-end : tie.Need-overflow_add-end invariant-loop-r decreases-loop-r
+overflow_add-end c = omega arith
 
-add_end : tie.Need-overflow-add-end invariant-loop decreases-loop
-add_end c = omega arith
-
-all : (c : tie.Start invariant-loop decreases-loop)
+all : (c : tie.Start invariant-loop-r decreases-loop-r)
     → length (rows_in c.args.s c.args.sheet.now) ≡ total c.args.s
 all c = length-rows_in c.args.sheet.now c.requires.0.room
 
-loop_holds : tie.Need-loop-init invariant-loop decreases-loop
-loop_holds c = nodes-none _ _ _ _ (omega (arith, all c.before.before))
+loop-r-init : tie.Need-loop-r-init invariant-loop-r decreases-loop-r
+loop-r-init c = nodes-none _ _ _ _ (omega (arith, all c.before.before))
 
-kind_at_requires : tie.Need-kind-at-requires invariant-loop decreases-loop
-kind_at_requires c κs = ((entry c.before).pre.0.room, c.loop-test.true)
+kind_at-requires : tie.Need-kind_at-requires invariant-loop-r decreases-loop-r
+kind_at-requires c κs = (c.requires.0.room, c.loop-r-test.true)
 
-is_node_requires : tie.Need-is-node-requires invariant-loop decreases-loop
-is_node_requires c κs = tt
+is_node-node-requires : tie.Need-is_node-node-requires invariant-loop-r decreases-loop-r
+is_node-node-requires c κs = tt
 
-is_unbound_requires : tie.Need-is-unbound-requires invariant-loop decreases-loop
-is_unbound_requires c κs =
-    let turn = c.before.before in
-    let start = entry turn.before in
-    (start.pre.0.room, turn.loop-test.true, start.pre.1.entries)
+is_unbound-unbound-requires : tie.Need-is_unbound-unbound-requires invariant-loop-r decreases-loop-r
+is_unbound-unbound-requires c κs =
+    let turn = c in
+    let start = turn in
+    (start.requires.0.room, turn.loop-r-test.true, start.requires.1.entries)
 
-more : (c : tie.In-loop invariant-loop decreases-loop)
-    → let a = (entry c.before).args in
-    c.before.loop.r < length (rows_in a.s a.sheet.now)
-more c = omega (arith, all (entry c.before))
+more : (c : tie.In-loop-r invariant-loop-r decreases-loop-r)
+    → let a = c.args in
+    c.loop-r.r < length (rows_in a.s a.sheet.now)
+more c = omega (arith, all c.before.before.before.before)
 
-kind_here : (c : tie.After-is-node invariant-loop decreases-loop)
-    → let a = (entry c.before.before.before).args in
-    node (get_or (rows_in a.s a.sheet.now) c.before.before.before.loop.r (row 0 0)).kind ≡ c.is-node.result
-kind_here c = sym (c.is-node.ensures ∙ ap node c.before.kind_at.ensures)
+kind_here : (c : tie.After-is_node-node invariant-loop-r decreases-loop-r)
+    → let a = c.args in
+    node (get_or (rows_in a.s a.sheet.now) c.loop-r.r (row 0 0)).kind ≡ c.is_node-node.result
+kind_here c = sym (c.is_node-node.ensures ∙ ap node c.kind_at.ensures)
 
-returns : tie.Need-returns invariant-loop decreases-loop
+returns-then-not-node : tie.Need-returns-then-not-node invariant-loop-r decreases-loop-r
 unfolding node_rows_in
-returns c =
-    let k = c.before.before in
-    let turn = k.before.before in
-    ap (checked_as _) (node-kind _ _ _ _ (more turn) turn.before.loop.invariant (kind_here k ∙ not-true _ c.if1.true))
+returns-then-not-node c =
+    let k = c in
+    let turn = k in
+    ap (checked_as _) (node-kind _ _ _ _ (more turn.before.before.before.before) turn.loop-r.invariant (kind_here k.before.before ∙ c.if-not-node.true))
 
-returns_2 : tie.Need-returns-2 invariant-loop decreases-loop
+returns-then-unbound : tie.Need-returns-then-unbound invariant-loop-r decreases-loop-r
 unfolding node_rows_in
-returns_2 c =
-    let u = c.before.before in
-    let turn = u.before.before.before in
-    let start = entry turn.before in
-    ap (checked_as _) (node-unbound _ _ _ _ (more turn) turn.before.loop.invariant (kind_here u.before ∙ not-false _ c.before.if1.false)
-    start.args.bound.now start.pre.1 (sym u.is-unbound.ensures ∙ c.if2.true))
+returns-then-unbound c =
+    let u = c in
+    let turn = u in
+    let start = turn in
+    ap (checked_as _) (node-unbound _ _ _ _ (more turn.before.before.before.before.before) turn.loop-r.invariant (kind_here u.before.before.before ∙ c.if-not-node.false)
+    start.args.bound.now start.requires.1 (sym u.is_unbound-unbound.ensures ∙ c.if-unbound.true))
 
-add_r : tie.Need-overflow-add-r invariant-loop decreases-loop
-add_r c = omega arith
+overflow_add-r : tie.Need-overflow_add-r invariant-loop-r decreases-loop-r
+overflow_add-r c = omega arith
 
-loop_less : tie.Need-loop-smaller invariant-loop decreases-loop
-loop_less c = omega arith
+loop-r-smaller : tie.Need-loop-r-smaller invariant-loop-r decreases-loop-r
+loop-r-smaller c = omega arith
 
-loop_again : tie.Need-loop-preserved invariant-loop decreases-loop
-loop_again c =
-    let u = c.before.before in
-    let turn = u.before.before.before in
-    let start = entry turn.before in
-    node-turn _ _ _ _ (more turn) turn.before.loop.invariant (kind_here u.before ∙ not-false _ c.before.if1.false)
-    start.args.bound.now start.pre.1 (sym u.is-unbound.ensures ∙ c.if2.false)
+loop-r-preserved : tie.Need-loop-r-preserved invariant-loop-r decreases-loop-r
+loop-r-preserved c =
+    let u = c in
+    let turn = u in
+    let start = turn in
+    node-turn _ _ _ _ (more turn.before.before.before.before.before) turn.loop-r.invariant (kind_here u.before.before.before ∙ c.if-not-node.false)
+    start.args.bound.now start.requires.1 (sym u.is_unbound-unbound.ensures ∙ c.if-unbound.false)
 
-returns_3 : tie.Need-returns-3 invariant-loop decreases-loop
+returns : tie.Need-returns invariant-loop-r decreases-loop-r
 unfolding node_rows_in
-returns_3 c = ap (checked_as _) (nodes-all _ _ _ _ (omega (arith, all (entry c.before))) c.before.loop.invariant)
+returns c = ap (checked_as _) (nodes-all _ _ _ _ (omega (arith, all c.before.before.before.before)) c.loop-r.invariant)
 
 pub check_nodes_spec : {M : Type 1} → statement M
 check_nodes_spec =
     tie.close
     (tie.spec
-    invariant-loop
-    decreases-loop
-    add_end
-    loop_holds
-    kind_at_requires
-    is_node_requires
-    is_unbound_requires
-    returns
-    returns_2
-    add_r
-    loop_less
-    loop_again
-    returns_3)
+    invariant-loop-r
+    decreases-loop-r
+    overflow_add-end
+    loop-r-init
+    kind_at-requires
+    is_node-node-requires
+    is_unbound-unbound-requires
+    returns-then-not-node
+    returns-then-unbound
+    overflow_add-r
+    loop-r-smaller
+    loop-r-preserved
+    returns)

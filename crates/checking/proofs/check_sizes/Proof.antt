@@ -1,4 +1,5 @@
 -- `checking::check_sizes` meets its contract: each return is the first of the three tests that fails. Assumes nothing.
+use borrow.Author.Tests.{eq-eqb, ne_eqb}
 use mathlib.Core.Path.{sym, ap, ◌∙◌}
 use borrow.Author.Rules.{rules}
 use native.Mathlib.Omega.{arith}
@@ -10,74 +11,70 @@ use Rattle.checking.proofs.Sizes.{SizesRead, too_short, size_outside, wrong_leng
 use Rattle.checking.proofs.check_sizes.Statement.{statement}
 use Rattle.checking.proofs.check_sizes.Tie as tie
 
--- places in the code, each from a later one
-abbrev opened : tie.After-nodes-at → tie.After-header
-opened c = c.before.before.before
+header-requires : tie.Need-header-requires
+header-requires c κs = search rules
 
-header_requires : tie.Need-header-requires
-header_requires c κs = search rules
+returns-then-sheet-header : tie.Need-returns-then-sheet-header
+returns-then-sheet-header c =
+    let a = c.args in
+    ap (checked_as _) (too_short a.f a.sheet.now (omega (arith, c.header.ensures)))
+
+variables_at-v-requires : tie.Need-variables_at-v-requires
+variables_at-v-requires c κs = search rules
+
+nodes_at-n-requires : tie.Need-nodes_at-n-requires
+nodes_at-n-requires c κs = search rules
+
+is_outside-outside-requires : tie.Need-is_outside-outside-requires
+is_outside-outside-requires c κs = search rules
+
+sheet_length-requires : tie.Need-sheet_length-requires
+sheet_length-requires c κs = search rules
+
+abbrev file : tie.After-nodes_at-n → Format
+file c = c.args.f
+
+read : (c : tie.After-nodes_at-n)
+    → SizesRead (format_of (file c)) c.args.sheet.now
+    c.variables_at-v.result c.nodes_at-n.result
+read c =
+    record {
+      long_enough = omega (arith, c.if-sheet-header.false, c.header.ensures);
+      variables_read = c.variables_at-v.ensures.0;
+      nodes_read = c.nodes_at-n.ensures.0;
+    }
+
+returns-then-outside : tie.Need-returns-then-outside
+returns-then-outside c =
+    let o = c in
+    ap (checked_as _) (size_outside (file o.before.before.before) _ _ _ (read o.before.before.before) (sym o.is_outside-outside.ensures ∙ c.if-outside.true))
+
+returns-then-not-exact : tie.Need-returns-then-not-exact
+returns-then-not-exact c =
+    let l = c in
+    let o = l in
+    ap (checked_as _)
+    (wrong_length (file o.before.before.before.before) _ _ _ (read o.before.before.before.before) (sym o.is_outside-outside.ensures ∙ c.if-outside.false) l.sheet_length.ensures
+    (ne_eqb _ _ c.if-not-exact.true))
 
 returns : tie.Need-returns
 returns c =
-    let a = c.before.before.before.args in
-    ap (checked_as _) (too_short a.f a.sheet.now (omega (arith, c.before.header.ensures)))
-
-variables_at_requires : tie.Need-variables-at-requires
-variables_at_requires c κs = search rules
-
-nodes_at_requires : tie.Need-nodes-at-requires
-nodes_at_requires c κs = search rules
-
-is_outside_requires : tie.Need-is-outside-requires
-is_outside_requires c κs = search rules
-
-sheet_length_requires : tie.Need-sheet-length-requires
-sheet_length_requires c κs = search rules
-
-abbrev file : tie.After-nodes-at → Format
-file c = (opened c).before.before.args.f
-
-read : (c : tie.After-nodes-at)
-    → SizesRead (format_of (file c)) (opened c).before.before.args.sheet.now
-    c.before.variables-at.result c.nodes-at.result
-read c =
-    record {
-      long_enough = omega (arith, c.before.before.if1.false, c.before.before.before.header.ensures);
-      variables_read = c.before.variables-at.ensures.0;
-      nodes_read = c.nodes-at.ensures.0;
-    }
-
-returns_2 : tie.Need-returns-2
-returns_2 c =
-    let o = c.before.before in
-    ap (checked_as _) (size_outside (file o.before) _ _ _ (read o.before) (sym o.is-outside.ensures ∙ c.if2.true))
-
-returns_3 : tie.Need-returns-3
-returns_3 c =
-    let l = c.before.before in
-    let o = l.before in
+    let l = c in
+    let o = l in
     ap (checked_as _)
-    (wrong_length (file o.before) _ _ _ (read o.before) (sym o.is-outside.ensures ∙ c.before.if2.false) l.sheet_length.ensures
-    (not-true _ c.if3.true))
-
-returns_4 : tie.Need-returns-4
-returns_4 c =
-    let l = c.before.before in
-    let o = l.before in
-    ap (checked_as _)
-    (right_length (file o.before) _ _ _ (read o.before) (sym o.is-outside.ensures ∙ c.before.if2.false) l.sheet_length.ensures
-    (not-false _ c.if3.false))
+    (right_length (file o.before.before.before.before) _ _ _ (read o.before.before.before.before) (sym o.is_outside-outside.ensures ∙ c.if-outside.false) l.sheet_length.ensures
+    (eq-eqb _ _ c.if-not-exact.false))
 
 pub check_sizes_spec : {M : Type 1} → statement M
 check_sizes_spec =
     tie.close
     (tie.spec
-    header_requires
-    returns
-    variables_at_requires
-    nodes_at_requires
-    is_outside_requires
-    sheet_length_requires
-    returns_2
-    returns_3
-    returns_4)
+    header-requires
+    returns-then-sheet-header
+    variables_at-v-requires
+    nodes_at-n-requires
+    is_outside-outside-requires
+    sheet_length-requires
+    returns-then-outside
+    returns-then-not-exact
+    returns)

@@ -12,15 +12,11 @@ use Rattle.checking.proofs.Debt.{tree_owed, tree_early, tree_whole}
 use Rattle.checking.proofs.check_tree.Statement.{statement}
 use Rattle.checking.proofs.check_tree.Tie as tie
 
--- places in the code, each from a later one
-abbrev walked : tie.After-struct-known3 → tie.After-walk
-walked c = c.before.before.before
+overflow_add-end : tie.Need-overflow_add-end
+overflow_add-end c = search rules
 
-add_end : tie.Need-overflow-add-end
-add_end c = search rules
-
-walk_requires : tie.Need-walk-requires
-walk_requires c κs = search rules
+walk-reached-requires : tie.Need-walk-reached-requires
+walk-reached-requires c κs = search rules
 
 end : (c : tie.Start) → total c.args.s ≡ c.args.s.variables + length (node_rows_in c.args.s c.args.sheet.now)
 unfolding node_rows_in
@@ -28,23 +24,28 @@ end c =
     let a = c.args in
     omega (arith, length-rows_in a.sheet.now c.requires.room, length-drop a.s.variables (rows_in a.s a.sheet.now))
 
+returns-then-reached-ne0 : tie.Need-returns-then-reached-ne0
+unfolding node_rows_in
+returns-then-reached-ne0 c =
+    let w = c in
+    ap (checked_as _) (tree_owed _ _ _ _ (end w.before.before.before.before.before) w.walk-reached.result w.walk-reached.ensures c.if-reached-ne0.true)
+
+returns-then-reached-end : tie.Need-returns-then-reached-end
+unfolding node_rows_in
+returns-then-reached-end c =
+    let w = c in
+    ap (checked_as _) (tree_early _ _ _ _ (end w.before.before.before.before.before.before.before) w.walk-reached.result w.walk-reached.ensures c.if-reached-ne0.false c.if-reached-end.true)
+
 returns : tie.Need-returns
 unfolding node_rows_in
 returns c =
-    let w = c.before.before in
-    ap (checked_as _) (tree_owed _ _ _ _ (end w.before.before.before) w.walk.result w.walk.ensures c.if1.true)
-
-returns_2 : tie.Need-returns-2
-unfolding node_rows_in
-returns_2 c =
-    let w = walked c.before in
-    ap (checked_as _) (tree_early _ _ _ _ (end w.before.before.before) w.walk.result w.walk.ensures c.before.before.if1.false c.if2.true)
-
-returns_3 : tie.Need-returns-3
-unfolding node_rows_in
-returns_3 c =
-    let w = walked c.before in
-    ap (checked_as _) (tree_whole _ _ _ _ (end w.before.before.before) w.walk.result w.walk.ensures c.before.before.if1.false c.if2.false)
+    let w = c in
+    ap (checked_as _) (tree_whole _ _ _ _ (end w.before.before.before.before.before.before.before) w.walk-reached.result w.walk-reached.ensures c.if-reached-ne0.false c.if-reached-end.false)
 
 pub check_tree_spec : {M : Type 1} → statement M
-check_tree_spec = tie.close (tie.spec add_end walk_requires returns returns_2 returns_3)
+check_tree_spec = tie.close (tie.spec
+    overflow_add-end
+    walk-reached-requires
+    returns-then-reached-ne0
+    returns-then-reached-end
+    returns)

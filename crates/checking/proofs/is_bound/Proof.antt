@@ -7,16 +7,19 @@ use lib.ListN.{get_or-eq_default}
 use Rattle.checking.proofs.is_bound.Statement.{statement}
 use Rattle.checking.proofs.is_bound.Tie as tie
 
-element_copy_out_result : tie.Need-element-copy-out-result
-element_copy_out_result c = search rules
+bounds-bound-x : tie.Need-bounds-bound-x
+bounds-bound-x c = search rules
+
+returns-then-x-lt-NUMBERS : tie.Need-returns-then-x-lt-NUMBERS
+returns-then-x-lt-NUMBERS c = search rules
 
 returns : tie.Need-returns
-returns c = search rules
-
-returns_2 : tie.Need-returns-2
-returns_2 c =
-    let a = c.before in
+returns c =
+    let a = c in
     sym (get_or-eq_default a.args.bound.now false (omega arith))
 
 pub is_bound_spec : {M : Type 1} → statement M
-is_bound_spec = tie.close (tie.spec element_copy_out_result returns returns_2)
+is_bound_spec = tie.close (tie.spec
+    bounds-bound-x
+    returns-then-x-lt-NUMBERS
+    returns)

@@ -3,11 +3,13 @@ use borrow.Author.Tests.{le-leb, lt-leb}
 use Rattle.checking.proofs.is_node.Statement.{statement}
 use Rattle.checking.proofs.is_node.Tie as tie
 
-returns : tie.Need-returns
-returns c = rw (lt-leb 3 c.before.args.kind c.if1.true)
+returns-then-kind-lt-POSITIVE : tie.Need-returns-then-kind-lt-POSITIVE
+returns-then-kind-lt-POSITIVE c = rw (lt-leb 3 c.args.kind c.if-kind-lt-POSITIVE.true)
 
-returns_2 : tie.Need-returns-2
-returns_2 c = rw (le-leb 3 c.before.args.kind c.if1.false)
+returns : tie.Need-returns
+returns c = rw (le-leb 3 c.args.kind c.if-kind-lt-POSITIVE.false)
 
 pub is_node_spec : {M : Type 1} → statement M
-is_node_spec = tie.close (tie.spec returns returns_2)
+is_node_spec = tie.close (tie.spec
+    returns-then-kind-lt-POSITIVE
+    returns)

@@ -7,31 +7,36 @@ use Rattle.checking.proofs.is_outside.Statement.{statement}
 use Rattle.checking.proofs.is_outside.Tie as tie
 use borrow.Author.Rules.{rules}
 
-most_variables_requires : tie.Need-most-variables-requires
-most_variables_requires c κs = search rules
+most_variables-requires : tie.Need-most_variables-requires
+most_variables-requires c κs = search rules
+
+returns-then-most_variables-v : tie.Need-returns-then-most_variables-v
+returns-then-most_variables-v c =
+    rw (lt-ltb _ c.args.v (rw c.most_variables.ensures at c.if-most_variables-v.true))
+
+returns-then-n-eq0 : tie.Need-returns-then-n-eq0
+returns-then-n-eq0 c =
+    let a = c.args in
+    rw (eq-eqb a.n 0 c.if-n-eq0.true, or-true (ltb (format_of a.f).most_variables a.v))
+
+most_nodes-requires : tie.Need-most_nodes-requires
+most_nodes-requires c κs = search rules
 
 returns : tie.Need-returns
 returns c =
-    rw (lt-ltb _ c.before.before.args.v (rw c.before.most_variables.ensures at c.if1.true))
-
-returns_2 : tie.Need-returns-2
-returns_2 c =
-    let a = c.before.before.before.args in
-    rw (eq-eqb a.n 0 c.if2.true, or-true (ltb (format_of a.f).most_variables a.v))
-
-most_nodes_requires : tie.Need-most-nodes-requires
-most_nodes_requires c κs = search rules
-
-returns_3 : tie.Need-returns-3
-returns_3 c =
-    let first = c.before.before in
-    let a = first.before.before.args in
+    let first = c in
+    let a = first.args in
     rw (
-      le-ltb _ a.v (rw first.before.most_variables.ensures at first.if1.false),
-      ne_eqb a.n 0 c.before.if2.false,
+      le-ltb _ a.v (rw first.most_variables.ensures at first.if-most_variables-v.false),
+      ne_eqb a.n 0 c.if-n-eq0.false,
       ← c.most_nodes.ensures,
     )
 
 pub is_outside_spec : {M : Type 1} → statement M
 is_outside_spec =
-    tie.close (tie.spec most_variables_requires returns returns_2 most_nodes_requires returns_3)
+    tie.close (tie.spec
+    most_variables-requires
+    returns-then-most_variables-v
+    returns-then-n-eq0
+    most_nodes-requires
+    returns)

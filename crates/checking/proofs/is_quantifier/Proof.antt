@@ -3,11 +3,13 @@ use borrow.Author.Tests.{eq-eqb, ne_eqb}
 use Rattle.checking.proofs.is_quantifier.Statement.{statement}
 use Rattle.checking.proofs.is_quantifier.Tie as tie
 
-returns : tie.Need-returns
-returns c = rw (eq-eqb c.before.args.kind 1 c.if1.true)
+returns-then-kind-eq-EXISTS : tie.Need-returns-then-kind-eq-EXISTS
+returns-then-kind-eq-EXISTS c = rw (eq-eqb c.args.kind 1 c.if-kind-eq-EXISTS.true)
 
-returns_2 : tie.Need-returns-2
-returns_2 c = rw (ne_eqb c.before.args.kind 1 c.if1.false)
+returns : tie.Need-returns
+returns c = rw (ne_eqb c.args.kind 1 c.if-kind-eq-EXISTS.false)
 
 pub is_quantifier_spec : {M : Type 1} → statement M
-is_quantifier_spec = tie.close (tie.spec returns returns_2)
+is_quantifier_spec = tie.close (tie.spec
+    returns-then-kind-eq-EXISTS
+    returns)

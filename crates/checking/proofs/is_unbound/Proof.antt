@@ -10,30 +10,31 @@ use Rattle.checking.proofs.Bound.{unbound_operator, unbound-literal}
 use Rattle.checking.proofs.is_unbound.Statement.{statement}
 use Rattle.checking.proofs.is_unbound.Tie as tie
 
--- places in the code, each from a later one
-abbrev kind_read : tie.After-is-bound → tie.After-kind-at
-kind_read c = c.before.before.before
+kind_at-requires : tie.Need-kind_at-requires
+kind_at-requires c κs = search rules
 
-kind_at_requires : tie.Need-kind-at-requires
-kind_at_requires c κs = search rules
+returns-then-kind_at-gt-NEGATIVE : tie.Need-returns-then-kind_at-gt-NEGATIVE
+returns-then-kind_at-gt-NEGATIVE c =
+    let a = c.args in
+    sym (unbound_operator a.bound.now (get_or (rows_in a.s a.sheet.now) a.r (row 0 0)) (omega arith))
+
+argument_at-requires : tie.Need-argument_at-requires
+argument_at-requires c κs = search rules
+
+is_bound-requires : tie.Need-is_bound-requires
+is_bound-requires c κs = search rules
 
 returns : tie.Need-returns
 returns c =
-    let a = c.before.before.before.args in
-    sym (unbound_operator a.bound.now (get_or (rows_in a.s a.sheet.now) a.r (row 0 0)) (omega arith))
-
-argument_at_requires : tie.Need-argument-at-requires
-argument_at_requires c κs = search rules
-
-is_bound_requires : tie.Need-is-bound-requires
-is_bound_requires c κs = search rules
-
-returns_2 : tie.Need-returns-2
-returns_2 c =
-    let a = (kind_read c).before.before.args in
-    ap not (c.is_bound.ensures ∙ ap (λ x. get_or a.bound.now x false) c.before.argument-at.ensures.0) ∙
+    let a = c.args in
+    ap not (c.is_bound.ensures ∙ ap (λ x. get_or a.bound.now x false) c.argument_at.ensures.0) ∙
     sym (unbound-literal a.bound.now (get_or (rows_in a.s a.sheet.now) a.r (row 0 0)) (omega arith))
 
 pub is_unbound_spec : {M : Type 1} → statement M
 is_unbound_spec =
-    tie.close (tie.spec kind_at_requires returns argument_at_requires is_bound_requires returns_2)
+    tie.close (tie.spec
+    kind_at-requires
+    returns-then-kind_at-gt-NEGATIVE
+    argument_at-requires
+    is_bound-requires
+    returns)

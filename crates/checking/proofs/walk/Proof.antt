@@ -9,67 +9,63 @@ use Rattle.checking.proofs.Debt.{Walking, walk_none, walk_turn, walk_paid, walk_
 use Rattle.checking.proofs.walk.Statement.{statement}
 use Rattle.checking.proofs.walk.Tie as tie
 
-abbrev invariant-loop : tie.invariant-loop
-invariant-loop sheet s from end owed₀ row₀ owed row = Walking (rows_in s sheet) from owed row
+abbrev invariant-loop-row : tie.invariant-loop-row
+invariant-loop-row sheet s from end owed₀ row₀ owed row = Walking (rows_in s sheet) from owed row
 
-abbrev decreases-loop : tie.decreases-loop
-decreases-loop sheet s from end owed₀ row₀ owed row = end - row
+abbrev decreases-loop-row : tie.decreases-loop-row
+decreases-loop-row sheet s from end owed₀ row₀ owed row = end - row
 
--- places in the code, each from a later one
-abbrev entry : tie.At-loop invariant-loop decreases-loop → tie.Start invariant-loop decreases-loop
-entry c = c.before.before.before
+overflow_add-end : tie.Need-overflow_add-end invariant-loop-row decreases-loop-row
+overflow_add-end c = omega arith
 
-add_end : tie.Need-overflow-add-end invariant-loop decreases-loop
-add_end c = omega arith
-
-all : (c : tie.Start invariant-loop decreases-loop) → length (rows_in c.args.s c.args.sheet.now) ≡ total c.args.s
+all : (c : tie.Start invariant-loop-row decreases-loop-row) → length (rows_in c.args.s c.args.sheet.now) ≡ total c.args.s
 all c = length-rows_in c.args.sheet.now c.requires.0.room
 
-loop_holds : tie.Need-loop-init invariant-loop decreases-loop
-loop_holds c = walk_none _ _ (omega (arith, all c.before.before))
+loop-row-init : tie.Need-loop-row-init invariant-loop-row decreases-loop-row
+loop-row-init c = walk_none _ _ (omega (arith, all c.before.before))
 
-returns : tie.Need-returns invariant-loop decreases-loop
-returns c = walk_paid _ _ c.if1.true c.before.before.loop.invariant
+returns-then-owed-eq0 : tie.Need-returns-then-owed-eq0 invariant-loop-row decreases-loop-row
+returns-then-owed-eq0 c = walk_paid _ _ c.if-owed-eq0.true c.loop-row.invariant
 
-sub_owed : tie.Need-overflow-sub-owed invariant-loop decreases-loop
-sub_owed c = omega (arith, c.if1.false)
+overflow_sub-owed : tie.Need-overflow_sub-owed invariant-loop-row decreases-loop-row
+overflow_sub-owed c = omega (arith, c.if-owed-eq0.false)
 
-children_at_requires : tie.Need-children-at-requires invariant-loop decreases-loop
-children_at_requires c κs = ((entry c.before.before).pre.0.room, c.before.loop-test.true)
+children_at-requires : tie.Need-children_at-requires invariant-loop-row decreases-loop-row
+children_at-requires c κs = (c.requires.0.room, c.loop-row-test.true)
 
 -- every row adds less than 2^32, and there are less than 2^16
-add_owed : tie.Need-overflow-add-owed invariant-loop decreases-loop
-add_owed c = omega arith
+overflow_add-owed : tie.Need-overflow_add-owed invariant-loop-row decreases-loop-row
+overflow_add-owed c = omega arith
 
-add_row : tie.Need-overflow-add-row invariant-loop decreases-loop
-add_row c = omega arith
+overflow_add-row : tie.Need-overflow_add-row invariant-loop-row decreases-loop-row
+overflow_add-row c = omega arith
 
-loop_less : tie.Need-loop-smaller invariant-loop decreases-loop
-loop_less c = omega arith
+loop-row-smaller : tie.Need-loop-row-smaller invariant-loop-row decreases-loop-row
+loop-row-smaller c = omega arith
 
-loop_again : tie.Need-loop-preserved invariant-loop decreases-loop
-loop_again c =
-    let turn = c.before.before in
-    let more = turn.loop-test.true in
-    walk_turn _ _ (omega (arith, all (entry turn.before))) c.before.if1.false c.children-at.ensures.0
-    c.children-at.ensures.1 turn.before.loop.invariant
+loop-row-preserved : tie.Need-loop-row-preserved invariant-loop-row decreases-loop-row
+loop-row-preserved c =
+    let turn = c in
+    let more = turn.loop-row-test.true in
+    walk_turn _ _ (omega (arith, all turn.before.before.before.before.before.before)) c.if-owed-eq0.false c.children_at.ensures.0
+    c.children_at.ensures.1 turn.loop-row.invariant
 
-returns_2 : tie.Need-returns-2 invariant-loop decreases-loop
-returns_2 c = walk_out _ _ (omega (arith, all (entry c.before))) c.before.loop.invariant
+returns : tie.Need-returns invariant-loop-row decreases-loop-row
+returns c = walk_out _ _ (omega (arith, all c.before.before.before.before)) c.loop-row.invariant
 
 pub walk_spec : {M : Type 1} → statement M
 walk_spec =
     tie.close
     (tie.spec
-    invariant-loop
-    decreases-loop
-    add_end
-    loop_holds
-    returns
-    sub_owed
-    children_at_requires
-    add_owed
-    add_row
-    loop_less
-    loop_again
-    returns_2)
+    invariant-loop-row
+    decreases-loop-row
+    overflow_add-end
+    loop-row-init
+    returns-then-owed-eq0
+    overflow_sub-owed
+    children_at-requires
+    overflow_add-owed
+    overflow_add-row
+    loop-row-smaller
+    loop-row-preserved
+    returns)

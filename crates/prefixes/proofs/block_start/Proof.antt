@@ -5,75 +5,71 @@ use Rattle.prefixes.proofs.Walks.{Block, last_row, one_more, other_kind, at_firs
 use Rattle.prefixes.proofs.block_start.Statement.{statement}
 use Rattle.prefixes.proofs.block_start.Tie as tie
 
-abbrev invariant-loop : tie.invariant-loop
-invariant-loop b s i₀ exists i = Block s b exists i
+abbrev invariant-loop-i : tie.invariant-loop-i
+invariant-loop-i b s i₀ exists i = Block s b exists i
 
-abbrev decreases-loop : tie.decreases-loop
-decreases-loop b s i₀ exists i = i
+abbrev decreases-loop-i : tie.decreases-loop-i
+decreases-loop-i b s i₀ exists i = i
 
--- places in the code, each from a later one
-abbrev start : tie.After-is-existential invariant-loop decreases-loop → tie.Start invariant-loop decreases-loop
-start c = c.before.before.before
+overflow_sub-i : tie.Need-overflow_sub-i invariant-loop-i decreases-loop-i
+overflow_sub-i c = omega arith
 
-sub_i : tie.Need-overflow-sub-i invariant-loop decreases-loop
-sub_i c = omega arith
+is_existential-exists-requires : tie.Need-is_existential-exists-requires invariant-loop-i decreases-loop-i
+is_existential-exists-requires c κs = let a = c in (a.requires.0, omega arith)
 
-is_existential_requires : tie.Need-is-existential-requires invariant-loop decreases-loop
-is_existential_requires c κs = let a = c.before.before in (a.requires.0, omega arith)
+loop-i-init : tie.Need-loop-i-init invariant-loop-i decreases-loop-i
+loop-i-init c =
+    let a = c in
+    last_row a.args.b.now a.requires.0 (omega arith) (omega arith) c.is_existential-exists.ensures
 
-loop_holds : tie.Need-loop-init invariant-loop decreases-loop
-loop_holds c =
-    let a = c.before.before.before in
-    last_row a.args.b.now a.requires.0 (omega arith) (omega arith) c.is-existential.ensures
+overflow_sub-i-in-loop-i : tie.Need-overflow_sub-i-in-loop-i invariant-loop-i decreases-loop-i
+overflow_sub-i-in-loop-i c = omega arith
 
-sub_is_existential : tie.Need-overflow-sub-is-existential invariant-loop decreases-loop
-sub_is_existential c = omega arith
+is_existential-requires : tie.Need-is_existential-requires invariant-loop-i decreases-loop-i
+is_existential-requires c κs =
+    let head = c in
+    let a = head in
+    (a.requires.0, omega (arith, head.loop-i.invariant.inside))
 
-is_existential_requires_2 : tie.Need-is-existential-requires-2 invariant-loop decreases-loop
-is_existential_requires_2 c κs =
-    let head = c.before in
-    let a = start head.before in
-    (a.pre.0, omega (arith, head.loop.invariant.inside))
+returns-then-is_existential-exists : tie.Need-returns-then-is_existential-exists invariant-loop-i decreases-loop-i
+returns-then-is_existential-exists c =
+    let head = c in
+    let a = head in
+    other_kind a.args.b.now a.requires.0 (omega arith) head.loop-i.invariant c.is_existential.ensures
+    (not-true _ c.if-is_existential-exists.true)
 
-returns : tie.Need-returns invariant-loop decreases-loop
+overflow_sub-i-in-loop-i-2 : tie.Need-overflow_sub-i-in-loop-i-2 invariant-loop-i decreases-loop-i
+overflow_sub-i-in-loop-i-2 c = omega arith
+
+loop-i-smaller : tie.Need-loop-i-smaller invariant-loop-i decreases-loop-i
+loop-i-smaller c = omega arith
+
+loop-i-preserved : tie.Need-loop-i-preserved invariant-loop-i decreases-loop-i
+loop-i-preserved c =
+    let head = c in
+    let a = head in
+    one_more a.args.b.now a.requires.0 (omega arith) head.loop-i.invariant c.is_existential.ensures
+    (not-false _ c.if-is_existential-exists.false)
+
+returns : tie.Need-returns invariant-loop-i decreases-loop-i
 returns c =
-    let head = c.before.before.before in
-    let a = start head.before in
-    other_kind a.args.b.now a.pre.0 (omega arith) head.loop.invariant c.before.is-existential2.ensures
-    (not-true _ c.if1.true)
-
-sub_i_2 : tie.Need-overflow-sub-i-2 invariant-loop decreases-loop
-sub_i_2 c = omega arith
-
-loop_less : tie.Need-loop-smaller invariant-loop decreases-loop
-loop_less c = omega arith
-
-loop_again : tie.Need-loop-preserved invariant-loop decreases-loop
-loop_again c =
-    let head = c.before.before.before in
-    let a = start head.before in
-    one_more a.args.b.now a.pre.0 (omega arith) head.loop.invariant c.before.is-existential2.ensures
-    (not-false _ c.if1.false)
-
-returns_2 : tie.Need-returns-2 invariant-loop decreases-loop
-returns_2 c =
-    let head = c.before in
-    let a = start head.before in
-    at_first a.args.b.now a.pre.0 c.loop-test.false head.loop.invariant
+    let head = c in
+    let a = head in
+    at_first a.args.b.now a.requires.0 c.loop-i-test.false head.loop-i.invariant
 
 pub block_start_spec : {M : Type 1} → statement M
 block_start_spec =
     tie.close
     (tie.spec
-    invariant-loop
-    decreases-loop
-    sub_i
-    is_existential_requires
-    loop_holds
-    sub_is_existential
-    is_existential_requires_2
-    returns
-    sub_i_2
-    loop_less
-    loop_again
-    returns_2)
+    invariant-loop-i
+    decreases-loop-i
+    overflow_sub-i
+    is_existential-exists-requires
+    loop-i-init
+    overflow_sub-i-in-loop-i
+    is_existential-requires
+    returns-then-is_existential-exists
+    overflow_sub-i-in-loop-i-2
+    loop-i-smaller
+    loop-i-preserved
+    returns)

@@ -5,54 +5,54 @@ use Rattle.prefixes.proofs.Walks.{Finding, find_start, find_found, find_on, find
 use Rattle.prefixes.proofs.find_variable.Statement.{statement}
 use Rattle.prefixes.proofs.find_variable.Tie as tie
 
-abbrev invariant-loop : tie.invariant-loop
-invariant-loop b s x v i₀ i = Finding s b x i
+abbrev invariant-loop-i : tie.invariant-loop-i
+invariant-loop-i b s x v i₀ i = Finding s b x i
 
-abbrev decreases-loop : tie.decreases-loop
-decreases-loop b s x v i₀ i = v - i
+abbrev decreases-loop-i : tie.decreases-loop-i
+decreases-loop-i b s x v i₀ i = v - i
 
-loop_holds : tie.Need-loop-init invariant-loop decreases-loop
-loop_holds c = let a = c.before in find_start a.args.b.now a.requires a.args.x
+loop-i-init : tie.Need-loop-i-init invariant-loop-i decreases-loop-i
+loop-i-init c = let a = c in find_start a.args.b.now a.requires a.args.x
 
-bound_at_requires : tie.Need-bound-at-requires invariant-loop decreases-loop
-bound_at_requires c κs = let a = c.before.before.before in (a.requires, omega arith)
+bound_at-requires : tie.Need-bound_at-requires invariant-loop-i decreases-loop-i
+bound_at-requires c κs = let a = c in (a.requires, omega arith)
 
-returns : tie.Need-returns invariant-loop decreases-loop
+returns-then-bound_at-x : tie.Need-returns-then-bound_at-x invariant-loop-i decreases-loop-i
+returns-then-bound_at-x c =
+    let head = c in
+    let a = head in
+    find_found a.args.b.now a.requires a.args.x head.loop-i.i c.loop-i-test.true head.loop-i.invariant
+    c.bound_at.ensures.0 c.if-bound_at-x.true
+
+overflow_add-i : tie.Need-overflow_add-i invariant-loop-i decreases-loop-i
+overflow_add-i c = omega arith
+
+loop-i-smaller : tie.Need-loop-i-smaller invariant-loop-i decreases-loop-i
+loop-i-smaller c = omega arith
+
+loop-i-preserved : tie.Need-loop-i-preserved invariant-loop-i decreases-loop-i
+loop-i-preserved c =
+    let head = c in
+    let a = head in
+    find_on a.args.b.now a.requires a.args.x head.loop-i.i c.loop-i-test.true (omega arith) head.loop-i.invariant
+    c.bound_at.ensures.0 c.if-bound_at-x.false
+
+returns : tie.Need-returns invariant-loop-i decreases-loop-i
 returns c =
-    let head = c.before.before.before in
-    let a = head.before.before in
-    find_found a.args.b.now a.requires a.args.x head.loop.i c.before.before.loop-test.true head.loop.invariant
-    c.before.bound_at.ensures.0 c.if1.true
-
-add_i : tie.Need-overflow-add-i invariant-loop decreases-loop
-add_i c = omega arith
-
-loop_less : tie.Need-loop-smaller invariant-loop decreases-loop
-loop_less c = omega arith
-
-loop_again : tie.Need-loop-preserved invariant-loop decreases-loop
-loop_again c =
-    let head = c.before.before.before in
-    let a = head.before.before in
-    find_on a.args.b.now a.requires a.args.x head.loop.i c.before.before.loop-test.true (omega arith) head.loop.invariant
-    c.before.bound_at.ensures.0 c.if1.false
-
-returns_2 : tie.Need-returns-2 invariant-loop decreases-loop
-returns_2 c =
-    let head = c.before in
-    let a = head.before.before in
-    find_none a.args.b.now a.requires a.args.x head.loop.i c.loop-test.false head.loop.invariant
+    let head = c in
+    let a = head in
+    find_none a.args.b.now a.requires a.args.x head.loop-i.i c.loop-i-test.false head.loop-i.invariant
 
 pub find_variable_spec : {M : Type 1} → statement M
 find_variable_spec =
     tie.close
     (tie.spec
-    invariant-loop
-    decreases-loop
-    loop_holds
-    bound_at_requires
-    returns
-    add_i
-    loop_less
-    loop_again
-    returns_2)
+    invariant-loop-i
+    decreases-loop-i
+    loop-i-init
+    bound_at-requires
+    returns-then-bound_at-x
+    overflow_add-i
+    loop-i-smaller
+    loop-i-preserved
+    returns)

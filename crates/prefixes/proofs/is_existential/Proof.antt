@@ -7,14 +7,16 @@ use Rattle.prefixes.proofs.Places.{is_exists, binding_row}
 use Rattle.prefixes.proofs.is_existential.Statement.{statement}
 use Rattle.prefixes.proofs.is_existential.Tie as tie
 
-kind_at_requires : tie.Need-kind-at-requires
-kind_at_requires c κs = let a = c.before in (a.requires.0.room, omega arith)
+kind_at-requires : tie.Need-kind_at-requires
+kind_at-requires c κs = let a = c in (a.requires.0.room, omega arith)
 
 returns : tie.Need-returns
 returns c =
-    let a = c.before.before in
+    let a = c in
     ap (λ k. eqb k 1) c.kind_at.ensures ∙ sym (is_exists _) ∙
     ap (λ (z : Binding). same_op exists z.quantifier) (sym (binding_row a.args.b.now a.requires.0 a.args.i a.requires.1))
 
 pub is_existential_spec : {M : Type 1} → statement M
-is_existential_spec = tie.close (tie.spec kind_at_requires returns)
+is_existential_spec = tie.close (tie.spec
+    kind_at-requires
+    returns)

@@ -8,89 +8,76 @@ use Rattle.resolution.proofs.Steps.{first_later, second_later, step-triple, step
 use Rattle.resolution.proofs.follows_by.Statement.{statement}
 use Rattle.resolution.proofs.follows_by.Tie as tie
 
--- places in the code, each from a later one
-abbrev known : tie.After-head-word2 → tie.After-shared-slice-known3
-known c = c.before.before.before
-
-abbrev start : tie.After-head-word2 → tie.Start
-start c = (known c).before.before.before
-
-abbrev named : tie.Else2 → tie.After-head-word2
-named c = c.before.before
-
-abbrev first : tie.After-part-of3 → tie.After-part-of
-first c = c.before.before.before
-
 -- the three parts
-triple : (c : tie.After-part-of3)
-    → Triple (first c).part_of.result c.before.part-of2.result c.part-of3.result (length (start (named (first c).before)).args.codes.now)
+triple : (c : tie.After-part_of-d)
+    → Triple c.part_of-a.result c.part_of-b.result c.part_of-d.result (length c.args.codes.now)
 triple c =
-    let s = start (named (first c).before) in
-    step-triple s.args.heads.now s.args.codes.now s.args.k s.args.c _ _ (first c).part_of.result c.before.part-of2.result
-    c.part-of3.result _ s.pre.1 c.before.before.complement.ensures.0 (first c).part_of.ensures c.before.part-of2.ensures
-    c.part-of3.ensures
+    let s = c in
+    step-triple s.args.heads.now s.args.codes.now s.args.k s.args.c _ _ c.part_of-a.result c.part_of-b.result
+    c.part_of-d.result _ s.requires.1 c.complement.ensures.0 c.part_of-a.ensures c.part_of-b.ensures
+    c.part_of-d.ensures
 
-head_word_requires : tie.Need-head-word-requires
-head_word_requires c κs = search rules
+head_word-m-requires : tie.Need-head_word-m-requires
+head_word-m-requires c κs = search rules
 
-head_word_requires_2 : tie.Need-head-word-requires-2
-head_word_requires_2 c κs = search rules
+head_word-n-requires : tie.Need-head_word-n-requires
+head_word-n-requires c κs = search rules
+
+returns-then-k-m : tie.Need-returns-then-k-m
+returns-then-k-m c =
+    let s = c.args in
+    let m = c.head_word-m in
+    λ o p r.
+    first_later s.heads.now s.codes.now s.k s.c _ _ o p (omega (arith, c.if-k-m.true, m.ensures.0))
+
+returns-then-k-n : tie.Need-returns-then-k-n
+returns-then-k-n c =
+    let at = c in
+    let s = at.args in
+    λ o p r.
+    second_later s.heads.now s.codes.now s.k s.c _ _ o p (omega (arith, c.if-k-n.true, at.head_word-n.ensures.0))
+
+part_of-a-requires : tie.Need-part_of-a-requires
+part_of-a-requires c κs = search rules
+
+complement-requires : tie.Need-complement-requires
+complement-requires c κs = search rules
+
+part_of-b-requires : tie.Need-part_of-b-requires
+part_of-b-requires c κs = search rules
+
+part_of-d-requires : tie.Need-part_of-d-requires
+part_of-d-requires c κs = search rules
+
+follows-requires : tie.Need-follows-requires
+follows-requires c κs = let s = c in (triple c, s.requires.2, s.requires.3)
 
 returns : tie.Need-returns
 returns c =
-    let s = (start c.before).args in
-    let m = c.before.before.head_word in
-    λ o p r.
-    first_later s.heads.now s.codes.now s.k s.c _ _ o p (omega (arith, c.if1.true, m.ensures.0))
-
-returns_2 : tie.Need-returns-2
-returns_2 c =
-    let at = c.before.before in
-    let s = (start at).args in
-    λ o p r.
-    second_later s.heads.now s.codes.now s.k s.c _ _ o p (omega (arith, c.if2.true, at.head-word2.ensures.0))
-
-part_of_requires : tie.Need-part-of-requires
-part_of_requires c κs = search rules
-
-complement_requires : tie.Need-complement-requires
-complement_requires c κs = search rules
-
-part_of_requires_2 : tie.Need-part-of-requires-2
-part_of_requires_2 c κs = search rules
-
-part_of_requires_3 : tie.Need-part-of-requires-3
-part_of_requires_3 c κs = search rules
-
-follows_requires : tie.Need-follows-requires
-follows_requires c κs = let s = start (named (first c).before) in (triple c, s.pre.2, s.pre.3)
-
-returns_3 : tie.Need-returns-3
-returns_3 c =
-    let parts = c.before in
-    let both = (first parts).before in
-    let names = named both in
-    let s = start names in
+    let parts = c in
+    let both = parts in
+    let names = both in
+    let s = names in
     let a = s.args in
     λ o p r.
-    step_follows a.heads.now a.codes.now a.k a.c names.before.head_word.result names.head-word2.result
-    (first parts).part_of.result parts.before.part-of2.result parts.part-of3.result _ s.pre.1
-    parts.before.before.complement.ensures.0 (first parts).part_of.ensures parts.before.part-of2.ensures parts.part-of3.ensures
-    o p c.follows.result both.before.if1.left both.if2.left (c.follows.ensures o p r) ∙
-    ap₂ (λ m n. follows_at o p a.heads.now a.codes.now a.k a.c m n) names.before.head_word.ensures.0
-    names.head-word2.ensures.0
+    step_follows a.heads.now a.codes.now a.k a.c names.head_word-m.result names.head_word-n.result
+    parts.part_of-a.result parts.part_of-b.result parts.part_of-d.result _ s.requires.1
+    parts.complement.ensures.0 parts.part_of-a.ensures parts.part_of-b.ensures parts.part_of-d.ensures
+    o p c.follows.result both.if-k-m.false both.if-k-n.false (c.follows.ensures o p r) ∙
+    ap₂ (λ m n. follows_at o p a.heads.now a.codes.now a.k a.c m n) names.head_word-m.ensures.0
+    names.head_word-n.ensures.0
 
 pub follows_by_spec : {M : Type 1} → statement M
 follows_by_spec =
     tie.close
     (tie.spec
-    head_word_requires
-    head_word_requires_2
-    returns
-    returns_2
-    part_of_requires
-    complement_requires
-    part_of_requires_2
-    part_of_requires_3
-    follows_requires
-    returns_3)
+    head_word-m-requires
+    head_word-n-requires
+    returns-then-k-m
+    returns-then-k-n
+    part_of-a-requires
+    complement-requires
+    part_of-b-requires
+    part_of-d-requires
+    follows-requires
+    returns)

@@ -10,104 +10,82 @@ use Rattle.resolution.proofs.Resolvents.{follows-walked}
 use Rattle.resolution.proofs.following.follows.Statement.{statement}
 use Rattle.resolution.proofs.following.follows.Tie as tie
 
--- places in the code, each from a later one
-abbrev known : tie.After-derived → tie.After-shared-slice-known2
-known c = c.before.before
-
-abbrev start : tie.After-derived → tie.Start
-start c = (known c).before.before
-
-abbrev marked : tie.After-mark-all → tie.After-mark
-marked c = c.before.before.before
-
-abbrev ranked : tie.After-covers → tie.After-last-of
-ranked c = c.before.before.before
-
-abbrev gathered : tie.After-last-of → tie.After-mark-all
-gathered c = c.before.before
-
-abbrev first : tie.After-covers → tie.After-mark
-first c = marked (gathered (ranked c))
-
-abbrev entry : tie.After-covers → tie.Start
-entry c = start (first c).before
-
 -- a code at fault
 abbrev fault : tie.After-covers → ℕ → Bool
-fault c = uncovered (entry c).args.other.now (first c).mark.new.1.1.0 (gathered (ranked c)).mark-all.new.1.1.1.1.0 (ranked c).last_of.result
+fault c = uncovered c.args.other.now c.mark.new.set c.mark_all.new.set c.last_of-last.result
 
 -- by what the walks over both antecedents find
 decided : (c : tie.After-covers) (r : Bool)
-    → let a = (entry c).args in
+    → let a = c.args in
     not r ≡ (some_in a.a a.codes.now (fault c) || some_in a.b a.codes.now (fault c))
     → Told (follows_in a.a a.b a.d a.codes.now) a.own.now a.other.now r
 decided c r h o p ranks =
-    let a = entry c in
-    follows-walked a.args.a a.args.b a.args.d a.args.codes.now a.pre.0 o p a.args.own.now a.args.other.now
-    (first c).mark.new.1.1.0 (gathered (ranked c)).mark-all.new.1.1.1.1.0 _ _ (ranked c).last_of.result ranks (holds-none 64) (holds-none 64)
-    (first c).mark.ensures.adds (gathered (ranked c)).mark-all.ensures.1 (ranked c).last_of.ensures r h
+    let a = c in
+    follows-walked a.args.a a.args.b a.args.d a.args.codes.now a.requires.0 o p a.args.own.now a.args.other.now
+    c.mark.new.set c.mark_all.new.set _ _ c.last_of-last.result ranks (holds-none 64) (holds-none 64)
+    c.mark.ensures.adds c.mark_all.ensures.1 c.last_of-last.ensures r h
 
-slice_aggregate_mark : tie.Need-slice-aggregate-mark
-slice_aggregate_mark c = search rules
+slice_bounds-mark-end : tie.Need-slice_bounds-mark-end
+slice_bounds-mark-end c = search rules
 
-mark_requires : tie.Need-mark-requires
-mark_requires c κs = search rules
+mark-requires : tie.Need-mark-requires
+mark-requires c κs = search rules
 
-slice_aggregate_mark_all : tie.Need-slice-aggregate-mark-all
-slice_aggregate_mark_all c = search rules
+slice_bounds-mark_all-end : tie.Need-slice_bounds-mark_all-end
+slice_bounds-mark_all-end c = search rules
 
-mark_all_requires : tie.Need-mark-all-requires
-mark_all_requires c κs = search rules
+mark_all-requires : tie.Need-mark_all-requires
+mark_all-requires c κs = search rules
 
-last_of_requires : tie.Need-last-of-requires
-last_of_requires c κs = search rules
+last_of-last-requires : tie.Need-last_of-last-requires
+last_of-last-requires c κs = search rules
 
-slice_aggregate_covers : tie.Need-slice-aggregate-covers
-slice_aggregate_covers c = search rules
+slice_bounds-covers-end : tie.Need-slice_bounds-covers-end
+slice_bounds-covers-end c = search rules
 
-slice_aggregate_covers_2 : tie.Need-slice-aggregate-covers-2
-slice_aggregate_covers_2 c = search rules
+slice_bounds-covers-end-2 : tie.Need-slice_bounds-covers-end-2
+slice_bounds-covers-end-2 c = search rules
 
-covers_requires : tie.Need-covers-requires
-covers_requires c κs = search rules
+covers-requires : tie.Need-covers-requires
+covers-requires c κs = search rules
+
+returns-then-not-covers : tie.Need-returns-then-not-covers
+returns-then-not-covers c =
+    let a = c.args in
+    decided c.before false
+    (ap (λ x. x || some_in a.b a.codes.now (fault c.before)) (sym (ap not c.if-not-covers.true) ∙ c.covers.ensures))
+
+slice_bounds-covers-end-3 : tie.Need-slice_bounds-covers-end-3
+slice_bounds-covers-end-3 c = search rules
+
+slice_bounds-covers-end-4 : tie.Need-slice_bounds-covers-end-4
+slice_bounds-covers-end-4 c = search rules
+
+covers-requires-2 : tie.Need-covers-requires-2
+covers-requires-2 c κs = search rules
 
 returns : tie.Need-returns
 returns c =
-    let a = (entry c.before).args in
-    decided c.before false
-    (ap (λ x. x || some_in a.b a.codes.now (fault c.before)) (sym c.if1.true ∙ c.before.covers.ensures))
-
-slice_aggregate_covers_3 : tie.Need-slice-aggregate-covers-3
-slice_aggregate_covers_3 c = search rules
-
-slice_aggregate_covers_4 : tie.Need-slice-aggregate-covers-4
-slice_aggregate_covers_4 c = search rules
-
-covers_requires_2 : tie.Need-covers-requires-2
-covers_requires_2 c κs = search rules
-
-returns_2 : tie.Need-returns-2
-returns_2 c =
-    let left = c.before.before.before in
-    let a = (entry left.before).args in
-    decided left.before c.covers2.result
-    (c.covers2.ensures ∙
-    ap (λ x. x || some_in a.b a.codes.now (fault left.before)) (sym left.if1.false ∙ left.before.covers.ensures))
+    let left = c in
+    let a = left.args in
+    decided left.before.before.before.before c.covers-2.result
+    (c.covers-2.ensures ∙
+    ap (λ x. x || some_in a.b a.codes.now (fault left.before.before.before.before)) (sym (ap not left.if-not-covers.false) ∙ left.covers.ensures))
 
 pub follows_spec : {M : Type 1} → statement M
 follows_spec =
     tie.close
     (tie.spec
-    slice_aggregate_mark
-    mark_requires
-    slice_aggregate_mark_all
-    mark_all_requires
-    last_of_requires
-    slice_aggregate_covers
-    slice_aggregate_covers_2
-    covers_requires
-    returns
-    slice_aggregate_covers_3
-    slice_aggregate_covers_4
-    covers_requires_2
-    returns_2)
+    slice_bounds-mark-end
+    mark-requires
+    slice_bounds-mark_all-end
+    mark_all-requires
+    last_of-last-requires
+    slice_bounds-covers-end
+    slice_bounds-covers-end-2
+    covers-requires
+    returns-then-not-covers
+    slice_bounds-covers-end-3
+    slice_bounds-covers-end-4
+    covers-requires-2
+    returns)

@@ -8,59 +8,52 @@ use Rattle.resolution.proofs.Codes.{Gathering, gather, gathered}
 use Rattle.resolution.proofs.marks.last_rank.Statement.{statement}
 use Rattle.resolution.proofs.marks.last_rank.Tie as tie
 
-abbrev invariant-loop : tie.invariant-loop
-invariant-loop codes ranks last skip to rank₀ i₀ rank i = Gathering skip codes to (ranked_behind ranks) i₀ (λ u. ltb u last) i (λ u. ltb u rank)
+abbrev invariant-loop-i : tie.invariant-loop-i
+invariant-loop-i codes ranks last skip to rank₀ i₀ rank i = Gathering skip codes to (ranked_behind ranks) i₀ (λ u. ltb u last) i (λ u. ltb u rank)
 
-abbrev decreases-loop : tie.decreases-loop
-decreases-loop codes ranks last skip to rank₀ i₀ rank i = to - i
+abbrev decreases-loop-i : tie.decreases-loop-i
+decreases-loop-i codes ranks last skip to rank₀ i₀ rank i = to - i
 
--- places in the code, each from a later one
-abbrev start : tie.At-loop invariant-loop decreases-loop → tie.Start invariant-loop decreases-loop
-start c = c.before.before.before
+loop-i-init : tie.Need-loop-i-init invariant-loop-i decreases-loop-i
+loop-i-init c = λ u. refl
 
-abbrev head : tie.After-later invariant-loop decreases-loop → tie.At-loop invariant-loop decreases-loop
-head c = c.before.before.before
+code_at-c-requires : tie.Need-code_at-c-requires invariant-loop-i decreases-loop-i
+code_at-c-requires c κs = omega (arith, c.loop-i-test.true, c.requires.1)
 
-loop_holds : tie.Need-loop-init invariant-loop decreases-loop
-loop_holds c = λ u. refl
+later-rank-requires : tie.Need-later-rank-requires invariant-loop-i decreases-loop-i
+later-rank-requires c κs = (c.requires.0, c.code_at-c.ensures.1)
 
-code_at_requires : tie.Need-code-at-requires invariant-loop decreases-loop
-code_at_requires c κs = omega (arith, c.loop-test.true, (start c.before).pre.1)
+overflow_add-i : tie.Need-overflow_add-i invariant-loop-i decreases-loop-i
+overflow_add-i c = omega (arith, c.loop-i-test.true)
 
-later_requires : tie.Need-later-requires invariant-loop decreases-loop
-later_requires c κs = ((start c.before.before).pre.0, c.code_at.ensures.1)
+loop-i-smaller : tie.Need-loop-i-smaller invariant-loop-i decreases-loop-i
+loop-i-smaller c = omega (arith, c.loop-i-test.true)
 
-add_i : tie.Need-overflow-add-i invariant-loop decreases-loop
-add_i c = omega (arith, c.before.before.loop-test.true)
-
-loop_less : tie.Need-loop-smaller invariant-loop decreases-loop
-loop_less c = omega (arith, c.before.before.loop-test.true)
-
-loop_again : tie.Need-loop-preserved invariant-loop decreases-loop
-loop_again c =
-    let a = start (head c) in
+loop-i-preserved : tie.Need-loop-i-preserved invariant-loop-i decreases-loop-i
+loop-i-preserved c =
+    let a = c in
     let p = a.args.p in
     gather p.skip a.args.codes.now p.to (ranked_behind a.args.ranks.now) p.from (λ u. ltb u a.args.last)
-    (head c).loop.i c.before.code_at.result (λ u. ltb u (head c).loop.rank) (λ u. ltb u c.later.result)
-    c.before.before.loop-test.true a.pre.1 c.before.code_at.ensures.0 c.later.ensures (head c).loop.invariant
+    c.loop-i.i c.code_at-c.result (λ u. ltb u c.loop-i.rank) (λ u. ltb u c.later-rank.result)
+    c.loop-i-test.true a.requires.1 c.code_at-c.ensures.0 c.later-rank.ensures c.loop-i.invariant
 
-returns : tie.Need-returns invariant-loop decreases-loop
+returns : tie.Need-returns invariant-loop-i decreases-loop-i
 returns c =
-    let a = start c.before in
+    let a = c in
     let p = a.args.p in
     gathered p.skip a.args.codes.now p.to (ranked_behind a.args.ranks.now) p.from (λ u. ltb u a.args.last)
-    c.before.loop.i (λ u. ltb u c.before.loop.rank) c.loop-test.false c.before.loop.invariant
+    c.loop-i.i (λ u. ltb u c.loop-i.rank) c.loop-i-test.false c.loop-i.invariant
 
 pub last_rank_spec : {M : Type 1} → statement M
 last_rank_spec =
     tie.close
     (tie.spec
-    invariant-loop
-    decreases-loop
-    loop_holds
-    code_at_requires
-    later_requires
-    add_i
-    loop_less
-    loop_again
+    invariant-loop-i
+    decreases-loop-i
+    loop-i-init
+    code_at-c-requires
+    later-rank-requires
+    overflow_add-i
+    loop-i-smaller
+    loop-i-preserved
     returns)

@@ -4,30 +4,27 @@ use Rattle.resolution.proofs.Codes.{part_cut, part_whole}
 use Rattle.resolution.proofs.words.part_of.Statement.{statement}
 use Rattle.resolution.proofs.words.part_of.Tie as tie
 
--- places in the code, each from a later one
-abbrev begun : tie.After-head-word → tie.After-codes-from
-begun c = c.before
+codes_from-from-requires : tie.Need-codes_from-from-requires
+codes_from-from-requires c κs = search rules
 
-abbrev start : tie.After-head-word → tie.Start
-start c = (begun c).before.before.before
+head_word-to-requires : tie.Need-head_word-to-requires
+head_word-to-requires c κs = search rules
 
-codes_from_requires : tie.Need-codes-from-requires
-codes_from_requires c κs = search rules
-
-head_word_requires : tie.Need-head-word-requires
-head_word_requires c κs = search rules
+returns-then-length-to : tie.Need-returns-then-length-to
+returns-then-length-to c =
+    let a = c.args in
+    part_cut a.heads.now a.codes.now a.k a.skip _ _ c.codes_from-from.ensures c.head_word-to.ensures.0
+    c.if-length-to.true
 
 returns : tie.Need-returns
 returns c =
-    let a = (start c.before).args in
-    part_cut a.heads.now a.codes.now a.k a.skip _ _ (begun c.before).codes_from.ensures c.before.head_word.ensures.0
-    c.if1.true
-
-returns_2 : tie.Need-returns-2
-returns_2 c =
-    let a = (start c.before).args in
-    part_whole a.heads.now a.codes.now a.k a.skip _ _ (begun c.before).codes_from.ensures c.before.head_word.ensures.0
-    c.if1.false
+    let a = c.args in
+    part_whole a.heads.now a.codes.now a.k a.skip _ _ c.codes_from-from.ensures c.head_word-to.ensures.0
+    c.if-length-to.false
 
 pub part_of_spec : {M : Type 1} → statement M
-part_of_spec = tie.close (tie.spec codes_from_requires head_word_requires returns returns_2)
+part_of_spec = tie.close (tie.spec
+    codes_from-from-requires
+    head_word-to-requires
+    returns-then-length-to
+    returns)

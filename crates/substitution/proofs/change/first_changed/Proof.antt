@@ -9,62 +9,59 @@ use Rattle.substitution.proofs.Copied.{stays-none, stays-next}
 use Rattle.substitution.proofs.change.first_changed.Statement.{statement}
 use Rattle.substitution.proofs.change.first_changed.Tie as tie
 
-abbrev invariant-loop : tie.invariant-loop
-invariant-loop b s table to r₀ r = (r₀ ≤ r) × (r ≤ to) × Stays s b table r₀ r
+abbrev invariant-loop-r : tie.invariant-loop-r
+invariant-loop-r b s table to r₀ r = (r₀ ≤ r) × (r ≤ to) × Stays s b table r₀ r
 
-abbrev decreases-loop : tie.decreases-loop
-decreases-loop b s table to r₀ r = to - r
+abbrev decreases-loop-r : tie.decreases-loop-r
+decreases-loop-r b s table to r₀ r = to - r
 
-abbrev start : tie.At-loop invariant-loop decreases-loop → tie.Start invariant-loop decreases-loop
-start c = c.before.before.before
-
-loop_holds : tie.Need-loop-init invariant-loop decreases-loop
-loop_holds c =
-    let a = c.before.before in
+loop-r-init : tie.Need-loop-r-init invariant-loop-r decreases-loop-r
+loop-r-init c =
+    let a = c in
     (omega arith, a.requires.1.ordered, stays-none a.args.table.now (rows_in a.args.s a.args.b.now) a.args.span.from)
 
-is_changed_requires : tie.Need-is-changed-requires invariant-loop decreases-loop
-is_changed_requires c κs =
-    let a = start c.before in
-    (a.pre.0, omega (arith, a.pre.1.inside))
+is_changed-requires : tie.Need-is_changed-requires invariant-loop-r decreases-loop-r
+is_changed-requires c κs =
+    let a = c in
+    (a.requires.0, omega (arith, a.requires.1.inside))
 
-returns : tie.Need-returns invariant-loop decreases-loop
-returns c = c.before.before.before.loop.invariant
+returns-then-is_changed : tie.Need-returns-then-is_changed invariant-loop-r decreases-loop-r
+returns-then-is_changed c = c.loop-r.invariant
 
-add_r : tie.Need-overflow-add-r invariant-loop decreases-loop
-add_r c = omega arith
+overflow_add-r : tie.Need-overflow_add-r invariant-loop-r decreases-loop-r
+overflow_add-r c = omega arith
 
-loop_less : tie.Need-loop-smaller invariant-loop decreases-loop
-loop_less c = omega arith
+loop-r-smaller : tie.Need-loop-r-smaller invariant-loop-r decreases-loop-r
+loop-r-smaller c = omega arith
 
-loop_again : tie.Need-loop-preserved invariant-loop decreases-loop
-loop_again c =
-    let asked = c.before in
-    let turn = asked.before in
-    let at = turn.before in
-    let a = start at in
+loop-r-preserved : tie.Need-loop-r-preserved invariant-loop-r decreases-loop-r
+loop-r-preserved c =
+    let asked = c in
+    let turn = asked in
+    let at = turn in
+    let a = at in
     let R = rows_in a.args.s a.args.b.now in
-    let h = at.loop.invariant in (
+    let h = at.loop-r.invariant in (
       omega (arith, h.0),
       omega arith,
-      stays-next a.args.table.now R a.args.span.from at.loop.r h.0
-          (omega (arith, turn.loop-test.true, a.pre.1.inside, length-rows_in a.args.b.now a.pre.0)) h.2
-          (sym asked.is-changed.ensures ∙ c.if1.false),
+      stays-next a.args.table.now R a.args.span.from at.loop-r.r h.0
+          (omega (arith, turn.loop-r-test.true, a.requires.1.inside, length-rows_in a.args.b.now a.requires.0)) h.2
+          (sym asked.is_changed.ensures ∙ c.if-is_changed.false),
     )
 
-returns_2 : tie.Need-returns-2 invariant-loop decreases-loop
-returns_2 c = c.before.loop.invariant
+returns : tie.Need-returns invariant-loop-r decreases-loop-r
+returns c = c.loop-r.invariant
 
 pub first_changed_spec : {M : Type 1} → statement M
 first_changed_spec =
     tie.close
     (tie.spec
-    invariant-loop
-    decreases-loop
-    loop_holds
-    is_changed_requires
-    returns
-    add_r
-    loop_less
-    loop_again
-    returns_2)
+    invariant-loop-r
+    decreases-loop-r
+    loop-r-init
+    is_changed-requires
+    returns-then-is_changed
+    overflow_add-r
+    loop-r-smaller
+    loop-r-preserved
+    returns)

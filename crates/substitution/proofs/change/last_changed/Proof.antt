@@ -9,70 +9,67 @@ use Rattle.substitution.proofs.Copied.{stays-none, stays-before}
 use Rattle.substitution.proofs.change.last_changed.Statement.{statement}
 use Rattle.substitution.proofs.change.last_changed.Tie as tie
 
-abbrev invariant-loop : tie.invariant-loop
-invariant-loop b s table from r₀ r = (from ≤ r) × (r ≤ r₀) × Stays s b table r r₀
+abbrev invariant-loop-r : tie.invariant-loop-r
+invariant-loop-r b s table from r₀ r = (from ≤ r) × (r ≤ r₀) × Stays s b table r r₀
 
-abbrev decreases-loop : tie.decreases-loop
-decreases-loop b s table from r₀ r = r - from
+abbrev decreases-loop-r : tie.decreases-loop-r
+decreases-loop-r b s table from r₀ r = r - from
 
-abbrev start : tie.At-loop invariant-loop decreases-loop → tie.Start invariant-loop decreases-loop
-start c = c.before.before.before
-
-loop_holds : tie.Need-loop-init invariant-loop decreases-loop
-loop_holds c =
-    let a = c.before.before in
+loop-r-init : tie.Need-loop-r-init invariant-loop-r decreases-loop-r
+loop-r-init c =
+    let a = c in
     (a.requires.1.ordered, omega arith, stays-none a.args.table.now (rows_in a.args.s a.args.b.now) a.args.span.to)
 
-sub_is_changed : tie.Need-overflow-sub-is-changed invariant-loop decreases-loop
-sub_is_changed c = omega arith
+overflow_sub-r : tie.Need-overflow_sub-r invariant-loop-r decreases-loop-r
+overflow_sub-r c = omega arith
 
-is_changed_requires : tie.Need-is-changed-requires invariant-loop decreases-loop
-is_changed_requires c κs =
-    let at = c.before in
-    let a = start at in
-    (a.pre.0, omega (arith, at.loop.invariant.1, a.pre.1.inside))
+is_changed-requires : tie.Need-is_changed-requires invariant-loop-r decreases-loop-r
+is_changed-requires c κs =
+    let at = c in
+    let a = at in
+    (a.requires.0, omega (arith, at.loop-r.invariant.1, a.requires.1.inside))
 
-returns : tie.Need-returns invariant-loop decreases-loop
-returns c = c.before.before.before.loop.invariant
+returns-then-is_changed : tie.Need-returns-then-is_changed invariant-loop-r decreases-loop-r
+returns-then-is_changed c = c.loop-r.invariant
 
-sub_r : tie.Need-overflow-sub-r invariant-loop decreases-loop
-sub_r c = omega arith
+overflow_sub-r-in-loop-r : tie.Need-overflow_sub-r-in-loop-r invariant-loop-r decreases-loop-r
+overflow_sub-r-in-loop-r c = omega arith
 
-loop_less : tie.Need-loop-smaller invariant-loop decreases-loop
-loop_less c = omega arith
+loop-r-smaller : tie.Need-loop-r-smaller invariant-loop-r decreases-loop-r
+loop-r-smaller c = omega arith
 
-loop_again : tie.Need-loop-preserved invariant-loop decreases-loop
-loop_again c =
-    let asked = c.before in
-    let turn = asked.before in
-    let at = turn.before in
-    let a = start at in
+loop-r-preserved : tie.Need-loop-r-preserved invariant-loop-r decreases-loop-r
+loop-r-preserved c =
+    let asked = c in
+    let turn = asked in
+    let at = turn in
+    let a = at in
     let R = rows_in a.args.s a.args.b.now in
-    let h = at.loop.invariant in
-    let r = at.loop.r in
-    let back : r ≡ r - 1 + 1 = omega (arith, turn.loop-test.true) in (
-      omega (arith, turn.loop-test.true),
+    let h = at.loop-r.invariant in
+    let r = at.loop-r.r in
+    let back : r ≡ r - 1 + 1 = omega (arith, turn.loop-r-test.true) in (
+      omega (arith, turn.loop-r-test.true),
       omega (arith, h.1),
-      stays-before a.args.table.now R (r - 1) a.args.span.to (omega (arith, h.1, turn.loop-test.true))
-          (omega (arith, a.pre.1.inside, length-rows_in a.args.b.now a.pre.0))
+      stays-before a.args.table.now R (r - 1) a.args.span.to (omega (arith, h.1, turn.loop-r-test.true))
+          (omega (arith, a.requires.1.inside, length-rows_in a.args.b.now a.requires.0))
           (subst (λ n. Stays a.args.s a.args.b.now a.args.table.now n a.args.span.to) back h.2)
-          (sym asked.is-changed.ensures ∙ c.if1.false),
+          (sym asked.is_changed.ensures ∙ c.if-is_changed.false),
     )
 
-returns_2 : tie.Need-returns-2 invariant-loop decreases-loop
-returns_2 c = c.before.loop.invariant
+returns : tie.Need-returns invariant-loop-r decreases-loop-r
+returns c = c.loop-r.invariant
 
 pub last_changed_spec : {M : Type 1} → statement M
 last_changed_spec =
     tie.close
     (tie.spec
-    invariant-loop
-    decreases-loop
-    loop_holds
-    sub_is_changed
-    is_changed_requires
-    returns
-    sub_r
-    loop_less
-    loop_again
-    returns_2)
+    invariant-loop-r
+    decreases-loop-r
+    loop-r-init
+    overflow_sub-r
+    is_changed-requires
+    returns-then-is_changed
+    overflow_sub-r-in-loop-r
+    loop-r-smaller
+    loop-r-preserved
+    returns)

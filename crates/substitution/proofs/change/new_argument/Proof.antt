@@ -1,6 +1,6 @@
 -- `substitution::change::new_argument` meets its contract. Assumes nothing.
 use mathlib.Core.Path.{◌≡◌, refl, ap, ◌∙◌}
-use mathlib.Core.Bool.{true}
+use mathlib.Core.Bool.{true, not}
 use native.Mathlib.Omega.{arith}
 use lib.ListN.{get_or}
 use Rattle.sheet.specs.Format.{Row, row}
@@ -11,55 +11,51 @@ use borrow.Author.Rules.{rules}
 use Rattle.substitution.proofs.change.new_argument.Statement.{statement}
 use Rattle.substitution.proofs.change.new_argument.Tie as tie
 
--- places in the code, each from a later one
-abbrev begun : tie.After-argument-at → tie.Start
-begun c = c.before.before.before
-
-abbrev start : tie.After-is-changed → tie.Start
-start c = begun c.before
-
 abbrev here : tie.Start → Row
 here a = get_or (rows_in a.args.s a.args.b.now) a.args.r (row 0 0)
 
-abbrev told : tie.After-entry → tie.After-is-changed
-told c = c.before.before
+chosen : (c : tie.After-entry-e) → chosen_row c.args.table.now (here c.before.before.before.before.before.before) ≡ true
+chosen c = row_changes _ _ c.is_changed.ensures (ap not c.if-not-is_changed.false)
 
-chosen : (c : tie.After-entry) → chosen_row (start (told c)).args.table.now (here (start (told c))) ≡ true
-chosen c = row_changes _ _ (told c).is-changed.ensures c.before.if1.false
+entry_is : (c : tie.After-entry-e) → c.entry-e.result ≡ entry c.args.table.now (here c.before.before.before.before.before.before).argument
+entry_is c = c.entry-e.ensures ∙ ap (entry c.args.table.now) c.argument_at-v.ensures.0
 
-entry_is : (c : tie.After-entry) → c.entry.result ≡ entry (start (told c)).args.table.now (here (start (told c))).argument
-entry_is c = c.entry.ensures ∙ ap (entry (start (told c)).args.table.now) (told c).before.argument-at.ensures.0
+argument_at-v-requires : tie.Need-argument_at-v-requires
+argument_at-v-requires c κs = search rules
 
-argument_at_requires : tie.Need-argument-at-requires
-argument_at_requires c κs = search rules
+is_changed-requires : tie.Need-is_changed-requires
+is_changed-requires c κs = search rules
 
-is_changed_requires : tie.Need-is-changed-requires
-is_changed_requires c κs = search rules
+returns-then-not-is_changed : tie.Need-returns-then-not-is_changed
+returns-then-not-is_changed c =
+    let asked = c in
+    let a = asked in
+    asked.argument_at-v.ensures.0 ∙
+    ap (λ (r : Row). r.argument) (row_stays a.args.table.now (here a.before.before.before.before.before) asked.is_changed.ensures (ap not c.if-not-is_changed.true))
+
+entry-e-requires : tie.Need-entry-e-requires
+entry-e-requires c κs = search rules
+
+returns-then-e-lt-NUMBERS : tie.Need-returns-then-e-lt-NUMBERS
+returns-then-e-lt-NUMBERS c =
+    let read = c in
+    let a = read in
+    ap (λ (r : Row). r.argument) (row-renamed a.args.table.now (here a.before.before.before.before.before.before.before) (chosen read.before) {k = (here a.before.before.before.before.before.before.before).kind} refl (entry_is read.before) (omega arith))
 
 returns : tie.Need-returns
 returns c =
-    let asked = c.before in
-    let a = start asked in
-    asked.before.argument-at.ensures.0 ∙
-    ap (λ (r : Row). r.argument) (row_stays a.args.table.now (here a) asked.is-changed.ensures c.if1.true)
-
-entry_requires : tie.Need-entry-requires
-entry_requires c κs = search rules
-
-returns_2 : tie.Need-returns-2
-returns_2 c =
-    let read = c.before in
-    let a = start (told read) in
-    ap (λ (r : Row). r.argument) (row-renamed a.args.table.now (here a) (chosen read) {k = (here a).kind} refl (entry_is read) (omega arith))
-
-returns_3 : tie.Need-returns-3
-returns_3 c =
-    let read = c.before in
-    let a = start (told read) in
+    let read = c in
+    let a = read in
     ap (λ (r : Row). r.argument)
-    (row_put a.args.table.now (here a) (chosen read) {k = (here a).kind} refl (entry_is read) c.if2.false refl)
+    (row_put a.args.table.now (here a.before.before.before.before.before.before.before) (chosen read.before) {k = (here a.before.before.before.before.before.before.before).kind} refl (entry_is read.before) c.if-e-lt-NUMBERS.false refl)
 
 pub new_argument_spec : {M : Type 1} → statement M
 new_argument_spec =
     tie.close
-    (tie.spec argument_at_requires is_changed_requires returns entry_requires returns_2 returns_3)
+    (tie.spec
+    argument_at-v-requires
+    is_changed-requires
+    returns-then-not-is_changed
+    entry-e-requires
+    returns-then-e-lt-NUMBERS
+    returns)

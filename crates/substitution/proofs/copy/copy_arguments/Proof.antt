@@ -15,148 +15,133 @@ use Rattle.substitution.proofs.Spans.{arguments-within, span-arguments}
 use Rattle.substitution.proofs.copy.copy_arguments.Statement.{statement}
 use Rattle.substitution.proofs.copy.copy_arguments.Tie as tie
 
-abbrev invariant-loop : tie.invariant-loop
-invariant-loop b s table out₀ f w from to r₀ out r = Changed (row_arguments w) (w * (r₀ - from)) table (rows_in s b) r₀ to out₀ out r
+abbrev invariant-loop-r : tie.invariant-loop-r
+invariant-loop-r b s table out₀ f w from to r₀ out r = Changed (row_arguments w) (w * (r₀ - from)) table (rows_in s b) r₀ to out₀ out r
 
-abbrev decreases-loop : tie.decreases-loop
-decreases-loop b s table out₀ f w from to r₀ out r = to - r
-
-abbrev start : tie.After-slice-known invariant-loop decreases-loop → tie.Start invariant-loop decreases-loop
-start c = c.before.before.before
-
-abbrev placed : tie.After-copy-bytes invariant-loop decreases-loop → tie.After-argument-place invariant-loop decreases-loop
-placed c = c.before.before.before
-
-abbrev sized : tie.After-copy-bytes invariant-loop decreases-loop → tie.After-width invariant-loop decreases-loop
-sized c = (placed c).before
-
-abbrev begun : tie.After-copy-bytes invariant-loop decreases-loop → tie.Start invariant-loop decreases-loop
-begun c = start (sized c).before
-
-abbrev moved : tie.At-loop invariant-loop decreases-loop → tie.After-copy-bytes invariant-loop decreases-loop
-moved c = c.before.before.before
+abbrev decreases-loop-r : tie.decreases-loop-r
+decreases-loop-r b s table out₀ f w from to r₀ out r = to - r
 
 -- the bytes of the arguments are within the source
-source_within : (a : tie.Start invariant-loop decreases-loop)
+source_within : (a : tie.Start invariant-loop-r decreases-loop-r)
     → argument_place a.args.s a.args.span.from + width a.args.s * extent a.args.span ≤ length a.args.b.now
 source_within a = arguments-within a.args.s a.args.b.now a.requires.0.source a.args.span a.requires.0.within
 
 -- they are moved as they are
-as_they_are : (c : tie.After-copy-bytes invariant-loop decreases-loop)
-    → c.copy-bytes.new.1.1.1.0 ≡
-    row_arguments (sized c).width.result (slice (begun c).args.span.from (begun c).args.span.to (rows_in (begun c).args.s (begun c).args.b.now)) ++
-    drop ((sized c).width.result * extent (begun c).args.span) (begun c).args.out.now
+as_they_are : (c : tie.After-copy_bytes invariant-loop-r decreases-loop-r)
+    → c.copy_bytes.new.out ≡
+    row_arguments c.width-w.result (slice c.args.span.from c.args.span.to (rows_in c.args.s c.args.b.now)) ++
+    drop (c.width-w.result * extent c.args.span) c.args.out.now
 as_they_are c =
-    let known = (sized c).before.before.before in
-    let a = begun c in
+    let known = c in
+    let a = c in
     let s = a.args.s in
     let b = a.args.b.now in
     let span = a.args.span in
     let k = extent span in
-    let w = (sized c).width in
-    let bytes : (i : ℕ) → get_or b i 0 < 256 = λ i. (known.shared-slice-known.given i).fits in
-    c.copy-bytes.ensures ∙
+    let w = c.width-w in
+    let bytes : (i : ℕ) → get_or b i 0 < 256 = λ i. (known.shared_slice_known-1.given i).fits in
+    c.copy_bytes.ensures ∙
     ap (λ l. l ++ drop (w.result * k) a.args.out.now)
-    (ap₂ (λ v n. take (v * k) (drop n b)) w.ensures.0 (placed c).argument_place.ensures ∙
-    span-arguments s b a.pre.0.source span a.pre.0.within bytes ∙
+    (ap₂ (λ v n. take (v * k) (drop n b)) w.ensures.0 c.argument_place.ensures ∙
+    span-arguments s b a.requires.0.source span a.requires.0.within bytes ∙
     ap (λ v. row_arguments v (slice span.from span.to (rows_in s b))) (sym w.ensures.0))
 
 -- and have as much room as they had
-room : (c : tie.After-copy-bytes invariant-loop decreases-loop) → (sized c).width.result * extent (begun c).args.span ≤ length c.copy-bytes.new.1.1.1.0
+room : (c : tie.After-copy_bytes invariant-loop-r decreases-loop-r) → c.width-w.result * extent c.args.span ≤ length c.copy_bytes.new.out
 room c =
-    let a = begun c in
-    omega (arith, ap (λ v. v * extent a.args.span) (sized c).width.ensures.0, c.copy-bytes.auto.1.1.1.0, a.pre.1)
+    let a = c in
+    omega (arith, ap (λ v. v * extent a.args.span) c.width-w.ensures.0, c.copy_bytes.auto.out, a.requires.1)
 
 -- a row's argument is within
-here : (c : tie.In-loop invariant-loop decreases-loop)
-    → let m = moved c.before in
-    let w = (sized m).width.result in
-    w * (c.before.loop.r - (begun m).args.span.from) + w ≤ length m.copy-bytes.last.1.1.1.0
+here : (c : tie.In-loop-r invariant-loop-r decreases-loop-r)
+    → let m = c in
+    let w = m.width-w.result in
+    w * (c.loop-r.r - m.args.span.from) + w ≤ length m.copy_bytes.new.out
 here c =
-    let at = c.before in
-    let m = moved at in
-    let k = (begun m).pre.0.between in
-    let less : at.loop.r - (begun m).args.span.from < extent (begun m).args.span =
-    omega (arith, c.loop-test.true, at.loop.invariant.begun, k.start, k.end) in
-    omega (arith, room m, next_row (sized m).width.result less)
+    let at = c in
+    let m = at in
+    let k = m.requires.0.between in
+    let less : at.loop-r.r - m.args.span.from < extent m.args.span =
+    omega (arith, c.loop-r-test.true, at.loop-r.invariant.begun, k.start, k.end) in
+    omega (arith, room m.before.before.before.before, next_row m.width-w.result less)
 
-width_requires : tie.Need-width-requires invariant-loop decreases-loop
-width_requires c κs = tt
+width-w-requires : tie.Need-width-w-requires invariant-loop-r decreases-loop-r
+width-w-requires c κs = tt
 
-argument_place_requires : tie.Need-argument-place-requires invariant-loop decreases-loop
-argument_place_requires c κs =
-    let a = start c.before in
-    omega (arith, source_within a, a.good)
+argument_place-requires : tie.Need-argument_place-requires invariant-loop-r decreases-loop-r
+argument_place-requires c κs =
+    let a = c in
+    omega (arith, source_within a.before.before.before.before, a.well_formed)
 
-sub_copy_bytes : tie.Need-overflow-sub-copy-bytes invariant-loop decreases-loop
-sub_copy_bytes c = (start c.before.before.before).pre.0.within.ordered
+overflow_sub-span : tie.Need-overflow_sub-span invariant-loop-r decreases-loop-r
+overflow_sub-span c = c.requires.0.within.ordered
 
-mul_copy_bytes : tie.Need-overflow-mul-copy-bytes invariant-loop decreases-loop
-mul_copy_bytes c =
-    let w = c.before.before in
-    let a = start w.before in
-    rw w.width.ensures.0 (record { fits = omega (arith, source_within a, a.good) })
+overflow_mul-w : tie.Need-overflow_mul-w invariant-loop-r decreases-loop-r
+overflow_mul-w c =
+    let w = c in
+    let a = w in
+    rw w.width-w.ensures.0 (record { fits = omega (arith, source_within a.before.before.before.before.before.before, a.well_formed) })
 
-copy_bytes_requires : tie.Need-copy-bytes-requires invariant-loop decreases-loop
-copy_bytes_requires c κs =
-    let at = c.before.before in
-    let w = at.before in
-    let a = start w.before in (
-      rw (at.argument_place.ensures, w.width.ensures.0) (source_within a),
-      rw w.width.ensures.0 a.pre.1,
+copy_bytes-requires : tie.Need-copy_bytes-requires invariant-loop-r decreases-loop-r
+copy_bytes-requires c κs =
+    let at = c in
+    let w = at in
+    let a = w in (
+      rw (at.argument_place.ensures, w.width-w.ensures.0) (source_within a.before.before.before.before.before.before.before),
+      rw w.width-w.ensures.0 a.requires.1,
     )
 
-loop_holds : tie.Need-loop-init invariant-loop decreases-loop
-loop_holds c = arguments-none (begun c.before.before).pre.0 _ _
+loop-r-init : tie.Need-loop-r-init invariant-loop-r decreases-loop-r
+loop-r-init c = arguments-none c.requires.0 _ _
 
-sub_put_number : tie.Need-overflow-sub-put-number invariant-loop decreases-loop
-sub_put_number c =
-    let at = c.before.before in
-    omega (arith, at.loop.invariant.begun, (begun (moved at)).pre.0.between.start)
+overflow_sub-r : tie.Need-overflow_sub-r invariant-loop-r decreases-loop-r
+overflow_sub-r c =
+    let at = c in
+    omega (arith, at.loop-r.invariant.begun, at.requires.0.between.start)
 
-mul_put_number : tie.Need-overflow-mul-put-number invariant-loop decreases-loop
-mul_put_number c =
-    let m = moved c.before.before in
-    record { fits = omega (arith, here c.before, m.copy-bytes.kept.1.1.1.0, (begun m).good) }
+overflow_mul-w-in-loop-r : tie.Need-overflow_mul-w-in-loop-r invariant-loop-r decreases-loop-r
+overflow_mul-w-in-loop-r c =
+    let m = c in
+    record { fits = omega (arith, here c.before, m.copy_bytes.auto.out, m.well_formed) }
 
-new_argument_requires : tie.Need-new-argument-requires invariant-loop decreases-loop
-new_argument_requires c κs =
-    let a = begun (moved c.before.before) in
-    (a.pre.0.source, omega (arith, c.before.loop-test.true, a.pre.0.between.end, a.pre.0.within.inside))
+new_argument-requires : tie.Need-new_argument-requires invariant-loop-r decreases-loop-r
+new_argument-requires c κs =
+    let a = c in
+    (a.requires.0.source, omega (arith, c.loop-r-test.true, a.requires.0.between.end, a.requires.0.within.inside))
 
-put_number_requires : tie.Need-put-number-requires invariant-loop decreases-loop
-put_number_requires c κs =
-    let turn = c.before.before in
-    omega (arith, here turn, (sized (moved turn.before)).width.ensures.0, turn.before.loop.invariant.same_length)
+put_number-requires : tie.Need-put_number-requires invariant-loop-r decreases-loop-r
+put_number-requires c κs =
+    let turn = c in
+    omega (arith, here turn.before.before, turn.width-w.ensures.0, turn.loop-r.invariant.same_length)
 
-add_r : tie.Need-overflow-add-r invariant-loop decreases-loop
-add_r c = omega arith
+overflow_add-r : tie.Need-overflow_add-r invariant-loop-r decreases-loop-r
+overflow_add-r c = omega arith
 
-loop_less : tie.Need-loop-smaller invariant-loop decreases-loop
-loop_less c = omega arith
+loop-r-smaller : tie.Need-loop-r-smaller invariant-loop-r decreases-loop-r
+loop-r-smaller c = omega arith
 
-loop_again : tie.Need-loop-preserved invariant-loop decreases-loop
-loop_again c =
-    let put = c.before.before in
-    let new = put.before in
-    let turn = new.before.before in
-    let at = turn.before in
-    let m = moved at in
-    let w = (sized m).width in
-    let place = w.result * (at.loop.r - (begun m).args.span.from) in
-    arguments-next (begun m).pre.0 w.result (room m) at.loop.invariant turn.loop-test.true new.new-argument.ensures put.put-number.auto.0
-    (put.put-number.ensures ∙
-    ap (λ v. take place at.loop.out ++ digits v new.new-argument.result ++ drop (place + v) at.loop.out) (sym w.ensures.0))
+loop-r-preserved : tie.Need-loop-r-preserved invariant-loop-r decreases-loop-r
+loop-r-preserved c =
+    let put = c in
+    let new = put in
+    let turn = new in
+    let at = turn in
+    let m = at in
+    let w = m.width-w in
+    let place = w.result * (at.loop-r.r - m.args.span.from) in
+    arguments-next m.requires.0 w.result (room m.before.before.before.before.before.before.before.before.before) at.loop-r.invariant turn.loop-r-test.true new.new_argument.ensures put.put_number.auto.b
+    (put.put_number.ensures ∙
+    ap (λ v. take place at.loop-r.out ++ digits v new.new_argument.result ++ drop (place + v) at.loop-r.out) (sym w.ensures.0))
 
-same_length : tie.Need-same-length invariant-loop decreases-loop
-same_length c = c.before.loop.invariant.same_length ∙ (moved c.before).copy-bytes.kept.1.1.1.0
+shape_of-out : tie.Need-shape_of-out invariant-loop-r decreases-loop-r
+shape_of-out c = c.loop-r.invariant.same_length ∙ c.copy_bytes.auto.out
 
-returns : tie.Need-returns invariant-loop decreases-loop
+returns : tie.Need-returns invariant-loop-r decreases-loop-r
 returns c =
-    let m = moved c.before in
-    let a = begun m in
-    let w = (sized m).width in
-    arguments-all a.pre.0 w.result _ (as_they_are m) c.loop-test.false c.before.loop.invariant ∙
+    let m = c in
+    let a = m in
+    let w = m.width-w in
+    arguments-all a.requires.0 w.result _ (as_they_are m.before.before.before.before) c.loop-r-test.false c.loop-r.invariant ∙
     ap (λ v. row_arguments v (copy_in a.args.s a.args.b.now a.args.table.now a.args.span) ++ drop (v * extent a.args.span) a.args.out.now)
     w.ensures.0
 
@@ -164,20 +149,20 @@ pub copy_arguments_spec : {M : Type 1} → statement M
 copy_arguments_spec =
     tie.close
     (tie.spec
-    invariant-loop
-    decreases-loop
-    width_requires
-    argument_place_requires
-    sub_copy_bytes
-    mul_copy_bytes
-    copy_bytes_requires
-    loop_holds
-    sub_put_number
-    mul_put_number
-    new_argument_requires
-    put_number_requires
-    add_r
-    loop_less
-    loop_again
-    same_length
+    invariant-loop-r
+    decreases-loop-r
+    width-w-requires
+    argument_place-requires
+    overflow_sub-span
+    overflow_mul-w
+    copy_bytes-requires
+    loop-r-init
+    overflow_sub-r
+    overflow_mul-w-in-loop-r
+    new_argument-requires
+    put_number-requires
+    overflow_add-r
+    loop-r-smaller
+    loop-r-preserved
+    shape_of-out
     returns)

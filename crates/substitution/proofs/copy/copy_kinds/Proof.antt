@@ -13,112 +13,100 @@ use Rattle.substitution.proofs.Spans.{kinds_within, span_kinds}
 use Rattle.substitution.proofs.copy.copy_kinds.Statement.{statement}
 use Rattle.substitution.proofs.copy.copy_kinds.Tie as tie
 
-abbrev invariant-loop : tie.invariant-loop
-invariant-loop b s table out₀ from to r₀ out r = Changed row_kinds (r₀ - from) table (rows_in s b) r₀ to out₀ out r
+abbrev invariant-loop-r : tie.invariant-loop-r
+invariant-loop-r b s table out₀ from to r₀ out r = Changed row_kinds (r₀ - from) table (rows_in s b) r₀ to out₀ out r
 
-abbrev decreases-loop : tie.decreases-loop
-decreases-loop b s table out₀ from to r₀ out r = to - r
-
-abbrev start : tie.After-slice-known invariant-loop decreases-loop → tie.Start invariant-loop decreases-loop
-start c = c.before.before.before
-
-abbrev placed : tie.After-copy-bytes invariant-loop decreases-loop → tie.After-kind-place invariant-loop decreases-loop
-placed c = c.before.before.before
-
-abbrev begun : tie.After-copy-bytes invariant-loop decreases-loop → tie.Start invariant-loop decreases-loop
-begun c = start (placed c).before
-
-abbrev moved : tie.At-loop invariant-loop decreases-loop → tie.After-copy-bytes invariant-loop decreases-loop
-moved c = c.before.before.before
+abbrev decreases-loop-r : tie.decreases-loop-r
+decreases-loop-r b s table out₀ from to r₀ out r = to - r
 
 -- the kinds are moved as they are
-as_they_are : (c : tie.After-copy-bytes invariant-loop decreases-loop)
-    → c.copy-bytes.new.1.1.1.0 ≡
-    row_kinds (slice (begun c).args.span.from (begun c).args.span.to (rows_in (begun c).args.s (begun c).args.b.now)) ++
-    drop (extent (begun c).args.span) (begun c).args.out.now
+as_they_are : (c : tie.After-copy_bytes invariant-loop-r decreases-loop-r)
+    → c.copy_bytes.new.out ≡
+    row_kinds (slice c.args.span.from c.args.span.to (rows_in c.args.s c.args.b.now)) ++
+    drop (extent c.args.span) c.args.out.now
 as_they_are c =
-    let a = begun c in
+    let a = c in
     let b = a.args.b.now in
     let k = extent a.args.span in
-    c.copy-bytes.ensures ∙
+    c.copy_bytes.ensures ∙
     ap (λ l. l ++ drop k a.args.out.now)
-    (ap (λ n. take k (drop n b)) (placed c).kind_place.ensures ∙ span_kinds a.args.s b a.pre.0.source a.args.span a.pre.0.within)
+    (ap (λ n. take k (drop n b)) c.kind_place.ensures ∙ span_kinds a.args.s b a.requires.0.source a.args.span a.requires.0.within)
 
 -- and have as much room as they had
-room : (c : tie.After-copy-bytes invariant-loop decreases-loop) → extent (begun c).args.span ≤ length c.copy-bytes.new.1.1.1.0
-room c = omega (arith, c.copy-bytes.auto.1.1.1.0, (begun c).requires.1)
+room : (c : tie.After-copy_bytes invariant-loop-r decreases-loop-r) → extent c.args.span ≤ length c.copy_bytes.new.out
+room c = omega (arith, c.copy_bytes.auto.out, c.requires.1)
 
-kind_place_requires : tie.Need-kind-place-requires invariant-loop decreases-loop
-kind_place_requires c κs =
-    let a = start c in
-    omega (arith, kinds_within a.args.s a.args.b.now a.pre.0.source a.args.span a.pre.0.within, a.good)
+kind_place-requires : tie.Need-kind_place-requires invariant-loop-r decreases-loop-r
+kind_place-requires c κs =
+    let a = c in
+    omega (arith, kinds_within a.args.s a.args.b.now a.requires.0.source a.args.span a.requires.0.within, a.well_formed)
 
-sub_copy_bytes : tie.Need-overflow-sub-copy-bytes invariant-loop decreases-loop
-sub_copy_bytes c = (start c.before.before).pre.0.within.ordered
+overflow_sub-span : tie.Need-overflow_sub-span invariant-loop-r decreases-loop-r
+overflow_sub-span c = c.requires.0.within.ordered
 
-copy_bytes_requires : tie.Need-copy-bytes-requires invariant-loop decreases-loop
-copy_bytes_requires c κs =
-    let at = c.before.before in
-    let a = start at.before in (
-      rw at.kind_place.ensures (kinds_within a.args.s a.args.b.now a.pre.0.source a.args.span a.pre.0.within),
-      a.pre.1,
+copy_bytes-requires : tie.Need-copy_bytes-requires invariant-loop-r decreases-loop-r
+copy_bytes-requires c κs =
+    let at = c in
+    let a = at in (
+      rw at.kind_place.ensures (kinds_within a.args.s a.args.b.now a.requires.0.source a.args.span a.requires.0.within),
+      a.requires.1,
     )
 
-loop_holds : tie.Need-loop-init invariant-loop decreases-loop
-loop_holds c = kinds_none (begun c.before.before).pre.0 _
+loop-r-init : tie.Need-loop-r-init invariant-loop-r decreases-loop-r
+loop-r-init c = kinds_none c.requires.0 _
 
-new_kind_requires : tie.Need-new-kind-requires invariant-loop decreases-loop
-new_kind_requires c κs =
-    let a = begun (moved c.before) in
-    (a.pre.0.source, omega (arith, c.loop-test.true, a.pre.0.between.end, a.pre.0.within.inside))
+new_kind-requires : tie.Need-new_kind-requires invariant-loop-r decreases-loop-r
+new_kind-requires c κs =
+    let a = c in
+    (a.requires.0.source, omega (arith, c.loop-r-test.true, a.requires.0.between.end, a.requires.0.within.inside))
 
-sub_out : tie.Need-overflow-sub-out invariant-loop decreases-loop
-sub_out c =
-    let at = c.before.before in
-    omega (arith, at.loop.invariant.begun, (begun (moved at)).pre.0.between.start)
+overflow_sub-out : tie.Need-overflow_sub-out invariant-loop-r decreases-loop-r
+overflow_sub-out c =
+    let at = c in
+    omega (arith, at.loop-r.invariant.begun, at.requires.0.between.start)
 
-slice_write_out : tie.Need-slice-write-out invariant-loop decreases-loop
-slice_write_out c =
-    let turn = c.before in
-    let at = turn.before in
-    let w = (begun (moved at)).pre.0.between in
-    omega (arith, turn.loop-test.true, at.loop.invariant.begun, at.loop.invariant.same_length, room (moved at), w.start, w.end)
+bounds-out-r : tie.Need-bounds-out-r invariant-loop-r decreases-loop-r
+bounds-out-r c =
+    let turn = c in
+    let at = turn in
+    let w = at.requires.0.between in
+    omega (arith, turn.loop-r-test.true, at.loop-r.invariant.begun, at.loop-r.invariant.same_length, room at.before.before.before.before.before, w.start, w.end)
 
-add_r : tie.Need-overflow-add-r invariant-loop decreases-loop
-add_r c = omega arith
+overflow_add-r : tie.Need-overflow_add-r invariant-loop-r decreases-loop-r
+overflow_add-r c = omega arith
 
-loop_less : tie.Need-loop-smaller invariant-loop decreases-loop
-loop_less c = omega arith
+loop-r-smaller : tie.Need-loop-r-smaller invariant-loop-r decreases-loop-r
+loop-r-smaller c = omega arith
 
-loop_again : tie.Need-loop-preserved invariant-loop decreases-loop
-loop_again c =
-    let turn = c.before in
-    let at = turn.before in
-    kinds_next (begun (moved at)).pre.0 (room (moved at)) at.loop.invariant turn.loop-test.true c.new-kind.ensures
+loop-r-preserved : tie.Need-loop-r-preserved invariant-loop-r decreases-loop-r
+loop-r-preserved c =
+    let turn = c in
+    let at = turn in
+    kinds_next at.requires.0 (room at.before.before.before.before.before) at.loop-r.invariant turn.loop-r-test.true c.new_kind.ensures
 
-same_length : tie.Need-same-length invariant-loop decreases-loop
-same_length c = c.before.loop.invariant.same_length ∙ (moved c.before).copy-bytes.kept.1.1.1.0
+shape_of-out : tie.Need-shape_of-out invariant-loop-r decreases-loop-r
+shape_of-out c = c.loop-r.invariant.same_length ∙ c.copy_bytes.auto.out
 
-returns : tie.Need-returns invariant-loop decreases-loop
+returns : tie.Need-returns invariant-loop-r decreases-loop-r
 returns c =
-    let done = moved c.before in
-    kinds_all (begun done).pre.0 _ (as_they_are done) c.loop-test.false c.before.loop.invariant
+    let done = c in
+    kinds_all done.requires.0 _ (as_they_are done.before.before.before.before) c.loop-r-test.false c.loop-r.invariant
 
 pub copy_kinds_spec : {M : Type 1} → statement M
 copy_kinds_spec =
     tie.close
     (tie.spec
-    invariant-loop
-    decreases-loop
-    kind_place_requires
-    sub_copy_bytes
-    copy_bytes_requires
-    loop_holds
-    new_kind_requires
-    sub_out
-    slice_write_out
-    add_r
-    loop_less
-    loop_again
-    same_length
+    invariant-loop-r
+    decreases-loop-r
+    kind_place-requires
+    overflow_sub-span
+    copy_bytes-requires
+    loop-r-init
+    new_kind-requires
+    overflow_sub-out
+    bounds-out-r
+    overflow_add-r
+    loop-r-smaller
+    loop-r-preserved
+    shape_of-out
     returns)

@@ -7,20 +7,25 @@ use borrow.Author.Rules.{rules}
 use Rattle.substitution.proofs.table.entry.Statement.{statement}
 use Rattle.substitution.proofs.table.entry.Tie as tie
 
-mul_result : tie.Need-overflow-mul-result
-mul_result c = search rules
+offset_bounds-table-v : tie.Need-offset_bounds-table-v
+offset_bounds-table-v c = search rules
 
-shared_slice_read_result : tie.Need-shared-slice-read-result
-shared_slice_read_result c = search rules
+bounds-table-v : tie.Need-bounds-table-v
+bounds-table-v c = search rules
 
-cast_result : tie.Need-overflow-cast-result
-cast_result c = omega (arith, c.shared-slice-known.given c.before.before.args.v)
+overflow_cast-result : tie.Need-overflow_cast-result
+overflow_cast-result c = omega (arith, c.shared_slice_known-1.given c.args.v)
+
+returns-then-v-table : tie.Need-returns-then-v-table
+returns-then-v-table c = same_entry c.args.table.now c.args.v 0 c.if-v-table.true
 
 returns : tie.Need-returns
-returns c = same_entry c.before.before.args.table.now c.before.before.args.v 0 c.before.if1.true
-
-returns_2 : tie.Need-returns-2
-returns_2 c = sym (get_or-eq_default c.before.args.table.now c.before.args.v c.if1.false)
+returns c = sym (get_or-eq_default c.args.table.now c.args.v c.if-v-table.false)
 
 pub entry_spec : {M : Type 1} → statement M
-entry_spec = tie.close (tie.spec mul_result shared_slice_read_result cast_result returns returns_2)
+entry_spec = tie.close (tie.spec
+    offset_bounds-table-v
+    bounds-table-v
+    overflow_cast-result
+    returns-then-v-table
+    returns)

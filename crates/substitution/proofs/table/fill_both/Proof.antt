@@ -11,59 +11,55 @@ use borrow.Author.Rules.{rules}
 use Rattle.substitution.proofs.table.fill_both.Statement.{statement}
 use Rattle.substitution.proofs.table.fill_both.Tie as tie
 
--- places in the code, each from a later one
-abbrev filled : tie.After-fill-arg2 → tie.After-fill
-filled c = c.before.before.before
+slice_bounds-fill-end : tie.Need-slice_bounds-fill-end
+slice_bounds-fill-end c = search rules
 
-slice_relend_prefix_fill : tie.Need-slice-relend-prefix-fill
-slice_relend_prefix_fill c = search rules
-
-slice_aggregate_fill : tie.Need-slice-aggregate-fill
-slice_aggregate_fill c =
-    let a = c.before.before in
+slice_bounds-fill-end-2 : tie.Need-slice_bounds-fill-end-2
+slice_bounds-fill-end-2 c =
+    let a = c in
     sym (length-take-le 1025 a.args.tables.now (omega (arith, a.requires.0)))
 
-fill_requires : tie.Need-fill-requires
-fill_requires c κs =
-    let a = c.before.before in
+fill-requires : tie.Need-fill-requires
+fill-requires c κs =
+    let a = c in
     let part = length-take-le 1025 a.args.tables.now (omega (arith, a.requires.0)) in
     (omega (arith, part, a.requires.1), omega (arith, part))
 
-sub_fill : tie.Need-overflow-sub-fill
-sub_fill c = search rules
+slice_bounds-fill-count : tie.Need-slice_bounds-fill-count
+slice_bounds-fill-count c = search rules
 
-part_fill_start : tie.Need-slice-bounds-fill-start
-part_fill_start c = search rules
+slice_bounds-fill-start : tie.Need-slice_bounds-fill-start
+slice_bounds-fill-start c = search rules
 
-part_fill_end : tie.Need-slice-bounds-fill-end
-part_fill_end c = search rules
+slice_bounds-fill-end-3 : tie.Need-slice_bounds-fill-end-3
+slice_bounds-fill-end-3 c = search rules
 
-fill_requires_2 : tie.Need-fill-requires-2
-fill_requires_2 c κs = search rules
+fill-requires-2 : tie.Need-fill-requires-2
+fill-requires-2 c κs = search rules
 
-same_length : tie.Need-same-length
-same_length c = search rules
+shape_of-tables : tie.Need-shape_of-tables
+shape_of-tables c = search rules
 
 returns : tie.Need-returns
 returns c =
-    let one = filled c.before.before.before in
-    let two = c.before.before in
-    let a = one.before.before.before in
+    let one = c in
+    let two = c in
+    let a = one in
     let x = a.args.x in
-    let first = one.fill.ensures ∙ ap (λ n. putting_in n x false) (length-take-le 1025 a.args.tables.now (omega (arith, a.pre.0))) in
-    both_parts one.fill.last.0 two.fill2.new.0 (drop 1025 a.args.tables.now) 1025 (ap length first ∙ length-putting x false) ∙
-    ap₂ ◌++◌ first (two.fill2.ensures ∙ ap (λ n. putting_in n x true) (omega (arith, a.pre.0)))
+    let first = one.fill.ensures ∙ ap (λ n. putting_in n x false) (length-take-le 1025 a.args.tables.now (omega (arith, a.requires.0))) in
+    both_parts one.fill.new.table two.fill-2.new.table (drop 1025 a.args.tables.now) 1025 (ap length first ∙ length-putting x false) ∙
+    ap₂ ◌++◌ first (two.fill-2.ensures ∙ ap (λ n. putting_in n x true) (omega (arith, a.requires.0)))
 
 pub fill_both_spec : {M : Type 1} → statement M
 fill_both_spec =
     tie.close
     (tie.spec
-    slice_relend_prefix_fill
-    slice_aggregate_fill
-    fill_requires
-    sub_fill
-    part_fill_start
-    part_fill_end
-    fill_requires_2
-    same_length
+    slice_bounds-fill-end
+    slice_bounds-fill-end-2
+    fill-requires
+    slice_bounds-fill-count
+    slice_bounds-fill-start
+    slice_bounds-fill-end-3
+    fill-requires-2
+    shape_of-tables
     returns)

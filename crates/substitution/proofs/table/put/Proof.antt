@@ -6,39 +6,39 @@ use borrow.Author.Rules.{rules}
 use Rattle.substitution.proofs.table.put.Statement.{statement}
 use Rattle.substitution.proofs.table.put.Tie as tie
 
-mul_table : tie.Need-overflow-mul-table
-mul_table c = search rules
+offset_bounds-table-x : tie.Need-offset_bounds-table-x
+offset_bounds-table-x c = search rules
 
-slice_write_table : tie.Need-slice-write-table
-slice_write_table c = search rules
+bounds-table-x : tie.Need-bounds-table-x
+bounds-table-x c = search rules
 
-mul_table_2 : tie.Need-overflow-mul-table-2
-mul_table_2 c = search rules
+offset_bounds-table-x-else-value : tie.Need-offset_bounds-table-x-else-value
+offset_bounds-table-x-else-value c = search rules
 
-slice_write_table_2 : tie.Need-slice-write-table-2
-slice_write_table_2 c = search rules
+bounds-table-x-else-value : tie.Need-bounds-table-x-else-value
+bounds-table-x-else-value c = search rules
 
-same_length : tie.Need-same-length
-same_length c = search rules
+shape_of-table-then-value : tie.Need-shape_of-table-then-value
+shape_of-table-then-value c = search rules
 
-returns : tie.Need-returns
-returns c = ap (λ v. set c.before.args.table.now c.before.args.x (put_entry v)) (sym c.if1.true)
+returns-then-value : tie.Need-returns-then-value
+returns-then-value c = ap (λ v. set c.args.table.now c.args.x (put_entry v)) (sym c.if-value.true)
 
-same_length_2 : tie.Need-same-length-2
-same_length_2 c = search rules
+shape_of-table-else-value : tie.Need-shape_of-table-else-value
+shape_of-table-else-value c = search rules
 
-returns_2 : tie.Need-returns-2
-returns_2 c = ap (λ v. set c.before.args.table.now c.before.args.x (put_entry v)) (sym c.if1.false)
+returns-else-value : tie.Need-returns-else-value
+returns-else-value c = ap (λ v. set c.args.table.now c.args.x (put_entry v)) (sym c.if-value.false)
 
 pub put_spec : {M : Type 1} → statement M
 put_spec =
     tie.close
     (tie.spec
-    mul_table
-    slice_write_table
-    mul_table_2
-    slice_write_table_2
-    same_length
-    returns
-    same_length_2
-    returns_2)
+    offset_bounds-table-x
+    bounds-table-x
+    offset_bounds-table-x-else-value
+    bounds-table-x-else-value
+    shape_of-table-then-value
+    returns-then-value
+    shape_of-table-else-value
+    returns-else-value)

@@ -18,22 +18,6 @@ use borrow.Author.Rules.{rules}
 use Rattle.substitution.proofs.write.write_copy.Statement.{statement}
 use Rattle.substitution.proofs.write.write_copy.Tie as tie
 
--- places in the code, each from a later one
-abbrev kinds_copied : tie.After-copy-arguments-arg → tie.After-copy-kinds
-kinds_copied c = c.before.before.before
-
-abbrev known : tie.After-t → tie.After-shared-slice-known
-known c = c.before.before.before
-
-abbrev start : tie.After-changed-span → tie.Start
-start c = (known c.before).before
-
-abbrev placed : tie.After-copy-kinds → tie.After-argument-place
-placed c = c.before.before
-
-abbrev begun : tie.After-argument-place → tie.Start
-begun c = start c.before.before
-
 -- the rows that are written
 abbrev new : tie.Start → List Row
 new a = copy_in a.args.s a.args.b.now a.args.table.now a.args.span
@@ -49,103 +33,103 @@ output_within : (a : tie.Start)
 output_within a = arguments-room a.requires.0 a.args.to.at (extent a.args.span) a.requires.2
 
 -- the output once the part with the kinds is back
-abbrev kinds_at : tie.After-copy-kinds → ℕ
-kinds_at c = (placed c).before.kind_place.result
+abbrev kinds_at : tie.After-copy_kinds → ℕ
+kinds_at c = c.kind_place-kinds.result
 
-abbrev mid : tie.After-copy-kinds → Bytes
+abbrev mid : tie.After-copy_kinds → Bytes
 mid c =
-    let d = (begun (placed c)).args.out.now in
-    take (kinds_at c) d ++ (c.copy-kinds.new.1.1.1.1.1.0 ++ drop (length d - kinds_at c) (drop (kinds_at c) d))
+    let d = c.args.out.now in
+    take (kinds_at c) d ++ (c.copy_kinds.new.out ++ drop (length d - kinds_at c) (drop (kinds_at c) d))
 
-kinds_written : (c : tie.After-copy-kinds) → mid c ≡ spliced (kinds_at c) (row_kinds (new (begun (placed c)))) (begun (placed c)).args.out.now
+kinds_written : (c : tie.After-copy_kinds) → mid c ≡ spliced (kinds_at c) (row_kinds (new c.before.before.before.before.before.before.before.before.before)) c.args.out.now
 kinds_written c =
-    let a = begun (placed c) in
-    lent a.args.out.now (row_kinds (new a)) (kinds_at c) (extent a.args.span) (length-row_kinds (new a) ∙ length_new a) c.copy-kinds.ensures
+    let a = c in
+    lent a.args.out.now (row_kinds (new a.before.before.before.before.before.before.before.before.before)) (kinds_at c) (extent a.args.span) (length-row_kinds (new a.before.before.before.before.before.before.before.before.before) ∙ length_new a.before.before.before.before.before.before.before.before.before) c.copy_kinds.ensures
 
-length_mid : (c : tie.After-copy-kinds) → length (mid c) ≡ length (begun (placed c)).args.out.now
+length_mid : (c : tie.After-copy_kinds) → length (mid c) ≡ length c.args.out.now
 length_mid c =
-    let a = begun (placed c) in
+    let a = c in
     ap length (kinds_written c) ∙
-    length-spliced (kinds_at c) (row_kinds (new a)) a.args.out.now
-    (omega (arith, (placed c).before.kind_place.ensures, length-row_kinds (new a), length_new a, a.pre.0.room.holds, a.pre.2))
+    length-spliced (kinds_at c) (row_kinds (new a.before.before.before.before.before.before.before.before.before)) a.args.out.now
+    (omega (arith, c.kind_place-kinds.ensures, length-row_kinds (new a.before.before.before.before.before.before.before.before.before), length_new a.before.before.before.before.before.before.before.before.before, a.requires.0.room.holds, a.requires.2))
 
-changed_span_requires : tie.Need-changed-span-requires
-changed_span_requires c κs = search rules
+changed_span-changed-requires : tie.Need-changed_span-changed-requires
+changed_span-changed-requires c κs = search rules
 
-kind_place_requires : tie.Need-kind-place-requires
-kind_place_requires c κs = search rules
+kind_place-kinds-requires : tie.Need-kind_place-kinds-requires
+kind_place-kinds-requires c κs = search rules
 
-argument_place_requires : tie.Need-argument-place-requires
-argument_place_requires c κs =
-    let a = start c.before in
-    omega (arith, output_within a, a.good)
+argument_place-arguments-requires : tie.Need-argument_place-arguments-requires
+argument_place-arguments-requires c κs =
+    let a = c in
+    omega (arith, output_within a.before.before.before.before.before.before, a.well_formed)
 
-sub_copy_kinds : tie.Need-overflow-sub-copy-kinds
-sub_copy_kinds c = search rules
+slice_bounds-copy_kinds-count : tie.Need-slice_bounds-copy_kinds-count
+slice_bounds-copy_kinds-count c = search rules
 
-part_copy_kinds_start : tie.Need-slice-bounds-copy-kinds-start
-part_copy_kinds_start c = search rules
+slice_bounds-copy_kinds-start : tie.Need-slice_bounds-copy_kinds-start
+slice_bounds-copy_kinds-start c = search rules
 
-part_copy_kinds_end : tie.Need-slice-bounds-copy-kinds-end
-part_copy_kinds_end c = search rules
+slice_bounds-copy_kinds-end : tie.Need-slice_bounds-copy_kinds-end
+slice_bounds-copy_kinds-end c = search rules
 
-copy_kinds_requires : tie.Need-copy-kinds-requires
-copy_kinds_requires c κs = search rules
+copy_kinds-requires : tie.Need-copy_kinds-requires
+copy_kinds-requires c κs = search rules
 
-sub_copy_arguments : tie.Need-overflow-sub-copy-arguments
-sub_copy_arguments c =
-    let kinds = c.before.before in
-    omega (arith, length_mid kinds, (placed kinds).argument_place.ensures, output_within (begun (placed kinds)))
+slice_bounds-copy_arguments-count : tie.Need-slice_bounds-copy_arguments-count
+slice_bounds-copy_arguments-count c =
+    let kinds = c in
+    omega (arith, length_mid kinds.before.before, kinds.argument_place-arguments.ensures, output_within kinds.before.before.before.before.before.before.before.before.before.before.before)
 
-part_copy_arguments_start : tie.Need-slice-bounds-copy-arguments-start
-part_copy_arguments_start c =
-    let kinds = c.before.before in
-    omega (arith, length_mid kinds, (placed kinds).argument_place.ensures, output_within (begun (placed kinds)))
+slice_bounds-copy_arguments-start : tie.Need-slice_bounds-copy_arguments-start
+slice_bounds-copy_arguments-start c =
+    let kinds = c in
+    omega (arith, length_mid kinds.before.before, kinds.argument_place-arguments.ensures, output_within kinds.before.before.before.before.before.before.before.before.before.before.before)
 
-part_copy_arguments_end : tie.Need-slice-bounds-copy-arguments-end
-part_copy_arguments_end c = search rules
+slice_bounds-copy_arguments-end : tie.Need-slice_bounds-copy_arguments-end
+slice_bounds-copy_arguments-end c = search rules
 
-copy_arguments_requires : tie.Need-copy-arguments-requires
-copy_arguments_requires c κs =
-    let kinds = c.before.before.before in
-    let at = placed kinds in
-    let a = begun at in
-    let part = mid kinds in
-    let p = at.argument_place.result in (
-      record { source = a.pre.0.source; within = a.pre.1; between = at.before.before.changed-span.ensures },
+copy_arguments-requires : tie.Need-copy_arguments-requires
+copy_arguments-requires c κs =
+    let kinds = c in
+    let at = kinds in
+    let a = at in
+    let part = mid kinds.before.before.before in
+    let p = at.argument_place-arguments.result in (
+      record { source = a.requires.0.source; within = a.requires.1; between = at.changed_span-changed.ensures },
       omega (
         arith,
         length-take-le (length part - p) (drop p part) (omega (arith, length-drop p part)),
-        length_mid kinds,
-        at.argument_place.ensures,
-        output_within a,
+        length_mid kinds.before.before.before,
+        at.argument_place-arguments.ensures,
+        output_within a.before.before.before.before.before.before.before.before.before.before.before.before,
       ),
     )
 
-sub_result : tie.Need-overflow-sub-result
-sub_result c = search rules
+overflow_sub-result : tie.Need-overflow_sub-result
+overflow_sub-result c = search rules
 
-add_result : tie.Need-overflow-add-result
-add_result c = search rules
+overflow_add-result : tie.Need-overflow_add-result
+overflow_add-result c = search rules
 
-same_length : tie.Need-same-length
-same_length c = search rules
+shape_of-out : tie.Need-shape_of-out
+shape_of-out c = search rules
 
 returns : tie.Need-returns
 returns c =
-    let arguments = c.before.before.before in
-    let kinds = kinds_copied arguments.before in
-    let at = placed kinds in
-    let a = begun at in
+    let arguments = c in
+    let kinds = arguments in
+    let at = kinds in
+    let a = at in
     let s = a.args.s in
     let b = a.args.b.now in
     let span = a.args.span in
     let w = width s in
-    let bytes : (i : ℕ) → get_or b i 0 < 256 = λ i. ((known at.before.before.before).shared-slice-known.given i).fits in (
-      copied-laid a.args.out.now a.pre.0 a.args.to.at (new a) (copied-fits s b bytes a.args.table.now span.from span.to)
-          (extent span) (length_new a) a.pre.2 at.before.kind_place.ensures at.argument_place.ensures (kinds_written kinds)
-          (lent (mid kinds) (row_arguments w (new a)) at.argument_place.result (w * extent span)
-          (length-row_arguments w (new a) ∙ ap (λ n. w * n) (length_new a)) arguments.copy-arguments.ensures),
+    let bytes : (i : ℕ) → get_or b i 0 < 256 = λ i. (at.shared_slice_known-1.given i).fits in (
+      copied-laid a.args.out.now a.requires.0 a.args.to.at (new a.before.before.before.before.before.before.before.before.before.before.before.before.before.before.before.before) (copied-fits s b bytes a.args.table.now span.from span.to)
+          (extent span) (length_new a.before.before.before.before.before.before.before.before.before.before.before.before.before.before.before.before) a.requires.2 at.kind_place-kinds.ensures at.argument_place-arguments.ensures (kinds_written kinds.before.before.before.before.before.before.before)
+          (lent (mid kinds.before.before.before.before.before.before.before) (row_arguments w (new a.before.before.before.before.before.before.before.before.before.before.before.before.before.before.before.before)) at.argument_place-arguments.result (w * extent span)
+          (length-row_arguments w (new a.before.before.before.before.before.before.before.before.before.before.before.before.before.before.before.before) ∙ ap (λ n. w * n) (length_new a.before.before.before.before.before.before.before.before.before.before.before.before.before.before.before.before)) arguments.copy_arguments.ensures),
       refl,
     )
 
@@ -153,18 +137,18 @@ pub write_copy_spec : {M : Type 1} → statement M
 write_copy_spec =
     tie.close
     (tie.spec
-    changed_span_requires
-    kind_place_requires
-    argument_place_requires
-    sub_copy_kinds
-    part_copy_kinds_start
-    part_copy_kinds_end
-    copy_kinds_requires
-    sub_copy_arguments
-    part_copy_arguments_start
-    part_copy_arguments_end
-    copy_arguments_requires
-    sub_result
-    add_result
-    same_length
+    changed_span-changed-requires
+    kind_place-kinds-requires
+    argument_place-arguments-requires
+    slice_bounds-copy_kinds-count
+    slice_bounds-copy_kinds-start
+    slice_bounds-copy_kinds-end
+    copy_kinds-requires
+    slice_bounds-copy_arguments-count
+    slice_bounds-copy_arguments-start
+    slice_bounds-copy_arguments-end
+    copy_arguments-requires
+    overflow_sub-result
+    overflow_add-result
+    shape_of-out
     returns)

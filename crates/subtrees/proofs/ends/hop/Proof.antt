@@ -6,50 +6,50 @@ use Rattle.subtrees.proofs.Table.{hop_on, hops-none}
 use Rattle.subtrees.proofs.ends.hop.Statement.{statement}
 use Rattle.subtrees.proofs.ends.hop.Tie as tie
 
-abbrev invariant-loop : tie.invariant-loop
-invariant-loop ends from count at₀ left₀ at left = Hops ends at left × (hops ends from count ≡ hops ends at left)
+abbrev invariant-loop-left : tie.invariant-loop-left
+invariant-loop-left ends from count at₀ left₀ at left = Hops ends at left × (hops ends from count ≡ hops ends at left)
 
-abbrev decreases-loop : tie.decreases-loop
-decreases-loop ends from count at₀ left₀ at left = left
+abbrev decreases-loop-left : tie.decreases-loop-left
+decreases-loop-left ends from count at₀ left₀ at left = left
 
-loop_holds : tie.Need-loop-init invariant-loop decreases-loop
-loop_holds c = (c.requires, refl)
+loop-left-init : tie.Need-loop-left-init invariant-loop-left decreases-loop-left
+loop-left-init c = (c.requires, refl)
 
-mul_at : tie.Need-overflow-mul-at invariant-loop decreases-loop
-mul_at c = omega (arith, (hop_on c.before.before.args.ends.now c.loop-test.true c.before.loop.invariant.0).within)
+offset_bounds-ends-at : tie.Need-offset_bounds-ends-at invariant-loop-left decreases-loop-left
+offset_bounds-ends-at c = omega (arith, (hop_on c.args.ends.now c.loop-left-test.true c.loop-left.invariant.0).within)
 
-shared_slice_read_at : tie.Need-shared-slice-read-at invariant-loop decreases-loop
-shared_slice_read_at c = (hop_on c.before.before.before.args.ends.now c.before.loop-test.true c.before.before.loop.invariant.0).within
+bounds-ends-at : tie.Need-bounds-ends-at invariant-loop-left decreases-loop-left
+bounds-ends-at c = (hop_on c.args.ends.now c.loop-left-test.true c.loop-left.invariant.0).within
 
-cast_at : tie.Need-overflow-cast-at invariant-loop decreases-loop
-cast_at c = omega (arith, c.shared-slice-known.given c.before.before.loop.at)
+overflow_cast-at : tie.Need-overflow_cast-at invariant-loop-left decreases-loop-left
+overflow_cast-at c = omega (arith, c.shared_slice_known-1.given c.loop-left.at)
 
-sub_left : tie.Need-overflow-sub-left invariant-loop decreases-loop
-sub_left c = omega arith
+overflow_sub-left : tie.Need-overflow_sub-left invariant-loop-left decreases-loop-left
+overflow_sub-left c = omega arith
 
-loop_less : tie.Need-loop-smaller invariant-loop decreases-loop
-loop_less c = omega arith
+loop-left-smaller : tie.Need-loop-left-smaller invariant-loop-left decreases-loop-left
+loop-left-smaller c = omega arith
 
-loop_again : tie.Need-loop-preserved invariant-loop decreases-loop
-loop_again c =
-    let head = c.before.before in
-    let on = hop_on head.before.args.ends.now c.before.loop-test.true head.loop.invariant.0 in
-    (on.onward, head.loop.invariant.1 ∙ on.same)
+loop-left-preserved : tie.Need-loop-left-preserved invariant-loop-left decreases-loop-left
+loop-left-preserved c =
+    let head = c in
+    let on = hop_on head.args.ends.now c.loop-left-test.true head.loop-left.invariant.0 in
+    (on.onward, head.loop-left.invariant.1 ∙ on.same)
 
-returns : tie.Need-returns invariant-loop decreases-loop
-returns c = sym (c.before.loop.invariant.1 ∙ hops-none c.before.before.args.ends.now c.loop-test.false)
+returns : tie.Need-returns invariant-loop-left decreases-loop-left
+returns c = sym (c.loop-left.invariant.1 ∙ hops-none c.args.ends.now c.loop-left-test.false)
 
 pub hop_spec : {M : Type 1} → statement M
 hop_spec =
     tie.close
     (tie.spec
-    invariant-loop
-    decreases-loop
-    loop_holds
-    mul_at
-    shared_slice_read_at
-    cast_at
-    sub_left
-    loop_less
-    loop_again
+    invariant-loop-left
+    decreases-loop-left
+    loop-left-init
+    offset_bounds-ends-at
+    bounds-ends-at
+    overflow_cast-at
+    overflow_sub-left
+    loop-left-smaller
+    loop-left-preserved
     returns)

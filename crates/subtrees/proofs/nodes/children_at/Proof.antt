@@ -8,19 +8,22 @@ use Rattle.subtrees.proofs.Siblings.{row-top}
 use Rattle.subtrees.proofs.nodes.children_at.Statement.{statement}
 use Rattle.subtrees.proofs.nodes.children_at.Tie as tie
 
-add_children_at : tie.Need-overflow-add-children-at
-add_children_at c = search rules
+overflow_add-s : tie.Need-overflow_add-s
+overflow_add-s c = search rules
 
-children_at_requires : tie.Need-children-at-requires
-children_at_requires c κs = search rules
+children_at-requires : tie.Need-children_at-requires
+children_at-requires c κs = search rules
 
 returns : tie.Need-returns
 returns c =
-    let a = c.before.before.before in (
-      c.children-at.ensures.0 ∙ ap children (row-top a.args.b.now a.requires.0 a.args.i a.requires.1) ∙
+    let a = c in (
+      c.children_at.ensures.0 ∙ ap children (row-top a.args.b.now a.requires.0 a.args.i a.requires.1) ∙
           children-top (subtree_in a.args.s a.args.b.now a.args.i),
-      c.children-at.ensures.1,
+      c.children_at.ensures.1,
     )
 
 pub children_at_spec : {M : Type 1} → statement M
-children_at_spec = tie.close (tie.spec add_children_at children_at_requires returns)
+children_at_spec = tie.close (tie.spec
+    overflow_add-s
+    children_at-requires
+    returns)

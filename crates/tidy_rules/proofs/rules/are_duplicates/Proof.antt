@@ -7,49 +7,42 @@ use borrow.Author.Rules.{rules}
 use Rattle.tidy_rules.proofs.rules.are_duplicates.Statement.{statement}
 use Rattle.tidy_rules.proofs.rules.are_duplicates.Tie as tie
 
--- places in the code, each from a later one
-abbrev hashed : tie.After-row-of2 → tie.After-hash-of2
-hashed c = c.before.before.before
+hash_of-requires : tie.Need-hash_of-requires
+hash_of-requires c κs = search rules
 
-hash_of_requires : tie.Need-hash-of-requires
-hash_of_requires c κs = search rules
+hash_of-requires-2 : tie.Need-hash_of-requires-2
+hash_of-requires-2 c κs = search rules
 
-hash_of_requires_2 : tie.Need-hash-of-requires-2
-hash_of_requires_2 c κs = search rules
+returns-then-hash_of : tie.Need-returns-then-hash_of
+returns-then-hash_of c =
+    let p = c in
+    duplicates_apart (λ e. c.if-hash_of.true (p.hash_of.ensures.0 ∙ e ∙ sym p.hash_of-2.ensures.0))
+
+row_of-requires : tie.Need-row_of-requires
+row_of-requires c κs = search rules
+
+row_of-requires-2 : tie.Need-row_of-requires-2
+row_of-requires-2 c κs = search rules
+
+same_at-requires : tie.Need-same_at-requires
+same_at-requires c κs =
+    let a = c in
+    let lives = LiveAt (rows_in a.args.s a.args.b.now) in
+    (a.requires.0, subst lives (sym c.row_of.ensures) a.requires.1, subst lives (sym c.row_of-2.ensures) a.requires.2)
 
 returns : tie.Need-returns
 returns c =
-    let p = c.before in
-    duplicates_apart (λ e. c.if1.true (p.before.hash_of.ensures.0 ∙ e ∙ sym p.hash-of2.ensures.0))
-
-row_of_requires : tie.Need-row-of-requires
-row_of_requires c κs = search rules
-
-row_of_requires_2 : tie.Need-row-of-requires-2
-row_of_requires_2 c κs = search rules
-
-abbrev start : tie.After-row-of2 → tie.Start
-start r = (hashed r).before.before.before
-
-same_at_requires : tie.Need-same-at-requires
-same_at_requires c κs =
-    let a = start c in
-    let lives = LiveAt (rows_in a.args.s a.args.b.now) in
-    (a.pre.0, subst lives (sym c.before.row_of.ensures) a.pre.1, subst lives (sym c.row-of2.ensures) a.pre.2)
-
-returns_2 : tie.Need-returns-2
-returns_2 c =
-    let r = c.before in
-    duplicates_same c.same_at.result (rw (sym r.before.row_of.ensures, sym r.row-of2.ensures) c.same_at.ensures)
+    let r = c in
+    duplicates_same c.same_at.result (rw (sym r.row_of.ensures, sym r.row_of-2.ensures) c.same_at.ensures)
 
 pub are_duplicates_spec : {M : Type 1} → statement M
 are_duplicates_spec =
     tie.close
     (tie.spec
-    hash_of_requires
-    hash_of_requires_2
-    returns
-    row_of_requires
-    row_of_requires_2
-    same_at_requires
-    returns_2)
+    hash_of-requires
+    hash_of-requires-2
+    returns-then-hash_of
+    row_of-requires
+    row_of-requires-2
+    same_at-requires
+    returns)

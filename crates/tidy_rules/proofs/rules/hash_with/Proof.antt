@@ -8,33 +8,34 @@ use borrow.Author.Rules.{rules}
 use Rattle.tidy_rules.proofs.rules.hash_with.Statement.{statement}
 use Rattle.tidy_rules.proofs.rules.hash_with.Tie as tie
 
--- places in the code, each from a later one
-abbrev known : tie.After-hash-of → tie.After-shared-slice-known
-known c = c.before.before.before
+member-requires : tie.Need-member-requires
+member-requires c κs = search rules
 
-member_requires : tie.Need-member-requires
-member_requires c κs = search rules
+hash_of-requires : tie.Need-hash_of-requires
+hash_of-requires c κs = search rules
 
-hash_of_requires : tie.Need-hash-of-requires
-hash_of_requires c κs = search rules
+mixed-requires : tie.Need-mixed-requires
+mixed-requires c κs = search rules
 
-mixed_requires : tie.Need-mixed-requires
-mixed_requires c κs = search rules
-
-returns : tie.Need-returns
-returns c =
-    let got = c.before in
-    let a = (known got).before in (
-      c.mixed.ensures.0 ∙ ap (mix a.args.h) (got.hash_of.ensures.0 ∙ ap hash_of got.before.member.ensures.0) ∙
-          mixes_one a.args.members.now a.args.h a.args.n a.args.count a.pre.1 (omega (arith, got.before.before.if1.true, a.pre.2)),
+returns-then-n-count : tie.Need-returns-then-n-count
+returns-then-n-count c =
+    let got = c in
+    let a = got in (
+      c.mixed.ensures.0 ∙ ap (mix a.args.h) (got.hash_of.ensures.0 ∙ ap hash_of got.member.ensures.0) ∙
+          mixes_one a.args.members.now a.args.h a.args.n a.args.count a.requires.1 (omega (arith, got.if-n-count.true, a.requires.2)),
       c.mixed.ensures.1,
     )
 
-returns_2 : tie.Need-returns-2
-returns_2 c =
-    let a = c.before.before in
-    (mixes-none a.args.members.now a.args.h a.args.n a.args.count a.requires.1 c.if1.false, a.requires.0)
+returns : tie.Need-returns
+returns c =
+    let a = c in
+    (mixes-none a.args.members.now a.args.h a.args.n a.args.count a.requires.1 c.if-n-count.false, a.requires.0)
 
 pub hash_with_spec : {M : Type 1} → statement M
 hash_with_spec =
-    tie.close (tie.spec member_requires hash_of_requires mixed_requires returns returns_2)
+    tie.close (tie.spec
+    member-requires
+    hash_of-requires
+    mixed-requires
+    returns-then-n-count
+    returns)

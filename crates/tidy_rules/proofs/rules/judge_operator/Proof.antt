@@ -19,34 +19,6 @@ use borrow.Author.Rules.{rules}
 use Rattle.tidy_rules.proofs.rules.judge_operator.Statement.{statement}
 use Rattle.tidy_rules.proofs.rules.judge_operator.Tie as tie
 
--- places in the code, each from a later one
-abbrev known : tie.After-slice-known4 → tie.After-slice-known
-known c = c.before.before.before
-
-abbrev start : tie.After-decides-at-arg → tie.Start
-start c = (known c.before).before
-
-abbrev bucketed : tie.After-first → tie.After-first-arg
-bucketed c = c.before.before.before
-
-abbrev searching : tie.After-find-duplicate → tie.After-find-duplicate-arg
-searching c = c.before.before.before
-
-abbrev adding : tie.After-add → tie.After-add-arg
-adding c = c.before.before.before
-
-abbrev links_back : tie.After-slice-known7 → tie.After-links
-links_back c = c.before.before.before
-
-abbrev start_of : tie.Else1 → tie.Start
-start_of t = start t.before.before
-
-abbrev undecided : tie.After-member-of → tie.Else1
-undecided m = m.before.before
-
-abbrev sought : tie.After-find-duplicate → tie.After-member-of
-sought f = (bucketed (searching f).before).before
-
 inside : (a : tie.Start) → a.args.c.at < total a.args.s
 inside a = omega (arith, stands_within a.requires.0.behind.standing.stands, length-rows_in a.args.b.now a.requires.0.room)
 
@@ -60,233 +32,221 @@ one : (a : tie.Start) {front back : List Row} (x : Segment) → Stands (rows_of 
 one a x h = live_one x (λ z. omega (arith, above a x h))
 
 -- the member that it would be
-member_is : (m : tie.After-member-of) →
-    let a = start_of (undecided m) in
-    m.member_of.result ≡ member_of a.args.c.at (hash_of a.args.c.known)
-member_is m = m.member_of.ensures.0 ∙ ap (member_of (start_of (undecided m)).args.c.at) m.before.hash_of.ensures.0
+member_is : (m : tie.After-member_of-m) →
+    let a = m in
+    m.member_of-m.result ≡ member_of a.args.c.at (hash_of a.args.c.known)
+member_is m = m.member_of-m.ensures.0 ∙ ap (member_of m.args.c.at) m.hash_of.ensures.0
 
-own : (m : tie.After-member-of) → Member (rows_of (start_of (undecided m))) m.member_of.result
+own : (m : tie.After-member_of-m) → Member (rows_of m.before.before.before.before.before.before.before.before) m.member_of-m.result
 own m =
-    let a = start_of (undecided m) in
-    let g = a.pre.0.behind.standing in
-    let u = one a g.segment g.stands in
-    said-member a.args.c.known g.segment u.tree (member_is m) g.stands (above a g.segment g.stands) a.pre.0.behind.says u.is
+    let a = m in
+    let g = a.requires.0.behind.standing in
+    let u = one a.before.before.before.before.before.before.before.before g.segment g.stands in
+    said-member a.args.c.known g.segment u.tree (member_is m) g.stands (above a.before.before.before.before.before.before.before.before g.segment g.stands) a.requires.0.behind.says u.is
 
-start_is : (f : tie.After-find-duplicate) →
-    let m = sought f in
-    let a = start_of (undecided m) in
-    (searching f).before.first.result ≡ last a.args.members.now (bucket m.member_of.result) a.args.c.before
+start_is : (f : tie.After-find_duplicate) →
+    let m = f in
+    let a = m in
+    f.first-start.result ≡ last a.args.members.now (bucket m.member_of-m.result) a.args.c.before
 start_is f =
-    let k = (searching f).before in
-    let a = start_of (undecided (sought f)) in
-    k.first.ensures ∙ ap (λ j. last a.args.members.now j a.args.c.before) k.before.bucket_of.ensures.0
+    let k = f in
+    let a = f in
+    k.first-start.ensures ∙ ap (λ j. last a.args.members.now j a.args.c.before) k.bucket_of.ensures.0
 
-decides_at_requires : tie.Need-decides-at-requires
-decides_at_requires c κs =
-    let a = start c in
-    (a.pre.0.room, inside a, a.pre.1)
+decides_at-requires : tie.Need-decides_at-requires
+decides_at-requires c κs =
+    let a = c in
+    (a.requires.0.room, inside a.before.before.before.before, a.requires.1)
 
-same_length : tie.Need-same-length
-same_length c = search rules
+shape_of-b-then-decides_at : tie.Need-shape_of-b-then-decides_at
+shape_of-b-then-decides_at c = search rules
 
-returns : tie.Need-returns
-returns c =
-    let d = c.before in (
+returns-then-decides_at : tie.Need-returns-then-decides_at
+returns-then-decides_at c =
+    let d = c in (
       (λ o e from before done after laid noted two front x back h w.
-          judged_decided h (sym (d.Decides-at.ensures (live done) front x back h w o e) ∙ c.if1.true)),
+          judged_decided h (sym (d.decides_at.ensures (live done) front x back h w o e) ∙ c.if-decides_at.true)),
       linked_decided,
     )
 
-hash_of_requires : tie.Need-hash-of-requires
-hash_of_requires c κs = search rules
+hash_of-requires : tie.Need-hash_of-requires
+hash_of-requires c κs = search rules
 
-member_of_requires : tie.Need-member-of-requires
-member_of_requires c κs =
-    let a = start_of c.before in
-    (omega (arith, inside a, a.pre.0.tables.countable), c.hash_of.ensures.1)
+member_of-m-requires : tie.Need-member_of-m-requires
+member_of-m-requires c κs =
+    let a = c in
+    (omega (arith, inside a.before.before.before.before.before.before.before, a.requires.0.tables.countable), c.hash_of.ensures.1)
 
-bucket_of_requires : tie.Need-bucket-of-requires
-bucket_of_requires c κs = search rules
+bucket_of-requires : tie.Need-bucket_of-requires
+bucket_of-requires c κs = search rules
 
-first_requires : tie.Need-first-requires
-first_requires c κs =
-    let a = start_of (undecided c.before.before.before) in
+first-start-requires : tie.Need-first-start-requires
+first-start-requires c κs =
+    let a = c in
     let k = c.bucket_of in
-    let t = a.pre.0.tables in
-    let behind = a.pre.0.behind in
-    (omega (arith, k.ensures.1, t.all_heads), omega (arith, inside a, t.members_fit, behind.few), behind.linked.heads k.result k.ensures.1)
+    let t = a.requires.0.tables in
+    let behind = a.requires.0.behind in
+    (omega (arith, k.ensures.1, t.all_heads), omega (arith, inside a.before.before.before.before.before.before.before.before.before, t.members_fit, behind.few), behind.linked.heads k.result k.ensures.1)
 
-find_duplicate_requires : tie.Need-find-duplicate-requires
-find_duplicate_requires c κs =
-    let f = c.before.before.before in
-    let m = (bucketed f).before in
-    let a = start_of (undecided m) in (
-      a.pre.0.room,
+find_duplicate-requires : tie.Need-find_duplicate-requires
+find_duplicate-requires c κs =
+    let f = c in
+    let m = f in
+    let a = m in (
+      a.requires.0.room,
       record {
         chain =
             record {
               heads = _;
               count = a.args.c.before;
-              bucket_of = f.before.bucket_of.result;
-              linked = a.pre.0.behind.linked;
-              starts = f.first.ensures;
-              links_fit = omega (arith, inside a, a.pre.0.tables.links_fit, a.pre.0.behind.few);
-              members_fit = omega (arith, inside a, a.pre.0.tables.members_fit, a.pre.0.behind.few);
-              places = λ j l. omega (arith, members-within a.pre.0.behind.laid a.pre.0.behind.noted j l, inside a);
+              bucket_of = f.bucket_of.result;
+              linked = a.requires.0.behind.linked;
+              starts = f.first-start.ensures;
+              links_fit = omega (arith, inside a.before.before.before.before.before.before.before.before.before.before, a.requires.0.tables.links_fit, a.requires.0.behind.few);
+              members_fit = omega (arith, inside a.before.before.before.before.before.before.before.before.before.before, a.requires.0.tables.members_fit, a.requires.0.behind.few);
+              places = λ j l. omega (arith, members-within a.requires.0.behind.laid a.requires.0.behind.noted j l, inside a.before.before.before.before.before.before.before.before.before.before);
             };
-        lives = λ j l. member_at a.pre.0.behind.laid a.pre.0.behind.noted j l;
+        lives = λ j l. member_at a.requires.0.behind.laid a.requires.0.behind.noted j l;
       },
-      own m,
+      own m.before.before,
     )
 
-enum_told : tie.Need-enum-told
-enum_told c = search rules
+enum_told-1 : tie.Need-enum_told-1
+enum_told-1 c = search rules
 
-enum_told_2 : tie.Need-enum-told-2
-enum_told_2 c = search rules
+enum_told-in_default : tie.Need-enum_told-in_default
+enum_told-in_default c = search rules
 
 -- none is the same
-abbrev unfound_by : tie.After-enum-told2 → tie.After-find-duplicate
-unfound_by e = e.before.before
-
-add_requires : tie.Need-add-requires
-add_requires c κs =
-    let m = sought (unfound_by c.before.before.before) in
-    let a = start_of (undecided m) in
-    let t = a.pre.0.tables in
-    let few = a.pre.0.behind.few in (
+add-requires : tie.Need-add-requires
+add-requires c κs =
+    let m = c in
+    let a = m in
+    let t = a.requires.0.tables in
+    let few = a.requires.0.behind.few in (
       record {
         all_heads = t.all_heads;
-        links_fit = omega (arith, inside a, t.links_fit, few);
-        members_fit = omega (arith, inside a, t.members_fit, few);
-        countable = omega (arith, inside a, t.countable, few);
+        links_fit = omega (arith, inside a.before.before.before.before.before.before.before.before.before.before.before.before.before.before.before, t.links_fit, few);
+        members_fit = omega (arith, inside a.before.before.before.before.before.before.before.before.before.before.before.before.before.before.before, t.members_fit, few);
+        countable = omega (arith, inside a.before.before.before.before.before.before.before.before.before.before.before.before.before.before.before, t.countable, few);
       },
-      m.member_of.ensures.1,
-      a.pre.0.behind.linked,
+      m.member_of-m.ensures.1,
+      a.requires.0.behind.linked,
     )
 
-abbrev add_by : tie.After-slice-known7 → tie.After-add
-add_by c = (links_back c).before.before.before
+overflow_add-result : tie.Need-overflow_add-result
+overflow_add-result c =
+    let a = c in
+    omega (arith, inside a.before.before.before.before.before.before.before.before.before.before.before.before.before.before.before.before.before.before.before.before.before.before, a.requires.0.tables.countable, a.requires.0.behind.few)
 
-abbrev added_by : tie.After-add → tie.After-enum-told2
-added_by d = (adding d).before
+shape_of-b-in_default : tie.Need-shape_of-b-in_default
+shape_of-b-in_default c = search rules
 
-add_t34 : tie.Need-overflow-add-t34
-add_t34 c =
-    let a = start_of (undecided (sought (unfound_by (added_by (add_by c))))) in
-    omega (arith, inside a, a.pre.0.tables.countable, a.pre.0.behind.few)
+shape_of-heads-in_default : tie.Need-shape_of-heads-in_default
+shape_of-heads-in_default c = search rules
 
-same_length_2 : tie.Need-same-length-2
-same_length_2 c = search rules
+shape_of-links-in_default : tie.Need-shape_of-links-in_default
+shape_of-links-in_default c = search rules
 
-same_length_3 : tie.Need-same-length-3
-same_length_3 c = search rules
+shape_of-members-in_default : tie.Need-shape_of-members-in_default
+shape_of-members-in_default c = search rules
 
-same_length_4 : tie.Need-same-length-4
-same_length_4 c = search rules
-
-same_length_5 : tie.Need-same-length-5
-same_length_5 c = search rules
-
-returns_2 : tie.Need-returns-2
-returns_2 c =
-    let d = add_by c in
-    let f = unfound_by (added_by d) in
-    let m = sought f in
-    let t = undecided m in
-    let a = start_of t in (
+returns-in_default : tie.Need-returns-in_default
+returns-in_default c =
+    let d = c in
+    let f = d in
+    let m = f in
+    let t = m in
+    let a = t in (
       (λ o e from before done after laid noted two front x back h w.
-          let u = one a x h in
-          let l = above a x h in
-          let duplicates = f.find-duplicate.ensures (said-member a.args.c.known x u.tree (member_is m) h l w u.is) in
-          operator_new laid noted h u.is o (sym (t.before.Decides-at.ensures (live done) front x back h w o e) ∙ t.if1.left)
-          (member_is m ∙ ap (member_of a.args.c.at) (said-hash a.args.c.known x l w u.is))
-          (unfound (bucket m.member_of.result) duplicates a.pre.0.behind.linked (start_is f) (added_by d).enum-told2.given.1)
-          d.add.ensures.0 (omega (arith, inside a, a.pre.0.tables.members_fit, a.pre.0.behind.few))),
+          let u = one a.before.before.before.before.before.before.before.before.before.before.before.before.before.before.before.before.before.before.before.before.before.before x h in
+          let l = above a.before.before.before.before.before.before.before.before.before.before.before.before.before.before.before.before.before.before.before.before.before.before x h in
+          let duplicates = f.find_duplicate.ensures (said-member a.args.c.known x u.tree (member_is m.before.before.before.before.before.before.before.before.before.before.before.before.before.before) h l w u.is) in
+          operator_new laid noted h u.is o (sym (t.decides_at.ensures (live done) front x back h w o e) ∙ t.if-decides_at.false)
+          (member_is m.before.before.before.before.before.before.before.before.before.before.before.before.before.before ∙ ap (member_of a.args.c.at) (said-hash a.args.c.known x l w u.is))
+          (unfound (bucket m.member_of-m.result) duplicates a.requires.0.behind.linked (start_is f.before.before.before.before.before.before.before.before.before.before.before) d.in_default.is)
+          d.add.ensures.0 (omega (arith, inside a.before.before.before.before.before.before.before.before.before.before.before.before.before.before.before.before.before.before.before.before.before.before, a.requires.0.tables.members_fit, a.requires.0.behind.few))),
       linked-members d.add.ensures.1 (omega arith),
     )
 
 -- one is
-abbrev found_by : tie.After-enum-told → tie.After-find-duplicate
-found_by e = e.before.before
+argument_at-rows-requires : tie.Need-argument_at-rows-requires
+argument_at-rows-requires c κs =
+    let a = c in
+    (a.requires.0.room, inside a.before.before.before.before.before.before.before.before.before.before.before.before)
 
-argument_at_requires : tie.Need-argument-at-requires
-argument_at_requires c κs =
-    let a = start_of (undecided (sought (found_by c.before))) in
-    (a.pre.0.room, inside a)
-
-set_row_requires : tie.Need-set-row-requires
-set_row_requires c κs =
-    let v = c.before in
-    let a = start_of (undecided (sought (found_by v.before.before))) in
-    let g = a.pre.0.behind.standing in
+set_row-requires : tie.Need-set_row-requires
+set_row-requires c κs =
+    let v = c in
+    let a = v in
+    let g = a.requires.0.behind.standing in
     let r = stands_row g.stands in
-    let size = operator_size g.segment (above a g.segment g.stands) in
-    let rows = length-rows_in a.args.b.now a.pre.0.room in (
-      a.pre.0.room,
-      inside a,
-      omega (arith, v.argument-at.ensures.0, ap (λ (q : Row). q.argument) r, size, stands_within g.stands, rows, a.pre.0.counted),
+    let size = operator_size g.segment (above a.before.before.before.before.before.before.before.before.before.before.before.before.before.before g.segment g.stands) in
+    let rows = length-rows_in a.args.b.now a.requires.0.room in (
+      a.requires.0.room,
+      inside a.before.before.before.before.before.before.before.before.before.before.before.before.before.before,
+      omega (arith, v.argument_at-rows.ensures.0, ap (λ (q : Row). q.argument) r, size, stands_within g.stands, rows, a.requires.0.counted),
     )
 
-same_length_6 : tie.Need-same-length-6
-same_length_6 c = search rules
+shape_of-b : tie.Need-shape_of-b
+shape_of-b c = search rules
 
-same_length_7 : tie.Need-same-length-7
-same_length_7 c = search rules
+shape_of-heads : tie.Need-shape_of-heads
+shape_of-heads c = search rules
 
-same_length_8 : tie.Need-same-length-8
-same_length_8 c = search rules
+shape_of-links : tie.Need-shape_of-links
+shape_of-links c = search rules
 
-same_length_9 : tie.Need-same-length-9
-same_length_9 c = search rules
+shape_of-members : tie.Need-shape_of-members
+shape_of-members c = search rules
 
-returns_3 : tie.Need-returns-3
-returns_3 c =
-    let w = c.before.before in
-    let v = w.before.before in
-    let e = v.before.before in
-    let f = found_by e in
-    let m = sought f in
-    let t = undecided m in
-    let a = start_of t in (
+returns : tie.Need-returns
+returns c =
+    let w = c in
+    let v = w in
+    let e = v in
+    let f = e in
+    let m = f in
+    let t = m in
+    let a = t in (
       (λ o k from before done after laid noted two front x back h says.
-          let u = one a x h in
-          let l = above a x h in
-          let duplicates = f.find-duplicate.ensures (said-member a.args.c.known x u.tree (member_is m) h l says u.is) in
-          let i = found (bucket m.member_of.result) duplicates a.pre.0.behind.linked (start_is f) e.enum_told.given.1 in
-          operator_again laid noted h u.is o (sym (t.before.Decides-at.ensures (live done) front x back h says o k) ∙ t.if1.left)
-          i.within (row-said a.args.c.known (member_is m)) i.passes
-          (w.set-row.ensures.0 ∙
-          ap (λ m. set (rows_of a) a.args.c.at (row 0 m))
-          (v.argument-at.ensures.0 ∙ ap (λ (q : Row). q.argument) (stands_row h) ∙ operator_size x l))),
-      linked-members a.pre.0.behind.linked (omega arith),
+          let u = one a.before.before.before.before.before.before.before.before.before.before.before.before.before.before.before.before.before x h in
+          let l = above a.before.before.before.before.before.before.before.before.before.before.before.before.before.before.before.before.before x h in
+          let duplicates = f.find_duplicate.ensures (said-member a.args.c.known x u.tree (member_is m.before.before.before.before.before.before.before.before.before) h l says u.is) in
+          let i = found (bucket m.member_of-m.result) duplicates a.requires.0.behind.linked (start_is f.before.before.before.before.before.before) e.in-Member.is in
+          operator_again laid noted h u.is o (sym (t.decides_at.ensures (live done) front x back h says o k) ∙ t.if-decides_at.false)
+          i.within (row-said a.args.c.known (member_is m.before.before.before.before.before.before.before.before.before)) i.passes
+          (w.set_row.ensures.0 ∙
+          ap (λ m. set (rows_of a.before.before.before.before.before.before.before.before.before.before.before.before.before.before.before.before.before) a.args.c.at (row 0 m))
+          (v.argument_at-rows.ensures.0 ∙ ap (λ (q : Row). q.argument) (stands_row h) ∙ operator_size x l))),
+      linked-members a.requires.0.behind.linked (omega arith),
     )
 
 pub judge_operator_spec : {M : Type 1} → statement M
 judge_operator_spec =
     tie.close
     (tie.spec
-    decides_at_requires
-    same_length
-    returns
-    hash_of_requires
-    member_of_requires
-    bucket_of_requires
-    first_requires
-    find_duplicate_requires
-    enum_told
-    enum_told_2
-    add_requires
-    add_t34
-    same_length_2
-    same_length_3
-    same_length_4
-    same_length_5
-    returns_2
-    argument_at_requires
-    set_row_requires
-    same_length_6
-    same_length_7
-    same_length_8
-    same_length_9
-    returns_3)
+    decides_at-requires
+    shape_of-b-then-decides_at
+    returns-then-decides_at
+    hash_of-requires
+    member_of-m-requires
+    bucket_of-requires
+    first-start-requires
+    find_duplicate-requires
+    enum_told-1
+    enum_told-in_default
+    add-requires
+    overflow_add-result
+    shape_of-b-in_default
+    shape_of-heads-in_default
+    shape_of-links-in_default
+    shape_of-members-in_default
+    returns-in_default
+    argument_at-rows-requires
+    set_row-requires
+    shape_of-b
+    shape_of-heads
+    shape_of-links
+    shape_of-members
+    returns)

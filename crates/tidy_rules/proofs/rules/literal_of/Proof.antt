@@ -6,21 +6,25 @@ use borrow.Author.Rules.{rules}
 use Rattle.tidy_rules.proofs.rules.literal_of.Statement.{statement}
 use Rattle.tidy_rules.proofs.rules.literal_of.Tie as tie
 
-kind_at_requires : tie.Need-kind-at-requires
-kind_at_requires c κs = search rules
+kind_at-requires : tie.Need-kind_at-requires
+kind_at-requires c κs = search rules
+
+returns-then-kind_at-gt-NEGATIVE : tie.Need-returns-then-kind_at-gt-NEGATIVE
+returns-then-kind_at-gt-NEGATIVE c =
+    let a = c.args in
+    literal_test_operator (at_row (rows_in a.s a.b.now) a.r) _ c.kind_at.ensures c.if-kind_at-gt-NEGATIVE.true
+
+argument_at-requires : tie.Need-argument_at-requires
+argument_at-requires c κs = search rules
 
 returns : tie.Need-returns
 returns c =
-    let a = c.before.before.before.args in
-    literal_test_operator (at_row (rows_in a.s a.b.now) a.r) _ c.before.kind_at.ensures c.if1.true
-
-argument_at_requires : tie.Need-argument-at-requires
-argument_at_requires c κs = search rules
-
-returns_2 : tie.Need-returns-2
-returns_2 c =
-    let t = c.before in
-    literal_test-literal _ _ t.before.kind_at.ensures t.if1.false c.argument-at.ensures.0
+    let t = c in
+    literal_test-literal _ _ t.kind_at.ensures t.if-kind_at-gt-NEGATIVE.false c.argument_at.ensures.0
 
 pub literal_of_spec : {M : Type 1} → statement M
-literal_of_spec = tie.close (tie.spec kind_at_requires returns argument_at_requires returns_2)
+literal_of_spec = tie.close (tie.spec
+    kind_at-requires
+    returns-then-kind_at-gt-NEGATIVE
+    argument_at-requires
+    returns)

@@ -12,68 +12,61 @@ use Rattle.tidy_rules.proofs.Entered.{argument_literal, argument_operator}
 use Rattle.tidy_rules.proofs.same.argument_of.Statement.{statement}
 use Rattle.tidy_rules.proofs.same.argument_of.Tie as tie
 
--- places in the code, each from a later one
-abbrev known : tie.Else1 → tie.After-shared-slice-known
-known c = c.before.before.before
-
-argument_at_requires : tie.Need-argument-at-requires
-argument_at_requires c κs =
-    let a = c.before in
+argument_at-argument-requires : tie.Need-argument_at-argument-requires
+argument_at-argument-requires c κs =
+    let a = c in
     (a.requires.0, omega (arith, stands_within a.requires.1.stands, length-rows_in a.args.b.now a.requires.0))
 
-kind_at_requires : tie.Need-kind-at-requires
-kind_at_requires c κs =
-    let a = c.before.before in
+kind_at-requires : tie.Need-kind_at-requires
+kind_at-requires c κs =
+    let a = c in
     (a.requires.0, omega (arith, stands_within a.requires.1.stands, length-rows_in a.args.b.now a.requires.0))
+
+returns-then-kind_at-le-NEGATIVE : tie.Need-returns-then-kind_at-le-NEGATIVE
+returns-then-kind_at-le-NEGATIVE c =
+    λ before x after h.
+    argument_literal x _ (rw (c.kind_at.ensures ∙ ap (λ (r : Row). r.kind) (stands_row h)) at c.if-kind_at-le-NEGATIVE.true)
+    (c.argument_at-argument.ensures.0 ∙ ap (λ (r : Row). r.argument) (stands_row h))
+
+children : (c : tie.Else-kind_at-le-NEGATIVE)
+    → Region (rows_in c.args.s c.args.b.now) (c.args.r + 1)
+    (c.args.r + c.argument_at-argument.result)
+children c =
+    let g = c.requires.1 in
+    let r = stands_row g.stands in
+    inner_region g.segment (rw (c.kind_at.ensures ∙ ap (λ (q : Row). q.kind) r) at c.if-kind_at-le-NEGATIVE.false)
+    (c.argument_at-argument.ensures.0 ∙ ap (λ (q : Row). q.argument) r) g.stands
+
+children_within : (c : tie.Else-kind_at-le-NEGATIVE)
+    → (c.args.r + 1 ≤ c.args.r + c.argument_at-argument.result)
+    × (c.args.r + c.argument_at-argument.result ≤ total c.args.s)
+children_within c =
+    let i = laid-within (children c).laid in
+    (i.0, omega (arith, i.1, length-rows_in c.args.b.now c.requires.0))
+
+overflow_add-r : tie.Need-overflow_add-r
+overflow_add-r c = omega (arith, children_within c)
+
+overflow_add-r-2 : tie.Need-overflow_add-r-2
+overflow_add-r-2 c = omega (arith, children_within c)
+
+count_live-requires : tie.Need-count_live-requires
+count_live-requires c κs = (c.requires.0, children c)
 
 returns : tie.Need-returns
 returns c =
     λ before x after h.
-    argument_literal x _ (rw (c.before.kind_at.ensures ∙ ap (λ (r : Row). r.kind) (stands_row h)) at c.if1.true)
-    (c.before.before.argument-at.ensures.0 ∙ ap (λ (r : Row). r.argument) (stands_row h))
-
-abbrev start_of : tie.Else1 → tie.Start
-start_of c = (known c).before
-
-children : (c : tie.Else1)
-    → Region (rows_in (start_of c).args.s (start_of c).args.b.now) ((start_of c).args.r + 1)
-    ((start_of c).args.r + c.before.before.argument-at.result)
-children c =
-    let g = (start_of c).requires.1 in
-    let r = stands_row g.stands in
-    inner_region g.segment (rw (c.before.kind_at.ensures ∙ ap (λ (q : Row). q.kind) r) at c.if1.false)
-    (c.before.before.argument-at.ensures.0 ∙ ap (λ (q : Row). q.argument) r) g.stands
-
-children_within : (c : tie.Else1)
-    → ((start_of c).args.r + 1 ≤ (start_of c).args.r + c.before.before.argument-at.result)
-    × ((start_of c).args.r + c.before.before.argument-at.result ≤ total (start_of c).args.s)
-children_within c =
-    let i = laid-within (children c).laid in
-    (i.0, omega (arith, i.1, length-rows_in (start_of c).args.b.now (start_of c).requires.0))
-
-add_count_live : tie.Need-overflow-add-count-live
-add_count_live c = omega (arith, children_within c)
-
-add_count_live_2 : tie.Need-overflow-add-count-live-2
-add_count_live_2 c = omega (arith, children_within c)
-
-count_live_requires : tie.Need-count-live-requires
-count_live_requires c κs = ((start_of c).requires.0, children c)
-
-returns_2 : tie.Need-returns-2
-returns_2 c =
-    λ before x after h.
-    argument_operator x _ _ (rw (c.before.before.kind_at.ensures ∙ ap (λ (r : Row). r.kind) (stands_row h)) at c.before.if1.false)
-    (c.before.before.before.argument-at.ensures.0 ∙ ap (λ (r : Row). r.argument) (stands_row h)) h c.count-live.ensures.0
+    argument_operator x _ _ (rw (c.kind_at.ensures ∙ ap (λ (r : Row). r.kind) (stands_row h)) at c.if-kind_at-le-NEGATIVE.false)
+    (c.argument_at-argument.ensures.0 ∙ ap (λ (r : Row). r.argument) (stands_row h)) h c.count_live.ensures.0
 
 pub argument_of_spec : {M : Type 1} → statement M
 argument_of_spec =
     tie.close
     (tie.spec
-    argument_at_requires
-    kind_at_requires
-    returns
-    add_count_live
-    add_count_live_2
-    count_live_requires
-    returns_2)
+    argument_at-argument-requires
+    kind_at-requires
+    returns-then-kind_at-le-NEGATIVE
+    overflow_add-r
+    overflow_add-r-2
+    count_live-requires
+    returns)

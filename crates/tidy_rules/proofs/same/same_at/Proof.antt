@@ -9,133 +9,123 @@ use Rattle.tidy_rules.proofs.Entered.{Compare, compare_none, compare_standing, c
 use Rattle.tidy_rules.proofs.same.same_at.Statement.{statement}
 use Rattle.tidy_rules.proofs.same.same_at.Tie as tie
 
-abbrev invariant-loop : tie.invariant-loop
-invariant-loop b s p q to end i₀ j₀ i j = Compare (rows_in s b) p q i to j end
+abbrev invariant-loop-i : tie.invariant-loop-i
+invariant-loop-i b s p q to end i₀ j₀ i j = Compare (rows_in s b) p q i to j end
 
-abbrev decreases-loop : tie.decreases-loop
-decreases-loop b s p q to end i₀ j₀ i j = to - i
+abbrev decreases-loop-i : tie.decreases-loop-i
+decreases-loop-i b s p q to end i₀ j₀ i j = to - i
 
--- places in the code, each from a later one
-abbrev measured : tie.In-loop invariant-loop decreases-loop → tie.After-extent-at invariant-loop decreases-loop
-measured c = c.before.before.before
-
-abbrev start : tie.In-loop invariant-loop decreases-loop → tie.Start invariant-loop decreases-loop
-start c = (measured c).before.before
-
-abbrev turn : tie.Else2 invariant-loop decreases-loop → tie.In-loop invariant-loop decreases-loop
-turn c = c.before.before.before
-
-extent_at_requires : tie.Need-extent-at-requires invariant-loop decreases-loop
-extent_at_requires c κs =
-    let a = c.before in
+extent_at-requires : tie.Need-extent_at-requires invariant-loop-i decreases-loop-i
+extent_at-requires c κs =
+    let a = c in
     (a.requires.0, omega (arith, stands_within a.requires.1.stands, length-rows_in a.args.b.now a.requires.0))
 
-add_to : tie.Need-overflow-add-to invariant-loop decreases-loop
-add_to c =
-    let a = c.before.before in
-    omega (arith, c.extent-at.ensures.1, stands_within a.requires.1.stands, length-rows_in a.args.b.now a.requires.0)
+overflow_add-to : tie.Need-overflow_add-to invariant-loop-i decreases-loop-i
+overflow_add-to c =
+    let a = c in
+    omega (arith, c.extent_at.ensures.1, stands_within a.requires.1.stands, length-rows_in a.args.b.now a.requires.0)
 
-extent_at_requires_2 : tie.Need-extent-at-requires-2 invariant-loop decreases-loop
-extent_at_requires_2 c κs =
-    let a = c.before.before in
+extent_at-requires-2 : tie.Need-extent_at-requires-2 invariant-loop-i decreases-loop-i
+extent_at-requires-2 c κs =
+    let a = c in
     (a.requires.0, omega (arith, stands_within a.requires.2.stands, length-rows_in a.args.b.now a.requires.0))
 
-add_end : tie.Need-overflow-add-end invariant-loop decreases-loop
-add_end c =
-    let a = c.before.before.before in
-    omega (arith, c.extent-at2.ensures.1, stands_within a.requires.2.stands, length-rows_in a.args.b.now a.requires.0)
+overflow_add-end : tie.Need-overflow_add-end invariant-loop-i decreases-loop-i
+overflow_add-end c =
+    let a = c in
+    omega (arith, c.extent_at-2.ensures.1, stands_within a.requires.2.stands, length-rows_in a.args.b.now a.requires.0)
 
-loop_holds : tie.Need-loop-init invariant-loop decreases-loop
-loop_holds c = compare_none c.before.extent-at.ensures.0 c.extent-at2.ensures.0
+loop-i-init : tie.Need-loop-i-init invariant-loop-i decreases-loop-i
+loop-i-init c = compare_none c.extent_at.ensures.0 c.extent_at-2.ensures.0
 
-returns : tie.Need-returns invariant-loop decreases-loop
-returns c =
-    let l = c.before in
-    let v = l.before.loop.invariant in
-    let a = start l in
-    compare_short v l.loop-test.true c.if1.true
+returns-then-end-j : tie.Need-returns-then-end-j invariant-loop-i decreases-loop-i
+returns-then-end-j c =
+    let l = c in
+    let v = l.loop-i.invariant in
+    let a = l in
+    compare_short v l.loop-i-test.true c.if-end-j.true
 
-row_same_requires : tie.Need-row-same-requires invariant-loop decreases-loop
-row_same_requires c κs =
-    let l = c.before in
-    let v = l.before.loop.invariant in
-    let a = start l in
-    let d = compare_standing v a.pre.1 a.pre.2 l.loop-test.true c.if1.false in
-    (a.pre.0, d.0, d.1)
+row_same-requires : tie.Need-row_same-requires invariant-loop-i decreases-loop-i
+row_same-requires c κs =
+    let l = c in
+    let v = l.loop-i.invariant in
+    let a = l in
+    let d = compare_standing v a.requires.1 a.requires.2 l.loop-i-test.true c.if-end-j.false in
+    (a.requires.0, d.0, d.1)
 
-returns_2 : tie.Need-returns-2 invariant-loop decreases-loop
-returns_2 c =
-    let f = c.before in
-    let l = f.before.before in
-    compare_differ l.before.loop.invariant l.loop-test.true f.before.if1.false (rw (not-true f.row_same.result c.if2.true) at f.row_same.ensures)
+returns-then-not-row_same : tie.Need-returns-then-not-row_same invariant-loop-i decreases-loop-i
+returns-then-not-row_same c =
+    let f = c in
+    let l = f in
+    compare_differ l.loop-i.invariant l.loop-i-test.true f.if-end-j.false (rw (c.if-not-row_same.true) at f.row_same.ensures)
 
-add_first_live : tie.Need-overflow-add-first-live invariant-loop decreases-loop
-add_first_live c =
-    let l = c.before.before.before in
-    let v = l.before.loop.invariant in
-    let a = start l in
-    let g = compare_left v a.pre.1 a.pre.2 l.loop-test.true in
-    omega (arith, laid-within g.laid, length-rows_in a.args.b.now a.pre.0)
+overflow_add-i : tie.Need-overflow_add-i invariant-loop-i decreases-loop-i
+overflow_add-i c =
+    let l = c in
+    let v = l.loop-i.invariant in
+    let a = l in
+    let g = compare_left v a.requires.1 a.requires.2 l.loop-i-test.true in
+    omega (arith, laid-within g.laid, length-rows_in a.args.b.now a.requires.0)
 
-first_live_requires : tie.Need-first-live-requires invariant-loop decreases-loop
-first_live_requires c κs =
-    let l = c.before.before.before in
-    let v = l.before.loop.invariant in
-    let a = start l in
-    (a.pre.0, compare_left v a.pre.1 a.pre.2 l.loop-test.true)
+first_live-i-requires : tie.Need-first_live-i-requires invariant-loop-i decreases-loop-i
+first_live-i-requires c κs =
+    let l = c in
+    let v = l.loop-i.invariant in
+    let a = l in
+    (a.requires.0, compare_left v a.requires.1 a.requires.2 l.loop-i-test.true)
 
-add_first_live_2 : tie.Need-overflow-add-first-live-2 invariant-loop decreases-loop
-add_first_live_2 c =
-    let l = turn c.before in
-    let v = l.before.loop.inv in
-    let a = start l in
-    let g = compare_right v a.pre.1 a.pre.2 c.before.before.before.if1.false in
-    omega (arith, laid-within g.laid, length-rows_in a.args.b.now a.pre.0)
+overflow_add-j : tie.Need-overflow_add-j invariant-loop-i decreases-loop-i
+overflow_add-j c =
+    let l = c in
+    let v = l.loop-i.invariant in
+    let a = l in
+    let g = compare_right v a.requires.1 a.requires.2 c.if-end-j.false in
+    omega (arith, laid-within g.laid, length-rows_in a.args.b.now a.requires.0)
 
-first_live_requires_2 : tie.Need-first-live-requires-2 invariant-loop decreases-loop
-first_live_requires_2 c κs =
-    let l = turn c.before in
-    let v = l.before.loop.inv in
-    let a = start l in
-    (a.pre.0, compare_right v a.pre.1 a.pre.2 c.before.before.before.if1.false)
+first_live-j-requires : tie.Need-first_live-j-requires invariant-loop-i decreases-loop-i
+first_live-j-requires c κs =
+    let l = c in
+    let v = l.loop-i.invariant in
+    let a = l in
+    (a.requires.0, compare_right v a.requires.1 a.requires.2 c.if-end-j.false)
 
-loop_less : tie.Need-loop-smaller invariant-loop decreases-loop
-loop_less c =
-    let l = turn c.before.before in
-    let v = l.before.loop.inv in
-    let a = start l in
-    let w = finds_within c.before.first_live.ensures (compare_left v a.pre.1 a.pre.2 l.loop-test.taken) in
-    omega (arith, w.0, w.1, l.loop-test.taken)
+loop-i-smaller : tie.Need-loop-i-smaller invariant-loop-i decreases-loop-i
+loop-i-smaller c =
+    let l = c in
+    let v = l.loop-i.invariant in
+    let a = l in
+    let w = finds_within c.first_live-i.ensures (compare_left v a.requires.1 a.requires.2 l.loop-i-test.true) in
+    omega (arith, w.0, w.1, l.loop-i-test.true)
 
-loop_again : tie.Need-loop-preserved invariant-loop decreases-loop
-loop_again c =
-    let d = c.before.before in
-    let f = d.before in
-    let l = f.before.before in
-    compare_more l.before.loop.invariant l.loop-test.true f.before.if1.false (rw (not-false f.row_same.result d.if2.false) at f.row_same.ensures)
-    c.before.first_live.ensures c.first-live2.ensures
+loop-i-preserved : tie.Need-loop-i-preserved invariant-loop-i decreases-loop-i
+loop-i-preserved c =
+    let d = c in
+    let f = d in
+    let l = f in
+    compare_more l.loop-i.invariant l.loop-i-test.true f.if-end-j.false (rw (d.if-not-row_same.false) at f.row_same.ensures)
+    c.first_live-i.ensures c.first_live-j.ensures
 
-returns_3 : tie.Need-returns-3 invariant-loop decreases-loop
-returns_3 c = compare_end c.before.loop.invariant c.loop-test.false
+returns : tie.Need-returns invariant-loop-i decreases-loop-i
+returns c = compare_end c.loop-i.invariant c.loop-i-test.false
 
 pub same_at_spec : {M : Type 1} → statement M
 same_at_spec =
     tie.close
     (tie.spec
-    invariant-loop
-    decreases-loop
-    extent_at_requires
-    add_to
-    extent_at_requires_2
-    add_end
-    loop_holds
-    returns
-    row_same_requires
-    returns_2
-    add_first_live
-    first_live_requires
-    add_first_live_2
-    first_live_requires_2
-    loop_less
-    loop_again
-    returns_3)
+    invariant-loop-i
+    decreases-loop-i
+    extent_at-requires
+    overflow_add-to
+    extent_at-requires-2
+    overflow_add-end
+    loop-i-init
+    returns-then-end-j
+    row_same-requires
+    returns-then-not-row_same
+    overflow_add-i
+    first_live-i-requires
+    overflow_add-j
+    first_live-j-requires
+    loop-i-smaller
+    loop-i-preserved
+    returns)

@@ -7,72 +7,68 @@ use Rattle.tidy_rules.proofs.Walks.{Scan, Counted, scan_none, scan_turn, scan_mo
 use Rattle.tidy_rules.proofs.walk.count_live.Statement.{statement}
 use Rattle.tidy_rules.proofs.walk.count_live.Tie as tie
 
-abbrev invariant-loop : tie.invariant-loop
-invariant-loop b s from to seen₀ at₀ seen at = Scan (rows_in s b) from at to (Counted seen)
+abbrev invariant-loop-at : tie.invariant-loop-at
+invariant-loop-at b s from to seen₀ at₀ seen at = Scan (rows_in s b) from at to (Counted seen)
 
-abbrev decreases-loop : tie.decreases-loop
-decreases-loop b s from to seen₀ at₀ seen at = to - at
+abbrev decreases-loop-at : tie.decreases-loop-at
+decreases-loop-at b s from to seen₀ at₀ seen at = to - at
 
--- places in the code, each from a later one
-abbrev start : tie.In-loop invariant-loop decreases-loop → tie.Start invariant-loop decreases-loop
-start c = c.before.before.before
+loop-at-init : tie.Need-loop-at-init invariant-loop-at decreases-loop-at
+loop-at-init c = scan_none (Counted 0) counted_none
 
-loop_holds : tie.Need-loop-init invariant-loop decreases-loop
-loop_holds c = scan_none (Counted 0) counted_none
-
-live_at_requires : tie.Need-live-at-requires invariant-loop decreases-loop
-live_at_requires c κs =
-    let a = c.before.before.before in
-    let t = scan_turn a.args.b.now a.requires.0 c.before.loop.invariant a.requires.1 c.loop-test.true in
+live_at-seen-requires : tie.Need-live_at-seen-requires invariant-loop-at decreases-loop-at
+live_at-seen-requires c κs =
+    let a = c in
+    let t = scan_turn a.args.b.now a.requires.0 c.loop-at.invariant a.requires.1 c.loop-at-test.true in
     (a.requires.0, t.row_within)
 
-add_seen : tie.Need-overflow-add-seen invariant-loop decreases-loop
-add_seen c =
-    let a = start c.before in
-    let few = counted_few a.args.b.now a.pre.0 c.before.before.loop.invariant a.pre.1 in
-    ⊎_elim (λ d. omega (arith, few, d.1)) (λ d. omega (arith, few, d.1)) c.Live-at.ensures
+overflow_add-seen : tie.Need-overflow_add-seen invariant-loop-at decreases-loop-at
+overflow_add-seen c =
+    let a = c in
+    let few = counted_few a.args.b.now a.requires.0 c.loop-at.invariant a.requires.1 in
+    ⊎_elim (λ d. omega (arith, few, d.1)) (λ d. omega (arith, few, d.1)) c.live_at-seen.ensures
 
-extent_at_requires : tie.Need-extent-at-requires invariant-loop decreases-loop
-extent_at_requires c κs =
-    let a = start c.before in
-    let t = scan_turn a.args.b.now a.pre.0 c.before.before.loop.invariant a.pre.1 c.before.loop-test.true in
-    (a.pre.0, t.row_within)
+extent_at-at-requires : tie.Need-extent_at-at-requires invariant-loop-at decreases-loop-at
+extent_at-at-requires c κs =
+    let a = c in
+    let t = scan_turn a.args.b.now a.requires.0 c.loop-at.invariant a.requires.1 c.loop-at-test.true in
+    (a.requires.0, t.row_within)
 
-add_at : tie.Need-overflow-add-at invariant-loop decreases-loop
-add_at c =
-    let a = start c.before.before in
-    let t = scan_turn a.args.b.now a.pre.0 c.before.before.before.loop.invariant a.pre.1 c.before.before.loop-test.true in
-    omega (arith, c.extent-at.ensures.1, t.end_within)
+overflow_add-at : tie.Need-overflow_add-at invariant-loop-at decreases-loop-at
+overflow_add-at c =
+    let a = c in
+    let t = scan_turn a.args.b.now a.requires.0 c.loop-at.invariant a.requires.1 c.loop-at-test.true in
+    omega (arith, c.extent_at-at.ensures.1, t.end_within)
 
-loop_less : tie.Need-loop-smaller invariant-loop decreases-loop
-loop_less c =
-    let a = start c.before.before in
-    let t = scan_turn a.args.b.now a.pre.0 c.before.before.before.loop.invariant a.pre.1 c.before.before.loop-test.true in
-    omega (arith, t.some_rows, t.inside, c.extent-at.ensures.0)
+loop-at-smaller : tie.Need-loop-at-smaller invariant-loop-at decreases-loop-at
+loop-at-smaller c =
+    let a = c in
+    let t = scan_turn a.args.b.now a.requires.0 c.loop-at.invariant a.requires.1 c.loop-at-test.true in
+    omega (arith, t.some_rows, t.inside, c.extent_at-at.ensures.0)
 
-loop_again : tie.Need-loop-preserved invariant-loop decreases-loop
-loop_again c =
-    scan_more (Counted _) c.before.before.before.loop.invariant c.before.before.loop-test.true c.extent-at.ensures.0
-    (counted_more c.before.Live-at.ensures)
+loop-at-preserved : tie.Need-loop-at-preserved invariant-loop-at decreases-loop-at
+loop-at-preserved c =
+    scan_more (Counted _) c.loop-at.invariant c.loop-at-test.true c.extent_at-at.ensures.0
+    (counted_more c.live_at-seen.ensures)
 
-returns : tie.Need-returns invariant-loop decreases-loop
+returns : tie.Need-returns invariant-loop-at decreases-loop-at
 returns c =
-    let a = c.before.before.before in (
-      λ before bs after l. scan_end c.before.loop.invariant c.loop-test.false l,
-      counted_few a.args.b.now a.requires.0 c.before.loop.invariant a.requires.1,
+    let a = c in (
+      λ before bs after l. scan_end c.loop-at.invariant c.loop-at-test.false l,
+      counted_few a.args.b.now a.requires.0 c.loop-at.invariant a.requires.1,
     )
 
 pub count_live_spec : {M : Type 1} → statement M
 count_live_spec =
     tie.close
     (tie.spec
-    invariant-loop
-    decreases-loop
-    loop_holds
-    live_at_requires
-    add_seen
-    extent_at_requires
-    add_at
-    loop_less
-    loop_again
+    invariant-loop-at
+    decreases-loop-at
+    loop-at-init
+    live_at-seen-requires
+    overflow_add-seen
+    extent_at-at-requires
+    overflow_add-at
+    loop-at-smaller
+    loop-at-preserved
     returns)

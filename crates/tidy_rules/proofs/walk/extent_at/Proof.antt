@@ -6,25 +6,30 @@ use borrow.Author.Rules.{rules}
 use Rattle.tidy_rules.proofs.walk.extent_at.Statement.{statement}
 use Rattle.tidy_rules.proofs.walk.extent_at.Tie as tie
 
-kind_at_requires : tie.Need-kind-at-requires
-kind_at_requires c κs = search rules
+kind_at-k-requires : tie.Need-kind_at-k-requires
+kind_at-k-requires c κs = search rules
+
+returns-then-k-eq-POSITIVE : tie.Need-returns-then-k-eq-POSITIVE
+returns-then-k-eq-POSITIVE c = (sym (extent_three _ (sym c.kind_at-k.ensures ∙ c.if-k-eq-POSITIVE.true)), omega arith)
+
+returns-then-k-eq-NEGATIVE : tie.Need-returns-then-k-eq-NEGATIVE
+returns-then-k-eq-NEGATIVE c = (sym (extent_four _ (sym c.kind_at-k.ensures ∙ c.if-k-eq-NEGATIVE.true)), omega arith)
+
+argument_at-requires : tie.Need-argument_at-requires
+argument_at-requires c κs = search rules
 
 returns : tie.Need-returns
-returns c = (sym (extent_three _ (sym c.before.kind_at.ensures ∙ c.if1.true)), omega arith)
-
-returns_2 : tie.Need-returns-2
-returns_2 c = (sym (extent_four _ (sym c.before.before.kind_at.ensures ∙ c.if2.true)), omega arith)
-
-argument_at_requires : tie.Need-argument-at-requires
-argument_at_requires c κs = search rules
-
-returns_3 : tie.Need-returns-3
-returns_3 c =
-    let k = c.before.before.before.kind_at.ensures in (
-      c.argument-at.ensures.0 ∙ sym (extent_other _ (λ e. c.before.before.if1.false (k ∙ e)) (λ e. c.before.if2.false (k ∙ e))),
-      c.argument-at.ensures.1,
+returns c =
+    let k = c.kind_at-k.ensures in (
+      c.argument_at.ensures.0 ∙ sym (extent_other _ (λ e. c.if-k-eq-POSITIVE.false (k ∙ e)) (λ e. c.if-k-eq-NEGATIVE.false (k ∙ e))),
+      c.argument_at.ensures.1,
     )
 
 pub extent_at_spec : {M : Type 1} → statement M
 extent_at_spec =
-    tie.close (tie.spec kind_at_requires returns returns_2 argument_at_requires returns_3)
+    tie.close (tie.spec
+    kind_at-k-requires
+    returns-then-k-eq-POSITIVE
+    returns-then-k-eq-NEGATIVE
+    argument_at-requires
+    returns)

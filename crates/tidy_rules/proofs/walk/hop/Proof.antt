@@ -7,64 +7,60 @@ use Rattle.tidy_rules.proofs.Hop.{Hop, hop_none, hop_turn, hop_more, hop_end}
 use Rattle.tidy_rules.proofs.walk.hop.Statement.{statement}
 use Rattle.tidy_rules.proofs.walk.hop.Tie as tie
 
-abbrev invariant-loop : tie.invariant-loop
-invariant-loop b s from owed at₀ left₀ at left = Hop (rows_in s b) from at (total s) owed left
+abbrev invariant-loop-left : tie.invariant-loop-left
+invariant-loop-left b s from owed at₀ left₀ at left = Hop (rows_in s b) from at (total s) owed left
 
-abbrev decreases-loop : tie.decreases-loop
-decreases-loop b s from owed at₀ left₀ at left = total s - at
+abbrev decreases-loop-left : tie.decreases-loop-left
+decreases-loop-left b s from owed at₀ left₀ at left = total s - at
 
--- places in the code, each from a later one
-abbrev start : tie.In-loop invariant-loop decreases-loop → tie.Start invariant-loop decreases-loop
-start c = c.before.before.before
+loop-left-init : tie.Need-loop-left-init invariant-loop-left decreases-loop-left
+loop-left-init c = hop_none
 
-loop_holds : tie.Need-loop-init invariant-loop decreases-loop
-loop_holds c = hop_none
-
-live_at_requires : tie.Need-live-at-requires invariant-loop decreases-loop
-live_at_requires c κs =
-    let a = c.before.before.before in
-    let t = hop_turn a.args.b.now a.requires.0 c.before.loop.invariant a.requires.1 c.loop-test.true in
+live_at-left-requires : tie.Need-live_at-left-requires invariant-loop-left decreases-loop-left
+live_at-left-requires c κs =
+    let a = c in
+    let t = hop_turn a.args.b.now a.requires.0 c.loop-left.invariant a.requires.1 c.loop-left-test.true in
     (a.requires.0, t.row_within)
 
-sub_left : tie.Need-overflow-sub-left invariant-loop decreases-loop
-sub_left c = ⊎_elim (λ d. omega (arith, d.1)) (λ d. omega (arith, d.1)) c.Live-at.ensures
+overflow_sub-left : tie.Need-overflow_sub-left invariant-loop-left decreases-loop-left
+overflow_sub-left c = ⊎_elim (λ d. omega (arith, d.1)) (λ d. omega (arith, d.1)) c.live_at-left.ensures
 
-extent_at_requires : tie.Need-extent-at-requires invariant-loop decreases-loop
-extent_at_requires c κs =
-    let a = start c.before in
-    let t = hop_turn a.args.b.now a.pre.0 c.before.before.loop.invariant a.pre.1 c.before.loop-test.true in
-    (a.pre.0, t.row_within)
+extent_at-at-requires : tie.Need-extent_at-at-requires invariant-loop-left decreases-loop-left
+extent_at-at-requires c κs =
+    let a = c in
+    let t = hop_turn a.args.b.now a.requires.0 c.loop-left.invariant a.requires.1 c.loop-left-test.true in
+    (a.requires.0, t.row_within)
 
-add_at : tie.Need-overflow-add-at invariant-loop decreases-loop
-add_at c =
-    let a = start c.before.before in
-    let t = hop_turn a.args.b.now a.pre.0 c.before.before.before.loop.invariant a.pre.1 c.before.before.loop-test.true in
-    omega (arith, c.extent-at.ensures.1, t.end_within)
+overflow_add-at : tie.Need-overflow_add-at invariant-loop-left decreases-loop-left
+overflow_add-at c =
+    let a = c in
+    let t = hop_turn a.args.b.now a.requires.0 c.loop-left.invariant a.requires.1 c.loop-left-test.true in
+    omega (arith, c.extent_at-at.ensures.1, t.end_within)
 
-loop_less : tie.Need-loop-smaller invariant-loop decreases-loop
-loop_less c =
-    let a = start c.before.before in
-    let t = hop_turn a.args.b.now a.pre.0 c.before.before.before.loop.invariant a.pre.1 c.before.before.loop-test.true in
-    omega (arith, t.some_rows, t.inside, c.extent-at.ensures.0)
+loop-left-smaller : tie.Need-loop-left-smaller invariant-loop-left decreases-loop-left
+loop-left-smaller c =
+    let a = c in
+    let t = hop_turn a.args.b.now a.requires.0 c.loop-left.invariant a.requires.1 c.loop-left-test.true in
+    omega (arith, t.some_rows, t.inside, c.extent_at-at.ensures.0)
 
-loop_again : tie.Need-loop-preserved invariant-loop decreases-loop
-loop_again c =
-    hop_more c.before.before.before.loop.invariant c.before.before.loop-test.true c.before.Live-at.ensures c.extent-at.ensures.0
+loop-left-preserved : tie.Need-loop-left-preserved invariant-loop-left decreases-loop-left
+loop-left-preserved c =
+    hop_more c.loop-left.invariant c.loop-left-test.true c.live_at-left.ensures c.extent_at-at.ensures.0
 
-returns : tie.Need-returns invariant-loop decreases-loop
-returns c = hop_end c.before.loop.invariant c.loop-test.false
+returns : tie.Need-returns invariant-loop-left decreases-loop-left
+returns c = hop_end c.loop-left.invariant c.loop-left-test.false
 
 pub hop_spec : {M : Type 1} → statement M
 hop_spec =
     tie.close
     (tie.spec
-    invariant-loop
-    decreases-loop
-    loop_holds
-    live_at_requires
-    sub_left
-    extent_at_requires
-    add_at
-    loop_less
-    loop_again
+    invariant-loop-left
+    decreases-loop-left
+    loop-left-init
+    live_at-left-requires
+    overflow_sub-left
+    extent_at-at-requires
+    overflow_add-at
+    loop-left-smaller
+    loop-left-preserved
     returns)

@@ -9,47 +9,47 @@ use Rattle.words.proofs.ByteTurns.{Led, led_none, led_ends, led_more, led_all}
 use Rattle.words.proofs.cursor.end_of.Statement.{statement}
 use Rattle.words.proofs.cursor.end_of.Tie as tie
 
-abbrev invariant-loop : tie.invariant-loop
-invariant-loop b at line to₀ to = Led (ends line) b at to
+abbrev invariant-loop-to : tie.invariant-loop-to
+invariant-loop-to b at line to₀ to = Led (ends line) b at to
 
-abbrev decreases-loop : tie.decreases-loop
-decreases-loop b at line to₀ to = length b - to
+abbrev decreases-loop-to : tie.decreases-loop-to
+decreases-loop-to b at line to₀ to = length b - to
 
-loop_holds : tie.Need-loop-init invariant-loop decreases-loop
-loop_holds c = led_none _ _ _ c.before.requires
+loop-to-init : tie.Need-loop-to-init invariant-loop-to decreases-loop-to
+loop-to-init c = led_none _ _ _ c.requires
 
-shared_slice_read_is_end : tie.Need-shared-slice-read-is-end invariant-loop decreases-loop
-shared_slice_read_is_end c = search rules
+bounds-b-to : tie.Need-bounds-b-to invariant-loop-to decreases-loop-to
+bounds-b-to c = search rules
 
-is_end_requires : tie.Need-is-end-requires invariant-loop decreases-loop
-is_end_requires c κs = search rules
+is_end-requires : tie.Need-is_end-requires invariant-loop-to decreases-loop-to
+is_end-requires c κs = search rules
 
-returns : tie.Need-returns invariant-loop decreases-loop
-returns c = let told = c.before in led_ends told.before.before.before.loop.invariant (omega arith) (sym told.is_end.ensures ∙ c.if1.true)
+returns-then-is_end : tie.Need-returns-then-is_end invariant-loop-to decreases-loop-to
+returns-then-is_end c = let told = c in led_ends told.loop-to.invariant (omega arith) (sym told.is_end.ensures ∙ c.if-is_end.true)
 
-add_to : tie.Need-overflow-add-to invariant-loop decreases-loop
-add_to c = search rules
+overflow_add-to : tie.Need-overflow_add-to invariant-loop-to decreases-loop-to
+overflow_add-to c = search rules
 
-loop_less : tie.Need-loop-smaller invariant-loop decreases-loop
-loop_less c = search rules
+loop-to-smaller : tie.Need-loop-to-smaller invariant-loop-to decreases-loop-to
+loop-to-smaller c = search rules
 
-loop_again : tie.Need-loop-preserved invariant-loop decreases-loop
-loop_again c = let told = c.before in led_more told.before.before.before.loop.invariant (omega arith) (sym told.is_end.ensures ∙ c.if1.false)
+loop-to-preserved : tie.Need-loop-to-preserved invariant-loop-to decreases-loop-to
+loop-to-preserved c = let told = c in led_more told.loop-to.invariant (omega arith) (sym told.is_end.ensures ∙ c.if-is_end.false)
 
-returns_2 : tie.Need-returns-2 invariant-loop decreases-loop
-returns_2 c = led_all c.before.loop.invariant (omega arith)
+returns : tie.Need-returns invariant-loop-to decreases-loop-to
+returns c = led_all c.loop-to.invariant (omega arith)
 
 pub end_of_spec : {M : Type 1} → statement M
 end_of_spec =
     tie.close
     (tie.spec
-    invariant-loop
-    decreases-loop
-    loop_holds
-    shared_slice_read_is_end
-    is_end_requires
-    returns
-    add_to
-    loop_less
-    loop_again
-    returns_2)
+    invariant-loop-to
+    decreases-loop-to
+    loop-to-init
+    bounds-b-to
+    is_end-requires
+    returns-then-is_end
+    overflow_add-to
+    loop-to-smaller
+    loop-to-preserved
+    returns)

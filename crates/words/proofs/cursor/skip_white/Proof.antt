@@ -9,47 +9,47 @@ use Rattle.words.proofs.ByteTurns.{Skipped, skipped_none, skipped_ends, skipped_
 use Rattle.words.proofs.cursor.skip_white.Statement.{statement}
 use Rattle.words.proofs.cursor.skip_white.Tie as tie
 
-abbrev invariant-loop : tie.invariant-loop
-invariant-loop b at from₀ from = Skipped b at from
+abbrev invariant-loop-from : tie.invariant-loop-from
+invariant-loop-from b at from₀ from = Skipped b at from
 
-abbrev decreases-loop : tie.decreases-loop
-decreases-loop b at from₀ from = length b - from
+abbrev decreases-loop-from : tie.decreases-loop-from
+decreases-loop-from b at from₀ from = length b - from
 
-loop_holds : tie.Need-loop-init invariant-loop decreases-loop
-loop_holds c = skipped_none _ _ c.before.requires
+loop-from-init : tie.Need-loop-from-init invariant-loop-from decreases-loop-from
+loop-from-init c = skipped_none _ _ c.requires
 
-shared_slice_read_is_white : tie.Need-shared-slice-read-is-white invariant-loop decreases-loop
-shared_slice_read_is_white c = search rules
+bounds-b-from : tie.Need-bounds-b-from invariant-loop-from decreases-loop-from
+bounds-b-from c = search rules
 
-is_white_requires : tie.Need-is-white-requires invariant-loop decreases-loop
-is_white_requires c κs = search rules
+is_white-requires : tie.Need-is_white-requires invariant-loop-from decreases-loop-from
+is_white-requires c κs = search rules
 
-returns : tie.Need-returns invariant-loop decreases-loop
-returns c = let told = c.before in skipped_ends told.before.before.before.loop.invariant (omega arith) (sym told.is_white.ensures ∙ not-true _ c.if1.true)
+returns-then-not-is_white : tie.Need-returns-then-not-is_white invariant-loop-from decreases-loop-from
+returns-then-not-is_white c = let told = c in skipped_ends told.loop-from.invariant (omega arith) (sym told.is_white.ensures ∙ c.if-not-is_white.true)
 
-add_from : tie.Need-overflow-add-from invariant-loop decreases-loop
-add_from c = search rules
+overflow_add-from : tie.Need-overflow_add-from invariant-loop-from decreases-loop-from
+overflow_add-from c = search rules
 
-loop_less : tie.Need-loop-smaller invariant-loop decreases-loop
-loop_less c = search rules
+loop-from-smaller : tie.Need-loop-from-smaller invariant-loop-from decreases-loop-from
+loop-from-smaller c = search rules
 
-loop_again : tie.Need-loop-preserved invariant-loop decreases-loop
-loop_again c = let told = c.before in skipped_more told.before.before.before.loop.invariant (omega arith) (sym told.is_white.ensures ∙ not-false _ c.if1.false)
+loop-from-preserved : tie.Need-loop-from-preserved invariant-loop-from decreases-loop-from
+loop-from-preserved c = let told = c in skipped_more told.loop-from.invariant (omega arith) (sym told.is_white.ensures ∙ c.if-not-is_white.false)
 
-returns_2 : tie.Need-returns-2 invariant-loop decreases-loop
-returns_2 c = skipped_all c.before.loop.invariant (omega arith)
+returns : tie.Need-returns invariant-loop-from decreases-loop-from
+returns c = skipped_all c.loop-from.invariant (omega arith)
 
 pub skip_white_spec : {M : Type 1} → statement M
 skip_white_spec =
     tie.close
     (tie.spec
-    invariant-loop
-    decreases-loop
-    loop_holds
-    shared_slice_read_is_white
-    is_white_requires
-    returns
-    add_from
-    loop_less
-    loop_again
-    returns_2)
+    invariant-loop-from
+    decreases-loop-from
+    loop-from-init
+    bounds-b-from
+    is_white-requires
+    returns-then-not-is_white
+    overflow_add-from
+    loop-from-smaller
+    loop-from-preserved
+    returns)

@@ -7,11 +7,13 @@ use Rattle.words.proofs.Signed.{kind-below, kind-above}
 use Rattle.words.proofs.literal.kind_of.Statement.{statement}
 use Rattle.words.proofs.literal.kind_of.Tie as tie
 
-returns : tie.Need-returns
-returns c = kind-below c.before.ranges.literal c.if1.true
+returns-then-literal-lt0 : tie.Need-returns-then-literal-lt0
+returns-then-literal-lt0 c = kind-below c.ranges.literal c.if-literal-lt0.true
 
-returns_2 : tie.Need-returns-2
-returns_2 c = kind-above c.before.ranges.literal c.if1.false
+returns : tie.Need-returns
+returns c = kind-above c.ranges.literal c.if-literal-lt0.false
 
 pub kind_of_spec : {M : Type 1} → statement M
-kind_of_spec = tie.close (tie.spec returns returns_2)
+kind_of_spec = tie.close (tie.spec
+    returns-then-literal-lt0
+    returns)

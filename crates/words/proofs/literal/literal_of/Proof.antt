@@ -12,23 +12,28 @@ use Rattle.words.proofs.Signed.{plain_fits, literal_large, literal_small, litera
 use Rattle.words.proofs.literal.literal_of.Statement.{statement}
 use Rattle.words.proofs.literal.literal_of.Tie as tie
 
-negated_requires : tie.Need-negated-requires
-negated_requires c κs = search rules
+negated-requires : tie.Need-negated-requires
+negated-requires c κs = search rules
+
+returns-then-negative : tie.Need-returns-then-negative
+unfolding literal
+returns-then-negative c =
+    to_z-of_z w32 c.negated.result (subst (SFits w32) (sym c.negated.ensures) (literal-fits c.args.magnitude)) ∙ c.negated.ensures ∙
+    ap (λ s. literal s c.args.magnitude) (sym c.if-negative.true)
+
+returns-then-magnitude-gt2147483647 : tie.Need-returns-then-magnitude-gt2147483647
+returns-then-magnitude-gt2147483647 c = literal_large c.if-magnitude-gt2147483647.true ∙ ap (λ s. literal s c.args.magnitude) (sym c.if-negative.false)
+
+overflow_cast-result : tie.Need-overflow_cast-result
+overflow_cast-result c = plain_fits c.if-magnitude-gt2147483647.false
 
 returns : tie.Need-returns
-unfolding literal
-returns c =
-    to_z-of_z w32 c.negated.result (subst (SFits w32) (sym c.negated.ensures) (literal-fits c.before.before.args.magnitude)) ∙ c.negated.ensures ∙
-    ap (λ s. literal s c.before.before.args.magnitude) (sym c.before.if1.true)
-
-returns_2 : tie.Need-returns-2
-returns_2 c = literal_large c.if2.true ∙ ap (λ s. literal s c.before.before.args.magnitude) (sym c.before.if1.false)
-
-cast_result : tie.Need-overflow-cast-result
-cast_result c = plain_fits c.if2.false
-
-returns_3 : tie.Need-returns-3
-returns_3 c = literal_small c.if2.false ∙ ap (λ s. literal s c.before.before.args.magnitude) (sym c.before.if1.false)
+returns c = literal_small c.if-magnitude-gt2147483647.false ∙ ap (λ s. literal s c.args.magnitude) (sym c.if-negative.false)
 
 pub literal_of_spec : {M : Type 1} → statement M
-literal_of_spec = tie.close (tie.spec negated_requires returns returns_2 cast_result returns_3)
+literal_of_spec = tie.close (tie.spec
+    negated-requires
+    returns-then-negative
+    returns-then-magnitude-gt2147483647
+    overflow_cast-result
+    returns)

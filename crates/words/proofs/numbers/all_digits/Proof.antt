@@ -9,54 +9,51 @@ use Rattle.words.proofs.Digits.{Looked, looked_none, looked_other, looked_digit,
 use Rattle.words.proofs.numbers.all_digits.Statement.{statement}
 use Rattle.words.proofs.numbers.all_digits.Tie as tie
 
-abbrev invariant-loop : tie.invariant-loop
-invariant-loop b from to i₀ i = Looked b from to i
+abbrev invariant-loop-i : tie.invariant-loop-i
+invariant-loop-i b from to i₀ i = Looked b from to i
 
-abbrev decreases-loop : tie.decreases-loop
-decreases-loop b from to i₀ i = to - i
+abbrev decreases-loop-i : tie.decreases-loop-i
+decreases-loop-i b from to i₀ i = to - i
 
-abbrev start : tie.At-loop invariant-loop decreases-loop → tie.Start invariant-loop decreases-loop
-start c = c.before.before
+loop-i-init : tie.Need-loop-i-init invariant-loop-i decreases-loop-i
+loop-i-init c = looked_none _ _ _ c.requires.0
 
-loop_holds : tie.Need-loop-init invariant-loop decreases-loop
-loop_holds c = looked_none _ _ _ c.before.requires.0
+bounds-b-i : tie.Need-bounds-b-i invariant-loop-i decreases-loop-i
+bounds-b-i c = search rules
 
-shared_slice_read_is_digit : tie.Need-shared-slice-read-is-digit invariant-loop decreases-loop
-shared_slice_read_is_digit c = search rules
+is_digit-requires : tie.Need-is_digit-requires invariant-loop-i decreases-loop-i
+is_digit-requires c κs = search rules
 
-is_digit_requires : tie.Need-is-digit-requires invariant-loop decreases-loop
-is_digit_requires c κs = search rules
+returns-then-not-is_digit : tie.Need-returns-then-not-is_digit invariant-loop-i decreases-loop-i
+returns-then-not-is_digit c =
+    let told = c in looked_other told.loop-i.invariant told.requires.1 (omega arith)
+    (sym told.is_digit.ensures ∙ c.if-not-is_digit.true)
 
-returns : tie.Need-returns invariant-loop decreases-loop
-returns c =
-    let told = c.before in looked_other told.before.before.before.loop.invariant (start told.before.before.before).pre.1 (omega arith)
-    (sym told.is_digit.ensures ∙ not-true _ c.if1.true)
+overflow_add-i : tie.Need-overflow_add-i invariant-loop-i decreases-loop-i
+overflow_add-i c = search rules
 
-add_i : tie.Need-overflow-add-i invariant-loop decreases-loop
-add_i c = search rules
+loop-i-smaller : tie.Need-loop-i-smaller invariant-loop-i decreases-loop-i
+loop-i-smaller c = search rules
 
-loop_less : tie.Need-loop-smaller invariant-loop decreases-loop
-loop_less c = search rules
+loop-i-preserved : tie.Need-loop-i-preserved invariant-loop-i decreases-loop-i
+loop-i-preserved c =
+    let told = c in looked_digit told.loop-i.invariant told.requires.1 (omega arith)
+    (sym told.is_digit.ensures ∙ c.if-not-is_digit.false)
 
-loop_again : tie.Need-loop-preserved invariant-loop decreases-loop
-loop_again c =
-    let told = c.before in looked_digit told.before.before.before.loop.invariant (start told.before.before.before).pre.1 (omega arith)
-    (sym told.is_digit.ensures ∙ not-false _ c.if1.false)
-
-returns_2 : tie.Need-returns-2 invariant-loop decreases-loop
-returns_2 c = looked_all c.before.loop.invariant (start c.before).pre.1 (omega arith)
+returns : tie.Need-returns invariant-loop-i decreases-loop-i
+returns c = looked_all c.loop-i.invariant c.requires.1 (omega arith)
 
 pub all_digits_spec : {M : Type 1} → statement M
 all_digits_spec =
     tie.close
     (tie.spec
-    invariant-loop
-    decreases-loop
-    loop_holds
-    shared_slice_read_is_digit
-    is_digit_requires
-    returns
-    add_i
-    loop_less
-    loop_again
-    returns_2)
+    invariant-loop-i
+    decreases-loop-i
+    loop-i-init
+    bounds-b-i
+    is_digit-requires
+    returns-then-not-is_digit
+    overflow_add-i
+    loop-i-smaller
+    loop-i-preserved
+    returns)

@@ -7,11 +7,13 @@ use borrow.Author.Tests.{le-leb, lt-leb}
 use Rattle.words.proofs.numbers.is_digit.Statement.{statement}
 use Rattle.words.proofs.numbers.is_digit.Tie as tie
 
-returns : tie.Need-returns
-returns c = rw (lt-leb 48 c.before.args.c c.if1.true)
+returns-then-c-lt48 : tie.Need-returns-then-c-lt48
+returns-then-c-lt48 c = rw (lt-leb 48 c.args.c c.if-c-lt48.true)
 
-returns_2 : tie.Need-returns-2
-returns_2 c = rw (le-leb 48 c.before.args.c c.if1.false)
+returns : tie.Need-returns
+returns c = rw (le-leb 48 c.args.c c.if-c-lt48.false)
 
 pub is_digit_spec : {M : Type 1} → statement M
-is_digit_spec = tie.close (tie.spec returns returns_2)
+is_digit_spec = tie.close (tie.spec
+    returns-then-c-lt48
+    returns)

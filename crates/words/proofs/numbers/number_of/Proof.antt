@@ -8,48 +8,45 @@ use Rattle.words.proofs.Digits.{Counted, counted_none, counted_here, counted_dig
 use Rattle.words.proofs.numbers.number_of.Statement.{statement}
 use Rattle.words.proofs.numbers.number_of.Tie as tie
 
-abbrev invariant-loop : tie.invariant-loop
-invariant-loop b from to value₀ i₀ value i = Counted b from to i value
+abbrev invariant-loop-i : tie.invariant-loop-i
+invariant-loop-i b from to value₀ i₀ value i = Counted b from to i value
 
-abbrev decreases-loop : tie.decreases-loop
-decreases-loop b from to value₀ i₀ value i = to - i
+abbrev decreases-loop-i : tie.decreases-loop-i
+decreases-loop-i b from to value₀ i₀ value i = to - i
 
-abbrev start : tie.At-loop invariant-loop decreases-loop → tie.Start invariant-loop decreases-loop
-start c = c.before.before
+loop-i-init : tie.Need-loop-i-init invariant-loop-i decreases-loop-i
+loop-i-init c = counted_none _ _ _ c.requires.0 c.requires.2
 
-loop_holds : tie.Need-loop-init invariant-loop decreases-loop
-loop_holds c = counted_none _ _ _ c.before.requires.0 c.before.requires.2
+bounds-b-i : tie.Need-bounds-b-i invariant-loop-i decreases-loop-i
+bounds-b-i c = search rules
 
-shared_slice_read_with_digit : tie.Need-shared-slice-read-with-digit invariant-loop decreases-loop
-shared_slice_read_with_digit c = search rules
+with_digit-value-requires : tie.Need-with_digit-value-requires invariant-loop-i decreases-loop-i
+with_digit-value-requires c κs = counted_here c.loop-i.invariant c.requires.1 (omega arith)
 
-with_digit_requires : tie.Need-with-digit-requires invariant-loop decreases-loop
-with_digit_requires c κs = counted_here c.before.before.loop.invariant (start c.before.before).pre.1 (omega arith)
+overflow_add-i : tie.Need-overflow_add-i invariant-loop-i decreases-loop-i
+overflow_add-i c = search rules
 
-add_i : tie.Need-overflow-add-i invariant-loop decreases-loop
-add_i c = search rules
+loop-i-smaller : tie.Need-loop-i-smaller invariant-loop-i decreases-loop-i
+loop-i-smaller c = search rules
 
-loop_less : tie.Need-loop-smaller invariant-loop decreases-loop
-loop_less c = search rules
+loop-i-preserved : tie.Need-loop-i-preserved invariant-loop-i decreases-loop-i
+loop-i-preserved c =
+    let told = c in counted_digit told.loop-i.invariant told.requires.1 (omega arith) told.with_digit-value.ensures.0
+    told.with_digit-value.ensures.1
 
-loop_again : tie.Need-loop-preserved invariant-loop decreases-loop
-loop_again c =
-    let told = c in counted_digit told.before.before.before.loop.invariant (start told.before.before.before).pre.1 (omega arith) told.with-digit.ensures.0
-    told.with-digit.ensures.1
-
-returns : tie.Need-returns invariant-loop decreases-loop
-returns c = counted_all c.before.loop.invariant (start c.before).pre.1 (omega arith)
+returns : tie.Need-returns invariant-loop-i decreases-loop-i
+returns c = counted_all c.loop-i.invariant c.requires.1 (omega arith)
 
 pub number_of_spec : {M : Type 1} → statement M
 number_of_spec =
     tie.close
     (tie.spec
-    invariant-loop
-    decreases-loop
-    loop_holds
-    shared_slice_read_with_digit
-    with_digit_requires
-    add_i
-    loop_less
-    loop_again
+    invariant-loop-i
+    decreases-loop-i
+    loop-i-init
+    bounds-b-i
+    with_digit-value-requires
+    overflow_add-i
+    loop-i-smaller
+    loop-i-preserved
     returns)

@@ -5,23 +5,27 @@ use Rattle.words.proofs.Names.{name_one}
 use Rattle.words.proofs.token.letter.Statement.{statement}
 use Rattle.words.proofs.token.letter.Tie as tie
 
+returns-then-c-eq101 : tie.Need-returns-then-c-eq101
+returns-then-c-eq101 c = rw (name_one, eq-eqb c.args.c 101 c.if-c-eq101.true)
+
+returns-then-c-eq97 : tie.Need-returns-then-c-eq97
+returns-then-c-eq97 c =
+    let a = c in
+    rw (name_one, ne_eqb a.args.c 101 c.if-c-eq101.false, eq-eqb a.args.c 97 c.if-c-eq97.true)
+
+returns-then-c-eq112 : tie.Need-returns-then-c-eq112
+returns-then-c-eq112 c =
+    let a = c in
+    rw (name_one, ne_eqb a.args.c 101 c.if-c-eq101.false, ne_eqb a.args.c 97 c.if-c-eq97.false, eq-eqb a.args.c 112 c.if-c-eq112.true)
+
 returns : tie.Need-returns
-returns c = rw (name_one, eq-eqb c.before.args.c 101 c.if1.true)
-
-returns_2 : tie.Need-returns-2
-returns_2 c =
-    let a = c.before.before in
-    rw (name_one, ne_eqb a.args.c 101 c.before.if1.false, eq-eqb a.args.c 97 c.if2.true)
-
-returns_3 : tie.Need-returns-3
-returns_3 c =
-    let a = c.before.before.before in
-    rw (name_one, ne_eqb a.args.c 101 c.before.before.if1.false, ne_eqb a.args.c 97 c.before.if2.false, eq-eqb a.args.c 112 c.if3.true)
-
-returns_4 : tie.Need-returns-4
-returns_4 c =
-    let a = c.before.before.before in
-    rw (name_one, ne_eqb a.args.c 101 c.before.before.if1.false, ne_eqb a.args.c 97 c.before.if2.false, ne_eqb a.args.c 112 c.if3.false)
+returns c =
+    let a = c in
+    rw (name_one, ne_eqb a.args.c 101 c.if-c-eq101.false, ne_eqb a.args.c 97 c.if-c-eq97.false, ne_eqb a.args.c 112 c.if-c-eq112.false)
 
 pub letter_spec : {M : Type 1} → statement M
-letter_spec = tie.close (tie.spec returns returns_2 returns_3 returns_4)
+letter_spec = tie.close (tie.spec
+    returns-then-c-eq101
+    returns-then-c-eq97
+    returns-then-c-eq112
+    returns)

@@ -4,23 +4,27 @@ use Rattle.words.proofs.Names.{name_three}
 use Rattle.words.proofs.token.three_letters.Statement.{statement}
 use Rattle.words.proofs.token.three_letters.Tie as tie
 
+returns-then-c-ne99 : tie.Need-returns-then-c-ne99
+returns-then-c-ne99 c = rw (name_three, ne_eqb c.args.c 99 c.if-c-ne99.true)
+
+returns-then-d-ne110 : tie.Need-returns-then-d-ne110
+returns-then-d-ne110 c =
+    let a = c in
+    rw (name_three, eq-eqb a.args.c 99 c.if-c-ne99.false, ne_eqb a.args.d 110 c.if-d-ne110.true)
+
+returns-then-e-ne102 : tie.Need-returns-then-e-ne102
+returns-then-e-ne102 c =
+    let a = c in
+    rw (name_three, eq-eqb a.args.c 99 c.if-c-ne99.false, eq-eqb a.args.d 110 c.if-d-ne110.false, ne_eqb a.args.e 102 c.if-e-ne102.true)
+
 returns : tie.Need-returns
-returns c = rw (name_three, ne_eqb c.before.args.c 99 c.if1.true)
-
-returns_2 : tie.Need-returns-2
-returns_2 c =
-    let a = c.before.before in
-    rw (name_three, eq-eqb a.args.c 99 c.before.if1.false, ne_eqb a.args.d 110 c.if2.true)
-
-returns_3 : tie.Need-returns-3
-returns_3 c =
-    let a = c.before.before.before in
-    rw (name_three, eq-eqb a.args.c 99 c.before.before.if1.false, eq-eqb a.args.d 110 c.before.if2.false, ne_eqb a.args.e 102 c.if3.true)
-
-returns_4 : tie.Need-returns-4
-returns_4 c =
-    let a = c.before.before.before in
-    rw (name_three, eq-eqb a.args.c 99 c.before.before.if1.false, eq-eqb a.args.d 110 c.before.if2.false, eq-eqb a.args.e 102 c.if3.false)
+returns c =
+    let a = c in
+    rw (name_three, eq-eqb a.args.c 99 c.if-c-ne99.false, eq-eqb a.args.d 110 c.if-d-ne110.false, eq-eqb a.args.e 102 c.if-e-ne102.false)
 
 pub three_letters_spec : {M : Type 1} → statement M
-three_letters_spec = tie.close (tie.spec returns returns_2 returns_3 returns_4)
+three_letters_spec = tie.close (tie.spec
+    returns-then-c-ne99
+    returns-then-d-ne110
+    returns-then-e-ne102
+    returns)
