@@ -34,6 +34,8 @@ class Function:
         self.fields = {}  # an old step, today's
         self.callee = {}
         self.clauses = {}
+        self.nots = ["?"]
+        self.loops = {n for (o, n), _ in entry["loops"]}
         self.arms = []  # (today's place, arm's field, old step, old path, new field)
         self.ups = {}  # today's place, the one in front of it
         for i, ((old, parent, (fold, fnew), callee, *more), new) in enumerate(zip(entry["places"], entry["places_by_name"])):
@@ -131,6 +133,7 @@ class Turner:
     def __init__(self, f, helpers, lemmas, local, heads, say):
         self.f, self.helpers, self.lemmas, self.local, self.heads, self.say = f, helpers, lemmas, local, heads, say
         self.env = {}
+        self.aside = {}
 
     def resolve(self, text):
         """(variable, old place) if the text is nothing but a place."""
@@ -160,6 +163,29 @@ class Turner:
             return got and (got[0], self.helpers[w][1])
         return None
 
+    def remember(self, name, text):
+        """A name for what is known at a place."""
+        base, at = None, 0
+        if text.startswith("("):
+            end = closing(text, 0)
+            got = self.resolve(text[: end + 1]) if end > 0 else None
+            base, at = got and got[0], end + 1
+        else:
+            m = WORD.match(text)
+            if m and m[0] in self.env:
+                base, at = m[0], m.end()
+            elif m and m[0] in self.aside:
+                segs, at = segments(text, m.end())
+                if at == len(text):
+                    self.aside[name] = (self.aside[m[0]][0], self.aside[m[0]][1] + segs)
+                return
+        if base:
+            segs, end = segments(text, at)
+            while segs and segs[0] == "before":
+                segs = segs[1:]
+            if end == len(text) and segs:
+                self.aside[name] = (base, segs)
+
     def path(self, var, segs):
         f = self.f
         here = self.env[var][1]
@@ -185,10 +211,16 @@ class Turner:
                     rest = [RENAMED.get(rest[0], rest[0]), names[n]] + rest[i + 1:]
             if k == "args":
                 return ".".join([var] + segs)
-            first = f.fields.get(k) or {"good": "well_formed"}.get(segs[0]) or RENAMED.get(segs[0], segs[0])
-            segs = [first] + [RENAMED.get(s, s) if j == 0 else s for j, s in enumerate(rest)]
+            first = f.fields.get(k) or {"good": "well_formed", "fits": "ranges"}.get(segs[0]) or RENAMED.get(segs[0], segs[0])
+            if rest and k in f.fields:
+                loop = first in f.loops
+                tells = ("inv",) if loop else ("taken", "left") if first.startswith(("if-", "in")) or first.endswith("-test") else ("last", "kept", "good")
+                if rest[0] in tells:
+                    rest = [RENAMED[rest[0]]] + rest[1:]
+            segs = [first] + rest
         out = ".".join([var] + segs)
-        return f"⟦{out}⟧" if re.fullmatch(r"[^.]+\.if-not-[^.]+\.(true|false)", out) else out
+        test = None if re.search(r"\.if-not-(%s)(-\d+)?\.(true|false)$" % "|".join(map(re.escape, f.nots)), out) else re.fullmatch(r"[^.]+\.if-not-([^.]+)\.(true|false)", out)
+        return f"⟦{out}⟧" if test else out
 
     def chain(self, var, old):
         """A place as an argument."""
@@ -254,11 +286,22 @@ class Turner:
                 if b:
                     stop = self.end_of_binding(text, at + b.end())
                     got = self.resolve(text[at + b.end() : stop]) if stop else None
+                    self.aside.pop(b[1], None)
+                    if not got and stop:
+                        self.remember(b[1], text[at + b.end() : stop].strip())
                     if got:
                         self.env[b[1]] = (got[1], self.env[got[0]][1])
                         out.append(f"let {b[1]} = {got[0]} ")
                         at = stop
                         continue
+            if w in self.aside:
+                segs, to = segments(text, m.end())
+                var, front = self.aside[w]
+                if segs and var in self.env:
+                    short, whole = self.path(var, front), self.path(var, front + segs)
+                    out.append(w + whole[len(short):] if whole.startswith(short + ".") else whole)
+                    at = to
+                    continue
             if w in self.env:
                 segs, to = segments(text, m.end())
                 n = 0
@@ -391,13 +434,14 @@ def align(ours, news):
     return pairs
 
 
-def rewrite(path, entry, say):
+def rewrite(path, entry, say, nots):
     text = open(path, encoding="utf-8").read()
     m = SPEC.search(text)
     if not m:
         say(f"{path}: no tie.spec")
         return
     f = Function(entry)
+    f.nots += nots
     heads = {}
     for (o, n), _ in entry["loops"]:
         heads[f"invariant_{o}".replace("-", "_")] = f"invariant-{n}"
@@ -444,8 +488,6 @@ def rewrite(path, entry, say):
                 out.pop()
             continue
         t = Turner(f, helpers, lemmas, local, {}, say)
-        t.needs, t.heads_by = needs, heads
-        t.heads = {n: heads[plain(n)] for n in frames if plain(n) in heads}
         if name in typed:
             old = f.at.get(local.get(name))
             v = re.search(rf"^{re.escape(name)} (?!:)([^\s=]+)", chunk, re.M)
@@ -481,13 +523,18 @@ def rewrite(path, entry, say):
 def main(argv):
     names, crate = argv
     d = json.load(open(names))
+    # a negation of what is no call's result keeps its `not`
+    nots = []
+    for folder, _, files in os.walk(os.path.join(crate, "src")):
+        for x in files:
+            nots += re.findall(r"if !([a-z_0-9]+)\.[a-z_0-9.]* \{", open(os.path.join(folder, x), encoding="utf-8").read())
     for k, entry in sorted(d.items()):
         if not k.startswith("Rattle-") or not k.endswith(".Lts"):
             continue
         rel = k[: -len(".Lts")].split("-proofs.", 1)[1].replace(".", "/")
         path = os.path.join(crate, "proofs", rel, "Proof.antt")
         if os.path.exists(path):
-            rewrite(path, entry, print)
+            rewrite(path, entry, print, nots)
 
 
 if __name__ == "__main__":

@@ -1,5 +1,6 @@
 // Conversion of narrow sheets to the wide format and of wide sheets to the narrow one: the same rows, in numbers of the other width.
 #![tactic(auto)]
+
 ghost use Rattle.std.specs.Prelude.{◌≡◌, length, take};
 ghost use Rattle.sheet.specs.Format.{narrow, wide};
 ghost use Rattle.sheet.specs.Sheet.{sheet};

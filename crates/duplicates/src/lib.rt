@@ -1,6 +1,7 @@
 // Siblings that a tidy sheet doesn't have: two literals of one variable, or equal operators (N4). They are found by their hashes; operators
 // with equal hashes are compared in full, row by row.
 #![tactic(auto)]
+
 ghost use Rattle.std.specs.Prelude.{◌≡◌, not, ◌+◌, ◌<◌, ◌≤◌, length, get_or};
 ghost use Rattle.formula.specs.Tidy.{same_variable, same_tree};
 ghost use Rattle.rows.specs.Formulas.{Readable};

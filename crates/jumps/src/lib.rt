@@ -1,5 +1,6 @@
 // The matrix as a chain of jumps: for each node row the row at which evaluation goes on once the subtree there is known to be true or false.
 #![tactic(auto)]
+
 ghost use Rattle.std.specs.Prelude.{◌≡◌, ◌≤◌, ◌<◌, length};
 ghost use Rattle.rows.specs.Formulas.{node_rows_in, Readable};
 ghost use Rattle.subtrees.specs.Ends.{Indexed};

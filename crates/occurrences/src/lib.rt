@@ -1,6 +1,7 @@
 // Where the literals of each variable stand: tables for all variables, filled in a few passes. Entries of `ranges`: 2x the first literal
 // of x, 2x + 1 the last one.
 #![tactic(auto)]
+
 ghost use Rattle.std.specs.Prelude.{◌≡◌, ◌*◌, ◌^◌, ◌≤◌, ◌<◌, ltb, length, get_or, set, replicate};
 ghost use Rattle.rows.specs.Formulas.{Readable};
 ghost use Rattle.rows.specs.Tables.{HIGHEST, NUMBERS};

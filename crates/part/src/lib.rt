@@ -1,5 +1,6 @@
 // Part: the kind bytes of a subtree, as a part of the sheet lent.
 #![tactic(auto)]
+
 ghost use Rattle.std.specs.Prelude.{◌≡◌, length, take, drop};
 ghost use Rattle.sheet.specs.Operations.{part_call};
 ghost use Rattle.rows.specs.Formats.{format_of};

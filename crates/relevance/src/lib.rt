@@ -3,6 +3,7 @@
 // crate `occurrences` fills it for all variables. The time is that of the literals, the path to them and the children passed over, not of a
 // pass over all rows.
 #![tactic(auto)]
+
 pub mod cuts;
 pub mod subtree;
 pub mod variable;

@@ -1,5 +1,6 @@
 // Tidy. The rows of a raw sheet are worked on in place, from the last to the first, packed, and made a sheet again.
 #![tactic(auto)]
+
 ghost use Rattle.std.specs.Prelude.{◌≡◌, ◌≤◌, length};
 ghost use Rattle.formula.specs.Tidy.{tidied};
 ghost use Rattle.sheet.specs.Sheet.{formula, sheet};

@@ -5,73 +5,66 @@ use Rattle.conversion.proofs.RowTurns.{Copied, copied_none, room_left, copied-ro
 use Rattle.conversion.proofs.convert_rows.Statement.{statement}
 use Rattle.conversion.proofs.convert_rows.Tie as tie
 
-abbrev invariant-loop : tie.invariant-loop
-invariant-loop sheet s out₀ t end r₀ out r = Copied s sheet t out₀ out r
+abbrev invariant-loop-r : tie.invariant-loop-r
+invariant-loop-r sheet s out₀ t end r₀ out r = Copied s sheet t out₀ out r
 
-abbrev decreases-loop : tie.decreases-loop
-decreases-loop sheet s out₀ t end r₀ out r = end - r
+abbrev decreases-loop-r : tie.decreases-loop-r
+decreases-loop-r sheet s out₀ t end r₀ out r = end - r
 
--- places in the code, each from a later one
-abbrev start : tie.After-struct-known invariant-loop decreases-loop → tie.Start invariant-loop decreases-loop
-start c = c.before.before.before
+overflow_add-end : tie.Need-overflow_add-end invariant-loop-r decreases-loop-r
+overflow_add-end c = omega (arith, c.requires.few_rows)
 
-abbrev at_loop : tie.After-argument-at invariant-loop decreases-loop → tie.At-loop invariant-loop decreases-loop
-at_loop c = c.before.before.before
+loop-r-init : tie.Need-loop-r-init invariant-loop-r decreases-loop-r
+loop-r-init c = copied_none _ c.requires
 
-add_end : tie.Need-overflow-add-end invariant-loop decreases-loop
-add_end c = omega (arith, c.before.before.before.requires.few_rows)
+kind_at-kind-requires : tie.Need-kind_at-kind-requires invariant-loop-r decreases-loop-r
+kind_at-kind-requires c κs = (c.requires.source, omega arith)
 
-loop_holds : tie.Need-loop-init invariant-loop decreases-loop
-loop_holds c = copied_none _ c.before.before.before.requires
+argument_at-argument-requires : tie.Need-argument_at-argument-requires invariant-loop-r decreases-loop-r
+argument_at-argument-requires c κs = (c.requires.source, omega arith)
 
-kind_at_requires : tie.Need-kind-at-requires invariant-loop decreases-loop
-kind_at_requires c κs = ((start c.before.before).pre.source, omega arith)
-
-argument_at_requires : tie.Need-argument-at-requires invariant-loop decreases-loop
-argument_at_requires c κs = ((start c.before.before.before).pre.source, omega arith)
-
-set_row_requires : tie.Need-set-row-requires invariant-loop decreases-loop
-set_row_requires c κs =
-    let turn = at_loop c.before in
-    let fit = (start turn.before).pre in (
-      room_left _ fit turn.loop.inv,
+set_row-requires : tie.Need-set_row-requires invariant-loop-r decreases-loop-r
+set_row-requires c κs =
+    let turn = c in
+    let fit = turn.requires in (
+      room_left _ fit turn.loop-r.invariant,
       omega (arith, fit.as_many),
-      omega (arith, c.before.argument-at.ensures.0, fit.arguments_fit turn.loop.r (omega arith)),
+      omega (arith, c.argument_at-argument.ensures.0, fit.arguments_fit turn.loop-r.r (omega arith)),
     )
 
-add_r : tie.Need-overflow-add-r invariant-loop decreases-loop
-add_r c = omega arith
+overflow_add-r : tie.Need-overflow_add-r invariant-loop-r decreases-loop-r
+overflow_add-r c = omega arith
 
-loop_less : tie.Need-loop-smaller invariant-loop decreases-loop
-loop_less c = omega arith
+loop-r-smaller : tie.Need-loop-r-smaller invariant-loop-r decreases-loop-r
+loop-r-smaller c = omega arith
 
-loop_again : tie.Need-loop-preserved invariant-loop decreases-loop
-loop_again c =
-    let put = c.before.before in
-    let told = put.before.before in
-    let turn = told.before.before.before in
-    copied-row _ (start turn.before).pre turn.loop.invariant (omega arith) told.before.kind_at.ensures
-    told.argument-at.ensures.0 put.set-row.ensures.0 put.set-row.auto.0
+loop-r-preserved : tie.Need-loop-r-preserved invariant-loop-r decreases-loop-r
+loop-r-preserved c =
+    let put = c in
+    let told = put in
+    let turn = told in
+    copied-row _ turn.requires turn.loop-r.invariant (omega arith) told.kind_at-kind.ensures
+    told.argument_at-argument.ensures.0 put.set_row.ensures.0 put.set_row.auto.b
 
-same_length : tie.Need-same-length invariant-loop decreases-loop
-same_length c = c.before.loop.invariant.same_length
+shape_of-out : tie.Need-shape_of-out invariant-loop-r decreases-loop-r
+shape_of-out c = c.loop-r.invariant.same_length
 
-returns : tie.Need-returns invariant-loop decreases-loop
-returns c = copied_all _ (start c.before.before).pre c.before.loop.invariant (omega arith)
+returns : tie.Need-returns invariant-loop-r decreases-loop-r
+returns c = copied_all _ c.requires c.loop-r.invariant (omega arith)
 
 pub convert_rows_spec : {M : Type 1} → statement M
 convert_rows_spec =
     tie.close
     (tie.spec
-    invariant-loop
-    decreases-loop
-    add_end
-    loop_holds
-    kind_at_requires
-    argument_at_requires
-    set_row_requires
-    add_r
-    loop_less
-    loop_again
-    same_length
+    invariant-loop-r
+    decreases-loop-r
+    overflow_add-end
+    loop-r-init
+    kind_at-kind-requires
+    argument_at-argument-requires
+    set_row-requires
+    overflow_add-r
+    loop-r-smaller
+    loop-r-preserved
+    shape_of-out
     returns)

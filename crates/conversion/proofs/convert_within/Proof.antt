@@ -6,36 +6,38 @@ use Rattle.conversion.proofs.Tests.{short, convertible, converted_call}
 use Rattle.conversion.proofs.convert_within.Statement.{statement}
 use Rattle.conversion.proofs.convert_within.Tie as tie
 
-sheet_length_requires : tie.Need-sheet-length-requires
-sheet_length_requires c κs =
-    let read = sheet_readable c.before.before.requires.accepted in
+sheet_length-length-requires : tie.Need-sheet_length-length-requires
+sheet_length-length-requires c κs =
+    let read = sheet_readable c.requires.accepted in
     (omega (arith, read.few_variables), omega (arith, read.few_nodes))
 
-abbrev start : tie.After-sheet-length → tie.Start
-start c = c.before.before.before
+returns-then-out-length : tie.Need-returns-then-out-length
+returns-then-out-length c =
+    let a = c in
+    short a.requires a.args.out.now (omega (arith, c.sheet_length-length.ensures))
+
+convert-requires : tie.Need-convert-requires
+convert-requires c κs =
+    let measured = c in
+    let a = measured in
+    convertible a.requires a.args.out.now (omega (arith, measured.sheet_length-length.ensures))
+
+shape_of-out : tie.Need-shape_of-out
+shape_of-out c = search rules
 
 returns : tie.Need-returns
 returns c =
-    let a = start c.before in
-    short a.pre a.args.out.now (omega (arith, c.before.sheet_length.ensures))
-
-convert_requires : tie.Need-convert-requires
-convert_requires c κs =
-    let measured = c.before.before in
-    let a = start measured in
-    convertible a.pre a.args.out.now (omega (arith, measured.sheet_length.ensures))
-
-same_length : tie.Need-same-length
-same_length c = search rules
-
-returns_2 : tie.Need-returns-2
-returns_2 c =
-    let wrote = c.before.before in
-    let measured = wrote.before.before.before in
-    let a = start measured in
-    converted_call a.pre a.args.out.now (omega (arith, measured.sheet_length.ensures)) measured.sheet_length.ensures
+    let wrote = c in
+    let measured = wrote in
+    let a = measured in
+    converted_call a.requires a.args.out.now (omega (arith, measured.sheet_length-length.ensures)) measured.sheet_length-length.ensures
     wrote.convert.ensures.0
 
 pub convert_within_spec : {M : Type 1} → statement M
 convert_within_spec =
-    tie.close (tie.spec sheet_length_requires returns convert_requires same_length returns_2)
+    tie.close (tie.spec
+    sheet_length-length-requires
+    returns-then-out-length
+    convert-requires
+    shape_of-out
+    returns)

@@ -5,34 +5,36 @@ use Rattle.conversion.proofs.Tests.{to-narrow-above, to-narrow-ready, to-narrow-
 use Rattle.conversion.proofs.to_narrow_checked.Statement.{statement}
 use Rattle.conversion.proofs.to_narrow_checked.Tie as tie
 
-is_beyond_requires : tie.Need-is-beyond-requires
-is_beyond_requires c κs = sheet_own c.before.before.requires
+is_beyond-requires : tie.Need-is_beyond-requires
+is_beyond-requires c κs = sheet_own c.requires
 
-abbrev start : tie.After-is-beyond → tie.Start
-start c = c.before.before.before
+returns-then-is_beyond : tie.Need-returns-then-is_beyond
+returns-then-is_beyond c =
+    let tested = c in
+    let a = tested in
+    to-narrow-above a.requires tested.is_beyond.ensures c.if-is_beyond.true a.args.out.now
+
+convert_within-requires : tie.Need-convert_within-requires
+convert_within-requires c κs =
+    let tested = c in
+    to-narrow-ready tested.requires tested.is_beyond.ensures c.if-is_beyond.false
+
+shape_of-out : tie.Need-shape_of-out
+shape_of-out c = search rules
 
 returns : tie.Need-returns
 returns c =
-    let tested = c.before in
-    let a = start tested in
-    to-narrow-above a.pre tested.is-beyond.ensures c.if1.true a.args.out.now
-
-convert_within_requires : tie.Need-convert-within-requires
-convert_within_requires c κs =
-    let tested = c.before.before in
-    to-narrow-ready (start tested).requires tested.is-beyond.ensures c.before.if1.false
-
-same_length : tie.Need-same-length
-same_length c = search rules
-
-returns_2 : tie.Need-returns-2
-returns_2 c =
-    let wrote = c.before.before in
-    let left = wrote.before.before in
-    let tested = left.before in
-    let a = start tested in
-    to-narrow-within a.pre tested.is-beyond.ensures left.if1.false a.args.out.now wrote.convert-within.ensures
+    let wrote = c in
+    let left = wrote in
+    let tested = left in
+    let a = tested in
+    to-narrow-within a.requires tested.is_beyond.ensures left.if-is_beyond.false a.args.out.now wrote.convert_within.ensures
 
 pub to_narrow_checked_spec : {M : Type 1} → statement M
 to_narrow_checked_spec =
-    tie.close (tie.spec is_beyond_requires returns convert_within_requires same_length returns_2)
+    tie.close (tie.spec
+    is_beyond-requires
+    returns-then-is_beyond
+    convert_within-requires
+    shape_of-out
+    returns)

@@ -10,53 +10,50 @@ use Rattle.conversion.proofs.Tests.{to_wide_ready, to_wide_checked}
 use Rattle.conversion.proofs.to_wide.Statement.{statement}
 use Rattle.conversion.proofs.to_wide.Tie as tie
 
-check_requires : tie.Need-check-requires
-check_requires c κs = search rules
+check-c-requires : tie.Need-check-c-requires
+check-c-requires c κs = search rules
 
-enum_known_c : tie.Need-enum-known-c
-enum_known_c c = search rules
-
-abbrev start : tie.After-check → tie.Start
-start c = c.before.before.before
+enum_known-c : tie.Need-enum_known-c
+enum_known-c c = search rules
 
 -- the sheet that Check accepted
-accepted : (c : tie.After-c) → Sheet Narrow (start c.before.before).args.sheet.now c.c.given.0.0
-accepted c = sheet_checked c.c.given.1 c.before.before.check.ensures
+accepted : (c : tie.In-Accepted) → Sheet Narrow c.args.sheet.now c.in-Accepted.s
+accepted c = sheet_checked c.in-Accepted.is c.check-c.ensures
 
-convert_within_requires : tie.Need-convert-within-requires
-convert_within_requires c κs = to_wide_ready (accepted c.before.before)
+convert_within-requires : tie.Need-convert_within-requires
+convert_within-requires c κs = to_wide_ready (accepted c.before)
 
-enum_known_c_2 : tie.Need-enum-known-c-2
-enum_known_c_2 c = search rules
+enum_known-c-in-Refused-1 : tie.Need-enum_known-c-in-Refused-1
+enum_known-c-in-Refused-1 c = search rules
 
-same_length : tie.Need-same-length
-same_length c = search rules
+shape_of-out : tie.Need-shape_of-out
+shape_of-out c = search rules
 
-returns : tie.Need-returns
-returns c =
-    let wrote = c.before.before in
-    let told = wrote.before.before.before in
-    let a = (start told.before.before).args in
-    let e = to_wide_checked (accepted told) a.out.now wrote.convert-within.ensures in
+returns-in-Accepted : tie.Need-returns-in-Accepted
+returns-in-Accepted c =
+    let wrote = c in
+    let told = wrote in
+    let a = told.args in
+    let e = to_wide_checked (accepted told.before.before.before.before) a.out.now wrote.convert_within.ensures in
     (e, to_wide_truthful a.sheet.now a.out.now e)
 
-returns_2 : tie.Need-returns-2
-returns_2 c =
-    let told = c.before in
-    let checked = told.before.before in
-    let a = (start checked).args in
+returns-in-Refused : tie.Need-returns-in-Refused
+returns-in-Refused c =
+    let told = c in
+    let checked = told in
+    let a = checked.args in
     let e = written
-    (to_wide_unchecked a.sheet.now a.out.now (sheet_refused Narrow a.sheet.now told.c2.given.1 checked.check.ensures)) in
+    (to_wide_unchecked a.sheet.now a.out.now (sheet_refused Narrow a.sheet.now told.in-Refused.is checked.check-c.ensures)) in
     (e, to_wide_truthful a.sheet.now a.out.now e)
 
 pub to_wide_spec : {M : Type 1} → statement M
 to_wide_spec =
     tie.close
     (tie.spec
-    check_requires
-    enum_known_c
-    convert_within_requires
-    enum_known_c_2
-    same_length
-    returns
-    returns_2)
+    check-c-requires
+    enum_known-c
+    convert_within-requires
+    enum_known-c-in-Refused-1
+    shape_of-out
+    returns-in-Accepted
+    returns-in-Refused)

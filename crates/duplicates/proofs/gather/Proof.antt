@@ -9,108 +9,95 @@ use Rattle.duplicates.proofs.Gathering.{Gathering, gather_start, gather-room, ga
 use Rattle.duplicates.proofs.gather.Statement.{statement}
 use Rattle.duplicates.proofs.gather.Tie as tie
 
-abbrev invariant-loop : tie.invariant-loop
-invariant-loop b s ends hashes members₀ i at₀ left₀ n₀ members at left n = Gathering s b (length members₀) (kids (subtree_in s b i)) members at left n
+abbrev invariant-loop-left : tie.invariant-loop-left
+invariant-loop-left b s ends hashes members₀ i at₀ left₀ n₀ members at left n = Gathering s b (length members₀) (kids (subtree_in s b i)) members at left n
 
-abbrev decreases-loop : tie.decreases-loop
-decreases-loop b s ends hashes members₀ i at₀ left₀ n₀ members at left n = left
+abbrev decreases-loop-left : tie.decreases-loop-left
+decreases-loop-left b s ends hashes members₀ i at₀ left₀ n₀ members at left n = left
 
--- places in the code, each from a later one
-abbrev known : tie.After-slice-known invariant-loop decreases-loop → tie.After-shared-slice-known invariant-loop decreases-loop
-known c = c.before.before.before
+overflow_add-at : tie.Need-overflow_add-at invariant-loop-left decreases-loop-left
+overflow_add-at c = let a = c in omega (arith, a.requires.1, a.requires.0.readable.few_nodes)
 
-abbrev start : tie.After-slice-known invariant-loop decreases-loop → tie.Start invariant-loop decreases-loop
-start c = (known c).before
+children_at-left-requires : tie.Need-children_at-left-requires invariant-loop-left decreases-loop-left
+children_at-left-requires c κs = let a = c in (a.requires.0.readable, a.requires.1)
 
-abbrev entry : tie.At-loop invariant-loop decreases-loop → tie.Start invariant-loop decreases-loop
-entry c = start c.before.before
-
-abbrev turn : tie.After-put invariant-loop decreases-loop → tie.In-loop invariant-loop decreases-loop
-turn c = c.before.before
-
-add_at : tie.Need-overflow-add-at invariant-loop decreases-loop
-add_at c = let a = start c in omega (arith, a.pre.1, a.pre.0.readable.few_nodes)
-
-children_at_requires : tie.Need-children-at-requires invariant-loop decreases-loop
-children_at_requires c κs = let a = start c in (a.pre.0.readable, a.pre.1)
-
-loop_holds : tie.Need-loop-init invariant-loop decreases-loop
-loop_holds c =
-    let a = start c.before in
+loop-left-init : tie.Need-loop-left-init invariant-loop-left decreases-loop-left
+loop-left-init c =
+    let a = c in
     gather_start a.args.b.now a.args.members.now
-    (children_read a.args.b.now a.pre.0.readable a.args.i a.pre.1 (add-one a.args.i) c.children-at.ensures.0)
+    (children_read a.args.b.now a.requires.0.readable a.args.i a.requires.1 (add-one a.args.i) c.children_at-left.ensures.0)
 
 -- the walk's next step
-walked : (c : tie.In-loop invariant-loop decreases-loop) →
-    let a = (entry c.before).args in
-    Walked a.s a.b.now a.ends.now c.before.loop.at c.before.loop.left
+walked : (c : tie.In-loop-left invariant-loop-left decreases-loop-left) →
+    let a = c.args in
+    Walked a.s a.b.now a.ends.now c.loop-left.at c.loop-left.left
 walked c =
-    let a = entry c.before in
-    walk_on a.args.b.now a.pre.0.readable a.args.ends.now a.pre.0 c.before.loop.at c.loop-test.true c.before.loop.invariant.beside
+    let a = c in
+    walk_on a.args.b.now a.requires.0.readable a.args.ends.now a.requires.0 c.loop-left.at c.loop-left-test.true c.loop-left.invariant.beside
 
-put_requires : tie.Need-put-requires invariant-loop decreases-loop
-put_requires c κs =
-    let head = c.before.before in
-    let a = entry head in
-    let few = kids_few a.args.b.now a.pre.0.readable a.args.i a.pre.1 in (
-      a.pre.0.readable,
+put-n-requires : tie.Need-put-n-requires invariant-loop-left decreases-loop-left
+put-n-requires c κs =
+    let head = c in
+    let a = head in
+    let few = kids_few a.args.b.now a.requires.0.readable a.args.i a.requires.1 in (
+      a.requires.0.readable,
       (walked c.before).inside,
-      hashed_later 0 head.loop.at a.pre.2 (omega arith),
-      gather-room a.args.b.now head.loop.invariant (walked c.before) (omega (arith, few, a.pre.3)),
+      hashed_later 0 head.loop-left.at a.requires.2 (omega arith),
+      gather-room a.args.b.now head.loop-left.invariant (walked c.before) (omega (arith, few, a.requires.3)),
     )
 
-mul_at : tie.Need-overflow-mul-at invariant-loop decreases-loop
-mul_at c =
-    let here = turn c.before.before in
-    omega (arith, (walked here).inside, (entry here.before).pre.0.readable.few_nodes)
+offset_bounds-ends-at : tie.Need-offset_bounds-ends-at invariant-loop-left decreases-loop-left
+offset_bounds-ends-at c =
+    let here = c in
+    omega (arith, (walked here.before.before.before.before).inside, here.requires.0.readable.few_nodes)
 
-shared_slice_read_at : tie.Need-shared-slice-read-at invariant-loop decreases-loop
-shared_slice_read_at c =
-    let here = turn c.before.before.before in
-    omega (arith, (walked here).inside, (entry here.before).pre.0.holds)
+bounds-ends-at : tie.Need-bounds-ends-at invariant-loop-left decreases-loop-left
+bounds-ends-at c =
+    let here = c in
+    omega (arith, (walked here.before.before.before.before.before).inside, here.requires.0.holds)
 
-cast_at : tie.Need-overflow-cast-at invariant-loop decreases-loop
-cast_at c =
-    let here = turn c.before.before.before in
-    omega (arith, (walked here).next_within, (entry here.before).pre.0.readable.few_nodes)
+overflow_cast-at : tie.Need-overflow_cast-at invariant-loop-left decreases-loop-left
+overflow_cast-at c =
+    let here = c in
+    omega (arith, (walked here.before.before.before.before.before).next_within, here.requires.0.readable.few_nodes)
 
-sub_left : tie.Need-overflow-sub-left invariant-loop decreases-loop
-sub_left c = omega arith
+overflow_sub-left : tie.Need-overflow_sub-left invariant-loop-left decreases-loop-left
+overflow_sub-left c = omega arith
 
-loop_less : tie.Need-loop-smaller invariant-loop decreases-loop
-loop_less c = omega arith
+loop-left-smaller : tie.Need-loop-left-smaller invariant-loop-left decreases-loop-left
+loop-left-smaller c = omega arith
 
-loop_again : tie.Need-loop-preserved invariant-loop decreases-loop
-loop_again c =
-    let after = c.before.before.before in
-    let head = (turn after).before in
-    gather-on (entry head).args.b.now head.loop.inv (walked (turn after)) after.put.auto.1.1.1.0 after.put.ensures
+loop-left-preserved : tie.Need-loop-left-preserved invariant-loop-left decreases-loop-left
+loop-left-preserved c =
+    let after = c in
+    let head = after in
+    gather-on head.args.b.now head.loop-left.invariant (walked after.before.before.before.before.before) after.put-n.auto.members after.put-n.ensures
 
-same_length : tie.Need-same-length invariant-loop decreases-loop
-same_length c = c.before.loop.invariant.same_length
+shape_of-members : tie.Need-shape_of-members invariant-loop-left decreases-loop-left
+shape_of-members c = c.loop-left.invariant.same_length
 
-returns : tie.Need-returns invariant-loop decreases-loop
+returns : tie.Need-returns invariant-loop-left decreases-loop-left
 returns c =
-    let head = c.before in
-    let a = entry head in
-    let g = gather-done a.args.b.now head.loop.invariant c.loop-test.false in
-    (g, omega (arith, g.as_many, kids_few a.args.b.now a.pre.0.readable a.args.i a.pre.1))
+    let head = c in
+    let a = head in
+    let g = gather-done a.args.b.now head.loop-left.invariant c.loop-left-test.false in
+    (g, omega (arith, g.as_many, kids_few a.args.b.now a.requires.0.readable a.args.i a.requires.1))
 
 pub gather_spec : {M : Type 1} → statement M
 gather_spec =
     tie.close
     (tie.spec
-    invariant-loop
-    decreases-loop
-    add_at
-    children_at_requires
-    loop_holds
-    put_requires
-    mul_at
-    shared_slice_read_at
-    cast_at
-    sub_left
-    loop_less
-    loop_again
-    same_length
+    invariant-loop-left
+    decreases-loop-left
+    overflow_add-at
+    children_at-left-requires
+    loop-left-init
+    put-n-requires
+    offset_bounds-ends-at
+    bounds-ends-at
+    overflow_cast-at
+    overflow_sub-left
+    loop-left-smaller
+    loop-left-preserved
+    shape_of-members
     returns)

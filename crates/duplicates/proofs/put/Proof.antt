@@ -8,57 +8,53 @@ use Rattle.duplicates.proofs.Gathering.{gather_more, member_tree, is_member}
 use Rattle.duplicates.proofs.put.Statement.{statement}
 use Rattle.duplicates.proofs.put.Tie as tie
 
--- places in the code, each from a later one
-abbrev start : tie.After-slice-known → tie.Start
-start c = c.before.before.before
+offset_bounds-hashes-at : tie.Need-offset_bounds-hashes-at
+offset_bounds-hashes-at c = search rules
 
-mul_small : tie.Need-overflow-mul-small
-mul_small c = search rules
+bounds-hashes-at : tie.Need-bounds-hashes-at
+bounds-hashes-at c = search rules
 
-shared_slice_read_small : tie.Need-shared-slice-read-small
-shared_slice_read_small c = search rules
+small-requires : tie.Need-small-requires
+small-requires c κs = search rules
 
-small_requires : tie.Need-small-requires
-small_requires c κs = search rules
+member_of-requires : tie.Need-member_of-requires
+member_of-requires c κs = search rules
 
-member_of_requires : tie.Need-member-of-requires
-member_of_requires c κs = search rules
+overflow_cast-members : tie.Need-overflow_cast-members
+overflow_cast-members c = search rules
 
-cast_members : tie.Need-overflow-cast-members
-cast_members c = search rules
+offset_bounds-members-n : tie.Need-offset_bounds-members-n
+offset_bounds-members-n c = search rules
 
-mul_members : tie.Need-overflow-mul-members
-mul_members c = search rules
+bounds-members-n : tie.Need-bounds-members-n
+bounds-members-n c = search rules
 
-slice_write_members : tie.Need-slice-write-members
-slice_write_members c = search rules
+overflow_add-result : tie.Need-overflow_add-result
+overflow_add-result c = search rules
 
-add_result : tie.Need-overflow-add-result
-add_result c = search rules
-
-same_length : tie.Need-same-length
-same_length c = search rules
+shape_of-members : tie.Need-shape_of-members
+shape_of-members c = search rules
 
 returns : tie.Need-returns
 returns c ts g =
-    let read = c.before in
-    let a = start read.before.before in
-    let is = read.small.ensures.0 ∙ a.pre.2.filled a.args.at (le_refl _) a.pre.1 in
-    gather_more g (subtree_in a.args.s a.args.b.now a.args.at) a.pre.3
-    (is_member a.args.s a.args.b.now a.args.at a.pre.1 is c.member_of.ensures.0)
-    (member_tree a.args.s a.args.b.now a.args.at a.pre.1 is c.member_of.ensures.0) (omega arith)
+    let read = c in
+    let a = read in
+    let is = read.small.ensures.0 ∙ a.requires.2.filled a.args.at (le_refl _) a.requires.1 in
+    gather_more g (subtree_in a.args.s a.args.b.now a.args.at) a.requires.3
+    (is_member a.args.s a.args.b.now a.args.at a.requires.1 is c.member_of.ensures.0)
+    (member_tree a.args.s a.args.b.now a.args.at a.requires.1 is c.member_of.ensures.0) (omega arith)
 
 pub put_spec : {M : Type 1} → statement M
 put_spec =
     tie.close
     (tie.spec
-    mul_small
-    shared_slice_read_small
-    small_requires
-    member_of_requires
-    cast_members
-    mul_members
-    slice_write_members
-    add_result
-    same_length
+    offset_bounds-hashes-at
+    bounds-hashes-at
+    small-requires
+    member_of-requires
+    overflow_cast-members
+    offset_bounds-members-n
+    bounds-members-n
+    overflow_add-result
+    shape_of-members
     returns)

@@ -9,91 +9,84 @@ use Rattle.duplicates.proofs.Comparing.{Comparing, inside, few_left, compare_sta
 use Rattle.duplicates.proofs.same_at.Statement.{statement}
 use Rattle.duplicates.proofs.same_at.Tie as tie
 
-abbrev invariant-loop : tie.invariant-loop
-invariant-loop b s i j at₀ other₀ left₀ at other left = Comparing s b (same_tree (subtree_in s b i) (subtree_in s b j)) at other left
+abbrev invariant-loop-left : tie.invariant-loop-left
+invariant-loop-left b s i j at₀ other₀ left₀ at other left = Comparing s b (same_tree (subtree_in s b i) (subtree_in s b j)) at other left
 
-abbrev decreases-loop : tie.decreases-loop
-decreases-loop b s i j at₀ other₀ left₀ at other left = s.nodes - at
+abbrev decreases-loop-left : tie.decreases-loop-left
+decreases-loop-left b s i j at₀ other₀ left₀ at other left = s.nodes - at
 
--- places in the code, each from a later one
-abbrev start : tie.At-loop invariant-loop decreases-loop → tie.Start invariant-loop decreases-loop
-start c = c.before.before
-
-abbrev at_loop : tie.After-differ invariant-loop decreases-loop → tie.At-loop invariant-loop decreases-loop
-at_loop c = c.before.before
-
-loop_holds : tie.Need-loop-init invariant-loop decreases-loop
-loop_holds c = let a = c.before in compare_start a.args.b.now a.requires.0 a.requires.1 a.requires.2
+loop-left-init : tie.Need-loop-left-init invariant-loop-left decreases-loop-left
+loop-left-init c = let a = c in compare_start a.args.b.now a.requires.0 a.requires.1 a.requires.2
 
 -- both rows are there
-at_row : (c : tie.In-loop invariant-loop decreases-loop) → (c.before.loop.at < c.before.before.before.args.s.nodes) × (c.before.loop.other < c.before.before.before.args.s.nodes)
+at_row : (c : tie.In-loop-left invariant-loop-left decreases-loop-left) → (c.loop-left.at < c.args.s.nodes) × (c.loop-left.other < c.args.s.nodes)
 at_row c =
-    let a = c.before.before.before in
-    let l = c.before.loop in (
-      inside a.args.b.now a.requires.0 l.at c.loop-test.true l.invariant.few,
-      inside a.args.b.now a.requires.0 l.other c.loop-test.true l.invariant.few_other,
+    let a = c in
+    let l = c.loop-left in (
+      inside a.args.b.now a.requires.0 l.at c.loop-left-test.true l.invariant.few,
+      inside a.args.b.now a.requires.0 l.other c.loop-left-test.true l.invariant.few_other,
     )
 
-differ_requires : tie.Need-differ-requires invariant-loop decreases-loop
-differ_requires c κs = (c.before.before.before.requires.0, (at_row c).0, (at_row c).1)
+differ-requires : tie.Need-differ-requires invariant-loop-left decreases-loop-left
+differ-requires c κs = (c.requires.0, (at_row c).0, (at_row c).1)
 
-returns : tie.Need-returns invariant-loop decreases-loop
-returns c =
-    let head = c.before.before.before in
-    let a = head.before.before in
+returns-then-differ : tie.Need-returns-then-differ invariant-loop-left decreases-loop-left
+returns-then-differ c =
+    let head = c in
+    let a = head in
     sym
-    (compare_differ a.args.b.now a.requires.0 c.before.before.loop-test.true head.loop.invariant
-    (not-true _ (sym c.before.differ.ensures ∙ c.if1.true)))
+    (compare_differ a.args.b.now a.requires.0 c.loop-left-test.true head.loop-left.invariant
+    (not-true _ (sym c.differ.ensures ∙ c.if-differ.true)))
 
-sub_left : tie.Need-overflow-sub-left invariant-loop decreases-loop
-sub_left c = omega arith
+overflow_sub-left : tie.Need-overflow_sub-left invariant-loop-left decreases-loop-left
+overflow_sub-left c = omega arith
 
-children_at_requires : tie.Need-children-at-requires invariant-loop decreases-loop
-children_at_requires c κs = ((start (at_loop c.before)).pre.0, (at_row c.before.before).0)
+children_at-requires : tie.Need-children_at-requires invariant-loop-left decreases-loop-left
+children_at-requires c κs = (c.requires.0, (at_row c.before.before).0)
 
-add_left : tie.Need-overflow-add-left invariant-loop decreases-loop
-add_left c =
-    let head = at_loop c.before.before in
-    let a = start head in
-    omega (arith, few_left a.args.b.now a.pre.0 head.loop.at head.loop.inv.few, a.pre.0.few_nodes, c.children-at.ensures.1)
+overflow_add-left : tie.Need-overflow_add-left invariant-loop-left decreases-loop-left
+overflow_add-left c =
+    let head = c in
+    let a = head in
+    omega (arith, few_left a.args.b.now a.requires.0 head.loop-left.at head.loop-left.invariant.few, a.requires.0.few_nodes, c.children_at.ensures.1)
 
-add_at : tie.Need-overflow-add-at invariant-loop decreases-loop
-add_at c = omega (arith, (at_row c.before.before.before).0, (start (at_loop c.before.before)).pre.0.few_nodes)
+overflow_add-at : tie.Need-overflow_add-at invariant-loop-left decreases-loop-left
+overflow_add-at c = omega (arith, (at_row c.before.before.before).0, c.requires.0.few_nodes)
 
-add_other : tie.Need-overflow-add-other invariant-loop decreases-loop
-add_other c = omega (arith, (at_row c.before.before.before).1, (start (at_loop c.before.before)).pre.0.few_nodes)
+overflow_add-other : tie.Need-overflow_add-other invariant-loop-left decreases-loop-left
+overflow_add-other c = omega (arith, (at_row c.before.before.before).1, c.requires.0.few_nodes)
 
-loop_less : tie.Need-loop-smaller invariant-loop decreases-loop
-loop_less c = omega (arith, (at_row c.before.before.before).0)
+loop-left-smaller : tie.Need-loop-left-smaller invariant-loop-left decreases-loop-left
+loop-left-smaller c = omega (arith, (at_row c.before.before.before).0)
 
-loop_again : tie.Need-loop-preserved invariant-loop decreases-loop
-loop_again c =
-    let head = at_loop c.before.before in
-    let a = head.before.before in
-    compare-on a.args.b.now a.pre.0 c.before.before.before.loop-test.true head.loop.inv
-    (not-false _ (sym c.before.before.differ.ensures ∙ c.before.if1.false)) (omega arith) (omega arith)
-    (omega (arith, c.children-at.ensures.0))
+loop-left-preserved : tie.Need-loop-left-preserved invariant-loop-left decreases-loop-left
+loop-left-preserved c =
+    let head = c in
+    let a = head in
+    compare-on a.args.b.now a.requires.0 c.loop-left-test.true head.loop-left.invariant
+    (not-false _ (sym c.differ.ensures ∙ c.if-differ.false)) (omega arith) (omega arith)
+    (omega (arith, c.children_at.ensures.0))
 
-returns_2 : tie.Need-returns-2 invariant-loop decreases-loop
-returns_2 c =
-    let head = c.before in
-    let a = head.before.before in
-    sym (compare_done a.args.b.now a.requires.0 c.loop-test.false head.loop.invariant)
+returns : tie.Need-returns invariant-loop-left decreases-loop-left
+returns c =
+    let head = c in
+    let a = head in
+    sym (compare_done a.args.b.now a.requires.0 c.loop-left-test.false head.loop-left.invariant)
 
 pub same_at_spec : {M : Type 1} → statement M
 same_at_spec =
     tie.close
     (tie.spec
-    invariant-loop
-    decreases-loop
-    loop_holds
-    differ_requires
-    returns
-    sub_left
-    children_at_requires
-    add_left
-    add_at
-    add_other
-    loop_less
-    loop_again
-    returns_2)
+    invariant-loop-left
+    decreases-loop-left
+    loop-left-init
+    differ-requires
+    returns-then-differ
+    overflow_sub-left
+    children_at-requires
+    overflow_add-left
+    overflow_add-at
+    overflow_add-other
+    loop-left-smaller
+    loop-left-preserved
+    returns)

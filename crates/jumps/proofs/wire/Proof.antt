@@ -15,56 +15,37 @@ use Rattle.jumps.proofs.Loops.{Wiring, parents_more, wire_row}
 use Rattle.jumps.proofs.wire.Statement.{statement}
 use Rattle.jumps.proofs.wire.Tie as tie
 
-abbrev invariant-loop : tie.invariant-loop
-invariant-loop sheet s ends parents₀ high₀ low₀ n i₀ parents high low i =
+abbrev invariant-loop-i : tie.invariant-loop-i
+invariant-loop-i sheet s ends parents₀ high₀ low₀ n i₀ parents high low i =
     Wiring (node_rows_in s sheet) ends parents₀ high₀ low₀ n parents high low i
 
-abbrev decreases-loop : tie.decreases-loop
-decreases-loop sheet s ends parents₀ high₀ low₀ n i₀ parents high low i = n - i
+abbrev decreases-loop-i : tie.decreases-loop-i
+decreases-loop-i sheet s ends parents₀ high₀ low₀ n i₀ parents high low i = n - i
 
--- places in the code, each from a later one
-abbrev opened : tie.After-slice-known3 invariant-loop decreases-loop → tie.After-shared-slice-known2 invariant-loop decreases-loop
-opened c = c.before.before.before
-
-abbrev entry : tie.After-slice-known3 invariant-loop decreases-loop → tie.Start invariant-loop decreases-loop
-entry c = (opened c).before.before
-
-abbrev start : tie.At-loop invariant-loop decreases-loop → tie.Start invariant-loop decreases-loop
-start c = entry c.before
-
-abbrev turn : tie.After-parent-of invariant-loop decreases-loop → tie.In-loop invariant-loop decreases-loop
-turn c = c.before.before
-
-abbrev told : tie.After-shared-slice-known4 invariant-loop decreases-loop → tie.After-parent-of invariant-loop decreases-loop
-told c = c.before.before.before
-
-abbrev written : tie.After-past invariant-loop decreases-loop → tie.After-shared-slice-known4 invariant-loop decreases-loop
-written c = c.before.before
-
-abbrev R : tie.Start invariant-loop decreases-loop → List Row
+abbrev R : tie.Start invariant-loop-i decreases-loop-i → List Row
 R a = node_rows_in a.args.s a.args.sheet.now
 
-all : (a : tie.Start invariant-loop decreases-loop) → length (R a) ≡ a.args.s.nodes
+all : (a : tie.Start invariant-loop-i decreases-loop-i) → length (R a) ≡ a.args.s.nodes
 all a = length-nodes a.args.sheet.now a.requires.0.readable
 
-cast_high : tie.Need-overflow-cast-high invariant-loop decreases-loop
-cast_high c = omega arith
+overflow_cast-high : tie.Need-overflow_cast-high invariant-loop-i decreases-loop-i
+overflow_cast-high c = omega arith
 
-slice_write_high : tie.Need-slice-write-high invariant-loop decreases-loop
-slice_write_high c = omega arith
+bounds-high-0 : tie.Need-bounds-high-0 invariant-loop-i decreases-loop-i
+bounds-high-0 c = omega arith
 
-add_low : tie.Need-overflow-add-low invariant-loop decreases-loop
-add_low c = omega arith
+overflow_add-low : tie.Need-overflow_add-low invariant-loop-i decreases-loop-i
+overflow_add-low c = omega arith
 
-cast_low : tie.Need-overflow-cast-low invariant-loop decreases-loop
-cast_low c = omega arith
+overflow_cast-low : tie.Need-overflow_cast-low invariant-loop-i decreases-loop-i
+overflow_cast-low c = omega arith
 
-slice_write_low : tie.Need-slice-write-low invariant-loop decreases-loop
-slice_write_low c = omega arith
+bounds-low-0 : tie.Need-bounds-low-0 invariant-loop-i decreases-loop-i
+bounds-low-0 c = omega arith
 
-loop_holds : tie.Need-loop-init invariant-loop decreases-loop
-loop_holds c =
-    let a = entry c in
+loop-i-init : tie.Need-loop-i-init invariant-loop-i decreases-loop-i
+loop-i-init c =
+    let a = c in
     let n = a.args.s.nodes in
     record {
       parents_length = refl;
@@ -78,92 +59,92 @@ loop_holds c =
       known = λ q h l. absurd (omega arith);
       targets =
           record {
-            root_high = get_or-set_same a.args.high.now 0 n 0 (omega arith) ∙ sym (all a);
-            root_low = get_or-set_same a.args.low.now 0 (n + 1) 0 (omega arith) ∙ ap (λ m. m + 1) (sym (all a));
+            root_high = get_or-set_same a.args.high.now 0 n 0 (omega arith) ∙ sym (all a.before.before.before.before.before);
+            root_low = get_or-set_same a.args.low.now 0 (n + 1) 0 (omega arith) ∙ ap (λ m. m + 1) (sym (all a.before.before.before.before.before));
             wired = λ q h l. absurd (omega arith);
           };
     }
 
-parent_of_requires : tie.Need-parent-of-requires invariant-loop decreases-loop
-parent_of_requires c κs =
-    let head = c.before.before in
-    let a = start head in
-    let inv = head.loop.invariant in
-    let open-root = root-entry a.args.sheet.now a.args.ends.now a.pre.0 in
-    (inv.started, omega (arith, a.pre.0.holds), omega (arith, inv.parents_room), omega arith, inv.known)
+parent_of-p-requires : tie.Need-parent_of-p-requires invariant-loop-i decreases-loop-i
+parent_of-p-requires c κs =
+    let head = c in
+    let a = head in
+    let inv = head.loop-i.invariant in
+    let open-root = root-entry a.args.sheet.now a.args.ends.now a.requires.0 in
+    (inv.started, omega (arith, a.requires.0.holds), omega (arith, inv.parents_room), omega arith, inv.known)
 
-cast_parents : tie.Need-overflow-cast-parents invariant-loop decreases-loop
-cast_parents c = omega arith
+overflow_cast-parents : tie.Need-overflow_cast-parents invariant-loop-i decreases-loop-i
+overflow_cast-parents c = omega arith
 
-mul_parents : tie.Need-overflow-mul-parents invariant-loop decreases-loop
-mul_parents c = omega arith
+offset_bounds-parents-i : tie.Need-offset_bounds-parents-i invariant-loop-i decreases-loop-i
+offset_bounds-parents-i c = omega arith
 
-slice_write_parents : tie.Need-slice-write-parents invariant-loop decreases-loop
-slice_write_parents c = omega arith
+bounds-parents-i : tie.Need-bounds-parents-i invariant-loop-i decreases-loop-i
+bounds-parents-i c = omega arith
 
-kind_at_requires : tie.Need-kind-at-requires invariant-loop decreases-loop
-kind_at_requires c κs = ((start c.before.before.before).pre.0.readable, omega arith)
+kind_at-conjunction-requires : tie.Need-kind_at-conjunction-requires invariant-loop-i decreases-loop-i
+kind_at-conjunction-requires c κs = (c.requires.0.readable, omega arith)
 
-mul_end : tie.Need-overflow-mul-end invariant-loop decreases-loop
-mul_end c = omega arith
+offset_bounds-ends-i : tie.Need-offset_bounds-ends-i invariant-loop-i decreases-loop-i
+offset_bounds-ends-i c = omega arith
 
-shared_slice_read_end : tie.Need-shared-slice-read-end invariant-loop decreases-loop
-shared_slice_read_end c = omega arith
+bounds-ends-i : tie.Need-bounds-ends-i invariant-loop-i decreases-loop-i
+bounds-ends-i c = omega arith
 
-mul_last : tie.Need-overflow-mul-last invariant-loop decreases-loop
-mul_last c = omega arith
+offset_bounds-ends-p : tie.Need-offset_bounds-ends-p invariant-loop-i decreases-loop-i
+offset_bounds-ends-p c = omega arith
 
-shared_slice_read_last : tie.Need-shared-slice-read-last invariant-loop decreases-loop
-shared_slice_read_last c = omega arith
+bounds-ends-p : tie.Need-bounds-ends-p invariant-loop-i decreases-loop-i
+bounds-ends-p c = omega arith
 
-mul_past : tie.Need-overflow-mul-past invariant-loop decreases-loop
-mul_past c = omega arith
+offset_bounds-high-p : tie.Need-offset_bounds-high-p invariant-loop-i decreases-loop-i
+offset_bounds-high-p c = omega arith
 
-slice_read_past : tie.Need-slice-read-past invariant-loop decreases-loop
-slice_read_past c = omega arith
+bounds-high-p : tie.Need-bounds-high-p invariant-loop-i decreases-loop-i
+bounds-high-p c = omega arith
 
-past_requires : tie.Need-past-requires invariant-loop decreases-loop
-past_requires c κs = tt
+past-requires : tie.Need-past-requires invariant-loop-i decreases-loop-i
+past-requires c κs = tt
 
-mul_high : tie.Need-overflow-mul-high invariant-loop decreases-loop
-mul_high c = omega arith
+offset_bounds-high-i : tie.Need-offset_bounds-high-i invariant-loop-i decreases-loop-i
+offset_bounds-high-i c = omega arith
 
-slice_write_high_2 : tie.Need-slice-write-high-2 invariant-loop decreases-loop
-slice_write_high_2 c = omega arith
+bounds-high-i : tie.Need-bounds-high-i invariant-loop-i decreases-loop-i
+bounds-high-i c = omega arith
 
-mul_past_2 : tie.Need-overflow-mul-past-2 invariant-loop decreases-loop
-mul_past_2 c = omega arith
+offset_bounds-low-p : tie.Need-offset_bounds-low-p invariant-loop-i decreases-loop-i
+offset_bounds-low-p c = omega arith
 
-slice_read_past_2 : tie.Need-slice-read-past-2 invariant-loop decreases-loop
-slice_read_past_2 c = omega arith
+bounds-low-p : tie.Need-bounds-low-p invariant-loop-i decreases-loop-i
+bounds-low-p c = omega arith
 
-past_requires_2 : tie.Need-past-requires-2 invariant-loop decreases-loop
-past_requires_2 c κs = tt
+past-requires-in-loop-i : tie.Need-past-requires-in-loop-i invariant-loop-i decreases-loop-i
+past-requires-in-loop-i c κs = tt
 
-mul_low : tie.Need-overflow-mul-low invariant-loop decreases-loop
-mul_low c = omega arith
+offset_bounds-low-i : tie.Need-offset_bounds-low-i invariant-loop-i decreases-loop-i
+offset_bounds-low-i c = omega arith
 
-slice_write_low_2 : tie.Need-slice-write-low-2 invariant-loop decreases-loop
-slice_write_low_2 c = omega arith
+bounds-low-i : tie.Need-bounds-low-i invariant-loop-i decreases-loop-i
+bounds-low-i c = omega arith
 
-add_i : tie.Need-overflow-add-i invariant-loop decreases-loop
-add_i c = omega arith
+overflow_add-i : tie.Need-overflow_add-i invariant-loop-i decreases-loop-i
+overflow_add-i c = omega arith
 
-loop_less : tie.Need-loop-smaller invariant-loop decreases-loop
-loop_less c = omega arith
+loop-i-smaller : tie.Need-loop-i-smaller invariant-loop-i decreases-loop-i
+loop-i-smaller c = omega arith
 
-loop_again : tie.Need-loop-preserved invariant-loop decreases-loop
-loop_again c =
-    let wrote = written c.before.before in
-    let here = turn (told wrote) in
-    let head = here.before in
-    let a = start head in
+loop-i-preserved : tie.Need-loop-i-preserved invariant-loop-i decreases-loop-i
+loop-i-preserved c =
+    let wrote = c in
+    let here = wrote in
+    let head = here in
+    let a = head in
     let ends = a.args.ends.now in
-    let i = head.loop.i in
-    let inv = head.loop.inv in
-    let taken = here.loop-test.taken in
-    let up = (told wrote).parent_of in
-    let kind = wrote.before.before.kind_at in
+    let i = head.loop-i.i in
+    let inv = head.loop-i.invariant in
+    let taken = here.loop-i-test.true in
+    let up = wrote.parent_of-p in
+    let kind = wrote.kind_at-conjunction in
     record {
       parents_length = simp length-set inv.parents_length;
       high_length = simp length-set (inv.high_length ∙ simp length-set);
@@ -173,65 +154,65 @@ loop_again c =
       low_room = simp length-set inv.low_room;
       started = omega arith;
       within = omega (arith, taken);
-      known = parents_more ends head.loop.parents i up.result (omega (arith, inv.parents_room)) up.ensures inv.known;
+      known = parents_more ends head.loop-i.parents i up.result (omega (arith, inv.parents_room)) up.ensures inv.known;
       targets =
-          wire_row (R a) ends head.loop.high head.loop.low i up.result kind.result c.before.before.past.result c.past2.result
+          wire_row (R a.before.before.before.before.before.before.before.before.before.before.before.before.before.before.before) ends head.loop-i.high head.loop-i.low i up.result kind.result c.past.result c.past-in-loop-i.result
           inv.started (omega (arith, inv.high_room)) (omega (arith, inv.low_room)) up.ensures
-          (kind_row a.args.sheet.now a.pre.0.readable up.result (omega arith) kind.ensures)
-          c.before.before.past.ensures c.past2.ensures inv.targets;
+          (kind_row a.args.sheet.now a.requires.0.readable up.result (omega arith) kind.ensures)
+          c.past.ensures c.past-in-loop-i.ensures inv.targets;
     }
 
-same_length : tie.Need-same-length invariant-loop decreases-loop
-same_length c = c.before.loop.invariant.parents_length
+shape_of-parents : tie.Need-shape_of-parents invariant-loop-i decreases-loop-i
+shape_of-parents c = c.loop-i.invariant.parents_length
 
-same_length_2 : tie.Need-same-length-2 invariant-loop decreases-loop
-same_length_2 c = c.before.loop.invariant.high_length ∙ simp length-set
+shape_of-high : tie.Need-shape_of-high invariant-loop-i decreases-loop-i
+shape_of-high c = c.loop-i.invariant.high_length ∙ simp length-set
 
-same_length_3 : tie.Need-same-length-3 invariant-loop decreases-loop
-same_length_3 c = c.before.loop.invariant.low_length ∙ simp length-set
+shape_of-low : tie.Need-shape_of-low invariant-loop-i decreases-loop-i
+shape_of-low c = c.loop-i.invariant.low_length ∙ simp length-set
 
-returns : tie.Need-returns invariant-loop decreases-loop
+returns : tie.Need-returns invariant-loop-i decreases-loop-i
 returns c =
-    let a = start c.before in
-    let last = c.before.loop in
+    let a = c in
+    let last = c.loop-i in
     let e : last.i ≡ a.args.s.nodes = omega arith in
-    subst (Targets (R a) a.args.ends.now last.high last.low) e last.invariant.targets
+    subst (Targets (R a.before.before.before.before.before.before.before) a.args.ends.now last.high last.low) e last.invariant.targets
 
 pub wire_spec : {M : Type 1} → statement M
 wire_spec =
     tie.close
     (tie.spec
-    invariant-loop
-    decreases-loop
-    cast_high
-    slice_write_high
-    add_low
-    cast_low
-    slice_write_low
-    loop_holds
-    parent_of_requires
-    cast_parents
-    mul_parents
-    slice_write_parents
-    kind_at_requires
-    mul_end
-    shared_slice_read_end
-    mul_last
-    shared_slice_read_last
-    mul_past
-    slice_read_past
-    past_requires
-    mul_high
-    slice_write_high_2
-    mul_past_2
-    slice_read_past_2
-    past_requires_2
-    mul_low
-    slice_write_low_2
-    add_i
-    loop_less
-    loop_again
-    same_length
-    same_length_2
-    same_length_3
+    invariant-loop-i
+    decreases-loop-i
+    overflow_cast-high
+    bounds-high-0
+    overflow_add-low
+    overflow_cast-low
+    bounds-low-0
+    loop-i-init
+    parent_of-p-requires
+    overflow_cast-parents
+    offset_bounds-parents-i
+    bounds-parents-i
+    kind_at-conjunction-requires
+    offset_bounds-ends-i
+    bounds-ends-i
+    offset_bounds-ends-p
+    bounds-ends-p
+    offset_bounds-high-p
+    bounds-high-p
+    past-requires
+    offset_bounds-high-i
+    bounds-high-i
+    offset_bounds-low-p
+    bounds-low-p
+    past-requires-in-loop-i
+    offset_bounds-low-i
+    bounds-low-i
+    overflow_add-i
+    loop-i-smaller
+    loop-i-preserved
+    shape_of-parents
+    shape_of-high
+    shape_of-low
     returns)

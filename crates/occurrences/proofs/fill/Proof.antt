@@ -6,47 +6,47 @@ use Rattle.occurrences.proofs.TableTurns.{Filling, fill_none, fill-turn, fill-al
 use Rattle.occurrences.proofs.fill.Statement.{statement}
 use Rattle.occurrences.proofs.fill.Tie as tie
 
-abbrev invariant-loop : tie.invariant-loop
-invariant-loop table₀ value i₀ table i = Filling table₀ value table i
+abbrev invariant-loop-i : tie.invariant-loop-i
+invariant-loop-i table₀ value i₀ table i = Filling table₀ value table i
 
-abbrev decreases-loop : tie.decreases-loop
-decreases-loop table₀ value i₀ table i = length table₀ - i
+abbrev decreases-loop-i : tie.decreases-loop-i
+decreases-loop-i table₀ value i₀ table i = length table₀ - i
 
-loop_holds : tie.Need-loop-init invariant-loop decreases-loop
-loop_holds c = fill_none _ _
+loop-i-init : tie.Need-loop-i-init invariant-loop-i decreases-loop-i
+loop-i-init c = fill_none _ _
 
-mul_table : tie.Need-overflow-mul-table invariant-loop decreases-loop
-mul_table c = omega arith
+offset_bounds-table-i : tie.Need-offset_bounds-table-i invariant-loop-i decreases-loop-i
+offset_bounds-table-i c = omega arith
 
-slice_write_table : tie.Need-slice-write-table invariant-loop decreases-loop
-slice_write_table c = omega arith
+bounds-table-i : tie.Need-bounds-table-i invariant-loop-i decreases-loop-i
+bounds-table-i c = omega arith
 
-add_i : tie.Need-overflow-add-i invariant-loop decreases-loop
-add_i c = omega arith
+overflow_add-i : tie.Need-overflow_add-i invariant-loop-i decreases-loop-i
+overflow_add-i c = omega arith
 
-loop_less : tie.Need-loop-smaller invariant-loop decreases-loop
-loop_less c = omega (arith, c.before.loop.invariant.same_length)
+loop-i-smaller : tie.Need-loop-i-smaller invariant-loop-i decreases-loop-i
+loop-i-smaller c = omega (arith, c.loop-i.invariant.same_length)
 
-loop_again : tie.Need-loop-preserved invariant-loop decreases-loop
-loop_again c = fill-turn c.loop-test.true c.before.loop.invariant
+loop-i-preserved : tie.Need-loop-i-preserved invariant-loop-i decreases-loop-i
+loop-i-preserved c = fill-turn c.loop-i-test.true c.loop-i.invariant
 
-same_length : tie.Need-same-length invariant-loop decreases-loop
-same_length c = c.before.loop.invariant.same_length
+shape_of-table : tie.Need-shape_of-table invariant-loop-i decreases-loop-i
+shape_of-table c = c.loop-i.invariant.same_length
 
-returns : tie.Need-returns invariant-loop decreases-loop
-returns c = fill-all c.loop-test.false c.before.loop.invariant
+returns : tie.Need-returns invariant-loop-i decreases-loop-i
+returns c = fill-all c.loop-i-test.false c.loop-i.invariant
 
 pub fill_spec : {M : Type 1} → statement M
 fill_spec =
     tie.close
     (tie.spec
-    invariant-loop
-    decreases-loop
-    loop_holds
-    mul_table
-    slice_write_table
-    add_i
-    loop_less
-    loop_again
-    same_length
+    invariant-loop-i
+    decreases-loop-i
+    loop-i-init
+    offset_bounds-table-i
+    bounds-table-i
+    overflow_add-i
+    loop-i-smaller
+    loop-i-preserved
+    shape_of-table
     returns)

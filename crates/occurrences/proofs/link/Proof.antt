@@ -8,119 +8,103 @@ use Rattle.occurrences.proofs.TableTurns.{first_none-left, next-none-left, first
 use Rattle.occurrences.proofs.link.Statement.{statement}
 use Rattle.occurrences.proofs.link.Tie as tie
 
-abbrev invariant-loop : tie.invariant-loop
-invariant-loop b s ranges₀ next₀ i₀ ranges next i =
+abbrev invariant-loop-i : tie.invariant-loop-i
+invariant-loop-i b s ranges₀ next₀ i₀ ranges next i =
     Firsts s b i ranges × Nexts s b i next × (i ≤ s.nodes) × (length next ≡ length next₀)
 
-abbrev decreases-loop : tie.decreases-loop
-decreases-loop b s ranges₀ next₀ i₀ ranges next i = i
+abbrev decreases-loop-i : tie.decreases-loop-i
+decreases-loop-i b s ranges₀ next₀ i₀ ranges next i = i
 
--- places in the code, each from a later one
-abbrev entry : tie.After-slice-known2 invariant-loop decreases-loop → tie.Start invariant-loop decreases-loop
-entry c = c.before.before.before
+overflow_cast-s : tie.Need-overflow_cast-s invariant-loop-i decreases-loop-i
+overflow_cast-s c = omega arith
 
-abbrev filled : tie.After-slice-known3 invariant-loop decreases-loop → tie.After-fill invariant-loop decreases-loop
-filled c = c.before.before
+fill-requires : tie.Need-fill-requires invariant-loop-i decreases-loop-i
+fill-requires c κs = tt
 
-abbrev start : tie.At-loop invariant-loop decreases-loop → tie.Start invariant-loop decreases-loop
-start c = entry (filled c.before).before.before.before
-
-abbrev looked : tie.After-ranges2 invariant-loop decreases-loop → tie.After-look invariant-loop decreases-loop
-looked c = c.before.before.before
-
-abbrev literal_read : tie.After-look invariant-loop decreases-loop → tie.After-literal-at invariant-loop decreases-loop
-literal_read c = c.before.before
-
-cast_fill : tie.Need-overflow-cast-fill invariant-loop decreases-loop
-cast_fill c = omega arith
-
-fill_requires : tie.Need-fill-requires invariant-loop decreases-loop
-fill_requires c κs = tt
-
-loop_holds : tie.Need-loop-init invariant-loop decreases-loop
-loop_holds c =
-    let a = entry (filled c).before.before.before in (
-      first_none-left a.args.b.now a.pre.0 a.args.ranges.now c.before.before.fill.ensures a.pre.1,
-      next-none-left a.args.b.now a.pre.0 a.pre.2,
+loop-i-init : tie.Need-loop-i-init invariant-loop-i decreases-loop-i
+loop-i-init c =
+    let a = c in (
+      first_none-left a.args.b.now a.requires.0 a.args.ranges.now c.fill.ensures a.requires.1,
+      next-none-left a.args.b.now a.requires.0 a.requires.2,
       omega arith,
       refl,
     )
 
-sub_i : tie.Need-overflow-sub-i invariant-loop decreases-loop
-sub_i c = omega arith
+overflow_sub-i : tie.Need-overflow_sub-i invariant-loop-i decreases-loop-i
+overflow_sub-i c = omega arith
 
-literal_at_requires : tie.Need-literal-at-requires invariant-loop decreases-loop
-literal_at_requires c κs = ((start c.before).pre.0, omega (arith, c.before.loop.invariant.2))
+literal_at-x-requires : tie.Need-literal_at-x-requires invariant-loop-i decreases-loop-i
+literal_at-x-requires c κs = (c.requires.0, omega (arith, c.loop-i.invariant.2))
 
-mul_look : tie.Need-overflow-mul-look invariant-loop decreases-loop
-mul_look c = omega arith
+overflow_mul-x : tie.Need-overflow_mul-x invariant-loop-i decreases-loop-i
+overflow_mul-x c = omega arith
 
-look_requires : tie.Need-look-requires invariant-loop decreases-loop
-look_requires c κs = tt
+look-requires : tie.Need-look-requires invariant-loop-i decreases-loop-i
+look-requires c κs = tt
 
-mul_next : tie.Need-overflow-mul-next invariant-loop decreases-loop
-mul_next c = omega arith
+offset_bounds-next-i : tie.Need-offset_bounds-next-i invariant-loop-i decreases-loop-i
+offset_bounds-next-i c = omega arith
 
-slice_write_next : tie.Need-slice-write-next invariant-loop decreases-loop
-slice_write_next c = omega arith
+bounds-next-i : tie.Need-bounds-next-i invariant-loop-i decreases-loop-i
+bounds-next-i c = omega arith
 
-mul_store : tie.Need-overflow-mul-store invariant-loop decreases-loop
-mul_store c = omega arith
+overflow_mul-x-in-loop-i : tie.Need-overflow_mul-x-in-loop-i invariant-loop-i decreases-loop-i
+overflow_mul-x-in-loop-i c = omega arith
 
-cast_store : tie.Need-overflow-cast-store invariant-loop decreases-loop
-cast_store c = omega arith
+overflow_cast-i : tie.Need-overflow_cast-i invariant-loop-i decreases-loop-i
+overflow_cast-i c = omega arith
 
-store_requires : tie.Need-store-requires invariant-loop decreases-loop
-store_requires c κs = tt
+store-requires : tie.Need-store-requires invariant-loop-i decreases-loop-i
+store-requires c κs = tt
 
-loop_less : tie.Need-loop-smaller invariant-loop decreases-loop
-loop_less c = omega arith
+loop-i-smaller : tie.Need-loop-i-smaller invariant-loop-i decreases-loop-i
+loop-i-smaller c = omega arith
 
-loop_again : tie.Need-loop-preserved invariant-loop decreases-loop
-loop_again c =
-    let head = (literal_read (looked c.before)).before.before in
-    let a = start head in
-    let inside : head.loop.i - 1 < a.args.s.nodes = omega (arith, head.loop.inv.2) in
-    let variable = (literal_read (looked c.before)).literal-at.ensures.0 in (
-      rw c.before.before.store.ensures
-          (first_turn a.args.b.now a.pre.0 (omega arith) inside variable head.loop.inv.0),
-      next_turn a.args.b.now a.pre.0 (omega arith) inside variable head.loop.inv.0 (looked c.before).look.ensures
-          head.loop.inv.1,
-      omega (arith, head.loop.inv.2),
-      length-set head.loop.next _ _ ∙ head.loop.inv.3,
+loop-i-preserved : tie.Need-loop-i-preserved invariant-loop-i decreases-loop-i
+loop-i-preserved c =
+    let head = c in
+    let a = head in
+    let inside : head.loop-i.i - 1 < a.args.s.nodes = omega (arith, head.loop-i.invariant.2) in
+    let variable = c.literal_at-x.ensures.0 in (
+      rw c.store.ensures
+          (first_turn a.args.b.now a.requires.0 (omega arith) inside variable head.loop-i.invariant.0),
+      next_turn a.args.b.now a.requires.0 (omega arith) inside variable head.loop-i.invariant.0 c.look.ensures
+          head.loop-i.invariant.1,
+      omega (arith, head.loop-i.invariant.2),
+      length-set head.loop-i.next _ _ ∙ head.loop-i.invariant.3,
     )
 
-same_length : tie.Need-same-length invariant-loop decreases-loop
-same_length c = c.before.loop.invariant.0.holds ∙ sym (start c.before).pre.1
+shape_of-ranges : tie.Need-shape_of-ranges invariant-loop-i decreases-loop-i
+shape_of-ranges c = c.loop-i.invariant.0.holds ∙ sym c.requires.1
 
-same_length_2 : tie.Need-same-length-2 invariant-loop decreases-loop
-same_length_2 c = c.before.loop.invariant.3
+shape_of-next : tie.Need-shape_of-next invariant-loop-i decreases-loop-i
+shape_of-next c = c.loop-i.invariant.3
 
-returns : tie.Need-returns invariant-loop decreases-loop
+returns : tie.Need-returns invariant-loop-i decreases-loop-i
 returns c =
-    let all : c.before.loop.i ≡ 0 = omega arith in
-    (rw all at c.before.loop.invariant.0, rw all at c.before.loop.invariant.1)
+    let all : c.loop-i.i ≡ 0 = omega arith in
+    (rw all at c.loop-i.invariant.0, rw all at c.loop-i.invariant.1)
 
 pub link_spec : {M : Type 1} → statement M
 link_spec =
     tie.close
     (tie.spec
-    invariant-loop
-    decreases-loop
-    cast_fill
-    fill_requires
-    loop_holds
-    sub_i
-    literal_at_requires
-    mul_look
-    look_requires
-    mul_next
-    slice_write_next
-    mul_store
-    cast_store
-    store_requires
-    loop_less
-    loop_again
-    same_length
-    same_length_2
+    invariant-loop-i
+    decreases-loop-i
+    overflow_cast-s
+    fill-requires
+    loop-i-init
+    overflow_sub-i
+    literal_at-x-requires
+    overflow_mul-x
+    look-requires
+    offset_bounds-next-i
+    bounds-next-i
+    overflow_mul-x-in-loop-i
+    overflow_cast-i
+    store-requires
+    loop-i-smaller
+    loop-i-preserved
+    shape_of-ranges
+    shape_of-next
     returns)

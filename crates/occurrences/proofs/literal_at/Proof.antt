@@ -7,29 +7,29 @@ use Rattle.occurrences.proofs.TableTurns.{variable-literal, variable_operator}
 use Rattle.occurrences.proofs.literal_at.Statement.{statement}
 use Rattle.occurrences.proofs.literal_at.Tie as tie
 
--- places in the code, each from a later one
-abbrev start : tie.Then1 → tie.Start
-start c = c.before.before.before
+kind_at-requires : tie.Need-kind_at-requires
+kind_at-requires c κs = search rules
 
-kind_at_requires : tie.Need-kind-at-requires
-kind_at_requires c κs = search rules
+argument_at-requires : tie.Need-argument_at-requires
+argument_at-requires c κs = search rules
 
-argument_at_requires : tie.Need-argument-at-requires
-argument_at_requires c κs = search rules
+returns-then-kind_at-le-NEGATIVE : tie.Need-returns-then-kind_at-le-NEGATIVE
+returns-then-kind_at-le-NEGATIVE c =
+    let a = c.args in
+    let kind = c.kind_at.ensures in (
+      c.argument_at.ensures.0 ∙ variable-literal (subtree_in a.s a.b.now a.i) (omega arith),
+      c.argument_at.ensures.1,
+    )
 
 returns : tie.Need-returns
 returns c =
-    let a = (start c.before).args in
-    let kind = c.before.before.kind_at.ensures in (
-      c.argument-at.ensures.0 ∙ variable-literal (subtree_in a.s a.b.now a.i) (omega arith),
-      c.argument-at.ensures.1,
-    )
-
-returns_2 : tie.Need-returns-2
-returns_2 c =
-    let a = c.before.before.before.args in
-    let kind = c.before.kind_at.ensures in
+    let a = c.args in
+    let kind = c.kind_at.ensures in
     (variable_operator (subtree_in a.s a.b.now a.i) (omega arith), omega arith)
 
 pub literal_at_spec : {M : Type 1} → statement M
-literal_at_spec = tie.close (tie.spec kind_at_requires argument_at_requires returns returns_2)
+literal_at_spec = tie.close (tie.spec
+    kind_at-requires
+    argument_at-requires
+    returns-then-kind_at-le-NEGATIVE
+    returns)

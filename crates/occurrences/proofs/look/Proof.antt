@@ -5,17 +5,21 @@ use lib.ListN.{get_or-eq_default}
 use Rattle.occurrences.proofs.look.Statement.{statement}
 use Rattle.occurrences.proofs.look.Tie as tie
 
+returns-then-table-i : tie.Need-returns-then-table-i
+returns-then-table-i c = sym (get_or-eq_default c.args.table.now 0 c.if-table-i.true)
+
+offset_bounds-table-i : tie.Need-offset_bounds-table-i
+offset_bounds-table-i c = search rules
+
+bounds-table-i : tie.Need-bounds-table-i
+bounds-table-i c = search rules
+
 returns : tie.Need-returns
-returns c = sym (get_or-eq_default c.before.args.table.now 0 c.if1.true)
-
-mul_result : tie.Need-overflow-mul-result
-mul_result c = search rules
-
-shared_slice_read_result : tie.Need-shared-slice-read-result
-shared_slice_read_result c = search rules
-
-returns_2 : tie.Need-returns-2
-returns_2 c = search rules
+returns c = search rules
 
 pub look_spec : {M : Type 1} → statement M
-look_spec = tie.close (tie.spec returns mul_result shared_slice_read_result returns_2)
+look_spec = tie.close (tie.spec
+    returns-then-table-i
+    offset_bounds-table-i
+    bounds-table-i
+    returns)

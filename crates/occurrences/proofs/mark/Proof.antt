@@ -7,78 +7,71 @@ use Rattle.occurrences.proofs.TableTurns.{mark_none, mark_turn, kept-turn}
 use Rattle.occurrences.proofs.mark.Statement.{statement}
 use Rattle.occurrences.proofs.mark.Tie as tie
 
-abbrev invariant-loop : tie.invariant-loop
-invariant-loop b s ranges₀ i₀ ranges i = Lasts s b i ranges × FirstsKept ranges₀ ranges × (i ≤ s.nodes)
+abbrev invariant-loop-i : tie.invariant-loop-i
+invariant-loop-i b s ranges₀ i₀ ranges i = Lasts s b i ranges × FirstsKept ranges₀ ranges × (i ≤ s.nodes)
 
-abbrev decreases-loop : tie.decreases-loop
-decreases-loop b s ranges₀ i₀ ranges i = s.nodes - i
+abbrev decreases-loop-i : tie.decreases-loop-i
+decreases-loop-i b s ranges₀ i₀ ranges i = s.nodes - i
 
--- places in the code, each from a later one
-abbrev start : tie.At-loop invariant-loop decreases-loop → tie.Start invariant-loop decreases-loop
-start c = c.before.before.before
+loop-i-init : tie.Need-loop-i-init invariant-loop-i decreases-loop-i
+loop-i-init c = let a = c in (mark_none a.args.b.now a.requires.0 a.requires.1, λ x. refl, omega arith)
 
-abbrev literal_read : tie.After-ranges invariant-loop decreases-loop → tie.After-literal-at invariant-loop decreases-loop
-literal_read c = c.before.before.before
+literal_at-x-requires : tie.Need-literal_at-x-requires invariant-loop-i decreases-loop-i
+literal_at-x-requires c κs = let a = c in (a.requires.0, c.loop-i-test.true)
 
-loop_holds : tie.Need-loop-init invariant-loop decreases-loop
-loop_holds c = let a = c.before.before in (mark_none a.args.b.now a.requires.0 a.requires.1, λ x. refl, omega arith)
+overflow_mul-x : tie.Need-overflow_mul-x invariant-loop-i decreases-loop-i
+overflow_mul-x c = omega arith
 
-literal_at_requires : tie.Need-literal-at-requires invariant-loop decreases-loop
-literal_at_requires c κs = let a = start c.before.before in (a.pre.0, c.if1.true)
+overflow_add-x : tie.Need-overflow_add-x invariant-loop-i decreases-loop-i
+overflow_add-x c = omega arith
 
-mul_store : tie.Need-overflow-mul-store invariant-loop decreases-loop
-mul_store c = omega arith
+overflow_cast-i : tie.Need-overflow_cast-i invariant-loop-i decreases-loop-i
+overflow_cast-i c = omega arith
 
-add_store : tie.Need-overflow-add-store invariant-loop decreases-loop
-add_store c = omega arith
+store-requires : tie.Need-store-requires invariant-loop-i decreases-loop-i
+store-requires c κs = tt
 
-cast_store : tie.Need-overflow-cast-store invariant-loop decreases-loop
-cast_store c = omega arith
+overflow_add-i : tie.Need-overflow_add-i invariant-loop-i decreases-loop-i
+overflow_add-i c = omega arith
 
-store_requires : tie.Need-store-requires invariant-loop decreases-loop
-store_requires c κs = tt
+loop-i-smaller : tie.Need-loop-i-smaller invariant-loop-i decreases-loop-i
+loop-i-smaller c = omega arith
 
-add_i : tie.Need-overflow-add-i invariant-loop decreases-loop
-add_i c = omega arith
-
-loop_less : tie.Need-loop-smaller invariant-loop decreases-loop
-loop_less c = omega arith
-
-loop_again : tie.Need-loop-preserved invariant-loop decreases-loop
-loop_again c =
-    let stored = c.before.before in
-    let head = (literal_read c.before).before.before.before in
-    let a = start head in
-    let x = stored.before.before.literal-at.result in (
+loop-i-preserved : tie.Need-loop-i-preserved invariant-loop-i decreases-loop-i
+loop-i-preserved c =
+    let stored = c in
+    let head = c in
+    let a = head in
+    let x = stored.literal_at-x.result in (
       rw stored.store.ensures
-          (mark_turn a.args.b.now a.pre.0 (omega arith) stored.before.before.before.if1.true
-          stored.before.before.literal-at.ensures.0 head.loop.inv.0),
-      rw stored.store.ensures (kept-turn a.args.ranges.now head.loop.ranges x head.loop.i head.loop.inv.1),
+          (mark_turn a.args.b.now a.requires.0 (omega arith) stored.loop-i-test.true
+          stored.literal_at-x.ensures.0 head.loop-i.invariant.0),
+      rw stored.store.ensures (kept-turn a.args.ranges.now head.loop-i.ranges x head.loop-i.i head.loop-i.invariant.1),
       omega arith,
     )
 
-same_length : tie.Need-same-length invariant-loop decreases-loop
-same_length c = c.before.before.loop.invariant.0.holds ∙ sym (start c.before.before).pre.1
+shape_of-ranges : tie.Need-shape_of-ranges invariant-loop-i decreases-loop-i
+shape_of-ranges c = c.loop-i.invariant.0.holds ∙ sym c.requires.1
 
-returns : tie.Need-returns invariant-loop decreases-loop
+returns : tie.Need-returns invariant-loop-i decreases-loop-i
 returns c =
-    let all : c.before.before.loop.i ≡ (start c.before.before).args.s.nodes = omega (arith, c.before.before.loop.invariant.2) in
-    (rw all at c.before.before.loop.invariant.0, c.before.before.loop.invariant.1)
+    let all : c.loop-i.i ≡ c.args.s.nodes = omega (arith, c.loop-i.invariant.2) in
+    (rw all at c.loop-i.invariant.0, c.loop-i.invariant.1)
 
 pub mark_spec : {M : Type 1} → statement M
 mark_spec =
     tie.close
     (tie.spec
-    invariant-loop
-    decreases-loop
-    loop_holds
-    literal_at_requires
-    mul_store
-    add_store
-    cast_store
-    store_requires
-    add_i
-    loop_less
-    loop_again
-    same_length
+    invariant-loop-i
+    decreases-loop-i
+    loop-i-init
+    literal_at-x-requires
+    overflow_mul-x
+    overflow_add-x
+    overflow_cast-i
+    store-requires
+    overflow_add-i
+    loop-i-smaller
+    loop-i-preserved
+    shape_of-ranges
     returns)

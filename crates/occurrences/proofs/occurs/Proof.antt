@@ -5,21 +5,26 @@ use native.Mathlib.Omega.{arith}
 use Rattle.occurrences.proofs.occurs.Statement.{statement}
 use Rattle.occurrences.proofs.occurs.Tie as tie
 
-mul_result : tie.Need-overflow-mul-result
-mul_result c = search rules
+overflow_mul-result : tie.Need-overflow_mul-result
+overflow_mul-result c = search rules
 
-mul_result_2 : tie.Need-overflow-mul-result-2
-mul_result_2 c = search rules
+offset_bounds-ranges-x : tie.Need-offset_bounds-ranges-x
+offset_bounds-ranges-x c = search rules
 
-shared_slice_read_result : tie.Need-shared-slice-read-result
-shared_slice_read_result c = search rules
+bounds-ranges-x : tie.Need-bounds-ranges-x
+bounds-ranges-x c = search rules
 
-cast_result : tie.Need-overflow-cast-result
-cast_result c = omega (arith, c.shared-slice-known.given (2 * c.before.args.x))
+overflow_cast-result : tie.Need-overflow_cast-result
+overflow_cast-result c = omega (arith, c.shared_slice_known-1.given (2 * c.args.x))
 
 returns : tie.Need-returns
 returns c = search rules
 
 pub occurs_spec : {M : Type 1} → statement M
 occurs_spec =
-    tie.close (tie.spec mul_result mul_result_2 shared_slice_read_result cast_result returns)
+    tie.close (tie.spec
+    overflow_mul-result
+    offset_bounds-ranges-x
+    bounds-ranges-x
+    overflow_cast-result
+    returns)

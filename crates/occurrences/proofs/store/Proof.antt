@@ -5,20 +5,25 @@ use lib.Seq.{set_out}
 use Rattle.occurrences.proofs.store.Statement.{statement}
 use Rattle.occurrences.proofs.store.Tie as tie
 
+returns-then-table-i : tie.Need-returns-then-table-i
+returns-then-table-i c = sym (set_out c.args.table.now c.args.i c.args.value c.if-table-i.true)
+
+offset_bounds-table-i : tie.Need-offset_bounds-table-i
+offset_bounds-table-i c = search rules
+
+bounds-table-i : tie.Need-bounds-table-i
+bounds-table-i c = search rules
+
+shape_of-table : tie.Need-shape_of-table
+shape_of-table c = search rules
+
 returns : tie.Need-returns
-returns c = sym (set_out c.before.args.table.now c.before.args.i c.before.args.value c.if1.true)
-
-mul_table : tie.Need-overflow-mul-table
-mul_table c = search rules
-
-slice_write_table : tie.Need-slice-write-table
-slice_write_table c = search rules
-
-same_length : tie.Need-same-length
-same_length c = search rules
-
-returns_2 : tie.Need-returns-2
-returns_2 c = search rules
+returns c = search rules
 
 pub store_spec : {M : Type 1} → statement M
-store_spec = tie.close (tie.spec returns mul_table slice_write_table same_length returns_2)
+store_spec = tie.close (tie.spec
+    returns-then-table-i
+    offset_bounds-table-i
+    bounds-table-i
+    shape_of-table
+    returns)

@@ -14,148 +14,132 @@ use Rattle.part.proofs.Subtree.{told as told_at, bad_sheet, bad_sheet-place, bad
 use Rattle.part.proofs.part.Statement.{statement}
 use Rattle.part.proofs.part.Tie as tie
 
--- places in the code, each from a later one
-abbrev entry : tie.At-match-keys1 → tie.Start
-entry c = c.before.before.before
+check-c-requires : tie.Need-check-c-requires
+check-c-requires c κs = search rules
 
-check_requires : tie.Need-check-requires
-check_requires c κs = search rules
+enum_known-c : tie.Need-enum_known-c
+enum_known-c c = search rules
 
-enum_known_c : tie.Need-enum-known-c
-enum_known_c c = search rules
+enum_told-1 : tie.Need-enum_told-1
+enum_told-1 c = search rules
 
-enum_told : tie.Need-enum-told
-enum_told c = search rules
+slice_bounds-result-count : tie.Need-slice_bounds-result-count
+slice_bounds-result-count c = search rules
 
-sub_result : tie.Need-overflow-sub-result
-sub_result c = search rules
+slice_bounds-result-start : tie.Need-slice_bounds-result-start
+slice_bounds-result-start c = search rules
 
-part_result_start : tie.Need-slice-bounds-result-start
-part_result_start c = search rules
+slice_bounds-result-end : tie.Need-slice_bounds-result-end
+slice_bounds-result-end c = search rules
 
-part_result_end : tie.Need-slice-bounds-result-end
-part_result_end c = search rules
-
-returns : tie.Need-returns
-returns c =
-    let told = c.before in
-    let checked = told.before.before in
-    let a = checked.before.before.args in
+returns-in_default : tie.Need-returns-in_default
+returns-in_default c =
+    let told = c in
+    let checked = told in
+    let a = checked.args in
     let F = format_of a.f in
-    let bad = refused_sheet a.f a.sheet.now told.enum_told.given.1 checked.check.ensures in
+    let bad = refused_sheet a.f a.sheet.now told.in_default.is checked.check-c.ensures in
     told_at F a.sheet.now a.node a.sheet.ref_ptr 0 0
     (record { contents = bad_sheet F a.sheet.now a.node bad; place = bad_sheet-place F a.sheet.now a.node bad })
 
-sub_result_2 : tie.Need-overflow-sub-result-2
-sub_result_2 c = search rules
+slice_bounds-result-count-then-s-node : tie.Need-slice_bounds-result-count-then-s-node
+slice_bounds-result-count-then-s-node c = search rules
 
-part_result_start_2 : tie.Need-slice-bounds-result-start-2
-part_result_start_2 c = search rules
+slice_bounds-result-start-then-s-node : tie.Need-slice_bounds-result-start-then-s-node
+slice_bounds-result-start-then-s-node c = search rules
 
-part_result_end_2 : tie.Need-slice-bounds-result-end-2
-part_result_end_2 c = search rules
+slice_bounds-result-end-then-s-node : tie.Need-slice_bounds-result-end-then-s-node
+slice_bounds-result-end-then-s-node c = search rules
 
 -- the sheet that Check accepted, with its layout
-abbrev start : tie.After-c → tie.Start
-start c = entry c.before
+abbrev layout : tie.In-Accepted → Layout
+layout c = c.in-Accepted.s
 
-abbrev layout : tie.After-c → Layout
-layout c = c.c.given.0.0
+checked : (c : tie.In-Accepted) → Sheet c.args.f c.args.sheet.now (layout c)
+checked c = sheet_checked c.in-Accepted.is c.check-c.ensures
 
-checked : (c : tie.After-c) → Sheet (start c).args.f (start c).args.sheet.now (layout c)
-checked c = sheet_checked c.c.given.1 c.before.before.check.ensures
-
-readable : (c : tie.After-c) → Readable (layout c) (start c).args.sheet.now
+readable : (c : tie.In-Accepted) → Readable (layout c) c.args.sheet.now
 readable c = sheet_readable (checked c)
 
 -- where the node's row is compared, and where there is one
-abbrev compared : tie.After-struct-known → tie.After-c
-compared c = c.before.before
-
-abbrev accepted : tie.After-struct-known2 → tie.After-c
-accepted c = compared c.before.before
-
-returns_2 : tie.Need-returns-2
-returns_2 c =
-    let k = compared c.before.before in
-    let a = (start k).args in
+returns-then-s-node : tie.Need-returns-then-s-node
+returns-then-s-node c =
+    let k = c in
+    let a = k.args in
     told_at (format_of a.f) a.sheet.now a.node a.sheet.ref_ptr 0 0
-    (record { contents = bad_node _ (checked k) (omega arith); place = bad_node-place _ (checked k) (omega arith) })
+    (record { contents = bad_node _ (checked k.before.before.before) (omega arith); place = bad_node-place _ (checked k.before.before.before) (omega arith) })
 
-add_first : tie.Need-overflow-add-first
-add_first c = omega (arith, readable (accepted c))
+overflow_add-first : tie.Need-overflow_add-first
+overflow_add-first c = omega (arith, readable c.before.before.before)
 
-walk_requires : tie.Need-walk-requires
-walk_requires c κs = (sheet_sized (checked (accepted c)), omega arith)
+walk-end-requires : tie.Need-walk-end-requires
+walk-end-requires c κs = (sheet_sized (checked c.before.before.before), omega arith)
 
 -- where the walk ends
-abbrev walked : tie.After-walk → tie.After-c
-walked c = accepted c.before
-
-end : (c : tie.After-walk)
-    → let s = layout (walked c) in
-    (s.variables + (start (walked c)).args.node ≤ c.walk.result.row) × (c.walk.result.row ≤ total s)
+end : (c : tie.After-walk-end)
+    → let s = layout c.before.before.before.before in
+    (s.variables + c.args.node ≤ c.walk-end.result.row) × (c.walk-end.result.row ≤ total s)
 end c =
-    let s = walked c in
-    let room = (readable s).room in
-    let some = c.before.before.if1.false in (
-      ends-behind _ (checked s) room some c.walk.result c.walk.ensures,
-      ends-within _ (checked s) room some c.walk.result c.walk.ensures,
+    let s = c in
+    let room = (readable s.before.before.before.before).room in
+    let some = c.if-s-node.false in (
+      ends-behind _ (checked s.before.before.before.before) room some c.walk-end.result c.walk-end.ensures,
+      ends-within _ (checked s.before.before.before.before) room some c.walk-end.result c.walk-end.ensures,
     )
 
-few_bytes : (c : tie.After-walk) → width (layout (walked c)) ≤ 4
-few_bytes c = (limits (layout (walked c)).format).few_bytes
+few_bytes : (c : tie.After-walk-end) → width (layout c.before.before.before.before) ≤ 4
+few_bytes c = (limits (layout c.before.before.before.before).format).few_bytes
 
-kind_place_requires : tie.Need-kind-place-requires
-kind_place_requires c κs = omega (arith, readable (walked c), few_bytes c)
+kind_place-from-requires : tie.Need-kind_place-from-requires
+kind_place-from-requires c κs = omega (arith, readable c.before.before.before.before, few_bytes c)
 
-kind_place_requires_2 : tie.Need-kind-place-requires-2
-kind_place_requires_2 c κs = omega (arith, readable (walked c.before), few_bytes c.before, end c.before)
+kind_place-to-requires : tie.Need-kind_place-to-requires
+kind_place-to-requires c κs = omega (arith, readable c.before.before.before.before.before, few_bytes c.before, end c.before)
 
-sub_result_3 : tie.Need-overflow-sub-result-3
-sub_result_3 c = omega (arith, end c.before.before, c.before.kind_place.ensures, c.kind-place2.ensures)
+slice_bounds-result-count-2 : tie.Need-slice_bounds-result-count-2
+slice_bounds-result-count-2 c = omega (arith, end c.before.before, c.kind_place-from.ensures, c.kind_place-to.ensures)
 
-part_result_start_3 : tie.Need-slice-bounds-result-start-3
-part_result_start_3 c = omega (arith, end c.before.before, c.before.kind_place.ensures, c.kind-place2.ensures)
+slice_bounds-result-start-2 : tie.Need-slice_bounds-result-start-2
+slice_bounds-result-start-2 c = omega (arith, end c.before.before, c.kind_place-from.ensures, c.kind_place-to.ensures)
 
-part_result_end_3 : tie.Need-slice-bounds-result-end-3
-part_result_end_3 c = omega (arith, readable (walked c.before.before), end c.before.before, c.kind-place2.ensures)
+slice_bounds-result-end-2 : tie.Need-slice_bounds-result-end-2
+slice_bounds-result-end-2 c = omega (arith, readable c.before.before.before.before.before.before, end c.before.before, c.kind_place-to.ensures)
 
-returns_3 : tie.Need-returns-3
-returns_3 c =
-    let places = c.before in
-    let w = places.before.before in
-    let s = walked w in
-    let a = (start s).args in
-    let some = w.before.before.if1.false in
-    told_at (format_of a.f) a.sheet.now a.node a.sheet.ref_ptr places.before.kind_place.result (places.kind-place2.result - places.before.kind_place.result)
+returns : tie.Need-returns
+returns c =
+    let places = c in
+    let w = places in
+    let s = w in
+    let a = s.args in
+    let some = w.if-s-node.false in
+    told_at (format_of a.f) a.sheet.now a.node a.sheet.ref_ptr places.kind_place-from.result (places.kind_place-to.result - places.kind_place-from.result)
     (record {
       contents =
-          part-here _ (checked s) (readable s).room some w.walk.result w.walk.ensures places.before.kind_place.ensures
-          places.kind-place2.ensures;
-      place = places.before.kind_place.ensures ∙ place_here _ (checked s) some;
+          part-here _ (checked s.before.before.before.before.before.before.before) (readable s.before.before.before.before.before.before.before).room some w.walk-end.result w.walk-end.ensures places.kind_place-from.ensures
+          places.kind_place-to.ensures;
+      place = places.kind_place-from.ensures ∙ place_here _ (checked s.before.before.before.before.before.before.before) some;
     })
 
 pub part_spec : {M : Type 1} → statement M
 part_spec =
     tie.close
     (tie.spec
-    check_requires
-    enum_known_c
-    enum_told
-    sub_result
-    part_result_start
-    part_result_end
-    returns
-    sub_result_2
-    part_result_start_2
-    part_result_end_2
-    returns_2
-    add_first
-    walk_requires
-    kind_place_requires
-    kind_place_requires_2
-    sub_result_3
-    part_result_start_3
-    part_result_end_3
-    returns_3)
+    check-c-requires
+    enum_known-c
+    enum_told-1
+    slice_bounds-result-count
+    slice_bounds-result-start
+    slice_bounds-result-end
+    returns-in_default
+    slice_bounds-result-count-then-s-node
+    slice_bounds-result-start-then-s-node
+    slice_bounds-result-end-then-s-node
+    returns-then-s-node
+    overflow_add-first
+    walk-end-requires
+    kind_place-from-requires
+    kind_place-to-requires
+    slice_bounds-result-count-2
+    slice_bounds-result-start-2
+    slice_bounds-result-end-2
+    returns)

@@ -11,40 +11,38 @@ use borrow.Author.Rules.{rules}
 use Rattle.tidying.proofs.tidy_checked.Statement.{statement}
 use Rattle.tidying.proofs.tidy_checked.Tie as tie
 
--- places in the code, each from a later one
-abbrev asked : tie.After-tidy-into → tie.After-slice-known
-asked c = c.before.before.before
+returns-then-out-sheet : tie.Need-returns-then-out-sheet
+returns-then-out-sheet c =
+    let a = c in
+    short_call (format_in a.args.s) a.args.sheet.now a.args.out.now a.requires.tests_pass c.if-out-sheet.true
+
+tidy_into-t-requires : tie.Need-tidy_into-t-requires
+tidy_into-t-requires c κs = search rules
+
+sheet_length-requires : tie.Need-sheet_length-requires
+sheet_length-requires c κs =
+    let tidied = c in
+    let ok = sheet_readable tidied.requires in
+    let less = tidied.tidy_into-t.ensures.1.1 in
+    (omega (arith, less.0, ok.few_variables), omega (arith, less.1, ok.few_nodes))
+
+shape_of-out : tie.Need-shape_of-out
+shape_of-out c = search rules
 
 returns : tie.Need-returns
 returns c =
-    let a = c.before.before.before in
-    short_call (format_in a.args.s) a.args.sheet.now a.args.out.now a.requires.tests_pass c.if1.true
-
-tidy_into_requires : tie.Need-tidy-into-requires
-tidy_into_requires c κs = search rules
-
-abbrev start : tie.After-tidy-into → tie.Start
-start c = (asked c).before.before
-
-sheet_length_requires : tie.Need-sheet-length-requires
-sheet_length_requires c κs =
-    let tidied = c.before.before in
-    let ok = sheet_readable (start tidied).requires in
-    let less = tidied.tidy-into.ensures.1.1 in
-    (omega (arith, less.0, ok.few_variables), omega (arith, less.1, ok.few_nodes))
-
-same_length : tie.Need-same-length
-same_length c = search rules
-
-returns_2 : tie.Need-returns-2
-returns_2 c =
-    let call = c.before.before.before in
-    let a = start call in
-    let t = call.tidy-into.ensures in
-    long_call (format_in a.args.s) a.args.sheet.now a.args.out.now a.pre.tests_pass call.before.before.if1.false
+    let call = c in
+    let a = call in
+    let t = call.tidy_into-t.ensures in
+    long_call (format_in a.args.s) a.args.sheet.now a.args.out.now a.requires.tests_pass call.if-out-sheet.false
     (c.sheet_length.ensures ∙ layout_length a.args.s.format (tidied (formula (format_in a.args.s) a.args.sheet.now)) t.1.0)
     t.0
 
 pub tidy_checked_spec : {M : Type 1} → statement M
 tidy_checked_spec =
-    tie.close (tie.spec returns tidy_into_requires sheet_length_requires same_length returns_2)
+    tie.close (tie.spec
+    returns-then-out-sheet
+    tidy_into-t-requires
+    sheet_length-requires
+    shape_of-out
+    returns)

@@ -11,80 +11,73 @@ use Rattle.duplicates.proofs.Mixing.{kind-least, hash-literal, hash_operator, mi
 use Rattle.duplicates.proofs.hashes.hash_at.Statement.{statement}
 use Rattle.duplicates.proofs.hashes.hash_at.Tie as tie
 
--- places in the code, each from a later one
-abbrev entry : tie.After-shared-slice-known3 → tie.Start
-entry c = c.before.before.before
+kind_at-kind-requires : tie.Need-kind_at-kind-requires
+kind_at-kind-requires c κs = search rules
 
-abbrev read : tie.After-argument-at → tie.After-shared-slice-known3
-read c = c.before.before
+argument_at-argument-requires : tie.Need-argument_at-argument-requires
+argument_at-argument-requires c κs = search rules
 
-kind_at_requires : tie.Need-kind-at-requires
-kind_at_requires c κs = search rules
+overflow_cast-kind : tie.Need-overflow_cast-kind
+overflow_cast-kind c = search rules
 
-argument_at_requires : tie.Need-argument-at-requires
-argument_at_requires c κs = search rules
+literal_hash-requires : tie.Need-literal_hash-requires
+literal_hash-requires c κs =
+    let a = c.args in
+    let k = c.kind_at-kind.ensures in
+    (omega (arith, kind-least (subtree_in a.s a.b.now a.i) k), c.argument_at-argument.ensures.1)
 
-cast_literal_hash : tie.Need-overflow-cast-literal-hash
-cast_literal_hash c = search rules
+returns-then-kind-le-NEGATIVE : tie.Need-returns-then-kind-le-NEGATIVE
+returns-then-kind-le-NEGATIVE c =
+    let before = c in
+    (c.literal_hash.ensures.0 ∙ hash-literal _ before.kind_at-kind.ensures before.argument_at-argument.ensures.0 (omega arith), c.literal_hash.ensures.1)
 
-literal_hash_requires : tie.Need-literal-hash-requires
-literal_hash_requires c κs =
-    let a = (entry (read c.before)).args in
-    let k = c.before.before.kind_at.ensures in
-    (omega (arith, kind-least (subtree_in a.s a.b.now a.i) k), c.before.argument-at.ensures.1)
+overflow_add-i : tie.Need-overflow_add-i
+overflow_add-i c = search rules
 
-returns : tie.Need-returns
-returns c =
-    let before = c.before.before in
-    (c.literal-hash.ensures.0 ∙ hash-literal _ before.before.kind_at.ensures before.argument-at.ensures.0 (omega arith), c.literal-hash.ensures.1)
-
-add_mix_siblings : tie.Need-overflow-add-mix-siblings
-add_mix_siblings c = search rules
-
-cast_mix_siblings : tie.Need-overflow-cast-mix-siblings
-cast_mix_siblings c = search rules
+overflow_cast-kind-2 : tie.Need-overflow_cast-kind-2
+overflow_cast-kind-2 c = search rules
 
 -- the children stand from the next row on, and are mixed in as the definition says
-children : (c : tie.Else1) →
-    let a = (entry (read c.before)).args in
-    Children a.s a.b.now a.i (a.i + 1) c.before.argument-at.result
+children : (c : tie.Else-kind-le-NEGATIVE) →
+    let a = c.args in
+    Children a.s a.b.now a.i (a.i + 1) c.argument_at-argument.result
 children c =
-    let a = entry (read c.before) in
-    let k = c.before.before.kind_at.ensures in
-    children_of a.args.b.now a.pre.0.readable a.args.i a.pre.1 (omega arith) (omega arith) c.before.argument-at.ensures.0
+    let a = c in
+    let k = c.kind_at-kind.ensures in
+    children_of a.args.b.now a.requires.0.readable a.args.i a.requires.1 (omega arith) (omega arith) c.argument_at-argument.ensures.0
 
-mixed_in : (c : tie.Else1) (start : ℕ) →
-    let a = (entry (read c.before)).args in
-    let k = c.before.argument-at.result in
+mixed_in : (c : tie.Else-kind-le-NEGATIVE) (start : ℕ) →
+    let a = c.args in
+    let k = c.argument_at-argument.result in
     Mixes a.ends.now a.hashes.now (a.i + 1) k ×
     (mixes a.ends.now a.hashes.now (a.i + 1) k start ≡ hash_on start (siblings_in a.s a.b.now (a.i + 1) k))
 mixed_in c start =
-    let a = entry (read c.before) in
-    mixes-siblings a.args.b.now a.args.ends.now a.args.hashes.now a.pre.0 a.pre.2 c.before.argument-at.result
+    let a = c in
+    mixes-siblings a.args.b.now a.args.ends.now a.args.hashes.now a.requires.0 a.requires.2 c.argument_at-argument.result
     (a.args.i + 1) start (omega arith) (children c).few
 
-mix_siblings_requires : tie.Need-mix-siblings-requires
-mix_siblings_requires c κs = ((mixed_in c 0).0, omega arith)
+mix_siblings-requires : tie.Need-mix_siblings-requires
+mix_siblings-requires c κs = ((mixed_in c 0).0, omega arith)
 
-returns_2 : tie.Need-returns-2
-returns_2 c =
-    let here = c.before in
-    let k = here.before.before.kind_at in (
-      c.mix-siblings.ensures.0 ∙ (mixed_in here k.result).1 ∙ ap (hash_on k.result) (children here).are ∙
+returns : tie.Need-returns
+returns c =
+    let here = c in
+    let k = here.kind_at-kind in (
+      c.mix_siblings.ensures.0 ∙ (mixed_in here.before k.result).1 ∙ ap (hash_on k.result) (children here.before).are ∙
           hash_operator _ k.ensures (omega arith),
-      c.mix-siblings.ensures.1,
+      c.mix_siblings.ensures.1,
     )
 
 pub hash_at_spec : {M : Type 1} → statement M
 hash_at_spec =
     tie.close
     (tie.spec
-    kind_at_requires
-    argument_at_requires
-    cast_literal_hash
-    literal_hash_requires
-    returns
-    add_mix_siblings
-    cast_mix_siblings
-    mix_siblings_requires
-    returns_2)
+    kind_at-kind-requires
+    argument_at-argument-requires
+    overflow_cast-kind
+    literal_hash-requires
+    returns-then-kind-le-NEGATIVE
+    overflow_add-i
+    overflow_cast-kind-2
+    mix_siblings-requires
+    returns)

@@ -5,23 +5,23 @@ use Rattle.polarity.proofs.Marks.{unit_bit, sign_bit, unit-bound, sign-bound}
 use Rattle.polarity.proofs.table.entry.Statement.{statement}
 use Rattle.polarity.proofs.table.entry.Tie as tie
 
-mul_result : tie.Need-overflow-mul-result
-mul_result c = search rules
+overflow_mul-result : tie.Need-overflow_mul-result
+overflow_mul-result c = search rules
 
-cast_result : tie.Need-overflow-cast-result
-cast_result c = search rules
+overflow_cast-result : tie.Need-overflow_cast-result
+overflow_cast-result c = search rules
 
-mul_result_2 : tie.Need-overflow-mul-result-2
-mul_result_2 c = let u = c.args.unit in omega (arith, unit_bit u, unit-bound u)
+overflow_mul-result-2 : tie.Need-overflow_mul-result-2
+overflow_mul-result-2 c = let u = c.args.unit in omega (arith, unit_bit u, unit-bound u)
 
-add_result : tie.Need-overflow-add-result
-add_result c = let u = c.args.unit in omega (arith, unit_bit u, unit-bound u, c.requires)
+overflow_add-result : tie.Need-overflow_add-result
+overflow_add-result c = let u = c.args.unit in omega (arith, unit_bit u, unit-bound u, c.requires)
 
-cast_result_2 : tie.Need-overflow-cast-result-2
-cast_result_2 c = search rules
+overflow_cast-result-2 : tie.Need-overflow_cast-result-2
+overflow_cast-result-2 c = search rules
 
-add_result_2 : tie.Need-overflow-add-result-2
-add_result_2 c =
+overflow_add-result-2 : tie.Need-overflow_add-result-2
+overflow_add-result-2 c =
     let u = c.args.unit in
     let p = c.args.positive in
     omega (arith, unit_bit u, unit-bound u, sign_bit p, sign-bound p, c.requires)
@@ -35,4 +35,11 @@ returns c =
 pub entry_spec : {M : Type 1} → statement M
 entry_spec =
     tie.close
-    (tie.spec mul_result cast_result mul_result_2 add_result cast_result_2 add_result_2 returns)
+    (tie.spec
+    overflow_mul-result
+    overflow_cast-result
+    overflow_mul-result-2
+    overflow_add-result
+    overflow_cast-result-2
+    overflow_add-result-2
+    returns)

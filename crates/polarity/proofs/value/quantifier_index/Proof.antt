@@ -7,14 +7,17 @@ use Rattle.formula.proofs.Booleans.{same_op_eq, is_for_all}
 use Rattle.polarity.proofs.value.quantifier_index.Statement.{statement}
 use Rattle.polarity.proofs.value.quantifier_index.Tie as tie
 
-is_existential_requires : tie.Need-is-existential-requires
-is_existential_requires c κs = search rules
+is_existential-requires : tie.Need-is_existential-requires
+is_existential-requires c κs = search rules
+
+returns-then-is_existential : tie.Need-returns-then-is_existential
+returns-then-is_existential c = (omega arith, same_op_eq exists _ (sym c.is_existential.ensures ∙ c.if-is_existential.true))
 
 returns : tie.Need-returns
-returns c = (omega arith, same_op_eq exists _ (sym c.before.is-existential.ensures ∙ c.if1.true))
-
-returns_2 : tie.Need-returns-2
-returns_2 c = (omega arith, is_for_all _ (sym c.before.is-existential.ensures ∙ c.if1.false))
+returns c = (omega arith, is_for_all _ (sym c.is_existential.ensures ∙ c.if-is_existential.false))
 
 pub quantifier_index_spec : {M : Type 1} → statement M
-quantifier_index_spec = tie.close (tie.spec is_existential_requires returns returns_2)
+quantifier_index_spec = tie.close (tie.spec
+    is_existential-requires
+    returns-then-is_existential
+    returns)

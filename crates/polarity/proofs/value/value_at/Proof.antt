@@ -9,39 +9,36 @@ use Rattle.polarity.proofs.Settling.{value-signed}
 use Rattle.polarity.proofs.value.value_at.Statement.{statement}
 use Rattle.polarity.proofs.value.value_at.Tie as tie
 
-bound_at_requires : tie.Need-bound-at-requires
-bound_at_requires c κs = search rules
+bound_at-x-requires : tie.Need-bound_at-x-requires
+bound_at-x-requires c κs = search rules
 
-quantifier_index_requires : tie.Need-quantifier-index-requires
-quantifier_index_requires c κs = search rules
-
-abbrev start : tie.After-bound-at → tie.Start
-start c = c.before.before.before
+quantifier_index-quantifier-requires : tie.Need-quantifier_index-quantifier-requires
+quantifier_index-quantifier-requires c κs = search rules
 
 -- the table has the number
-held : (c : tie.After-bound-at) → last_entry c.bound_at.result < length (start c).args.signs.now
-held c = let a = start c in omega (arith, c.bound_at.ensures.0, a.pre.2.covers a.args.i a.pre.1)
+held : (c : tie.After-bound_at-x) → last_entry c.bound_at-x.result < length c.args.signs.now
+held c = let a = c in omega (arith, c.bound_at-x.ensures.0, a.requires.2.covers a.args.i a.requires.1)
 
-signs_at_requires : tie.Need-signs-at-requires
-signs_at_requires c κs = held c.before
+signs_at-requires : tie.Need-signs_at-requires
+signs_at-requires c κs = held c.before
 
-settling_by_requires : tie.Need-settling-by-requires
-settling_by_requires c κs = search rules
+settling_by-requires : tie.Need-settling_by-requires
+settling_by-requires c κs = search rules
 
 returns : tie.Need-returns
 returns c =
-    let index = c.before.before in
-    let read = index.before in
-    let a = start read in
+    let index = c in
+    let read = index in
+    let a = read in
     c.settling_by.ensures ∙
-    value-signed index.quantifier-index.ensures.1 c.before.signs-at.ensures read.bound_at.ensures.0 (held read) a.pre.2
+    value-signed index.quantifier_index-quantifier.ensures.1 c.signs_at.ensures read.bound_at-x.ensures.0 (held read.before.before.before) a.requires.2
 
 pub value_at_spec : {M : Type 1} → statement M
 value_at_spec =
     tie.close
     (tie.spec
-    bound_at_requires
-    quantifier_index_requires
-    signs_at_requires
-    settling_by_requires
+    bound_at-x-requires
+    quantifier_index-quantifier-requires
+    signs_at-requires
+    settling_by-requires
     returns)

@@ -24,80 +24,53 @@ use Rattle.qdimacs.proofs.Composing.{composed, clauses-all, ends_few}
 use Rattle.qdimacs.proofs.body.write_sheet.Statement.{statement}
 use Rattle.qdimacs.proofs.body.write_sheet.Tie as tie
 
-abbrev called : tie.After-write-free-arg → tie.Start
-called c = c.before.before.before
-
-abbrev after_write_free : tie.After-write-bound-arg → tie.After-write-free
-after_write_free c = c.before.before.before
-
-abbrev after_write_bound : tie.After-set-row-arg → tie.After-write-bound
-after_write_bound c = c.before.before.before
-
-abbrev after_set_row : tie.After-write-clauses-arg → tie.After-set-row
-after_set_row c = c.before.before.before
-
-abbrev after_write_clauses : tie.After-seal-arg → tie.After-write-clauses
-after_write_clauses c = c.before.before.before
-
-write_free_requires : tie.Need-write-free-requires
-write_free_requires c κs =
-    let q = (called c).requires in
+write_free-free-requires : tie.Need-write_free-free-requires
+write_free-free-requires c κs =
+    let q = c.requires in
     (q.room, q.scanned.most_is, omega (arith, q.variables_are))
 
 -- one call after the other: where each stands, and that the output keeps its length
-abbrev start : tie.After-write-free → tie.Start
-start c = called c.before
+freed : (c : tie.After-write_free-free) → length c.write_free-free.new.out ≡ length c.args.out.now
+freed c = c.write_free-free.auto.out
 
-freed : (c : tie.After-write-free) → length c.write-free.new.1.1.0 ≡ length (start c).args.out.now
-freed c = c.write-free.auto.1.1.0
-
-write_bound_requires : tie.Need-write-bound-requires
-write_bound_requires c κs =
-    let f = after_write_free c in
-    let q = (start f).pre in (
+write_bound-v-requires : tie.Need-write_bound-v-requires
+write_bound-v-requires c κs =
+    let f = c in
+    let q = f.requires in (
       q.scanned.listed,
-      record { holds = omega (arith, q.room.holds, freed f) },
-      omega (arith, q.variables_are, f.write-free.ensures.1),
+      record { holds = omega (arith, q.room.holds, freed f.before.before.before) },
+      omega (arith, q.variables_are, f.write_free-free.ensures.1),
       q.few_rows,
     )
 
-abbrev free_by : tie.After-write-bound → tie.After-write-free
-free_by c = after_write_free c.before
+bounded : (c : tie.After-write_bound-v) → length c.write_bound-v.new.out ≡ length c.args.out.now
+bounded c = c.write_bound-v.auto.out ∙ freed c.before.before.before.before
 
-abbrev begun : tie.After-write-bound → tie.Start
-begun c = start (free_by c)
-
-bounded : (c : tie.After-write-bound) → length c.write-bound.new.1.0 ≡ length (begun c).args.out.now
-bounded c = c.write-bound.auto.1.0 ∙ freed (free_by c)
-
-room_bound : (c : tie.After-write-bound) → Room (begun c).args.s (length c.write-bound.new.1.0)
-room_bound c = record { holds = omega (arith, (begun c).requires.room.holds, bounded c) }
+room_bound : (c : tie.After-write_bound-v) → Room c.args.s (length c.write_bound-v.new.out)
+room_bound c = record { holds = omega (arith, c.requires.room.holds, bounded c) }
 
 -- AND stands behind the variables
-root_at : (c : tie.After-write-bound) → c.write-bound.result ≡ (begun c).args.s.variables
-root_at c = omega (arith, (begun c).requires.variables_are, (free_by c).write-free.ensures.1, c.write-bound.ensures.1)
+root_at : (c : tie.After-write_bound-v) → c.write_bound-v.result ≡ c.args.s.variables
+root_at c = omega (arith, c.requires.variables_are, c.write_free-free.ensures.1, c.write_bound-v.ensures.1)
 
-set_row_requires : tie.Need-set-row-requires
-set_row_requires c κs =
-    let v = after_write_bound c in
-    let a = begun v in
-    let q = a.pre in
+set_row-requires : tie.Need-set_row-requires
+set_row-requires c κs =
+    let v = c in
+    let a = v in
+    let q = a.requires in
     let few = ends_few (tokens_at a.args.b.now a.args.k.from) in (
-      room_bound v,
-      omega (arith, root_at v, q.nodes_are),
+      room_bound v.before.before.before,
+      omega (arith, root_at v.before.before.before, q.nodes_are),
       omega (arith, q.scanned.clauses_are, q.scanned.words_are, q.nodes_are, q.nodes_fit, few),
     )
 
-abbrev bound_by : tie.After-set-row → tie.After-write-bound
-bound_by c = after_write_bound c.before
+rooted : (c : tie.After-set_row) → length c.set_row.new.b ≡ length c.args.out.now
+rooted c = c.set_row.auto.b ∙ bounded c.before.before.before.before
 
-rooted : (c : tie.After-set-row) → length c.set-row.new.0 ≡ length (begun (bound_by c)).args.out.now
-rooted c = c.set-row.auto.0 ∙ bounded (bound_by c)
-
-add_write_clauses : tie.Need-overflow-add-write-clauses
-add_write_clauses c =
-    let v = bound_by (after_set_row c) in
-    omega (arith, root_at v, (begun v).pre.few_rows)
+overflow_add-v : tie.Need-overflow_add-v
+overflow_add-v c =
+    let v = c in
+    omega (arith, root_at v.before.before.before.before.before.before.before, v.requires.few_rows)
 
 whole : (a : tie.Start) → whole_lists false (tokens_at a.args.b.now a.args.k.from) ≡ true
 whole a =
@@ -105,83 +78,77 @@ whole a =
     let q = a.requires.scanned in
     ap (whole_lists false) q.clauses_from ∙ (and_parts (ordered between ts) (whole_lists false (clause_tokens between ts)) q.listed.well).1
 
-write_clauses_requires : tie.Need-write-clauses-requires
-write_clauses_requires c κs =
-    let r = after_set_row c in
-    let v = bound_by r in
-    let a = begun v in
-    let q = a.pre in
+write_clauses-requires : tie.Need-write_clauses-requires
+write_clauses-requires c κs =
+    let r = c in
+    let v = r in
+    let a = v in
+    let q = a.requires in
     let ts = tokens_at a.args.b.now 0 in
     record {
       inside = q.scanned.inside;
-      whole = whole a;
+      whole = whole a.before.before.before.before.before.before.before.before.before.before.before.before.before.before.before;
       below = ap (all (up_to 1024)) q.scanned.clauses_from ∙ clauses-all (up_to 1024) between ts q.scanned.listed.below;
-      room = record { holds = omega (arith, q.room.holds, rooted r) };
-      has_rows = omega (arith, root_at v, q.nodes_are, q.scanned.words_are);
+      room = record { holds = omega (arith, q.room.holds, rooted r.before.before.before) };
+      has_rows = omega (arith, root_at v.before.before.before.before.before.before.before, q.nodes_are, q.scanned.words_are);
       few_rows = q.few_rows;
       lengths_fit = omega (arith, q.nodes_are, q.scanned.words_are, q.nodes_fit);
     }
 
-abbrev root_by : tie.After-write-clauses → tie.After-set-row
-root_by c = after_set_row c.before
+written : (c : tie.After-write_clauses) → length c.write_clauses.new.out ≡ length c.args.out.now
+written c = c.write_clauses.auto.out ∙ rooted c.before.before.before.before
 
-written : (c : tie.After-write-clauses) → length c.write-clauses.new.1.1.0 ≡ length (begun (bound_by (root_by c))).args.out.now
-written c = c.write-clauses.auto.1.1.0 ∙ rooted (root_by c)
+overflow_add-s : tie.Need-overflow_add-s
+overflow_add-s c = omega (arith, c.requires.few_rows)
 
-abbrev clauses_by : tie.After-struct-known → tie.After-write-clauses
-clauses_by c = after_write_clauses c.before
+seal-requires : tie.Need-seal-requires
+seal-requires c κs =
+    let w = c in
+    let q = w.requires in
+    (record { holds = omega (arith, q.room.holds, written w.before.before.before.before) }, omega arith, omega arith)
 
-add_seal : tie.Need-overflow-add-seal
-add_seal c = omega (arith, (begun (bound_by (root_by (clauses_by c)))).requires.few_rows)
-
-seal_requires : tie.Need-seal-requires
-seal_requires c κs =
-    let w = clauses_by c in
-    let q = (begun (bound_by (root_by w))).requires in
-    (record { holds = omega (arith, q.room.holds, written w) }, omega arith, omega arith)
-
-same_length : tie.Need-same-length
-same_length c = search rules
+shape_of-out : tie.Need-shape_of-out
+shape_of-out c = search rules
 
 -- all rows, each part behind the one before it
-rows_are : (c : tie.After-write-clauses)
-    → let a = (begun (bound_by (root_by c))).args in
-    take (total a.s) (rows_in a.s c.write-clauses.new.1.1.0) ≡ body_rows a.b.now a.marks.now a.k
+rows_are : (c : tie.After-write_clauses)
+    → let a = c.args in
+    take (total a.s) (rows_in a.s c.write_clauses.new.out) ≡ body_rows a.b.now a.marks.now a.k
 rows_are c =
-    let r = root_by c in
-    let v = bound_by r in
-    let f = free_by v in
-    let a = start f in
-    let q = a.pre in
+    let r = c in
+    let v = r in
+    let f = v in
+    let a = f in
+    let q = a.requires in
     let s = a.args.s in
     let ts = tokens_at a.args.b.now a.args.k.from in
     let free = frees a.args.marks.now a.args.k.most in
     let bindings = bindings_in a.args.b.now in
-    let long = length-forest_rows (clause_trees (lists ts)) ∙ rows-lists false ts (whole a) in
+    let long = length-forest_rows (clause_trees (lists ts)) ∙ rows-lists false ts (whole a.before.before.before.before.before.before.before.before.before.before.before.before.before.before.before.before) in
     composed (rows_in s a.args.out.now) _ _ _ _ (map binding_row free) (map binding_row bindings) (clause_rows ts) (row 5 a.args.k.clauses)
-    f.write-free.result v.write-bound.result (total s)
-    f.write-free.ensures.0 (f.write-free.ensures.1 ∙ sym (length-map free binding_row))
-    v.write-bound.ensures.0 (v.write-bound.ensures.1 ∙ ap (λ n. f.write-free.result + n) (sym (length-map bindings binding_row)))
-    (omega (arith, length-rows_in v.write-bound.last.1.0 (room_bound v), root_at v, q.nodes_are))
-    r.set-row.ensures.0 c.write-clauses.ensures (omega (arith, root_at v, q.nodes_are, q.scanned.words_are, long))
+    f.write_free-free.result v.write_bound-v.result (total s)
+    f.write_free-free.ensures.0 (f.write_free-free.ensures.1 ∙ sym (length-map free binding_row))
+    v.write_bound-v.ensures.0 (v.write_bound-v.ensures.1 ∙ ap (λ n. f.write_free-free.result + n) (sym (length-map bindings binding_row)))
+    (omega (arith, length-rows_in v.write_bound-v.new.out (room_bound v.before.before.before.before.before.before.before.before), root_at v.before.before.before.before.before.before.before.before, q.nodes_are))
+    r.set_row.ensures.0 c.write_clauses.ensures (omega (arith, root_at v.before.before.before.before.before.before.before.before, q.nodes_are, q.scanned.words_are, long))
 
 returns : tie.Need-returns
 unfolding sealed
 returns c =
-    let sealing = c.before.before in
-    let w = clauses_by sealing.before in
-    (sealing.seal.ensures.0 ∙ ap₂ (laid (begun (bound_by (root_by w))).args.s) (rows_are w) (written w), sealing.seal.ensures.1)
+    let sealing = c in
+    let w = sealing in
+    (sealing.seal.ensures.0 ∙ ap₂ (laid w.args.s) (rows_are w.before.before.before.before.before.before.before) (written w.before.before.before.before.before.before.before), sealing.seal.ensures.1)
 
 pub write_sheet_spec : {M : Type 1} → statement M
 write_sheet_spec =
     tie.close
     (tie.spec
-    write_free_requires
-    write_bound_requires
-    set_row_requires
-    add_write_clauses
-    write_clauses_requires
-    add_seal
-    seal_requires
-    same_length
+    write_free-free-requires
+    write_bound-v-requires
+    set_row-requires
+    overflow_add-v
+    write_clauses-requires
+    overflow_add-s
+    seal-requires
+    shape_of-out
     returns)

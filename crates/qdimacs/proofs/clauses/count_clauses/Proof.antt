@@ -8,39 +8,39 @@ use Rattle.qdimacs.proofs.Counting.{Counted, counted_none, counted_word, counted
 use Rattle.qdimacs.proofs.clauses.count_clauses.Statement.{statement}
 use Rattle.qdimacs.proofs.clauses.count_clauses.Tie as tie
 
-abbrev invariant-loop : tie.invariant-loop
-invariant-loop b from c₀ at₀ c at = Counted b from c at
+abbrev invariant-loop-at : tie.invariant-loop-at
+invariant-loop-at b from c₀ at₀ c at = Counted b from c at
 
-abbrev decreases-loop : tie.decreases-loop
-decreases-loop b from c₀ at₀ c at = length b - at
+abbrev decreases-loop-at : tie.decreases-loop-at
+decreases-loop-at b from c₀ at₀ c at = length b - at
 
-loop_holds : tie.Need-loop-init invariant-loop decreases-loop
-loop_holds c = counted_none _ _ c.before.requires
+loop-at-init : tie.Need-loop-at-init invariant-loop-at decreases-loop-at
+loop-at-init c = counted_none _ _ c.requires
 
-next_token_requires : tie.Need-next-token-requires invariant-loop decreases-loop
-next_token_requires c κs = c.before.loop.invariant.inside
+next_token-t-requires : tie.Need-next_token-t-requires invariant-loop-at decreases-loop-at
+next_token-t-requires c κs = c.loop-at.invariant.inside
 
-count_word_requires : tie.Need-count-word-requires invariant-loop decreases-loop
-count_word_requires c κs = let h = c.before.before.loop.invariant in (omega (arith, h.fewer, h.tally.few), omega (arith, h.fewer))
+count_word-c-requires : tie.Need-count_word-c-requires invariant-loop-at decreases-loop-at
+count_word-c-requires c κs = let h = c.loop-at.invariant in (omega (arith, h.fewer, h.tally.few), omega (arith, h.fewer))
 
-loop_less : tie.Need-loop-smaller invariant-loop decreases-loop
-loop_less c = omega (arith, c.before.next-token.ensures.inside, c.before.next-token.ensures.onward (omega arith))
+loop-at-smaller : tie.Need-loop-at-smaller invariant-loop-at decreases-loop-at
+loop-at-smaller c = omega (arith, c.next_token-t.ensures.inside, c.next_token-t.ensures.onward (omega arith))
 
-loop_again : tie.Need-loop-preserved invariant-loop decreases-loop
-loop_again c = counted_word c.before.before.before.loop.invariant (omega arith) c.before.next-token.ensures c.count_word.ensures
+loop-at-preserved : tie.Need-loop-at-preserved invariant-loop-at decreases-loop-at
+loop-at-preserved c = counted_word c.loop-at.invariant (omega arith) c.next_token-t.ensures c.count_word-c.ensures
 
-returns : tie.Need-returns invariant-loop decreases-loop
-returns c = counted_all c.before.loop.invariant (omega arith)
+returns : tie.Need-returns invariant-loop-at decreases-loop-at
+returns c = counted_all c.loop-at.invariant (omega arith)
 
 pub count_clauses_spec : {M : Type 1} → statement M
 count_clauses_spec =
     tie.close
     (tie.spec
-    invariant-loop
-    decreases-loop
-    loop_holds
-    next_token_requires
-    count_word_requires
-    loop_less
-    loop_again
+    invariant-loop-at
+    decreases-loop-at
+    loop-at-init
+    next_token-t-requires
+    count_word-c-requires
+    loop-at-smaller
+    loop-at-preserved
     returns)

@@ -7,56 +7,50 @@ use Rattle.qdimacs.proofs.Counting.{Lower, lower_none, lower_found, lower_word, 
 use Rattle.qdimacs.proofs.clauses.has_above.Statement.{statement}
 use Rattle.qdimacs.proofs.clauses.has_above.Tie as tie
 
-abbrev invariant-loop : tie.invariant-loop
-invariant-loop b most at₀ at = Lower most b at
+abbrev invariant-loop-at : tie.invariant-loop-at
+invariant-loop-at b most at₀ at = Lower most b at
 
-abbrev decreases-loop : tie.decreases-loop
-decreases-loop b most at₀ at = length b - at
+abbrev decreases-loop-at : tie.decreases-loop-at
+decreases-loop-at b most at₀ at = length b - at
 
 -- the turn in which a word is asked about, and the call
-abbrev turn : tie.After-says-above invariant-loop decreases-loop → tie.At-loop invariant-loop decreases-loop
-turn c = c.before.before.before
+loop-at-init : tie.Need-loop-at-init invariant-loop-at decreases-loop-at
+loop-at-init c = lower_none _ _
 
-abbrev start : tie.At-loop invariant-loop decreases-loop → tie.Start invariant-loop decreases-loop
-start c = c.before.before
+next_token-t-requires : tie.Need-next_token-t-requires invariant-loop-at decreases-loop-at
+next_token-t-requires c κs = c.loop-at.invariant.inside
 
-loop_holds : tie.Need-loop-init invariant-loop decreases-loop
-loop_holds c = lower_none _ _
+says_above-requires : tie.Need-says_above-requires invariant-loop-at decreases-loop-at
+says_above-requires c κs = search rules
 
-next_token_requires : tie.Need-next-token-requires invariant-loop decreases-loop
-next_token_requires c κs = c.before.loop.invariant.inside
+returns-then-says_above : tie.Need-returns-then-says_above invariant-loop-at decreases-loop-at
+returns-then-says_above c =
+    let asked = c in
+    let at = asked in
+    lower_found at.requires at.loop-at.invariant asked.next_token-t.ensures asked.says_above.ensures c.if-says_above.true
 
-says_above_requires : tie.Need-says-above-requires invariant-loop decreases-loop
-says_above_requires c κs = search rules
+loop-at-smaller : tie.Need-loop-at-smaller invariant-loop-at decreases-loop-at
+loop-at-smaller c = omega (arith, c.next_token-t.ensures.inside, c.next_token-t.ensures.onward (omega arith))
 
-returns : tie.Need-returns invariant-loop decreases-loop
-returns c =
-    let asked = c.before in
-    let at = turn asked in
-    lower_found (start at).pre at.loop.inv asked.before.next-token.ensures asked.says_above.ensures c.if1.true
+loop-at-preserved : tie.Need-loop-at-preserved invariant-loop-at decreases-loop-at
+loop-at-preserved c =
+    let asked = c in
+    let at = asked in
+    lower_word at.requires at.loop-at.invariant asked.next_token-t.ensures asked.says_above.ensures c.if-says_above.false
 
-loop_less : tie.Need-loop-smaller invariant-loop decreases-loop
-loop_less c = omega (arith, c.before.before.next-token.ensures.inside, c.before.before.next-token.ensures.onward (omega arith))
-
-loop_again : tie.Need-loop-preserved invariant-loop decreases-loop
-loop_again c =
-    let asked = c.before in
-    let at = turn asked in
-    lower_word (start at).pre at.loop.inv asked.before.next-token.ensures asked.says_above.ensures c.if1.false
-
-returns_2 : tie.Need-returns-2 invariant-loop decreases-loop
-returns_2 c = lower_all c.before.loop.invariant (omega arith)
+returns : tie.Need-returns invariant-loop-at decreases-loop-at
+returns c = lower_all c.loop-at.invariant (omega arith)
 
 pub has_above_spec : {M : Type 1} → statement M
 has_above_spec =
     tie.close
     (tie.spec
-    invariant-loop
-    decreases-loop
-    loop_holds
-    next_token_requires
-    says_above_requires
-    returns
-    loop_less
-    loop_again
-    returns_2)
+    invariant-loop-at
+    decreases-loop-at
+    loop-at-init
+    next_token-t-requires
+    says_above-requires
+    returns-then-says_above
+    loop-at-smaller
+    loop-at-preserved
+    returns)

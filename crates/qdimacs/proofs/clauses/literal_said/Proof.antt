@@ -5,11 +5,13 @@ use Rattle.words.proofs.Signed.{literal_passed}
 use Rattle.qdimacs.proofs.clauses.literal_said.Statement.{statement}
 use Rattle.qdimacs.proofs.clauses.literal_said.Tie as tie
 
-literal_of_requires : tie.Need-literal-of-requires
-literal_of_requires c κs = search rules
+literal_of-requires : tie.Need-literal_of-requires
+literal_of-requires c κs = search rules
 
 returns : tie.Need-returns
-returns c = let t = c.before.before.args.t in literal_passed (eqb t.class 8) t.magnitude c.literal_of.ensures
+returns c = let t = c.args.t in literal_passed (eqb t.class 8) t.magnitude c.literal_of.ensures
 
 pub literal_said_spec : {M : Type 1} → statement M
-literal_said_spec = tie.close (tie.spec literal_of_requires returns)
+literal_said_spec = tie.close (tie.spec
+    literal_of-requires
+    returns)

@@ -8,67 +8,58 @@ use Rattle.qdimacs.specs.Inner.Header.{is_header, unsigned_class}
 use Rattle.qdimacs.proofs.header.is_header.Statement.{statement}
 use Rattle.qdimacs.proofs.header.is_header.Tie as tie
 
-abbrev start : tie.Else2 → tie.Start
-start c = c.before.before
+returns-then-p-ne-P : tie.Need-returns-then-p-ne-P
+unfolding is_header
+returns-then-p-ne-P c = rw (ne_eqb c.args.p 4 c.if-p-ne-P.true)
 
-abbrev else_1 : tie.Else2 → tie.Else1
-else_1 c = c.before
+returns-then-cnf-ne-CNF : tie.Need-returns-then-cnf-ne-CNF
+unfolding is_header
+returns-then-cnf-ne-CNF c = rw (eq-eqb c.args.p 4 c.if-p-ne-P.false, ne_eqb c.args.cnf 5 c.if-cnf-ne-CNF.true)
 
-abbrev else_2 : tie.After-is-unsigned2 → tie.Else2
-else_2 c = c.before.before.before
+is_unsigned-requires : tie.Need-is_unsigned-requires
+is_unsigned-requires c κs = search rules
+
+returns-then-not-is_unsigned : tie.Need-returns-then-not-is_unsigned
+unfolding is_header
+returns-then-not-is_unsigned c =
+    let a = c in
+    rw (eq-eqb a.args.p 4 c.if-p-ne-P.false, eq-eqb a.args.cnf 5 c.if-cnf-ne-CNF.false, sym c.is_unsigned.ensures ∙ c.if-not-is_unsigned.true)
+
+is_unsigned-requires-2 : tie.Need-is_unsigned-requires-2
+is_unsigned-requires-2 c κs = search rules
+
+returns-then-not-is_unsigned-2 : tie.Need-returns-then-not-is_unsigned-2
+unfolding is_header
+returns-then-not-is_unsigned-2 c =
+    let branch2 = c in
+    let a = branch2 in
+    rw (
+      eq-eqb a.args.p 4 branch2.if-p-ne-P.false,
+      eq-eqb a.args.cnf 5 branch2.if-cnf-ne-CNF.false,
+      sym c.is_unsigned.ensures ∙ c.if-not-is_unsigned.false,
+      sym c.is_unsigned-2.ensures ∙ c.if-not-is_unsigned-2.true,
+    )
 
 returns : tie.Need-returns
 unfolding is_header
-returns c = rw (ne_eqb c.before.args.p 4 c.if1.true)
-
-returns_2 : tie.Need-returns-2
-unfolding is_header
-returns_2 c = rw (eq-eqb c.before.before.args.p 4 c.before.if1.false, ne_eqb c.before.before.args.cnf 5 c.if2.true)
-
-is_unsigned_requires : tie.Need-is-unsigned-requires
-is_unsigned_requires c κs = search rules
-
-returns_3 : tie.Need-returns-3
-unfolding is_header
-returns_3 c =
-    let a = start c.before.before in
-    rw (eq-eqb a.args.p 4 c.before.before.before.if1.false, eq-eqb a.args.cnf 5 c.before.before.if2.false, sym c.before.is_unsigned.ensures ∙ not-true _ c.if3.true)
-
-is_unsigned_requires_2 : tie.Need-is-unsigned-requires-2
-is_unsigned_requires_2 c κs = search rules
-
-returns_4 : tie.Need-returns-4
-unfolding is_header
-returns_4 c =
-    let branch2 = else_2 c.before in
-    let a = start branch2 in
+returns c =
+    let branch2 = c in
+    let a = branch2 in
     rw (
-      eq-eqb a.args.p 4 (else_1 branch2).if1.left,
-      eq-eqb a.args.cnf 5 branch2.if2.left,
-      sym c.before.before.before.is_unsigned.ensures ∙ not-false _ c.before.before.if3.false,
-      sym c.before.is-unsigned2.ensures ∙ not-true _ c.if4.true,
-    )
-
-returns_5 : tie.Need-returns-5
-unfolding is_header
-returns_5 c =
-    let branch2 = else_2 c.before in
-    let a = start branch2 in
-    rw (
-      eq-eqb a.args.p 4 (else_1 branch2).if1.left,
-      eq-eqb a.args.cnf 5 branch2.if2.left,
-      sym c.before.before.before.is_unsigned.ensures ∙ not-false _ c.before.before.if3.false,
-      sym c.before.is-unsigned2.ensures ∙ not-false _ c.if4.false,
+      eq-eqb a.args.p 4 branch2.if-p-ne-P.false,
+      eq-eqb a.args.cnf 5 branch2.if-cnf-ne-CNF.false,
+      sym c.is_unsigned.ensures ∙ c.if-not-is_unsigned.false,
+      sym c.is_unsigned-2.ensures ∙ c.if-not-is_unsigned-2.false,
     )
 
 pub is_header_spec : {M : Type 1} → statement M
 is_header_spec =
     tie.close
     (tie.spec
-    returns
-    returns_2
-    is_unsigned_requires
-    returns_3
-    is_unsigned_requires_2
-    returns_4
-    returns_5)
+    returns-then-p-ne-P
+    returns-then-cnf-ne-CNF
+    is_unsigned-requires
+    returns-then-not-is_unsigned
+    is_unsigned-requires-2
+    returns-then-not-is_unsigned-2
+    returns)

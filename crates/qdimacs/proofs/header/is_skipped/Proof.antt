@@ -7,26 +7,28 @@ use Rattle.qdimacs.proofs.HeaderLines.{empty_skipped, comment_skipped, white_ski
 use Rattle.qdimacs.proofs.header.is_skipped.Statement.{statement}
 use Rattle.qdimacs.proofs.header.is_skipped.Tie as tie
 
-abbrev start : tie.Else1 → tie.Start
-start c = c.before.before
+returns-then-line-eq0 : tie.Need-returns-then-line-eq0
+returns-then-line-eq0 c = empty_skipped c.args.line.now c.if-line-eq0.true
+
+bounds-line-0 : tie.Need-bounds-line-0
+bounds-line-0 c = search rules
+
+returns-then-line-eq99 : tie.Need-returns-then-line-eq99
+returns-then-line-eq99 c = comment_skipped c.args.line.now c.if-line-eq0.false c.if-line-eq99.true
+
+skip_white-requires : tie.Need-skip_white-requires
+skip_white-requires c κs = search rules
 
 returns : tie.Need-returns
-returns c = empty_skipped c.before.before.args.line.now c.if1.true
-
-shared_slice_read_if2 : tie.Need-shared-slice-read-if2
-shared_slice_read_if2 c = search rules
-
-returns_2 : tie.Need-returns-2
-returns_2 c = comment_skipped (start c.before.before).args.line.now c.before.before.if1.false c.if2.true
-
-skip_white_requires : tie.Need-skip-white-requires
-skip_white_requires c κs = search rules
-
-returns_3 : tie.Need-returns-3
-returns_3 c =
-    let a = start c.before.before.before in
-    white_skipped a.args.line.now a.pre c.before.before.before.if1.false c.before.if2.false c.skip-white.ensures
+returns c =
+    let a = c in
+    white_skipped a.args.line.now a.requires c.if-line-eq0.false c.if-line-eq99.false c.skip_white.ensures
 
 pub is_skipped_spec : {M : Type 1} → statement M
 is_skipped_spec =
-    tie.close (tie.spec returns shared_slice_read_if2 returns_2 skip_white_requires returns_3)
+    tie.close (tie.spec
+    returns-then-line-eq0
+    bounds-line-0
+    returns-then-line-eq99
+    skip_white-requires
+    returns)

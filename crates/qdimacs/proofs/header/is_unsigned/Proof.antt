@@ -7,11 +7,13 @@ use borrow.Author.Tests.{eq-eqb, ne_eqb}
 use Rattle.qdimacs.proofs.header.is_unsigned.Statement.{statement}
 use Rattle.qdimacs.proofs.header.is_unsigned.Tie as tie
 
-returns : tie.Need-returns
-returns c = rw (eq-eqb c.before.args.class 6 c.if1.true)
+returns-then-class-eq-ZERO : tie.Need-returns-then-class-eq-ZERO
+returns-then-class-eq-ZERO c = rw (eq-eqb c.args.class 6 c.if-class-eq-ZERO.true)
 
-returns_2 : tie.Need-returns-2
-returns_2 c = rw (ne_eqb c.before.args.class 6 c.if1.false)
+returns : tie.Need-returns
+returns c = rw (ne_eqb c.args.class 6 c.if-class-eq-ZERO.false)
 
 pub is_unsigned_spec : {M : Type 1} → statement M
-is_unsigned_spec = tie.close (tie.spec returns returns_2)
+is_unsigned_spec = tie.close (tie.spec
+    returns-then-class-eq-ZERO
+    returns)

@@ -7,14 +7,17 @@ use borrow.Author.Tests.{lt-ltb, le-ltb}
 use Rattle.qdimacs.proofs.header.next_line.Statement.{statement}
 use Rattle.qdimacs.proofs.header.next_line.Tie as tie
 
-add_result : tie.Need-overflow-add-result
-add_result c = search rules
+overflow_add-result : tie.Need-overflow_add-result
+overflow_add-result c = search rules
+
+returns-then-to-len : tie.Need-returns-then-to-len
+returns-then-to-len c = rw (lt-ltb c.args.to c.args.len c.if-to-len.true)
 
 returns : tie.Need-returns
-returns c = rw (lt-ltb c.before.args.to c.before.args.len c.if1.true)
-
-returns_2 : tie.Need-returns-2
-returns_2 c = rw (le-ltb c.before.args.to c.before.args.len c.if1.false)
+returns c = rw (le-ltb c.args.to c.args.len c.if-to-len.false)
 
 pub next_line_spec : {M : Type 1} → statement M
-next_line_spec = tie.close (tie.spec add_result returns returns_2)
+next_line_spec = tie.close (tie.spec
+    overflow_add-result
+    returns-then-to-len
+    returns)

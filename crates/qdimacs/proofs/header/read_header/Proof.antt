@@ -7,47 +7,38 @@ use Rattle.qdimacs.proofs.HeaderWords.{heads}
 use Rattle.qdimacs.proofs.header.read_header.Statement.{statement}
 use Rattle.qdimacs.proofs.header.read_header.Tie as tie
 
-abbrev start : tie.After-next-token2 → tie.Start
-start c = c.before.before.before
+next_token-p-requires : tie.Need-next_token-p-requires
+next_token-p-requires c κs = search rules
 
-abbrev after_next_token : tie.After-next-token2 → tie.After-next-token
-after_next_token c = c.before
+next_token-cnf-requires : tie.Need-next_token-cnf-requires
+next_token-cnf-requires c κs = c.next_token-p.ensures.inside
 
-abbrev after_next_token2 : tie.After-next-token5 → tie.After-next-token2
-after_next_token2 c = c.before.before.before
+next_token-variables-requires : tie.Need-next_token-variables-requires
+next_token-variables-requires c κs = c.next_token-cnf.ensures.inside
 
-next_token_requires : tie.Need-next-token-requires
-next_token_requires c κs = search rules
+next_token-clauses-requires : tie.Need-next_token-clauses-requires
+next_token-clauses-requires c κs = c.next_token-variables.ensures.inside
 
-next_token_requires_2 : tie.Need-next-token-requires-2
-next_token_requires_2 c κs = c.next-token.ensures.inside
+next_token-last-requires : tie.Need-next_token-last-requires
+next_token-last-requires c κs = c.next_token-clauses.ensures.inside
 
-next_token_requires_3 : tie.Need-next-token-requires-3
-next_token_requires_3 c κs = c.next-token2.ensures.inside
-
-next_token_requires_4 : tie.Need-next-token-requires-4
-next_token_requires_4 c κs = c.next-token3.ensures.inside
-
-next_token_requires_5 : tie.Need-next-token-requires-5
-next_token_requires_5 c κs = c.next-token4.ensures.inside
-
-is_header_requires : tie.Need-is-header-requires
-is_header_requires c κs = search rules
+is_header-well_formed-requires : tie.Need-is_header-well_formed-requires
+is_header-well_formed-requires c κs = search rules
 
 returns : tie.Need-returns
 returns c =
-    let at-next-token2 = after_next_token2 c.before in
-    heads (start at-next-token2).args.line.now (after_next_token at-next-token2).next-token.ensures at-next-token2.next-token2.ensures
-    c.before.before.before.next-token3.ensures c.before.before.next-token4.ensures c.before.next-token5.ensures c.is_header.ensures
+    let at-next-token2 = c in
+    heads at-next-token2.args.line.now at-next-token2.next_token-p.ensures at-next-token2.next_token-cnf.ensures
+    c.next_token-variables.ensures c.next_token-clauses.ensures c.next_token-last.ensures c.is_header-well_formed.ensures
 
 pub read_header_spec : {M : Type 1} → statement M
 read_header_spec =
     tie.close
     (tie.spec
-    next_token_requires
-    next_token_requires_2
-    next_token_requires_3
-    next_token_requires_4
-    next_token_requires_5
-    is_header_requires
+    next_token-p-requires
+    next_token-cnf-requires
+    next_token-variables-requires
+    next_token-clauses-requires
+    next_token-last-requires
+    is_header-well_formed-requires
     returns)

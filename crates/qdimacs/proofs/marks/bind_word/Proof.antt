@@ -8,39 +8,43 @@ use lib.ListN.{get_or}
 use Rattle.qdimacs.proofs.marks.bind_word.Statement.{statement}
 use Rattle.qdimacs.proofs.marks.bind_word.Tie as tie
 
-abbrev start : tie.After-if22 → tie.Start
-start c = c.before.before.before
+returns-then-t-ne-POSITIVE : tie.Need-returns-then-t-ne-POSITIVE
+returns-then-t-ne-POSITIVE c = (rw (ne_eqb c.args.t.class 7 c.if-t-ne-POSITIVE.true), rw (ne_eqb c.args.t.class 7 c.if-t-ne-POSITIVE.true))
 
-returns : tie.Need-returns
-returns c = (rw (ne_eqb c.before.before.args.t.class 7 c.if1.true), rw (ne_eqb c.before.before.args.t.class 7 c.if1.true))
+bounds-marks-x : tie.Need-bounds-marks-x
+bounds-marks-x c = c.requires.0 c.if-t-ne-POSITIVE.false
 
-element_copy_out_if2 : tie.Need-element-copy-out-if2
-element_copy_out_if2 c = c.before.before.requires.0 c.if1.false
+overflow_add-result : tie.Need-overflow_add-result
+overflow_add-result c = search rules
 
-add_t9 : tie.Need-overflow-add-t9
-add_t9 c = search rules
-
-returns_2 : tie.Need-returns-2
-returns_2 c =
-    let a = start c.before.before in (
-      rw (eq-eqb a.args.t.class 7 c.before.before.before.if1.false, eq-eqb (get_or a.args.marks.now a.args.t.magnitude 0) 1 c.before.if2.true),
-      rw (eq-eqb a.args.t.class 7 c.before.before.before.if1.false, eq-eqb (get_or a.args.marks.now a.args.t.magnitude 0) 1 c.before.if2.true),
+returns-then-marks-x-eq-BOUND : tie.Need-returns-then-marks-x-eq-BOUND
+returns-then-marks-x-eq-BOUND c =
+    let a = c in (
+      rw (eq-eqb a.args.t.class 7 c.if-t-ne-POSITIVE.false, eq-eqb (get_or a.args.marks.now a.args.t.magnitude 0) 1 c.if-marks-x-eq-BOUND.true),
+      rw (eq-eqb a.args.t.class 7 c.if-t-ne-POSITIVE.false, eq-eqb (get_or a.args.marks.now a.args.t.magnitude 0) 1 c.if-marks-x-eq-BOUND.true),
     )
 
-element_write_marks : tie.Need-element-write-marks
-element_write_marks c = (start c.before).requires.0 c.before.before.if1.false
+bounds-marks-x-2 : tie.Need-bounds-marks-x-2
+bounds-marks-x-2 c = c.requires.0 c.if-t-ne-POSITIVE.false
 
-add_t12 : tie.Need-overflow-add-t12
-add_t12 c = search rules
+overflow_add-result-2 : tie.Need-overflow_add-result-2
+overflow_add-result-2 c = search rules
 
-returns_3 : tie.Need-returns-3
-returns_3 c =
-    let a = start c.before.before in (
-      rw (eq-eqb a.args.t.class 7 c.before.before.before.if1.false, ne_eqb (get_or a.args.marks.now a.args.t.magnitude 0) 1 c.before.if2.false),
-      rw (eq-eqb a.args.t.class 7 c.before.before.before.if1.false, ne_eqb (get_or a.args.marks.now a.args.t.magnitude 0) 1 c.before.if2.false),
+returns : tie.Need-returns
+returns c =
+    let a = c in (
+      rw (eq-eqb a.args.t.class 7 c.if-t-ne-POSITIVE.false, ne_eqb (get_or a.args.marks.now a.args.t.magnitude 0) 1 c.if-marks-x-eq-BOUND.false),
+      rw (eq-eqb a.args.t.class 7 c.if-t-ne-POSITIVE.false, ne_eqb (get_or a.args.marks.now a.args.t.magnitude 0) 1 c.if-marks-x-eq-BOUND.false),
     )
 
 pub bind_word_spec : {M : Type 1} → statement M
 bind_word_spec =
     tie.close
-    (tie.spec returns element_copy_out_if2 add_t9 returns_2 element_write_marks add_t12 returns_3)
+    (tie.spec
+    returns-then-t-ne-POSITIVE
+    bounds-marks-x
+    overflow_add-result
+    returns-then-marks-x-eq-BOUND
+    bounds-marks-x-2
+    overflow_add-result-2
+    returns)

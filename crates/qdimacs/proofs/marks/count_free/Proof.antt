@@ -7,50 +7,47 @@ use Rattle.qdimacs.proofs.Naming.{FreeSoFar, free-none, free_more, free_all}
 use Rattle.qdimacs.proofs.marks.count_free.Statement.{statement}
 use Rattle.qdimacs.proofs.marks.count_free.Tie as tie
 
-abbrev invariant-loop : tie.invariant-loop
-invariant-loop marks most count₀ x₀ count x = FreeSoFar marks most count x
+abbrev invariant-loop-x : tie.invariant-loop-x
+invariant-loop-x marks most count₀ x₀ count x = FreeSoFar marks most count x
 
-abbrev decreases-loop : tie.decreases-loop
-decreases-loop marks most count₀ x₀ count x = most - x
+abbrev decreases-loop-x : tie.decreases-loop-x
+decreases-loop-x marks most count₀ x₀ count x = most - x
 
-abbrev start : tie.At-loop invariant-loop decreases-loop → tie.Start invariant-loop decreases-loop
-start c = c.before
+loop-x-init : tie.Need-loop-x-init invariant-loop-x decreases-loop-x
+loop-x-init c = free-none _ _
 
-loop_holds : tie.Need-loop-init invariant-loop decreases-loop
-loop_holds c = free-none _ _
+overflow_add-x : tie.Need-overflow_add-x invariant-loop-x decreases-loop-x
+overflow_add-x c = omega (arith, c.requires.0)
 
-add_x : tie.Need-overflow-add-x invariant-loop decreases-loop
-add_x c = omega (arith, c.before.before.requires.0)
+bounds-marks-x : tie.Need-bounds-marks-x invariant-loop-x decreases-loop-x
+bounds-marks-x c = omega (arith, c.requires.0)
 
-element_copy_out_one_if_free : tie.Need-element-copy-out-one-if-free invariant-loop decreases-loop
-element_copy_out_one_if_free c = omega (arith, c.before.before.requires.0)
+one_if_free-count-requires : tie.Need-one_if_free-count-requires invariant-loop-x decreases-loop-x
+one_if_free-count-requires c κs = search rules
 
-one_if_free_requires : tie.Need-one-if-free-requires invariant-loop decreases-loop
-one_if_free_requires c κs = search rules
+overflow_add-count : tie.Need-overflow_add-count invariant-loop-x decreases-loop-x
+overflow_add-count c = omega (arith, c.requires.0, (free_more c.loop-x.invariant (omega arith) c.one_if_free-count.ensures).few)
 
-add_count : tie.Need-overflow-add-count invariant-loop decreases-loop
-add_count c = omega (arith, (start c.before.before.before).pre.0, (free_more c.before.before.before.loop.invariant (omega arith) c.one-if-free.ensures).few)
+loop-x-smaller : tie.Need-loop-x-smaller invariant-loop-x decreases-loop-x
+loop-x-smaller c = search rules
 
-loop_less : tie.Need-loop-smaller invariant-loop decreases-loop
-loop_less c = search rules
+loop-x-preserved : tie.Need-loop-x-preserved invariant-loop-x decreases-loop-x
+loop-x-preserved c = free_more c.loop-x.invariant (omega arith) c.one_if_free-count.ensures
 
-loop_again : tie.Need-loop-preserved invariant-loop decreases-loop
-loop_again c = free_more c.before.before.before.loop.invariant (omega arith) c.one-if-free.ensures
-
-returns : tie.Need-returns invariant-loop decreases-loop
-returns c = free_all c.before.loop.invariant (omega arith)
+returns : tie.Need-returns invariant-loop-x decreases-loop-x
+returns c = free_all c.loop-x.invariant (omega arith)
 
 pub count_free_spec : {M : Type 1} → statement M
 count_free_spec =
     tie.close
     (tie.spec
-    invariant-loop
-    decreases-loop
-    loop_holds
-    add_x
-    element_copy_out_one_if_free
-    one_if_free_requires
-    add_count
-    loop_less
-    loop_again
+    invariant-loop-x
+    decreases-loop-x
+    loop-x-init
+    overflow_add-x
+    bounds-marks-x
+    one_if_free-count-requires
+    overflow_add-count
+    loop-x-smaller
+    loop-x-preserved
     returns)

@@ -8,42 +8,39 @@ use Rattle.qdimacs.proofs.Naming.{NamedSoFar, named_none, named_more, named_all}
 use Rattle.qdimacs.proofs.marks.name.Statement.{statement}
 use Rattle.qdimacs.proofs.marks.name.Tie as tie
 
-abbrev invariant-loop : tie.invariant-loop
-invariant-loop b from marks₀ at₀ marks at = NamedSoFar b from marks₀ marks at
+abbrev invariant-loop-at : tie.invariant-loop-at
+invariant-loop-at b from marks₀ at₀ marks at = NamedSoFar b from marks₀ marks at
 
-abbrev decreases-loop : tie.decreases-loop
-decreases-loop b from marks₀ at₀ marks at = length b - at
+abbrev decreases-loop-at : tie.decreases-loop-at
+decreases-loop-at b from marks₀ at₀ marks at = length b - at
 
-abbrev at_loop : tie.After-name-word-arg invariant-loop decreases-loop → tie.At-loop invariant-loop decreases-loop
-at_loop c = c.before.before.before
+loop-at-init : tie.Need-loop-at-init invariant-loop-at decreases-loop-at
+loop-at-init c = named_none _ _ _ c.requires.0 c.requires.1
 
-loop_holds : tie.Need-loop-init invariant-loop decreases-loop
-loop_holds c = named_none _ _ _ c.before.requires.0 c.before.requires.1
+next_token-t-requires : tie.Need-next_token-t-requires invariant-loop-at decreases-loop-at
+next_token-t-requires c κs = c.loop-at.invariant.inside
 
-next_token_requires : tie.Need-next-token-requires invariant-loop decreases-loop
-next_token_requires c κs = c.before.loop.invariant.inside
+name_word-requires : tie.Need-name_word-requires invariant-loop-at decreases-loop-at
+name_word-requires c κs = c.loop-at.invariant.size
 
-name_word_requires : tie.Need-name-word-requires invariant-loop decreases-loop
-name_word_requires c κs = (at_loop c).loop.invariant.size
+loop-at-smaller : tie.Need-loop-at-smaller invariant-loop-at decreases-loop-at
+loop-at-smaller c = omega (arith, c.next_token-t.ensures.inside, c.next_token-t.ensures.onward (omega arith))
 
-loop_less : tie.Need-loop-smaller invariant-loop decreases-loop
-loop_less c = omega (arith, c.before.before.next-token.ensures.inside, c.before.before.next-token.ensures.onward (omega arith))
+loop-at-preserved : tie.Need-loop-at-preserved invariant-loop-at decreases-loop-at
+loop-at-preserved c = named_more c.loop-at.invariant c.next_token-t.ensures c.name_word.ensures
 
-loop_again : tie.Need-loop-preserved invariant-loop decreases-loop
-loop_again c = named_more (at_loop c.before).loop.inv c.before.before.next-token.ensures c.name-word.ensures
-
-returns : tie.Need-returns invariant-loop decreases-loop
-returns c = named_all c.before.loop.invariant (omega arith)
+returns : tie.Need-returns invariant-loop-at decreases-loop-at
+returns c = named_all c.loop-at.invariant (omega arith)
 
 pub name_spec : {M : Type 1} → statement M
 name_spec =
     tie.close
     (tie.spec
-    invariant-loop
-    decreases-loop
-    loop_holds
-    next_token_requires
-    name_word_requires
-    loop_less
-    loop_again
+    invariant-loop-at
+    decreases-loop-at
+    loop-at-init
+    next_token-t-requires
+    name_word-requires
+    loop-at-smaller
+    loop-at-preserved
     returns)

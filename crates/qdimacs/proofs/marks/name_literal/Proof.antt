@@ -9,43 +9,43 @@ use Rattle.words.specs.Literals.{variable}
 use Rattle.qdimacs.proofs.marks.name_literal.Statement.{statement}
 use Rattle.qdimacs.proofs.marks.name_literal.Tie as tie
 
-variable_of_requires : tie.Need-variable-of-requires
-variable_of_requires c κs = search rules
+variable_of-x-requires : tie.Need-variable_of-x-requires
+variable_of-x-requires c κs = search rules
 
 -- the number that is marked
-named : (c : tie.After-variable-of) → c.variable_of.result ≡ variable c.before.args.literal
+named : (c : tie.After-variable_of-x) → c.variable_of-x.result ≡ variable c.args.literal
 named c =
-    let a = c.before in
-    c.variable_of.ensures ∙ ap variable (to_z-of_z w32 a.args.literal a.ranges.literal)
+    let a = c in
+    c.variable_of-x.ensures ∙ ap variable (to_z-of_z w32 a.args.literal a.ranges.literal)
+
+returns-then-x-ge-NUMBERS : tie.Need-returns-then-x-ge-NUMBERS
+returns-then-x-ge-NUMBERS c = let v = c in rw (← named v.before, le-leb 1025 v.variable_of-x.result c.if-x-ge-NUMBERS.true)
+
+bounds-marks-x : tie.Need-bounds-marks-x
+bounds-marks-x c = search rules
+
+returns-then-marks-x-ne0 : tie.Need-returns-then-marks-x-ne0
+returns-then-marks-x-ne0 c =
+    let v = c in
+    let x = v.variable_of-x.result in
+    rw (← named v.before.before.before.before, lt-leb 1025 x c.if-x-ge-NUMBERS.false, ne_eqb (get_or v.args.marks.now x 0) 0 c.if-marks-x-ne0.true)
+
+bounds-marks-x-2 : tie.Need-bounds-marks-x-2
+bounds-marks-x-2 c = search rules
 
 returns : tie.Need-returns
-returns c = let v = c.before in rw (← named v, le-leb 1025 v.variable_of.result c.if1.true)
-
-element_copy_out_if2 : tie.Need-element-copy-out-if2
-element_copy_out_if2 c = search rules
-
-returns_2 : tie.Need-returns-2
-returns_2 c =
-    let v = c.before.before.before in
-    let x = v.variable_of.result in
-    rw (← named v, lt-leb 1025 x c.before.before.if1.false, ne_eqb (get_or v.before.args.marks.now x 0) 0 c.if2.true)
-
-element_write_marks : tie.Need-element-write-marks
-element_write_marks c = search rules
-
-returns_3 : tie.Need-returns-3
-returns_3 c =
-    let v = c.before.before.before in
-    let x = v.variable_of.result in
-    rw (← named v, lt-leb 1025 x c.before.before.if1.false, eq-eqb (get_or v.before.args.marks.now x 0) 0 c.if2.false)
+returns c =
+    let v = c in
+    let x = v.variable_of-x.result in
+    rw (← named v.before.before.before.before, lt-leb 1025 x c.if-x-ge-NUMBERS.false, eq-eqb (get_or v.args.marks.now x 0) 0 c.if-marks-x-ne0.false)
 
 pub name_literal_spec : {M : Type 1} → statement M
 name_literal_spec =
     tie.close
     (tie.spec
-    variable_of_requires
-    returns
-    element_copy_out_if2
-    returns_2
-    element_write_marks
-    returns_3)
+    variable_of-x-requires
+    returns-then-x-ge-NUMBERS
+    bounds-marks-x
+    returns-then-marks-x-ne0
+    bounds-marks-x-2
+    returns)

@@ -8,24 +8,28 @@ use Rattle.qdimacs.specs.Inner.Marks.{named_by}
 use Rattle.qdimacs.proofs.marks.name_word.Statement.{statement}
 use Rattle.qdimacs.proofs.marks.name_word.Tie as tie
 
+returns-then-t-lt-ZERO : tie.Need-returns-then-t-lt-ZERO
+returns-then-t-lt-ZERO c = rw (lt-ltb c.args.t.class 6 c.if-t-lt-ZERO.true)
+
+literal_said-requires : tie.Need-literal_said-requires
+literal_said-requires c κs = search rules
+
+name_literal-requires : tie.Need-name_literal-requires
+name_literal-requires c κs = search rules
+
 returns : tie.Need-returns
-returns c = rw (lt-ltb c.before.before.args.t.class 6 c.if1.true)
-
-literal_said_requires : tie.Need-literal-said-requires
-literal_said_requires c κs = search rules
-
-name_literal_requires : tie.Need-name-literal-requires
-name_literal_requires c κs = search rules
-
-returns_2 : tie.Need-returns-2
-returns_2 c =
-    let said = c.before.before in
-    let number = said.before in
-    let a = number.before.before in
+returns c =
+    let said = c in
+    let number = said in
+    let a = number in
     let t = a.args.t in
-    rw (le-ltb t.class 6 number.if1.false)
-    (c.name-literal.ensures ∙ ap (λ l. named_by l a.args.marks.now) (literal_passed (eqb t.class 8) t.magnitude said.literal_said.ensures))
+    rw (le-ltb t.class 6 number.if-t-lt-ZERO.false)
+    (c.name_literal.ensures ∙ ap (λ l. named_by l a.args.marks.now) (literal_passed (eqb t.class 8) t.magnitude said.literal_said.ensures))
 
 pub name_word_spec : {M : Type 1} → statement M
 name_word_spec =
-    tie.close (tie.spec returns literal_said_requires name_literal_requires returns_2)
+    tie.close (tie.spec
+    returns-then-t-lt-ZERO
+    literal_said-requires
+    name_literal-requires
+    returns)

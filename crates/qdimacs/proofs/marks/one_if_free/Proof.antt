@@ -7,11 +7,13 @@ use borrow.Author.Tests.{eq-eqb, ne_eqb}
 use Rattle.qdimacs.proofs.marks.one_if_free.Statement.{statement}
 use Rattle.qdimacs.proofs.marks.one_if_free.Tie as tie
 
-returns : tie.Need-returns
-returns c = rw (eq-eqb c.before.args.mark 2 c.if1.true)
+returns-then-mark-eq-FREE : tie.Need-returns-then-mark-eq-FREE
+returns-then-mark-eq-FREE c = rw (eq-eqb c.args.mark 2 c.if-mark-eq-FREE.true)
 
-returns_2 : tie.Need-returns-2
-returns_2 c = rw (ne_eqb c.before.args.mark 2 c.if1.false)
+returns : tie.Need-returns
+returns c = rw (ne_eqb c.args.mark 2 c.if-mark-eq-FREE.false)
 
 pub one_if_free_spec : {M : Type 1} → statement M
-one_if_free_spec = tie.close (tie.spec returns returns_2)
+one_if_free_spec = tie.close (tie.spec
+    returns-then-mark-eq-FREE
+    returns)

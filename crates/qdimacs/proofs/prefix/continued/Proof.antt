@@ -7,27 +7,31 @@ use borrow.Author.Tests.{eq-eqb, ne_eqb}
 use Rattle.qdimacs.proofs.prefix.continued.Statement.{statement}
 use Rattle.qdimacs.proofs.prefix.continued.Tie as tie
 
-returns : tie.Need-returns
-returns c = rw (eq-eqb c.before.args.class 0 c.if1.true)
+returns-then-class-eq-NONE : tie.Need-returns-then-class-eq-NONE
+returns-then-class-eq-NONE c = rw (eq-eqb c.args.class 0 c.if-class-eq-NONE.true)
 
-returns_2 : tie.Need-returns-2
-returns_2 c = rw (ne_eqb c.before.before.args.class 0 c.before.if1.false, eq-eqb c.before.before.args.class 6 c.if2.true)
+returns-then-class-eq-ZERO : tie.Need-returns-then-class-eq-ZERO
+returns-then-class-eq-ZERO c = rw (ne_eqb c.args.class 0 c.if-class-eq-NONE.false, eq-eqb c.args.class 6 c.if-class-eq-ZERO.true)
 
-returns_3 : tie.Need-returns-3
-returns_3 c =
+returns-then-class-eq-POSITIVE : tie.Need-returns-then-class-eq-POSITIVE
+returns-then-class-eq-POSITIVE c =
     rw (
-      ne_eqb c.before.before.before.args.class 0 c.before.before.if1.false,
-      ne_eqb c.before.before.before.args.class 6 c.before.if2.false,
-      eq-eqb c.before.before.before.args.class 7 c.if3.true,
+      ne_eqb c.args.class 0 c.if-class-eq-NONE.false,
+      ne_eqb c.args.class 6 c.if-class-eq-ZERO.false,
+      eq-eqb c.args.class 7 c.if-class-eq-POSITIVE.true,
     )
 
-returns_4 : tie.Need-returns-4
-returns_4 c =
+returns : tie.Need-returns
+returns c =
     rw (
-      ne_eqb c.before.before.before.args.class 0 c.before.before.if1.false,
-      ne_eqb c.before.before.before.args.class 6 c.before.if2.false,
-      ne_eqb c.before.before.before.args.class 7 c.if3.false,
+      ne_eqb c.args.class 0 c.if-class-eq-NONE.false,
+      ne_eqb c.args.class 6 c.if-class-eq-ZERO.false,
+      ne_eqb c.args.class 7 c.if-class-eq-POSITIVE.false,
     )
 
 pub continued_spec : {M : Type 1} → statement M
-continued_spec = tie.close (tie.spec returns returns_2 returns_3 returns_4)
+continued_spec = tie.close (tie.spec
+    returns-then-class-eq-NONE
+    returns-then-class-eq-ZERO
+    returns-then-class-eq-POSITIVE
+    returns)

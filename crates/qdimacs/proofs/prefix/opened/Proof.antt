@@ -7,27 +7,31 @@ use borrow.Author.Tests.{eq-eqb, ne_eqb}
 use Rattle.qdimacs.proofs.prefix.opened.Statement.{statement}
 use Rattle.qdimacs.proofs.prefix.opened.Tie as tie
 
-returns : tie.Need-returns
-returns c = rw (eq-eqb c.before.args.class 0 c.if1.true)
+returns-then-class-eq-NONE : tie.Need-returns-then-class-eq-NONE
+returns-then-class-eq-NONE c = rw (eq-eqb c.args.class 0 c.if-class-eq-NONE.true)
 
-returns_2 : tie.Need-returns-2
-returns_2 c = rw (ne_eqb c.before.before.args.class 0 c.before.if1.false, eq-eqb c.before.before.args.class 2 c.if2.true)
+returns-then-class-eq-EXISTS : tie.Need-returns-then-class-eq-EXISTS
+returns-then-class-eq-EXISTS c = rw (ne_eqb c.args.class 0 c.if-class-eq-NONE.false, eq-eqb c.args.class 2 c.if-class-eq-EXISTS.true)
 
-returns_3 : tie.Need-returns-3
-returns_3 c =
+returns-then-class-eq-FOR_ALL : tie.Need-returns-then-class-eq-FOR_ALL
+returns-then-class-eq-FOR_ALL c =
     rw (
-      ne_eqb c.before.before.before.args.class 0 c.before.before.if1.false,
-      ne_eqb c.before.before.before.args.class 2 c.before.if2.false,
-      eq-eqb c.before.before.before.args.class 3 c.if3.true,
+      ne_eqb c.args.class 0 c.if-class-eq-NONE.false,
+      ne_eqb c.args.class 2 c.if-class-eq-EXISTS.false,
+      eq-eqb c.args.class 3 c.if-class-eq-FOR_ALL.true,
     )
 
-returns_4 : tie.Need-returns-4
-returns_4 c =
+returns : tie.Need-returns
+returns c =
     rw (
-      ne_eqb c.before.before.before.args.class 0 c.before.before.if1.false,
-      ne_eqb c.before.before.before.args.class 2 c.before.if2.false,
-      ne_eqb c.before.before.before.args.class 3 c.if3.false,
+      ne_eqb c.args.class 0 c.if-class-eq-NONE.false,
+      ne_eqb c.args.class 2 c.if-class-eq-EXISTS.false,
+      ne_eqb c.args.class 3 c.if-class-eq-FOR_ALL.false,
     )
 
 pub opened_spec : {M : Type 1} → statement M
-opened_spec = tie.close (tie.spec returns returns_2 returns_3 returns_4)
+opened_spec = tie.close (tie.spec
+    returns-then-class-eq-NONE
+    returns-then-class-eq-EXISTS
+    returns-then-class-eq-FOR_ALL
+    returns)

@@ -8,46 +8,43 @@ use Rattle.qdimacs.proofs.Cutting.{Prefixed, prefixed_none, prefixed_ends, prefi
 use Rattle.qdimacs.proofs.prefix.prefix_end.Statement.{statement}
 use Rattle.qdimacs.proofs.prefix.prefix_end.Tie as tie
 
-abbrev invariant-loop : tie.invariant-loop
-invariant-loop b state₀ at₀ state at = Prefixed b state at
+abbrev invariant-loop-at : tie.invariant-loop-at
+invariant-loop-at b state₀ at₀ state at = Prefixed b state at
 
-abbrev decreases-loop : tie.decreases-loop
-decreases-loop b state₀ at₀ state at = length b - at
+abbrev decreases-loop-at : tie.decreases-loop-at
+decreases-loop-at b state₀ at₀ state at = length b - at
 
-abbrev at_loop : tie.After-step invariant-loop decreases-loop → tie.At-loop invariant-loop decreases-loop
-at_loop c = c.before.before.before
+loop-at-init : tie.Need-loop-at-init invariant-loop-at decreases-loop-at
+loop-at-init c = prefixed_none _
 
-loop_holds : tie.Need-loop-init invariant-loop decreases-loop
-loop_holds c = prefixed_none _
+next_token-t-requires : tie.Need-next_token-t-requires invariant-loop-at decreases-loop-at
+next_token-t-requires c κs = c.loop-at.invariant.inside
 
-next_token_requires : tie.Need-next-token-requires invariant-loop decreases-loop
-next_token_requires c κs = c.before.loop.invariant.inside
+step-next-requires : tie.Need-step-next-requires invariant-loop-at decreases-loop-at
+step-next-requires c κs = search rules
 
-step_requires : tie.Need-step-requires invariant-loop decreases-loop
-step_requires c κs = search rules
+returns-then-next-ge-CLAUSE : tie.Need-returns-then-next-ge-CLAUSE invariant-loop-at decreases-loop-at
+returns-then-next-ge-CLAUSE c = prefixed_ends c.loop-at.invariant c.next_token-t.ensures c.step-next.ensures c.if-next-ge-CLAUSE.true
 
-returns : tie.Need-returns invariant-loop decreases-loop
-returns c = prefixed_ends (at_loop c.before).loop.inv c.before.before.next-token.ensures c.before.step.ensures c.if1.true
+loop-at-smaller : tie.Need-loop-at-smaller invariant-loop-at decreases-loop-at
+loop-at-smaller c = omega (arith, c.next_token-t.ensures.inside, c.next_token-t.ensures.onward (omega arith))
 
-loop_less : tie.Need-loop-smaller invariant-loop decreases-loop
-loop_less c = omega (arith, c.before.before.next-token.ensures.inside, c.before.before.next-token.ensures.onward (omega arith))
+loop-at-preserved : tie.Need-loop-at-preserved invariant-loop-at decreases-loop-at
+loop-at-preserved c = prefixed_more c.loop-at.invariant c.next_token-t.ensures c.step-next.ensures c.if-next-ge-CLAUSE.false
 
-loop_again : tie.Need-loop-preserved invariant-loop decreases-loop
-loop_again c = prefixed_more (at_loop c.before).loop.inv c.before.before.next-token.ensures c.before.step.ensures c.if1.false
-
-returns_2 : tie.Need-returns-2 invariant-loop decreases-loop
-returns_2 c = prefixed_all c.before.loop.invariant (omega arith)
+returns : tie.Need-returns invariant-loop-at decreases-loop-at
+returns c = prefixed_all c.loop-at.invariant (omega arith)
 
 pub prefix_end_spec : {M : Type 1} → statement M
 prefix_end_spec =
     tie.close
     (tie.spec
-    invariant-loop
-    decreases-loop
-    loop_holds
-    next_token_requires
-    step_requires
-    returns
-    loop_less
-    loop_again
-    returns_2)
+    invariant-loop-at
+    decreases-loop-at
+    loop-at-init
+    next_token-t-requires
+    step-next-requires
+    returns-then-next-ge-CLAUSE
+    loop-at-smaller
+    loop-at-preserved
+    returns)

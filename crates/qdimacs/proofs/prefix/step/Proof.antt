@@ -7,17 +7,21 @@ use borrow.Author.Tests.{eq-eqb, ne_eqb}
 use Rattle.qdimacs.proofs.prefix.step.Statement.{statement}
 use Rattle.qdimacs.proofs.prefix.step.Tie as tie
 
-opened_requires : tie.Need-opened-requires
-opened_requires c κs = search rules
+opened-requires : tie.Need-opened-requires
+opened-requires c κs = search rules
+
+returns-then-state-eq-BETWEEN : tie.Need-returns-then-state-eq-BETWEEN
+returns-then-state-eq-BETWEEN c = rw (eq-eqb c.args.state 0 c.if-state-eq-BETWEEN.true) c.opened.ensures
+
+continued-requires : tie.Need-continued-requires
+continued-requires c κs = search rules
 
 returns : tie.Need-returns
-returns c = rw (eq-eqb c.before.before.args.state 0 c.before.if1.true) c.opened.ensures
-
-continued_requires : tie.Need-continued-requires
-continued_requires c κs = search rules
-
-returns_2 : tie.Need-returns-2
-returns_2 c = rw (ne_eqb c.before.before.args.state 0 c.before.if1.false) c.continued.ensures
+returns c = rw (ne_eqb c.args.state 0 c.if-state-eq-BETWEEN.false) c.continued.ensures
 
 pub step_spec : {M : Type 1} → statement M
-step_spec = tie.close (tie.spec opened_requires returns continued_requires returns_2)
+step_spec = tie.close (tie.spec
+    opened-requires
+    returns-then-state-eq-BETWEEN
+    continued-requires
+    returns)

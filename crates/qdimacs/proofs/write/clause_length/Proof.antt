@@ -8,52 +8,49 @@ use Rattle.qdimacs.proofs.WritingClauses.{Measured, measured_none, measured_end,
 use Rattle.qdimacs.proofs.write.clause_length.Statement.{statement}
 use Rattle.qdimacs.proofs.write.clause_length.Tie as tie
 
-abbrev invariant-loop : tie.invariant-loop
-invariant-loop b from n₀ at₀ n at = Measured b from n at
+abbrev invariant-loop-at : tie.invariant-loop-at
+invariant-loop-at b from n₀ at₀ n at = Measured b from n at
 
-abbrev decreases-loop : tie.decreases-loop
-decreases-loop b from n₀ at₀ n at = length b - at
+abbrev decreases-loop-at : tie.decreases-loop-at
+decreases-loop-at b from n₀ at₀ n at = length b - at
 
-abbrev at_loop : tie.After-next-token invariant-loop decreases-loop → tie.At-loop invariant-loop decreases-loop
-at_loop c = c.before.before
+loop-at-init : tie.Need-loop-at-init invariant-loop-at decreases-loop-at
+loop-at-init c = measured_none _ _ c.requires
 
-loop_holds : tie.Need-loop-init invariant-loop decreases-loop
-loop_holds c = measured_none _ _ c.before.requires
+next_token-t-requires : tie.Need-next_token-t-requires invariant-loop-at decreases-loop-at
+next_token-t-requires c κs = c.loop-at.invariant.inside
 
-next_token_requires : tie.Need-next-token-requires invariant-loop decreases-loop
-next_token_requires c κs = c.before.loop.invariant.inside
+returns-then-t-eq-ZERO : tie.Need-returns-then-t-eq-ZERO invariant-loop-at decreases-loop-at
+returns-then-t-eq-ZERO c = measured_end c.loop-at.invariant c.next_token-t.ensures c.if-t-eq-ZERO.true
 
-returns : tie.Need-returns invariant-loop decreases-loop
-returns c = measured_end (at_loop c.before.before).loop.inv c.before.before.next-token.ensures c.if1.true
+one_if_some-n-requires : tie.Need-one_if_some-n-requires invariant-loop-at decreases-loop-at
+one_if_some-n-requires c κs = search rules
 
-one_if_some_requires : tie.Need-one-if-some-requires invariant-loop decreases-loop
-one_if_some_requires c κs = search rules
+overflow_add-n : tie.Need-overflow_add-n invariant-loop-at decreases-loop-at
+overflow_add-n c =
+    let h = measured_word c.loop-at.invariant c.next_token-t.ensures (omega arith) c.if-t-eq-ZERO.false
+    c.one_if_some-n.ensures in omega (arith, h.fewer, h.inside)
 
-add_n : tie.Need-overflow-add-n invariant-loop decreases-loop
-add_n c =
-    let h = measured_word (at_loop c.before.before.before).loop.inv c.before.before.before.next-token.ensures (omega arith) c.before.if1.false
-    c.one-if-some.ensures in omega (arith, h.fewer, h.inside)
+loop-at-smaller : tie.Need-loop-at-smaller invariant-loop-at decreases-loop-at
+loop-at-smaller c = omega (arith, c.next_token-t.ensures.inside, c.next_token-t.ensures.onward (omega arith))
 
-loop_less : tie.Need-loop-smaller invariant-loop decreases-loop
-loop_less c = omega (arith, c.before.before.before.next-token.ensures.inside, c.before.before.before.next-token.ensures.onward (omega arith))
+loop-at-preserved : tie.Need-loop-at-preserved invariant-loop-at decreases-loop-at
+loop-at-preserved c = measured_word c.loop-at.invariant c.next_token-t.ensures (omega arith) c.if-t-eq-ZERO.false c.one_if_some-n.ensures
 
-loop_again : tie.Need-loop-preserved invariant-loop decreases-loop
-loop_again c = measured_word (at_loop c.before.before.before).loop.inv c.before.before.before.next-token.ensures (omega arith) c.before.if1.false c.one-if-some.ensures
-
-returns_2 : tie.Need-returns-2 invariant-loop decreases-loop
-returns_2 c = measured_all c.before.loop.invariant (omega arith)
+returns : tie.Need-returns invariant-loop-at decreases-loop-at
+returns c = measured_all c.loop-at.invariant (omega arith)
 
 pub clause_length_spec : {M : Type 1} → statement M
 clause_length_spec =
     tie.close
     (tie.spec
-    invariant-loop
-    decreases-loop
-    loop_holds
-    next_token_requires
-    returns
-    one_if_some_requires
-    add_n
-    loop_less
-    loop_again
-    returns_2)
+    invariant-loop-at
+    decreases-loop-at
+    loop-at-init
+    next_token-t-requires
+    returns-then-t-eq-ZERO
+    one_if_some-n-requires
+    overflow_add-n
+    loop-at-smaller
+    loop-at-preserved
+    returns)

@@ -7,11 +7,13 @@ use borrow.Author.Tests.{eq-eqb, ne_eqb}
 use Rattle.qdimacs.proofs.write.one_if_some.Statement.{statement}
 use Rattle.qdimacs.proofs.write.one_if_some.Tie as tie
 
-returns : tie.Need-returns
-returns c = rw (eq-eqb c.before.args.class 0 c.if1.true)
+returns-then-class-eq-NONE : tie.Need-returns-then-class-eq-NONE
+returns-then-class-eq-NONE c = rw (eq-eqb c.args.class 0 c.if-class-eq-NONE.true)
 
-returns_2 : tie.Need-returns-2
-returns_2 c = rw (ne_eqb c.before.args.class 0 c.if1.false)
+returns : tie.Need-returns
+returns c = rw (ne_eqb c.args.class 0 c.if-class-eq-NONE.false)
 
 pub one_if_some_spec : {M : Type 1} → statement M
-one_if_some_spec = tie.close (tie.spec returns returns_2)
+one_if_some_spec = tie.close (tie.spec
+    returns-then-class-eq-NONE
+    returns)

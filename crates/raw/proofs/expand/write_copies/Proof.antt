@@ -14,86 +14,56 @@ use borrow.Author.Rules.{rules}
 use Rattle.raw.proofs.expand.write_copies.Statement.{statement}
 use Rattle.raw.proofs.expand.write_copies.Tie as tie
 
--- places in the code, each from a later one
-abbrev known : tie.After-t → tie.After-shared-slice-known2
-known c = c.before.before.before
+kind_at-kind-requires : tie.Need-kind_at-kind-requires
+kind_at-kind-requires c κs =
+    let a = c in
+    (a.requires.0.readable, (some a.requires.0 a.requires.1 a.requires.2 a.requires.3).operator_in)
 
-abbrev start : tie.After-t → tie.Start
-start c = (known c).before.before
+bounds-cuts-1 : tie.Need-bounds-cuts-1
+bounds-cuts-1 c =
+    let a = c in
+    omega (arith, (some a.requires.0 a.requires.1 a.requires.2 a.requires.3).two)
 
-abbrev kind_read : tie.After-write-row-arg → tie.After-kind-at
-kind_read c = c.before.before.before
+overflow_cast-start : tie.Need-overflow_cast-start
+overflow_cast-start c =
+    let a = c in
+    omega (arith, (some a.requires.0 a.requires.1 a.requires.2 a.requires.3).within, a.requires.0.readable.few_variables, a.requires.0.readable.few_nodes)
 
-abbrev start_from_row : tie.After-write-row → tie.Start
-start_from_row c = start (kind_read c.before).before
+overflow_add-start : tie.Need-overflow_add-start
+overflow_add-start c =
+    let a = c in
+    omega (arith, (some a.requires.0 a.requires.1 a.requires.2 a.requires.3).within, a.requires.0.few_variables, a.requires.0.readable.few_nodes)
 
-abbrev row_written : tie.After-write-below-arg → tie.After-write-row
-row_written c = c.before.before.before
+write_row-at-requires : tie.Need-write_row-at-requires
+write_row-at-requires c κs =
+    let a = c in
+    let p = some a.requires.0 a.requires.1 a.requires.2 a.requires.3 in
+    (a.requires.0.room, omega (arith, p.room, p.joined_length, p.begins, p.ordered), p.fits_two)
 
-abbrev row_from_below : tie.After-write-below → tie.After-write-row
-row_from_below c = row_written c.before.before.before
+slice_bounds-write_below-end : tie.Need-slice_bounds-write_below-end
+slice_bounds-write_below-end c = search rules
 
-abbrev start_from_below : tie.After-write-below → tie.Start
-start_from_below c = start_from_row (row_from_below c)
+slice_bounds-write_below-count : tie.Need-slice_bounds-write_below-count
+slice_bounds-write_below-count c =
+    let a = c in
+    omega (arith, (some a.requires.0 a.requires.1 a.requires.2 a.requires.3).two)
 
-abbrev below_written : tie.After-write-below-arg4 → tie.After-write-below
-below_written c = c.before.before.before
+slice_bounds-write_below-start : tie.Need-slice_bounds-write_below-start
+slice_bounds-write_below-start c =
+    let a = c in
+    omega (arith, (some a.requires.0 a.requires.1 a.requires.2 a.requires.3).two)
 
-abbrev second_asked : tie.After-slice-known4 → tie.After-write-below-arg6
-second_asked c = c.before.before.before
+slice_bounds-write_below-end-2 : tie.Need-slice_bounds-write_below-end-2
+slice_bounds-write_below-end-2 c = search rules
 
-kind_at_requires : tie.Need-kind-at-requires
-kind_at_requires c κs =
-    let a = start c in
-    (a.pre.0.readable, (some a.pre.0 a.pre.1 a.pre.2 a.pre.3).operator_in)
-
-shared_slice_read_write_below : tie.Need-shared-slice-read-write-below
-shared_slice_read_write_below c =
-    let a = start c.before.before in
-    omega (arith, (some a.pre.0 a.pre.1 a.pre.2 a.pre.3).two)
-
-cast_write_below : tie.Need-overflow-cast-write-below
-cast_write_below c =
-    let a = start c.before.before in
-    omega (arith, (some a.pre.0 a.pre.1 a.pre.2 a.pre.3).within, a.pre.0.readable.few_variables, a.pre.0.readable.few_nodes)
-
-add_write_below : tie.Need-overflow-add-write-below
-add_write_below c =
-    let a = start c.before.before.before in
-    omega (arith, (some a.pre.0 a.pre.1 a.pre.2 a.pre.3).within, a.pre.0.few_variables, a.pre.0.readable.few_nodes)
-
-write_row_requires : tie.Need-write-row-requires
-write_row_requires c κs =
-    let a = start (kind_read c).before in
-    let p = some a.pre.0 a.pre.1 a.pre.2 a.pre.3 in
-    (a.pre.0.room, omega (arith, p.room, p.joined_length, p.begins, p.ordered), p.fits_two)
-
-slice_aggregate_write_below : tie.Need-slice-aggregate-write-below
-slice_aggregate_write_below c =
-    let a = start_from_row (row_written c) in
-    sym (length-take-le 1025 a.args.tables.now (omega (arith, a.pre.0.two_tables)))
-
-sub_write_below : tie.Need-overflow-sub-write-below
-sub_write_below c =
-    let a = start_from_row (row_written c) in
-    omega (arith, (some a.pre.0 a.pre.1 a.pre.2 a.pre.3).two)
-
-part_write_below_start : tie.Need-slice-bounds-write-below-start
-part_write_below_start c =
-    let a = start_from_row (row_written c) in
-    omega (arith, (some a.pre.0 a.pre.1 a.pre.2 a.pre.3).two)
-
-part_write_below_end : tie.Need-slice-bounds-write-below-end
-part_write_below_end c = search rules
-
-write_below_requires : tie.Need-write-below-requires
-write_below_requires c κs =
-    let first = row_written c.before.before in
-    let a = start_from_row first in
-    let p = some a.pre.0 a.pre.1 a.pre.2 a.pre.3 in (
+write_below-end-requires : tie.Need-write_below-end-requires
+write_below-end-requires c κs =
+    let first = c in
+    let a = first in
+    let p = some a.requires.0 a.requires.1 a.requires.2 a.requires.3 in (
       record {
-        readable = a.pre.0.readable;
-        ready = ready_on (ready_raw a.pre.0) first.write-row.kept.0;
+        readable = a.requires.0.readable;
+        ready = ready_on (ready_raw a.requires.0) first.write_row-at.auto.out;
         climbs = subst (λ l. Climbs 0 l a.args.s.nodes) (sym (rest_of 1 a.args.cuts.now)) p.climbs_relevant;
         room = omega (
           arith,
@@ -101,44 +71,44 @@ write_below_requires c κs =
           p.joined_length,
           p.begins,
           p.ordered,
-          first.write-row.ensures.next_row,
+          first.write_row-at.ensures.next_row,
           ap (λ l. length (runs_in a.args.s a.args.b.now l)) (rest_of 1 a.args.cuts.now),
         );
       },
       p.fits_relevant,
     )
 
-sub_write_below_2 : tie.Need-overflow-sub-write-below-2
-sub_write_below_2 c = search rules
+slice_bounds-write_below-count-2 : tie.Need-slice_bounds-write_below-count-2
+slice_bounds-write_below-count-2 c = search rules
 
-part_write_below_start_2 : tie.Need-slice-bounds-write-below-start-2
-part_write_below_start_2 c = search rules
+slice_bounds-write_below-start-2 : tie.Need-slice_bounds-write_below-start-2
+slice_bounds-write_below-start-2 c = search rules
 
-part_write_below_end_2 : tie.Need-slice-bounds-write-below-end-2
-part_write_below_end_2 c = search rules
+slice_bounds-write_below-end-3 : tie.Need-slice_bounds-write_below-end-3
+slice_bounds-write_below-end-3 c = search rules
 
-sub_write_below_3 : tie.Need-overflow-sub-write-below-3
-sub_write_below_3 c =
-    let a = start_from_below (below_written c) in
-    omega (arith, (some a.pre.0 a.pre.1 a.pre.2 a.pre.3).two)
+slice_bounds-write_below-count-3 : tie.Need-slice_bounds-write_below-count-3
+slice_bounds-write_below-count-3 c =
+    let a = c in
+    omega (arith, (some a.requires.0 a.requires.1 a.requires.2 a.requires.3).two)
 
-part_write_below_start_3 : tie.Need-slice-bounds-write-below-start-3
-part_write_below_start_3 c =
-    let a = start_from_below (below_written c) in
-    omega (arith, (some a.pre.0 a.pre.1 a.pre.2 a.pre.3).two)
+slice_bounds-write_below-start-3 : tie.Need-slice_bounds-write_below-start-3
+slice_bounds-write_below-start-3 c =
+    let a = c in
+    omega (arith, (some a.requires.0 a.requires.1 a.requires.2 a.requires.3).two)
 
-part_write_below_end_3 : tie.Need-slice-bounds-write-below-end-3
-part_write_below_end_3 c = search rules
+slice_bounds-write_below-end-4 : tie.Need-slice_bounds-write_below-end-4
+slice_bounds-write_below-end-4 c = search rules
 
-write_below_requires_2 : tie.Need-write-below-requires-2
-write_below_requires_2 c κs =
-    let second = below_written c.before.before in
-    let first = row_from_below second in
-    let a = start_from_below second in
-    let p = some a.pre.0 a.pre.1 a.pre.2 a.pre.3 in (
+write_below-requires : tie.Need-write_below-requires
+write_below-requires c κs =
+    let second = c in
+    let first = second in
+    let a = second in
+    let p = some a.requires.0 a.requires.1 a.requires.2 a.requires.3 in (
       record {
-        readable = a.pre.0.readable;
-        ready = ready_on (ready_raw a.pre.0) (second.write-below.kept.1.1.1.1.0 ∙ first.write-row.kept.0);
+        readable = a.requires.0.readable;
+        ready = ready_on (ready_raw a.requires.0) (second.write_below-end.auto.out ∙ first.write_row-at.auto.out);
         climbs = subst (λ l. Climbs 0 l a.args.s.nodes) (sym (rest_of 1 a.args.cuts.now)) p.climbs_relevant;
         room = omega (
           arith,
@@ -146,8 +116,8 @@ write_below_requires_2 c κs =
           p.joined_length,
           p.begins,
           p.ordered,
-          first.write-row.ensures.next_row,
-          second.write-below.ensures.next_row,
+          first.write_row-at.ensures.next_row,
+          second.write_below-end.ensures.next_row,
           length-map (runs_in a.args.s a.args.b.now (take (length a.args.cuts.now - 1) (drop 1 a.args.cuts.now)))
               (changed_row (first_table a.args.tables.now)),
           ap (λ l. length (runs_in a.args.s a.args.b.now l)) (rest_of 1 a.args.cuts.now),
@@ -156,39 +126,39 @@ write_below_requires_2 c κs =
       p.fits_relevant,
     )
 
-same_length : tie.Need-same-length
-same_length c = search rules
+shape_of-out : tie.Need-shape_of-out
+shape_of-out c = search rules
 
 returns : tie.Need-returns
 returns c =
-    let below = below_written (second_asked c).before.before in
-    let first = row_from_below below in
-    let a = start_from_below below in
+    let below = c in
+    let first = below in
+    let a = below in
     subst (Laid a.args.e.layout a.args.out.now _ (joined_at a.args.e a.args.cuts.now) _)
     (joined_parts a.args.s a.args.b.now a.args.tables.now a.args.cuts.now a.args.e
-    (kind_read first.before).kind_at.ensures)
-    (laid_on first.write-row.ensures (laid_on below.write-below.ensures c.before.before.write-below2.ensures))
+    first.kind_at-kind.ensures)
+    (laid_on first.write_row-at.ensures (laid_on below.write_below-end.ensures c.write_below.ensures))
 
 pub write_copies_spec : {M : Type 1} → statement M
 write_copies_spec =
     tie.close
     (tie.spec
-    kind_at_requires
-    shared_slice_read_write_below
-    cast_write_below
-    add_write_below
-    write_row_requires
-    slice_aggregate_write_below
-    sub_write_below
-    part_write_below_start
-    part_write_below_end
-    write_below_requires
-    sub_write_below_2
-    part_write_below_start_2
-    part_write_below_end_2
-    sub_write_below_3
-    part_write_below_start_3
-    part_write_below_end_3
-    write_below_requires_2
-    same_length
+    kind_at-kind-requires
+    bounds-cuts-1
+    overflow_cast-start
+    overflow_add-start
+    write_row-at-requires
+    slice_bounds-write_below-end
+    slice_bounds-write_below-count
+    slice_bounds-write_below-start
+    slice_bounds-write_below-end-2
+    write_below-end-requires
+    slice_bounds-write_below-count-2
+    slice_bounds-write_below-start-2
+    slice_bounds-write_below-end-3
+    slice_bounds-write_below-count-3
+    slice_bounds-write_below-start-3
+    slice_bounds-write_below-end-4
+    write_below-requires
+    shape_of-out
     returns)

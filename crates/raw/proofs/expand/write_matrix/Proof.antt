@@ -11,61 +11,48 @@ use borrow.Author.Rules.{rules}
 use Rattle.raw.proofs.expand.write_matrix.Statement.{statement}
 use Rattle.raw.proofs.expand.write_matrix.Tie as tie
 
--- places in the code, each from a later one
-abbrev known : tie.After-slice-known → tie.After-shared-slice-known
-known c = c.before.before.before
+absent : (c : tie.Else-e) → let a = c in has (chosen_by a.args.tables.now) (matrix_in a.args.s a.args.b.now) ≡ false
+absent c = let a = c in sym a.requires.1.0 ∙ c.if-e.false
 
-abbrev start : tie.After-slice-known → tie.Start
-start c = (known c).before
+write_expanded-requires : tie.Need-write_expanded-requires
+write_expanded-requires c κs =
+    let a = c in
+    (a.requires.0, a.requires.1.1 c.if-e.true)
 
-abbrev unchosen : tie.After-write-rows-arg → tie.Else1
-unchosen c = c.before.before.before
+shape_of-out-then-e : tie.Need-shape_of-out-then-e
+shape_of-out-then-e c = search rules
 
-abbrev rows_asked : tie.After-slice-known3 → tie.After-write-rows-arg
-rows_asked c = c.before.before.before
+returns-then-e : tie.Need-returns-then-e
+returns-then-e c = search rules
 
-absent : (c : tie.Else1) → let a = start c.before in has (chosen_by a.args.tables.now) (matrix_in a.args.s a.args.b.now) ≡ false
-absent c = let a = start c.before in sym a.pre.1.0 ∙ c.if1.false
+overflow_add-matrix : tie.Need-overflow_add-matrix
+overflow_add-matrix c = search rules
 
-write_expanded_requires : tie.Need-write-expanded-requires
-write_expanded_requires c κs =
-    let a = start c.before.before in
-    (a.pre.0, a.pre.1.1 c.before.if1.true)
-
-same_length : tie.Need-same-length
-same_length c = search rules
-
-returns : tie.Need-returns
-returns c = search rules
-
-add_t13 : tie.Need-overflow-add-t13
-add_t13 c = search rules
-
-write_rows_requires : tie.Need-write-rows-requires
-write_rows_requires c κs =
-    let a = start (unchosen c).before in (
-      ready_raw a.pre.0,
+write_rows-requires : tie.Need-write_rows-requires
+write_rows-requires c κs =
+    let a = c in (
+      ready_raw a.requires.0,
       record { ordered = omega arith; inside = omega arith },
-      omega (arith, absent-nodes a.pre.0 (absent c.before.before.before)),
+      omega (arith, absent-nodes a.requires.0 (absent c.before.before.before)),
     )
 
-same_length_2 : tie.Need-same-length-2
-same_length_2 c = search rules
+shape_of-out : tie.Need-shape_of-out
+shape_of-out c = search rules
 
-returns_2 : tie.Need-returns-2
-returns_2 c =
-    let a = start (unchosen (rows_asked c)).before in
-    subst (Laid a.args.e.layout a.args.out.now _ a.args.e.layout.variables _) (absent-parts a.pre.0 (absent (unchosen (rows_asked c))))
-    c.before.before.write-rows.ensures.0
+returns : tie.Need-returns
+returns c =
+    let a = c in
+    subst (Laid a.args.e.layout a.args.out.now _ a.args.e.layout.variables _) (absent-parts a.requires.0 (absent c.before.before.before.before.before.before))
+    c.write_rows.ensures.0
 
 pub write_matrix_spec : {M : Type 1} → statement M
 write_matrix_spec =
     tie.close
     (tie.spec
-    write_expanded_requires
-    same_length
-    returns
-    add_t13
-    write_rows_requires
-    same_length_2
-    returns_2)
+    write_expanded-requires
+    shape_of-out-then-e
+    returns-then-e
+    overflow_add-matrix
+    write_rows-requires
+    shape_of-out
+    returns)

@@ -8,44 +8,39 @@ use borrow.Author.Rules.{rules}
 use Rattle.raw.proofs.settle.write_prefix.Statement.{statement}
 use Rattle.raw.proofs.settle.write_prefix.Tie as tie
 
--- places in the code, each from a later one
-abbrev start : tie.After-write-rows-arg → tie.Start
-start c = c.before.before.before
+overflow_add-below : tie.Need-overflow_add-below
+overflow_add-below c = search rules
 
-abbrev first_written : tie.After-write-rows-arg2 → tie.After-write-rows
-first_written c = c.before.before.before
+write_rows-at-requires : tie.Need-write_rows-at-requires
+write_rows-at-requires c κs = search rules
 
-abbrev second_asked : tie.After-slice-known3 → tie.After-write-rows-arg2
-second_asked c = c.before.before.before
-
-add_t11 : tie.Need-overflow-add-t11
-add_t11 c = search rules
-
-write_rows_requires : tie.Need-write-rows-requires
-write_rows_requires c κs = search rules
-
-write_rows_requires_2 : tie.Need-write-rows-requires-2
-write_rows_requires_2 c κs =
-    let first = c.before.before.before in
-    let a = start first.before in (
-      ready_on a.pre.1 first.write-rows.auto.1.1.1.0,
-      record { ordered = omega (arith, a.pre.2); inside = omega arith },
-      omega (arith, first.write-rows.ensures.1, a.pre),
+write_rows-requires : tie.Need-write_rows-requires
+write_rows-requires c κs =
+    let first = c in
+    let a = first in (
+      ready_on a.requires.1 first.write_rows-at.auto.out,
+      record { ordered = omega (arith, a.requires.2); inside = omega arith },
+      omega (arith, first.write_rows-at.ensures.1, a.requires),
     )
 
-same_length : tie.Need-same-length
-same_length c = search rules
+shape_of-out : tie.Need-shape_of-out
+shape_of-out c = search rules
 
 returns : tie.Need-returns
 returns c =
-    let first = first_written (second_asked c) in
-    let a = start first.before in (
+    let first = c in
+    let a = first in (
       subst (Laid a.args.t a.args.out.now _ 0 _)
-          (prefix_without a.args.s a.args.b.now a.pre.0 a.args.i a.pre.2)
-          (laid_on first.write-rows.ensures.0 c.before.before.write-rows2.ensures.0),
-      omega (arith, first.write-rows.ensures.1, c.before.before.write-rows2.ensures.1, a.pre),
+          (prefix_without a.args.s a.args.b.now a.requires.0 a.args.i a.requires.2)
+          (laid_on first.write_rows-at.ensures.0 c.write_rows.ensures.0),
+      omega (arith, first.write_rows-at.ensures.1, c.write_rows.ensures.1, a.requires),
     )
 
 pub write_prefix_spec : {M : Type 1} → statement M
 write_prefix_spec =
-    tie.close (tie.spec add_t11 write_rows_requires write_rows_requires_2 same_length returns)
+    tie.close (tie.spec
+    overflow_add-below
+    write_rows-at-requires
+    write_rows-requires
+    shape_of-out
+    returns)

@@ -4,29 +4,36 @@ use Rattle.relevance.specs.Walks.{run_cut, table_cut}
 use Rattle.relevance.proofs.cuts.cut.Statement.{statement}
 use Rattle.relevance.proofs.cuts.cut.Tie as tie
 
+returns-then-holds-runs : tie.Need-returns-then-holds-runs
+unfolding run_cut table_cut
+returns-then-holds-runs c = (rw c.if-holds-runs.true, rw c.if-holds-runs.true)
+
+overflow_cast-cuts : tie.Need-overflow_cast-cuts
+overflow_cast-cuts c = search rules
+
+offset_bounds-cuts-k : tie.Need-offset_bounds-cuts-k
+offset_bounds-cuts-k c = search rules
+
+bounds-cuts-k : tie.Need-bounds-cuts-k
+bounds-cuts-k c = search rules
+
+overflow_add-result : tie.Need-overflow_add-result
+overflow_add-result c = search rules
+
+shape_of-cuts : tie.Need-shape_of-cuts
+shape_of-cuts c = search rules
+
 returns : tie.Need-returns
 unfolding run_cut table_cut
-returns c = (rw c.if1.true, rw c.if1.true)
-
-cast_cuts : tie.Need-overflow-cast-cuts
-cast_cuts c = search rules
-
-mul_cuts : tie.Need-overflow-mul-cuts
-mul_cuts c = search rules
-
-slice_write_cuts : tie.Need-slice-write-cuts
-slice_write_cuts c = search rules
-
-add_t8 : tie.Need-overflow-add-t8
-add_t8 c = search rules
-
-same_length : tie.Need-same-length
-same_length c = search rules
-
-returns_2 : tie.Need-returns-2
-unfolding run_cut table_cut
-returns_2 c = (rw c.if1.false, rw c.if1.false)
+returns c = (rw c.if-holds-runs.false, rw c.if-holds-runs.false)
 
 pub cut_spec : {M : Type 1} → statement M
 cut_spec =
-    tie.close (tie.spec returns cast_cuts mul_cuts slice_write_cuts add_t8 same_length returns_2)
+    tie.close (tie.spec
+    returns-then-holds-runs
+    overflow_cast-cuts
+    offset_bounds-cuts-k
+    bounds-cuts-k
+    overflow_add-result
+    shape_of-cuts
+    returns)

@@ -16,168 +16,152 @@ use Rattle.relevance.proofs.cuts.fill_cuts.Statement.{statement}
 use Rattle.relevance.proofs.cuts.fill_cuts.Tie as tie
 
 -- whatever the sheet and the set are whose literals the walk goes along
-abbrev invariant-loop : tie.invariant-loop
-invariant-loop b ends next cuts₀ left₀ at₀ row₀ runs₀ cuts left at row runs =
+abbrev invariant-loop-left : tie.invariant-loop-left
+invariant-loop-left b ends next cuts₀ left₀ at₀ row₀ runs₀ cuts left at row runs =
     ((s : Layout) (L : Literals) → Begun L s b ends next at₀ left₀ row₀
     → Cutting L s b (siblings_in s b at₀ left₀) at₀ at left row runs cuts) ×
     Kept cuts₀ runs cuts
 
-abbrev decreases-loop : tie.decreases-loop
-decreases-loop b ends next cuts₀ left₀ at₀ row₀ runs₀ cuts left at row runs = left
+abbrev decreases-loop-left : tie.decreases-loop-left
+decreases-loop-left b ends next cuts₀ left₀ at₀ row₀ runs₀ cuts left at row runs = left
 
--- places in the code, each from a later one
-abbrev known : tie.After-slice-known invariant-loop decreases-loop → tie.After-shared-slice-known invariant-loop decreases-loop
-known c = c.before.before.before
+children_at-left-requires : tie.Need-children_at-left-requires invariant-loop-left decreases-loop-left
+children_at-left-requires c κs =
+    let a = c in
+    (a.requires.0.chained.indexed.readable, site_inside a.args.b.now a.requires.0)
 
-abbrev start : tie.After-slice-known invariant-loop decreases-loop → tie.Start invariant-loop decreases-loop
-start c = (known c).before
+begun : (c : tie.At-loop-left invariant-loop-left decreases-loop-left) →
+    let a = c in
+    SiteBegun a.requires.0.chained.chosen a.args.s a.args.b.now a.args.ends.now a.args.next.now a.args.site c.children_at-left.result
+begun c = let a = c in site-chosen a.args.b.now a.requires.0 c.children_at-left.ensures.0
 
-abbrev entry : tie.At-loop invariant-loop decreases-loop → tie.Start invariant-loop decreases-loop
-entry c = start c.before.before.before
-
-abbrev turn : tie.After-cut invariant-loop decreases-loop → tie.In-loop invariant-loop decreases-loop
-turn c = c.before.before.before
-
-abbrev made : tie.After-first-behind invariant-loop decreases-loop → tie.After-cut invariant-loop decreases-loop
-made c = c.before.before.before
-
-children_at_requires : tie.Need-children-at-requires invariant-loop decreases-loop
-children_at_requires c κs =
-    let a = start c in
-    (a.pre.0.chained.indexed.readable, site_inside a.args.b.now a.pre.0)
-
-begun : (c : tie.At-loop invariant-loop decreases-loop) →
-    let a = entry c in
-    SiteBegun a.pre.0.chained.chosen a.args.s a.args.b.now a.args.ends.now a.args.next.now a.args.site c.before.before.children-at.result
-begun c = let a = entry c in site-chosen a.args.b.now a.pre.0 c.before.before.children-at.ensures.0
-
-cutting : (c : tie.At-loop invariant-loop decreases-loop) →
-    let a = entry c in
-    Cutting a.pre.0.chained.chosen a.args.s a.args.b.now
-    (siblings_in a.args.s a.args.b.now (a.args.site.operator + 1) c.before.before.children-at.result)
-    (a.args.site.operator + 1) c.loop.at c.loop.left c.loop.row c.loop.runs c.loop.cuts
-cutting c = c.loop.invariant.0 _ _ (begun c)
+cutting : (c : tie.At-loop-left invariant-loop-left decreases-loop-left) →
+    let a = c in
+    Cutting a.requires.0.chained.chosen a.args.s a.args.b.now
+    (siblings_in a.args.s a.args.b.now (a.args.site.operator + 1) c.children_at-left.result)
+    (a.args.site.operator + 1) c.loop-left.at c.loop-left.left c.loop-left.row c.loop-left.runs c.loop-left.cuts
+cutting c = c.loop-left.invariant.0 _ _ (begun c)
 
 -- there is room for one cut more
-room : (c : tie.At-loop invariant-loop decreases-loop) →
-    (c.loop.runs.cuts < length c.loop.cuts) × (c.loop.at ≤ 8192) × (c.loop.runs.cuts ≤ 8192)
+room : (c : tie.At-loop-left invariant-loop-left decreases-loop-left) →
+    (c.loop-left.runs.cuts < length c.loop-left.cuts) × (c.loop-left.at ≤ 8192) × (c.loop-left.runs.cuts ≤ 8192)
 room c =
-    let a = entry c in
+    let a = c in
     let p = cutting c in
     omega (
       arith,
       p.few,
       p.walk.within,
-      c.loop.invariant.1.same_length,
-      a.pre.1,
-      a.pre.0.chained.indexed.readable.few_nodes,
+      c.loop-left.invariant.1.same_length,
+      a.requires.1,
+      a.requires.0.chained.indexed.readable.few_nodes,
       length-set a.args.cuts.now 0 (a.args.site.operator + 1),
     )
 
-walk : (c : tie.In-loop invariant-loop decreases-loop) →
-    let a = (entry c.before).args in Walked a.s a.b.now a.ends.now c.before.loop.at c.before.loop.left
-walk c = walked _ (begun c.before) c.loop-test.true (cutting c.before).walk
+walk : (c : tie.In-loop-left invariant-loop-left decreases-loop-left) →
+    let a = c.args in Walked a.s a.b.now a.ends.now c.loop-left.at c.loop-left.left
+walk c = walked _ (begun c.before) c.loop-left-test.true (cutting c.before).walk
 
-add_at : tie.Need-overflow-add-at invariant-loop decreases-loop
-add_at c = omega arith
+overflow_add-at : tie.Need-overflow_add-at invariant-loop-left decreases-loop-left
+overflow_add-at c = omega arith
 
-cast_cuts : tie.Need-overflow-cast-cuts invariant-loop decreases-loop
-cast_cuts c =
-    let a = start c.before.before in
-    omega (arith, site_inside a.args.b.now a.pre.0, a.pre.0.chained.indexed.readable.few_nodes)
+overflow_cast-cuts : tie.Need-overflow_cast-cuts invariant-loop-left decreases-loop-left
+overflow_cast-cuts c =
+    let a = c in
+    omega (arith, site_inside a.args.b.now a.requires.0, a.requires.0.chained.indexed.readable.few_nodes)
 
-slice_write_cuts : tie.Need-slice-write-cuts invariant-loop decreases-loop
-slice_write_cuts c = omega (arith, (start c.before.before).pre.1)
+bounds-cuts-0 : tie.Need-bounds-cuts-0 invariant-loop-left decreases-loop-left
+bounds-cuts-0 c = omega (arith, c.requires.1)
 
-loop_holds : tie.Need-loop-init invariant-loop decreases-loop
-loop_holds c =
-    let a = start c.before.before in (
-      λ s L k. cut_start L k a.args.cuts.now (omega (arith, a.pre.1)),
+loop-left-init : tie.Need-loop-left-init invariant-loop-left decreases-loop-left
+loop-left-init c =
+    let a = c in (
+      λ s L k. cut_start L k a.args.cuts.now (omega (arith, a.requires.1)),
       record { same_length = refl; behind = refl },
     )
 
-mul_end : tie.Need-overflow-mul-end invariant-loop decreases-loop
-mul_end c = omega (arith, (walk c).inside, (entry c.before).pre.0.chained.indexed.readable.few_nodes)
+offset_bounds-ends-at : tie.Need-offset_bounds-ends-at invariant-loop-left decreases-loop-left
+offset_bounds-ends-at c = omega (arith, (walk c).inside, c.requires.0.chained.indexed.readable.few_nodes)
 
-shared_slice_read_end : tie.Need-shared-slice-read-end invariant-loop decreases-loop
-shared_slice_read_end c = omega (arith, (walk c.before).inside, (entry c.before.before).pre.0.chained.indexed.holds)
+bounds-ends-at : tie.Need-bounds-ends-at invariant-loop-left decreases-loop-left
+bounds-ends-at c = omega (arith, (walk c.before).inside, c.requires.0.chained.indexed.holds)
 
-cast_end : tie.Need-overflow-cast-end invariant-loop decreases-loop
-cast_end c = omega (arith, c.shared-slice-known4.given c.before.before.loop.at)
+overflow_cast-end : tie.Need-overflow_cast-end invariant-loop-left decreases-loop-left
+overflow_cast-end c = omega (arith, c.shared_slice_known-in-loop-left-1.given c.loop-left.at)
 
-cut_requires : tie.Need-cut-requires invariant-loop decreases-loop
-cut_requires c κs = let r = room c.before.before.before in (r.0, omega (arith, r.1))
+cut-runs-requires : tie.Need-cut-runs-requires invariant-loop-left decreases-loop-left
+cut-runs-requires c κs = let r = room c.before.before.before in (r.0, omega (arith, r.1))
 
-first_behind_requires : tie.Need-first-behind-requires invariant-loop decreases-loop
-first_behind_requires c κs =
-    let here = turn c.before.before in
-    leads _ (begun here.before) here.loop-test.taken (cutting here.before).walk
+first_behind-row-requires : tie.Need-first_behind-row-requires invariant-loop-left decreases-loop-left
+first_behind-row-requires c κs =
+    let here = c in
+    leads _ (begun here.before.before.before.before.before.before) here.loop-left-test.true (cutting here.before.before.before.before.before.before).walk
 
-sub_left : tie.Need-overflow-sub-left invariant-loop decreases-loop
-sub_left c = omega arith
+overflow_sub-left : tie.Need-overflow_sub-left invariant-loop-left decreases-loop-left
+overflow_sub-left c = omega arith
 
-loop_less : tie.Need-loop-smaller invariant-loop decreases-loop
-loop_less c = omega arith
+loop-left-smaller : tie.Need-loop-left-smaller invariant-loop-left decreases-loop-left
+loop-left-smaller c = omega arith
 
-loop_again : tie.Need-loop-preserved invariant-loop decreases-loop
-loop_again c =
-    let here = turn (made c) in
-    let head = here.before in
-    let cut = (made c).cut.ensures in
-    let end = get_or (entry head).args.ends.now head.loop.at 0 in (
-      λ s L k. cut_on L k here.loop-test.taken (room head).0 (head.loop.inv.0 s L k) cut.0 cut.1 c.first-behind.ensures,
-      kept-turn (ltb head.loop.row end) head.loop.at cut.0 cut.1 head.loop.inv.1,
+loop-left-preserved : tie.Need-loop-left-preserved invariant-loop-left decreases-loop-left
+loop-left-preserved c =
+    let here = c in
+    let head = here in
+    let cut = c.cut-runs.ensures in
+    let end = get_or head.args.ends.now head.loop-left.at 0 in (
+      λ s L k. cut_on L k here.loop-left-test.true (room head.before.before.before.before.before.before.before).0 (head.loop-left.invariant.0 s L k) cut.0 cut.1 c.first_behind-row.ensures,
+      kept-turn (ltb head.loop-left.row end) head.loop-left.at cut.0 cut.1 head.loop-left.invariant.1,
     )
 
-cast_cuts_2 : tie.Need-overflow-cast-cuts-2 invariant-loop decreases-loop
-cast_cuts_2 c = omega (arith, (room c.before).1)
+overflow_cast-cuts-2 : tie.Need-overflow_cast-cuts-2 invariant-loop-left decreases-loop-left
+overflow_cast-cuts-2 c = omega (arith, (room c.before).1)
 
-mul_cuts : tie.Need-overflow-mul-cuts invariant-loop decreases-loop
-mul_cuts c = omega (arith, (room c.before).2)
+offset_bounds-cuts-k : tie.Need-offset_bounds-cuts-k invariant-loop-left decreases-loop-left
+offset_bounds-cuts-k c = omega (arith, (room c.before).2)
 
-slice_write_cuts_2 : tie.Need-slice-write-cuts-2 invariant-loop decreases-loop
-slice_write_cuts_2 c = (room c.before).0
+bounds-cuts-k : tie.Need-bounds-cuts-k invariant-loop-left decreases-loop-left
+bounds-cuts-k c = (room c.before).0
 
-add_result : tie.Need-overflow-add-result invariant-loop decreases-loop
-add_result c = omega (arith, (room c.before).2)
+overflow_add-result : tie.Need-overflow_add-result invariant-loop-left decreases-loop-left
+overflow_add-result c = omega (arith, (room c.before).2)
 
-same_length : tie.Need-same-length invariant-loop decreases-loop
-same_length c =
-    let a = (entry c.before).args in
-    length-kept a.cuts.now (a.site.operator + 1) c.before.loop.invariant.1 c.before.loop.at
+shape_of-cuts : tie.Need-shape_of-cuts invariant-loop-left decreases-loop-left
+shape_of-cuts c =
+    let a = c.args in
+    length-kept a.cuts.now (a.site.operator + 1) c.loop-left.invariant.1 c.loop-left.at
 
-returns : tie.Need-returns invariant-loop decreases-loop
+returns : tie.Need-returns invariant-loop-left decreases-loop-left
 returns c =
-    let head = c.before in
-    let a = entry head in
-    let read = head.before.before.children-at.ensures.0 in
+    let head = c in
+    let a = head in
+    let read = head.children_at-left.ensures.0 in
     λ L last k.
-    rw (← (site-children a.args.b.now a.pre.0 read).are, ← add-one a.args.site.operator)
-    (cuts_done a.args.cuts.now (a.args.site.operator + 1) head.loop.invariant.1 head.loop.at L c.loop-test.false (room head).0
-    (head.loop.invariant.0 a.args.s L (site-begun a.args.b.now a.pre.0 read L last k)))
+    rw (← (site-children a.args.b.now a.requires.0 read).are, ← add-one a.args.site.operator)
+    (cuts_done a.args.cuts.now (a.args.site.operator + 1) head.loop-left.invariant.1 head.loop-left.at L c.loop-left-test.false (room head.before).0
+    (head.loop-left.invariant.0 a.args.s L (site-begun a.args.b.now a.requires.0 read L last k)))
 
 pub fill_cuts_spec : {M : Type 1} → statement M
 fill_cuts_spec =
     tie.close
     (tie.spec
-    invariant-loop
-    decreases-loop
-    children_at_requires
-    add_at
-    cast_cuts
-    slice_write_cuts
-    loop_holds
-    mul_end
-    shared_slice_read_end
-    cast_end
-    cut_requires
-    first_behind_requires
-    sub_left
-    loop_less
-    loop_again
-    cast_cuts_2
-    mul_cuts
-    slice_write_cuts_2
-    add_result
-    same_length
+    invariant-loop-left
+    decreases-loop-left
+    children_at-left-requires
+    overflow_add-at
+    overflow_cast-cuts
+    bounds-cuts-0
+    loop-left-init
+    offset_bounds-ends-at
+    bounds-ends-at
+    overflow_cast-end
+    cut-runs-requires
+    first_behind-row-requires
+    overflow_sub-left
+    loop-left-smaller
+    loop-left-preserved
+    overflow_cast-cuts-2
+    offset_bounds-cuts-k
+    bounds-cuts-k
+    overflow_add-result
+    shape_of-cuts
     returns)

@@ -11,63 +11,59 @@ use Rattle.relevance.proofs.subtree.ancestor.Statement.{statement}
 use Rattle.relevance.proofs.subtree.ancestor.Tie as tie
 
 -- whatever the set is whose first and last literal are given
-abbrev invariant-loop : tie.invariant-loop
-invariant-loop b s ends range at₀ next₀ at next =
+abbrev invariant-loop-at : tie.invariant-loop-at
+invariant-loop-at b s ends range at₀ next₀ at next =
     ((L : Literals) → Bounds L s b range.first range.last → Narrowing L s b range.first at) ×
     (next ≡ narrower range at (subtree_in s b at))
 
-abbrev decreases-loop : tie.decreases-loop
-decreases-loop b s ends range at₀ next₀ at next = s.nodes - at
+abbrev decreases-loop-at : tie.decreases-loop-at
+decreases-loop-at b s ends range at₀ next₀ at next = s.nodes - at
 
--- places in the code, each from a later one
-abbrev start : tie.After-narrower invariant-loop decreases-loop → tie.Start invariant-loop decreases-loop
-start c = c.before.before.before
+narrower-next-requires : tie.Need-narrower-next-requires invariant-loop-at decreases-loop-at
+narrower-next-requires c κs = let a = c in (a.requires.indexed, a.requires.indexed.readable.some_nodes)
 
-narrower_requires : tie.Need-narrower-requires invariant-loop decreases-loop
-narrower_requires c κs = let a = c.before.before in (a.requires.indexed, a.requires.indexed.readable.some_nodes)
-
-loop_holds : tie.Need-loop-init invariant-loop decreases-loop
-loop_holds c =
-    let a = start c in
-    (λ L k. narrow_start L a.args.b.now a.pre.indexed.readable k, c.narrower.ensures)
+loop-at-init : tie.Need-loop-at-init invariant-loop-at decreases-loop-at
+loop-at-init c =
+    let a = c in
+    (λ L k. narrow_start L a.args.b.now a.requires.indexed.readable k, c.narrower-next.ensures)
 
 -- a step down keeps the part
-next_holds : (c : tie.In-loop invariant-loop decreases-loop) →
-    let a = (start c.before.before).args in
+next_holds : (c : tie.In-loop-at invariant-loop-at decreases-loop-at) →
+    let a = c.args in
     (L : Literals) → Bounds L a.s a.b.now a.range.first a.range.last
-    → Narrowing L a.s a.b.now a.range.first c.before.loop.next
+    → Narrowing L a.s a.b.now a.range.first c.loop-at.next
 next_holds c L k =
-    let a = start c.before.before in
-    narrow_next L a.args.b.now a.pre.indexed.readable a.args.range k (c.before.loop.invariant.0 L k) c.before.loop.invariant.1
-    c.loop-test.true
+    let a = c in
+    narrow_next L a.args.b.now a.requires.indexed.readable a.args.range k (c.loop-at.invariant.0 L k) c.loop-at.invariant.1
+    c.loop-at-test.true
 
-next_inside : (c : tie.In-loop invariant-loop decreases-loop) → c.before.loop.next < (start c.before.before).args.s.nodes
-next_inside c = let a = start c.before.before in (next_holds c a.pre.chosen a.pre.bounds).inside
+next_inside : (c : tie.In-loop-at invariant-loop-at decreases-loop-at) → c.loop-at.next < c.args.s.nodes
+next_inside c = let a = c in (next_holds c a.requires.chosen a.requires.bounds).inside
 
-narrower_requires_2 : tie.Need-narrower-requires-2 invariant-loop decreases-loop
-narrower_requires_2 c κs = ((start c.before.before).pre.indexed, next_inside c)
+narrower-next-requires-in-loop-at : tie.Need-narrower-next-requires-in-loop-at invariant-loop-at decreases-loop-at
+narrower-next-requires-in-loop-at c κs = (c.requires.indexed, next_inside c)
 
-loop_less : tie.Need-loop-smaller invariant-loop decreases-loop
-loop_less c = omega (arith, next_inside c.before, c.before.loop-test.true)
+loop-at-smaller : tie.Need-loop-at-smaller invariant-loop-at decreases-loop-at
+loop-at-smaller c = omega (arith, next_inside c.before, c.loop-at-test.true)
 
-loop_again : tie.Need-loop-preserved invariant-loop decreases-loop
-loop_again c = (next_holds c.before, c.narrower2.ensures)
+loop-at-preserved : tie.Need-loop-at-preserved invariant-loop-at decreases-loop-at
+loop-at-preserved c = (next_holds c.before, c.narrower-next-in-loop-at.ensures)
 
-returns : tie.Need-returns invariant-loop decreases-loop
+returns : tie.Need-returns invariant-loop-at decreases-loop-at
 returns c =
-    let a = start c.before.before in
-    λ L k. narrow-done L a.args.b.now a.pre.indexed.readable a.args.range k (c.before.loop.invariant.0 L k)
-    c.before.loop.invariant.1 c.loop-test.false
+    let a = c in
+    λ L k. narrow-done L a.args.b.now a.requires.indexed.readable a.args.range k (c.loop-at.invariant.0 L k)
+    c.loop-at.invariant.1 c.loop-at-test.false
 
 pub ancestor_spec : {M : Type 1} → statement M
 ancestor_spec =
     tie.close
     (tie.spec
-    invariant-loop
-    decreases-loop
-    narrower_requires
-    loop_holds
-    narrower_requires_2
-    loop_less
-    loop_again
+    invariant-loop-at
+    decreases-loop-at
+    narrower-next-requires
+    loop-at-init
+    narrower-next-requires-in-loop-at
+    loop-at-smaller
+    loop-at-preserved
     returns)

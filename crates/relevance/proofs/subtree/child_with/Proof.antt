@@ -6,51 +6,51 @@ use Rattle.relevance.proofs.TurnSubtree.{Spanned, span_inside, span-found, span_
 use Rattle.relevance.proofs.subtree.child_with.Statement.{statement}
 use Rattle.relevance.proofs.subtree.child_with.Tie as tie
 
-abbrev invariant-loop : tie.invariant-loop
-invariant-loop ends from count row at₀ left₀ at left = Spanned ends row (span_by ends row from count) at left
+abbrev invariant-loop-left : tie.invariant-loop-left
+invariant-loop-left ends from count row at₀ left₀ at left = Spanned ends row (span_by ends row from count) at left
 
-abbrev decreases-loop : tie.decreases-loop
-decreases-loop ends from count row at₀ left₀ at left = left
+abbrev decreases-loop-left : tie.decreases-loop-left
+decreases-loop-left ends from count row at₀ left₀ at left = left
 
-loop_holds : tie.Need-loop-init invariant-loop decreases-loop
-loop_holds c = record { hops_on = c.requires; same = refl }
+loop-left-init : tie.Need-loop-left-init invariant-loop-left decreases-loop-left
+loop-left-init c = record { hops_on = c.requires; same = refl }
 
-mul_end : tie.Need-overflow-mul-end invariant-loop decreases-loop
-mul_end c = omega (arith, span_inside c.loop-test.true c.before.loop.invariant)
+offset_bounds-ends-at : tie.Need-offset_bounds-ends-at invariant-loop-left decreases-loop-left
+offset_bounds-ends-at c = omega (arith, span_inside c.loop-left-test.true c.loop-left.invariant)
 
-shared_slice_read_end : tie.Need-shared-slice-read-end invariant-loop decreases-loop
-shared_slice_read_end c = span_inside c.before.loop-test.true c.before.before.loop.invariant
+bounds-ends-at : tie.Need-bounds-ends-at invariant-loop-left decreases-loop-left
+bounds-ends-at c = span_inside c.loop-left-test.true c.loop-left.invariant
 
-cast_end : tie.Need-overflow-cast-end invariant-loop decreases-loop
-cast_end c = omega (arith, c.shared-slice-known.given c.before.before.loop.at)
+overflow_cast-end : tie.Need-overflow_cast-end invariant-loop-left decreases-loop-left
+overflow_cast-end c = omega (arith, c.shared_slice_known-1.given c.loop-left.at)
 
-returns : tie.Need-returns invariant-loop decreases-loop
-returns c = span-found c.before.before.loop-test.true c.before.before.before.loop.invariant c.if1.true
+returns-then-row-end : tie.Need-returns-then-row-end invariant-loop-left decreases-loop-left
+returns-then-row-end c = span-found c.loop-left-test.true c.loop-left.invariant c.if-row-end.true
 
-sub_left : tie.Need-overflow-sub-left invariant-loop decreases-loop
-sub_left c = omega arith
+overflow_sub-left : tie.Need-overflow_sub-left invariant-loop-left decreases-loop-left
+overflow_sub-left c = omega arith
 
-loop_less : tie.Need-loop-smaller invariant-loop decreases-loop
-loop_less c = omega arith
+loop-left-smaller : tie.Need-loop-left-smaller invariant-loop-left decreases-loop-left
+loop-left-smaller c = omega arith
 
-loop_again : tie.Need-loop-preserved invariant-loop decreases-loop
-loop_again c = span_on c.before.before.loop-test.true c.before.before.before.loop.invariant c.if1.false
+loop-left-preserved : tie.Need-loop-left-preserved invariant-loop-left decreases-loop-left
+loop-left-preserved c = span_on c.loop-left-test.true c.loop-left.invariant c.if-row-end.false
 
-returns_2 : tie.Need-returns-2 invariant-loop decreases-loop
-returns_2 c = span_none c.loop-test.false c.before.loop.invariant
+returns : tie.Need-returns invariant-loop-left decreases-loop-left
+returns c = span_none c.loop-left-test.false c.loop-left.invariant
 
 pub child_with_spec : {M : Type 1} → statement M
 child_with_spec =
     tie.close
     (tie.spec
-    invariant-loop
-    decreases-loop
-    loop_holds
-    mul_end
-    shared_slice_read_end
-    cast_end
-    returns
-    sub_left
-    loop_less
-    loop_again
-    returns_2)
+    invariant-loop-left
+    decreases-loop-left
+    loop-left-init
+    offset_bounds-ends-at
+    bounds-ends-at
+    overflow_cast-end
+    returns-then-row-end
+    overflow_sub-left
+    loop-left-smaller
+    loop-left-preserved
+    returns)

@@ -6,43 +6,43 @@ use Rattle.relevance.proofs.TurnSubtree.{way_on, way_end}
 use Rattle.relevance.proofs.subtree.first_behind.Statement.{statement}
 use Rattle.relevance.proofs.subtree.first_behind.Tie as tie
 
-abbrev invariant-loop : tie.invariant-loop
-invariant-loop next from end row₀ row = (to : ℕ) → Way next end from to → Way next end row to
+abbrev invariant-loop-row : tie.invariant-loop-row
+invariant-loop-row next from end row₀ row = (to : ℕ) → Way next end from to → Way next end row to
 
-abbrev decreases-loop : tie.decreases-loop
-decreases-loop next from end row₀ row = end - row
+abbrev decreases-loop-row : tie.decreases-loop-row
+decreases-loop-row next from end row₀ row = end - row
 
-loop_holds : tie.Need-loop-init invariant-loop decreases-loop
-loop_holds c = λ to w. w
+loop-row-init : tie.Need-loop-row-init invariant-loop-row decreases-loop-row
+loop-row-init c = λ to w. w
 
-mul_row : tie.Need-overflow-mul-row invariant-loop decreases-loop
-mul_row c = omega (arith, (way_on (c.before.loop.invariant _ c.before.before.requires.way) c.loop-test.true).0)
+offset_bounds-next-row : tie.Need-offset_bounds-next-row invariant-loop-row decreases-loop-row
+offset_bounds-next-row c = omega (arith, (way_on (c.loop-row.invariant _ c.requires.way) c.loop-row-test.true).0)
 
-shared_slice_read_row : tie.Need-shared-slice-read-row invariant-loop decreases-loop
-shared_slice_read_row c = (way_on (c.before.before.loop.invariant _ c.before.before.before.requires.way) c.before.loop-test.true).0
+bounds-next-row : tie.Need-bounds-next-row invariant-loop-row decreases-loop-row
+bounds-next-row c = (way_on (c.loop-row.invariant _ c.requires.way) c.loop-row-test.true).0
 
-cast_row : tie.Need-overflow-cast-row invariant-loop decreases-loop
-cast_row c = omega (arith, c.shared-slice-known.given c.before.before.loop.row)
+overflow_cast-row : tie.Need-overflow_cast-row invariant-loop-row decreases-loop-row
+overflow_cast-row c = omega (arith, c.shared_slice_known-1.given c.loop-row.row)
 
-loop_less : tie.Need-loop-smaller invariant-loop decreases-loop
-loop_less c = omega (arith, (way_on (c.before.before.loop.invariant _ c.before.before.before.requires.way) c.before.loop-test.true).1)
+loop-row-smaller : tie.Need-loop-row-smaller invariant-loop-row decreases-loop-row
+loop-row-smaller c = omega (arith, (way_on (c.loop-row.invariant _ c.requires.way) c.loop-row-test.true).1)
 
-loop_again : tie.Need-loop-preserved invariant-loop decreases-loop
-loop_again c = λ to w. (way_on (c.before.before.loop.invariant to w) c.before.loop-test.true).2
+loop-row-preserved : tie.Need-loop-row-preserved invariant-loop-row decreases-loop-row
+loop-row-preserved c = λ to w. (way_on (c.loop-row.invariant to w) c.loop-row-test.true).2
 
-returns : tie.Need-returns invariant-loop decreases-loop
-returns c = rw (way_end (c.before.loop.invariant _ c.before.before.requires.way) c.loop-test.false) c.before.before.requires.way
+returns : tie.Need-returns invariant-loop-row decreases-loop-row
+returns c = rw (way_end (c.loop-row.invariant _ c.requires.way) c.loop-row-test.false) c.requires.way
 
 pub first_behind_spec : {M : Type 1} → statement M
 first_behind_spec =
     tie.close
     (tie.spec
-    invariant-loop
-    decreases-loop
-    loop_holds
-    mul_row
-    shared_slice_read_row
-    cast_row
-    loop_less
-    loop_again
+    invariant-loop-row
+    decreases-loop-row
+    loop-row-init
+    offset_bounds-next-row
+    bounds-next-row
+    overflow_cast-row
+    loop-row-smaller
+    loop-row-preserved
     returns)

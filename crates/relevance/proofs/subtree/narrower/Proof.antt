@@ -11,60 +11,53 @@ use Rattle.relevance.proofs.Descent.{narrow_at, narrow_child, narrow_stay}
 use Rattle.relevance.proofs.subtree.narrower.Statement.{statement}
 use Rattle.relevance.proofs.subtree.narrower.Tie as tie
 
--- places in the code, each from a later one
-abbrev start : tie.After-struct-known → tie.Start
-start c = c.before.before.before
+returns-then-at-range : tie.Need-returns-then-at-range
+returns-then-at-range c = let a = c.args in narrow_at a.range a.at _ c.if-at-range.true
 
-abbrev wide : tie.After-child-with → tie.Else1
-wide c = c.before.before
+children_at-count-requires : tie.Need-children_at-count-requires
+children_at-count-requires c κs = let a = c in (a.requires.0.readable, a.requires.1)
+
+overflow_add-at : tie.Need-overflow_add-at
+overflow_add-at c = search rules
+
+children : (c : tie.After-children_at-count) →
+    let a = c.args in Children a.s a.b.now a.at (a.at + 1) c.children_at-count.result
+children c =
+    let a = c in
+    children_read a.args.b.now a.requires.0.readable a.args.at a.requires.1 (omega arith) c.children_at-count.ensures.0
+
+child_with-child-requires : tie.Need-child_with-child-requires
+child_with-child-requires c κs =
+    let a = c in
+    hops_beside a.args.b.now a.requires.0 _ _ (children c).few
+
+child : (c : tie.After-child_with-child) →
+    let a = c.args in
+    c.child_with-child.result ≡ child_span a.range.first (suc a.at) (kids (subtree_in a.s a.b.now a.at))
+child c =
+    let a = c in
+    span_read a.args.b.now a.requires.0 a.args.range.first (children c.before) (omega arith)
+    c.child_with-child.ensures
+
+returns-then-range-child : tie.Need-returns-then-range-child
+returns-then-range-child c =
+    let here = c in
+    let a = here.args in
+    narrow_child a.range a.at _ here.if-at-range.false (child here.before.before.before) c.if-range-child.true
 
 returns : tie.Need-returns
-returns c = let a = (start c.before).args in narrow_at a.range a.at _ c.if1.true
-
-children_at_requires : tie.Need-children-at-requires
-children_at_requires c κs = let a = start c.before in (a.pre.0.readable, a.pre.1)
-
-add_child_with : tie.Need-overflow-add-child-with
-add_child_with c = search rules
-
-children : (c : tie.After-children-at) →
-    let a = (start c.before.before).args in Children a.s a.b.now a.at (a.at + 1) c.children-at.result
-children c =
-    let a = start c.before.before in
-    children_read a.args.b.now a.pre.0.readable a.args.at a.pre.1 (omega arith) c.children-at.ensures.0
-
-child_with_requires : tie.Need-child-with-requires
-child_with_requires c κs =
-    let a = start c.before.before in
-    hops_beside a.args.b.now a.pre.0 _ _ (children c).few
-
-child : (c : tie.After-child-with) →
-    let a = (start (wide c).before).args in
-    c.child-with.result ≡ child_span a.range.first (suc a.at) (kids (subtree_in a.s a.b.now a.at))
-child c =
-    let a = start (wide c).before in
-    span_read a.args.b.now a.pre.0 a.args.range.first (children c.before) (omega arith)
-    c.child-with.ensures
-
-returns_2 : tie.Need-returns-2
-returns_2 c =
-    let here = c.before.before.before in
-    let a = (start (wide here).before).args in
-    narrow_child a.range a.at _ (wide here).if1.false (child here) c.if2.true
-
-returns_3 : tie.Need-returns-3
-returns_3 c =
-    let here = c.before.before.before in
-    let a = (start (wide here).before).args in
-    narrow_stay a.range a.at _ (wide here).if1.false (child here) c.if2.false
+returns c =
+    let here = c in
+    let a = here.args in
+    narrow_stay a.range a.at _ here.if-at-range.false (child here.before.before.before) c.if-range-child.false
 
 pub narrower_spec : {M : Type 1} → statement M
 narrower_spec =
     tie.close
     (tie.spec
-    returns
-    children_at_requires
-    add_child_with
-    child_with_requires
-    returns_2
-    returns_3)
+    returns-then-at-range
+    children_at-count-requires
+    overflow_add-at
+    child_with-child-requires
+    returns-then-range-child
+    returns)

@@ -9,47 +9,43 @@ use Rattle.relevance.proofs.Growth.{operator_part_read}
 use Rattle.relevance.proofs.subtree.relevant_at.Statement.{statement}
 use Rattle.relevance.proofs.subtree.relevant_at.Tie as tie
 
--- places in the code, each from a later one
-abbrev start : tie.After-shared-slice-known3 → tie.Start
-start c = c.before.before.before
+relevant_children-share-requires : tie.Need-relevant_children-share-requires
+relevant_children-share-requires c κs = search rules
 
-relevant_children_requires : tie.Need-relevant-children-requires
-relevant_children_requires c κs = search rules
+inside : (c : tie.After-struct_known-1) → let a = c.args in a.site.operator < a.s.nodes
+inside c = let a = c in site_inside a.args.b.now a.requires
 
-inside : (c : tie.After-struct-known) → let a = (start c.before.before).args in a.site.operator < a.s.nodes
-inside c = let a = start c.before.before in site_inside a.args.b.now a.pre
-
-within : (c : tie.After-struct-known) →
-    let a = (start c.before.before).args in (a.site.operator + (1 + c.before.relevant-children.result.rows) ≤ a.s.nodes) × (a.s.nodes ≤ 8192)
+within : (c : tie.After-struct_known-1) →
+    let a = c.args in (a.site.operator + (1 + c.relevant_children-share.result.rows) ≤ a.s.nodes) × (a.s.nodes ≤ 8192)
 within c =
-    let a = start c.before.before in
-    let k = a.pre.chained in (
+    let a = c in
+    let k = a.requires.chained in (
       kept-within k.chosen a.args.b.now k.indexed.readable a.args.site.operator (inside c)
-          (c.before.relevant-children.ensures k.chosen a.pre.last k.chain).0,
+          (c.relevant_children-share.ensures k.chosen a.requires.last k.chain).0,
       k.indexed.readable.few_nodes,
     )
 
-add_rows : tie.Need-overflow-add-rows
-add_rows c = omega (arith, within c)
+overflow_add-rows : tie.Need-overflow_add-rows
+overflow_add-rows c = omega (arith, within c)
 
-mul_end : tie.Need-overflow-mul-end
-mul_end c = search rules
+offset_bounds-ends-at : tie.Need-offset_bounds-ends-at
+offset_bounds-ends-at c = search rules
 
-shared_slice_read_end : tie.Need-shared-slice-read-end
-shared_slice_read_end c = search rules
+bounds-ends-at : tie.Need-bounds-ends-at
+bounds-ends-at c = search rules
 
-cast_end : tie.Need-overflow-cast-end
-cast_end c = omega (arith, c.shared-slice-known4.given (start c.before.before.before).args.site.operator)
+overflow_cast-end : tie.Need-overflow_cast-end
+overflow_cast-end c = omega (arith, c.shared_slice_known-4-1.given c.args.site.operator)
 
-add_t10 : tie.Need-overflow-add-t10
-add_t10 c = omega (arith, within c.before)
+overflow_add-result : tie.Need-overflow_add-result
+overflow_add-result c = omega (arith, within c.before)
 
 returns : tie.Need-returns
 returns c =
-    let a = start c.before.before.before in
-    let i = a.pre.chained.indexed in
+    let a = c in
+    let i = a.requires.chained.indexed in
     λ L last k.
-    let share = c.before.before.relevant-children.ensures L last k in
+    let share = c.relevant_children-share.ensures L last k in
     operator_part_read L a.args.site.operator (subtree_in a.args.s a.args.b.now a.args.site.operator) share.0
     share.1
     (end_subtree a.args.b.now i.readable a.args.ends.now i a.args.site.operator (inside c.before))
@@ -58,10 +54,10 @@ pub relevant_at_spec : {M : Type 1} → statement M
 relevant_at_spec =
     tie.close
     (tie.spec
-    relevant_children_requires
-    add_rows
-    mul_end
-    shared_slice_read_end
-    cast_end
-    add_t10
+    relevant_children-share-requires
+    overflow_add-rows
+    offset_bounds-ends-at
+    bounds-ends-at
+    overflow_cast-end
+    overflow_add-result
     returns)

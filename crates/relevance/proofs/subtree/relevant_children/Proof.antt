@@ -13,92 +13,82 @@ use Rattle.relevance.proofs.subtree.relevant_children.Statement.{statement}
 use Rattle.relevance.proofs.subtree.relevant_children.Tie as tie
 
 -- whatever the sheet and the set are whose literals the walk goes along
-abbrev invariant-loop : tie.invariant-loop
-invariant-loop b ends next left₀ at₀ row₀ share₀ left at row share =
+abbrev invariant-loop-left : tie.invariant-loop-left
+invariant-loop-left b ends next left₀ at₀ row₀ share₀ left at row share =
     (s : Layout) (L : Literals) → Begun L s b ends next at₀ left₀ row₀ → Sharing L s b (siblings_in s b at₀ left₀) at left row share
 
-abbrev decreases-loop : tie.decreases-loop
-decreases-loop b ends next left₀ at₀ row₀ share₀ left at row share = left
+abbrev decreases-loop-left : tie.decreases-loop-left
+decreases-loop-left b ends next left₀ at₀ row₀ share₀ left at row share = left
 
--- places in the code, each from a later one
-abbrev start : tie.After-shared-slice-known3 invariant-loop decreases-loop → tie.Start invariant-loop decreases-loop
-start c = c.before.before.before
+children_at-left-requires : tie.Need-children_at-left-requires invariant-loop-left decreases-loop-left
+children_at-left-requires c κs =
+    let a = c in
+    (a.requires.chained.indexed.readable, site_inside a.args.b.now a.requires)
 
-abbrev entry : tie.At-loop invariant-loop decreases-loop → tie.Start invariant-loop decreases-loop
-entry c = start c.before.before.before
+begun : (c : tie.In-loop-left invariant-loop-left decreases-loop-left) →
+    let a = c in
+    SiteBegun a.requires.chained.chosen a.args.s a.args.b.now a.args.ends.now a.args.next.now a.args.site c.children_at-left.result
+begun c = let a = c in site-chosen a.args.b.now a.requires c.children_at-left.ensures.0
 
-abbrev turn : tie.After-with-child invariant-loop decreases-loop → tie.In-loop invariant-loop decreases-loop
-turn c = c.before.before
+sharing : (c : tie.In-loop-left invariant-loop-left decreases-loop-left) →
+    let a = c in
+    Sharing a.requires.chained.chosen a.args.s a.args.b.now
+    (siblings_in a.args.s a.args.b.now (a.args.site.operator + 1) c.children_at-left.result)
+    c.loop-left.at c.loop-left.left c.loop-left.row c.loop-left.share
+sharing c = c.loop-left.invariant _ _ (begun c)
 
-children_at_requires : tie.Need-children-at-requires invariant-loop decreases-loop
-children_at_requires c κs =
-    let a = start c in
-    (a.pre.chained.indexed.readable, site_inside a.args.b.now a.pre)
+walk : (c : tie.In-loop-left invariant-loop-left decreases-loop-left) →
+    let a = c.args in Walked a.s a.b.now a.ends.now c.loop-left.at c.loop-left.left
+walk c = walked _ (begun c) c.loop-left-test.true (sharing c).walk
 
-begun : (c : tie.In-loop invariant-loop decreases-loop) →
-    let a = entry c.before in
-    SiteBegun a.pre.chained.chosen a.args.s a.args.b.now a.args.ends.now a.args.next.now a.args.site c.before.before.before.children-at.result
-begun c = let a = entry c.before in site-chosen a.args.b.now a.pre c.before.before.before.children-at.ensures.0
+overflow_add-at : tie.Need-overflow_add-at invariant-loop-left decreases-loop-left
+overflow_add-at c = omega arith
 
-sharing : (c : tie.In-loop invariant-loop decreases-loop) →
-    let a = entry c.before in
-    Sharing a.pre.chained.chosen a.args.s a.args.b.now
-    (siblings_in a.args.s a.args.b.now (a.args.site.operator + 1) c.before.before.before.children-at.result)
-    c.before.loop.at c.before.loop.left c.before.loop.row c.before.loop.share
-sharing c = c.before.loop.invariant _ _ (begun c)
+loop-left-init : tie.Need-loop-left-init invariant-loop-left decreases-loop-left
+loop-left-init c = λ s L k. share_start L k
 
-walk : (c : tie.In-loop invariant-loop decreases-loop) →
-    let a = (entry c.before).args in Walked a.s a.b.now a.ends.now c.before.loop.at c.before.loop.left
-walk c = walked _ (begun c) c.loop-test.true (sharing c).walk
+offset_bounds-ends-at : tie.Need-offset_bounds-ends-at invariant-loop-left decreases-loop-left
+offset_bounds-ends-at c = omega (arith, (walk c).inside, c.requires.chained.indexed.readable.few_nodes)
 
-add_at : tie.Need-overflow-add-at invariant-loop decreases-loop
-add_at c = omega arith
+bounds-ends-at : tie.Need-bounds-ends-at invariant-loop-left decreases-loop-left
+bounds-ends-at c = omega (arith, (walk c.before).inside, c.requires.chained.indexed.holds)
 
-loop_holds : tie.Need-loop-init invariant-loop decreases-loop
-loop_holds c = λ s L k. share_start L k
+overflow_cast-end : tie.Need-overflow_cast-end invariant-loop-left decreases-loop-left
+overflow_cast-end c = omega (arith, c.shared_slice_known-in-loop-left-1.given c.loop-left.at)
 
-mul_end : tie.Need-overflow-mul-end invariant-loop decreases-loop
-mul_end c = omega (arith, (walk c).inside, (entry c.before).pre.chained.indexed.readable.few_nodes)
-
-shared_slice_read_end : tie.Need-shared-slice-read-end invariant-loop decreases-loop
-shared_slice_read_end c = omega (arith, (walk c.before).inside, (entry c.before.before).pre.chained.indexed.holds)
-
-cast_end : tie.Need-overflow-cast-end invariant-loop decreases-loop
-cast_end c = omega (arith, c.shared-slice-known4.given c.before.before.loop.at)
-
-with_child_requires : tie.Need-with-child-requires invariant-loop decreases-loop
-with_child_requires c κs =
+with_child-share-requires : tie.Need-with_child-share-requires invariant-loop-left decreases-loop-left
+with_child-share-requires c κs =
     let p = sharing c.before in (
-      omega (arith, end_later _ (begun c.before) c.before.loop-test.true p.walk),
-      omega (arith, (walk c.before).next_within, (entry c.before.before).pre.chained.indexed.readable.few_nodes),
+      omega (arith, end_later _ (begun c.before) c.loop-left-test.true p.walk),
+      omega (arith, (walk c.before).next_within, c.requires.chained.indexed.readable.few_nodes),
       p.few_rows,
       p.few_children,
     )
 
-first_behind_requires : tie.Need-first-behind-requires invariant-loop decreases-loop
-first_behind_requires c κs =
-    let here = turn c in
-    leads _ (begun here) here.loop-test.taken (sharing here).walk
+first_behind-row-requires : tie.Need-first_behind-row-requires invariant-loop-left decreases-loop-left
+first_behind-row-requires c κs =
+    let here = c in
+    leads _ (begun here.before.before) here.loop-left-test.true (sharing here.before.before).walk
 
-sub_left : tie.Need-overflow-sub-left invariant-loop decreases-loop
-sub_left c = omega arith
+overflow_sub-left : tie.Need-overflow_sub-left invariant-loop-left decreases-loop-left
+overflow_sub-left c = omega arith
 
-loop_less : tie.Need-loop-smaller invariant-loop decreases-loop
-loop_less c = omega arith
+loop-left-smaller : tie.Need-loop-left-smaller invariant-loop-left decreases-loop-left
+loop-left-smaller c = omega arith
 
-loop_again : tie.Need-loop-preserved invariant-loop decreases-loop
-loop_again c =
-    let here = turn c.before in
-    λ s L k. share_on L k here.loop-test.taken (here.before.loop.inv s L k) c.before.with_child.ensures c.first-behind.ensures
+loop-left-preserved : tie.Need-loop-left-preserved invariant-loop-left decreases-loop-left
+loop-left-preserved c =
+    let here = c in
+    λ s L k. share_on L k here.loop-left-test.true (here.loop-left.invariant s L k) c.with_child-share.ensures c.first_behind-row.ensures
 
-returns : tie.Need-returns invariant-loop decreases-loop
+returns : tie.Need-returns invariant-loop-left decreases-loop-left
 returns c =
-    let head = c.before in
-    let a = entry head in
-    let read = head.before.before.children-at.ensures.0 in
-    let are = (site-children a.args.b.now a.pre read).are in
+    let head = c in
+    let a = head in
+    let read = head.children_at-left.ensures.0 in
+    let are = (site-children a.args.b.now a.requires read).are in
     λ L last k.
-    let all = share_none L c.loop-test.false (head.loop.invariant a.args.s L (site-begun a.args.b.now a.pre read L last k)) in (
+    let all = share_none L c.loop-left-test.false (head.loop-left.invariant a.args.s L (site-begun a.args.b.now a.requires read L last k)) in (
       all.0 ∙ ap (λ ts. rows_all (relevant L ts)) are,
       all.1 ∙ ap (λ ts. count (relevant L ts)) are,
     )
@@ -107,17 +97,17 @@ pub relevant_children_spec : {M : Type 1} → statement M
 relevant_children_spec =
     tie.close
     (tie.spec
-    invariant-loop
-    decreases-loop
-    children_at_requires
-    add_at
-    loop_holds
-    mul_end
-    shared_slice_read_end
-    cast_end
-    with_child_requires
-    first_behind_requires
-    sub_left
-    loop_less
-    loop_again
+    invariant-loop-left
+    decreases-loop-left
+    children_at-left-requires
+    overflow_add-at
+    loop-left-init
+    offset_bounds-ends-at
+    bounds-ends-at
+    overflow_cast-end
+    with_child-share-requires
+    first_behind-row-requires
+    overflow_sub-left
+    loop-left-smaller
+    loop-left-preserved
     returns)

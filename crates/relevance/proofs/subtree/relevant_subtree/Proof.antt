@@ -5,42 +5,39 @@ use Rattle.relevance.proofs.Descent.{found-literal, found_before, found-operator
 use Rattle.relevance.proofs.subtree.relevant_subtree.Statement.{statement}
 use Rattle.relevance.proofs.subtree.relevant_subtree.Tie as tie
 
--- places in the code, each from a later one
-abbrev start : tie.After-shared-slice-known3 → tie.Start
-start c = c.before.before.before
+ancestor-at-requires : tie.Need-ancestor-at-requires
+ancestor-at-requires c κs =
+    let a = c in
+    record { indexed = a.requires.indexed; chosen = a.requires.chosen; bounds = a.requires.chain.bounds }
 
-abbrev found : tie.Else1 → tie.After-ancestor
-found c = c.before.before
+returns-then-at-range : tie.Need-returns-then-at-range
+returns-then-at-range c =
+    let a = c in
+    λ L k. found-literal L a.args.b.now a.requires.indexed.readable a.args.range k.bounds
+    (c.ancestor-at.ensures L k.bounds) c.if-at-range.true
 
-ancestor_requires : tie.Need-ancestor-requires
-ancestor_requires c κs =
-    let a = start c in
-    record { indexed = a.pre.indexed; chosen = a.pre.chosen; bounds = a.pre.chain.bounds }
+before : (c : tie.Else-at-range) → c.ancestor-at.result < c.args.range.first
+before c =
+    let a = c in
+    let k = a.requires.chain.bounds in
+    found_before a.requires.chosen a.args.b.now a.requires.indexed.readable a.args.range k
+    (c.ancestor-at.ensures a.requires.chosen k) c.if-at-range.false
+
+relevant_at-requires : tie.Need-relevant_at-requires
+relevant_at-requires c κs =
+    let a = c in
+    record { last = a.args.range.last; chained = a.requires; before = before c }
 
 returns : tie.Need-returns
 returns c =
-    let a = start c.before.before.before in
-    λ L k. found-literal L a.args.b.now a.pre.indexed.readable a.args.range k.bounds
-    (c.before.before.ancestor.ensures L k.bounds) c.if1.true
-
-before : (c : tie.Else1) → (found c).ancestor.result < (start (found c).before).args.range.first
-before c =
-    let a = start (found c).before in
-    let k = a.pre.chain.bounds in
-    found_before a.pre.chosen a.args.b.now a.pre.indexed.readable a.args.range k
-    ((found c).ancestor.ensures a.pre.chosen k) c.if1.false
-
-relevant_at_requires : tie.Need-relevant-at-requires
-relevant_at_requires c κs =
-    let a = start (found c).before in
-    record { last = a.args.range.last; chained = a.pre; before = before c }
-
-returns_2 : tie.Need-returns-2
-returns_2 c =
-    let a = start (found c.before).before in
-    λ L k. c.relevant-at.ensures L a.args.range.last k ∙
-    found-operator L a.args.b.now a.pre.indexed.readable a.args.range k.bounds
-    ((found c.before).ancestor.ensures L k.bounds) c.before.if1.false
+    let a = c in
+    λ L k. c.relevant_at.ensures L a.args.range.last k ∙
+    found-operator L a.args.b.now a.requires.indexed.readable a.args.range k.bounds
+    (c.ancestor-at.ensures L k.bounds) c.if-at-range.false
 
 pub relevant_subtree_spec : {M : Type 1} → statement M
-relevant_subtree_spec = tie.close (tie.spec ancestor_requires returns relevant_at_requires returns_2)
+relevant_subtree_spec = tie.close (tie.spec
+    ancestor-at-requires
+    returns-then-at-range
+    relevant_at-requires
+    returns)

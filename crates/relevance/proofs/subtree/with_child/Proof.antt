@@ -4,20 +4,25 @@ use Rattle.relevance.proofs.TurnSubtree.{with_held, with_none}
 use Rattle.relevance.proofs.subtree.with_child.Statement.{statement}
 use Rattle.relevance.proofs.subtree.with_child.Tie as tie
 
-sub_t6 : tie.Need-overflow-sub-t6
-sub_t6 c = search rules
+overflow_sub-result : tie.Need-overflow_sub-result
+overflow_sub-result c = search rules
 
-add_t7 : tie.Need-overflow-add-t7
-add_t7 c = search rules
+overflow_add-result : tie.Need-overflow_add-result
+overflow_add-result c = search rules
 
-add_t8 : tie.Need-overflow-add-t8
-add_t8 c = search rules
+overflow_add-result-then-row-end : tie.Need-overflow_add-result-then-row-end
+overflow_add-result-then-row-end c = search rules
+
+returns-then-row-end : tie.Need-returns-then-row-end
+returns-then-row-end c = let a = c.args in with_held a.share a.at a.end a.row c.if-row-end.true
 
 returns : tie.Need-returns
-returns c = let a = c.before.before.before.args in with_held a.share a.at a.end a.row c.before.before.if1.true
-
-returns_2 : tie.Need-returns-2
-returns_2 c = let a = c.before.args in with_none a.share a.at a.end a.row c.if1.false
+returns c = let a = c.args in with_none a.share a.at a.end a.row c.if-row-end.false
 
 pub with_child_spec : {M : Type 1} → statement M
-with_child_spec = tie.close (tie.spec sub_t6 add_t7 add_t8 returns returns_2)
+with_child_spec = tie.close (tie.spec
+    overflow_sub-result
+    overflow_add-result
+    overflow_add-result-then-row-end
+    returns-then-row-end
+    returns)

@@ -9,121 +9,93 @@ use borrow.Author.Rules.{rules}
 use Rattle.tidying.proofs.operator.conclude.Statement.{statement}
 use Rattle.tidying.proofs.operator.conclude.Tie as tie
 
--- places in the code, each from a later one
-abbrev known : tie.After-s → tie.After-slice-known
-known c = c.before.before.before
-
-abbrev start : tie.After-s → tie.Start
-start c = (known c).before
-
-abbrev one_asked : tie.After-set-row-arg2 → tie.Else1
-one_asked c = c.before.before
-
-abbrev one_written : tie.After-slice-known6 → tie.After-set-row-arg2
-one_written c = c.before.before.before
-
-abbrev only_written : tie.After-b2 → tie.After-row-of
-only_written c = c.before.before.before
-
-abbrev emptied : tie.After-known → tie.After-hollow
-emptied c = c.before.before.before
-
-abbrev hollowing : tie.After-hollow → tie.Then1
-hollowing c = c.before.before.before
-
 -- the arguments, seen from the branches of a lone child and of more
-abbrev start_of : tie.Then2 → tie.Start
-start_of c = start c.before.before
+hollow-requires : tie.Need-hollow-requires
+hollow-requires c κs = search rules
 
-abbrev many_of : tie.After-slice-known6 → tie.Start
-many_of c = start (one_asked (one_written c)).before
+shape_of-b-then-left-eq0 : tie.Need-shape_of-b-then-left-eq0
+shape_of-b-then-left-eq0 c = search rules
 
-hollow_requires : tie.Need-hollow-requires
-hollow_requires c κs = search rules
+shape_of-known-then-left-eq0 : tie.Need-shape_of-known-then-left-eq0
+shape_of-known-then-left-eq0 c = search rules
 
-same_length : tie.Need-same-length
-same_length c = search rules
+returns-then-left-eq0 : tie.Need-returns-then-left-eq0
+returns-then-left-eq0 c =
+    let h = c.hollow.ensures in
+    let test = c in
+    let a = test in
+    (concludes_none a.requires.there.members_fit test.if-left-eq0.true h.0, h.1)
 
-same_length_2 : tie.Need-same-length-2
-same_length_2 c = search rules
+member-requires : tie.Need-member-requires
+member-requires c κs = search rules
+
+row_of-child-requires : tie.Need-row_of-child-requires
+row_of-child-requires c κs = search rules
+
+-- the lone child's row as computed
+row_is : (c : tie.After-row_of-child) → c.row_of-child.result ≡ row_of (get_or c.args.members.now 0 0)
+row_is c = c.row_of-child.ensures ∙ ap row_of c.member.ensures.0
+
+within : (c : tie.After-row_of-child) →
+    let a = c.args.n in
+    (a.row < c.row_of-child.result) × (c.row_of-child.result ≤ a.end)
+within c =
+    let test = c in
+    let g = test.requires.there in
+    lone_within g.is_left g.members_fit test.if-left-eq1.true (row_is c)
+
+overflow_sub-child : tie.Need-overflow_sub-child
+overflow_sub-child c = omega (arith, (within c.before).0)
+
+set_row-requires : tie.Need-set_row-requires
+set_row-requires c κs =
+    let got = c in
+    let a = got in
+    let w = within got.before in
+    (a.requires.in_place.room, omega (arith, w.0, w.1, a.requires.within), omega (arith, w.1, a.requires.in_place.counted, a.requires.within))
+
+shape_of-b-then-left-eq1 : tie.Need-shape_of-b-then-left-eq1
+shape_of-b-then-left-eq1 c = search rules
+
+returns-then-left-eq1 : tie.Need-returns-then-left-eq1
+returns-then-left-eq1 c =
+    let got = c in
+    let test = got in
+    (concludes_one test.requires.there.members_fit test.if-left-eq1.true (row_is got.before.before.before.before) c.set_row.ensures.0, λ j l. refl)
+
+overflow_sub-end : tie.Need-overflow_sub-end
+overflow_sub-end c = search rules
+
+set_row-requires-2 : tie.Need-set_row-requires-2
+set_row-requires-2 c κs = search rules
+
+known_of-requires : tie.Need-known_of-requires
+known_of-requires c κs = search rules
+
+overflow_cast-known : tie.Need-overflow_cast-known
+overflow_cast-known c = search rules
+
+offset_bounds-known-r : tie.Need-offset_bounds-known-r
+offset_bounds-known-r c = search rules
+
+bounds-known-r : tie.Need-bounds-known-r
+bounds-known-r c = search rules
+
+shape_of-b : tie.Need-shape_of-b
+shape_of-b c = search rules
+
+shape_of-known : tie.Need-shape_of-known
+shape_of-known c = search rules
 
 returns : tie.Need-returns
 returns c =
-    let h = (emptied c.before).hollow.ensures in
-    let test = hollowing (emptied c.before) in
-    let a = start test.before in
-    (concludes_none a.pre.there.members_fit test.if1.taken h.0, h.1)
-
-member_requires : tie.Need-member-requires
-member_requires c κs = search rules
-
-row_of_requires : tie.Need-row-of-requires
-row_of_requires c κs = search rules
-
--- the lone child's row as computed
-row_is : (c : tie.After-row-of) → c.row_of.result ≡ row_of (get_or (start_of c.before.before).args.members.now 0 0)
-row_is c = c.row_of.ensures ∙ ap row_of c.before.member.ensures.0
-
-within : (c : tie.After-row-of) →
-    let a = (start_of c.before.before).args.n in
-    (a.row < c.row_of.result) × (c.row_of.result ≤ a.end)
-within c =
-    let test = c.before.before in
-    let g = (start_of test).requires.there in
-    lone_within g.is_left g.members_fit test.if2.true (row_is c)
-
-sub_set_row : tie.Need-overflow-sub-set-row
-sub_set_row c = omega (arith, (within c.before).0)
-
-set_row_requires : tie.Need-set-row-requires
-set_row_requires c κs =
-    let got = c.before in
-    let a = start_of got.before.before in
-    let w = within got in
-    (a.pre.in_place.room, omega (arith, w.0, w.1, a.pre.within), omega (arith, w.1, a.pre.in_place.counted, a.pre.within))
-
-same_length_3 : tie.Need-same-length-3
-same_length_3 c = search rules
-
-returns_2 : tie.Need-returns-2
-returns_2 c =
-    let got = only_written c.before in
-    let test = got.before.before in
-    (concludes_one (start_of test).pre.there.members_fit test.if2.taken (row_is got) c.before.before.set-row.ensures.0, λ j l. refl)
-
-sub_set_row_2 : tie.Need-overflow-sub-set-row-2
-sub_set_row_2 c = search rules
-
-set_row_requires_2 : tie.Need-set-row-requires-2
-set_row_requires_2 c κs = search rules
-
-known_of_requires : tie.Need-known-of-requires
-known_of_requires c κs = search rules
-
-cast_known : tie.Need-overflow-cast-known
-cast_known c = search rules
-
-mul_known : tie.Need-overflow-mul-known
-mul_known c = search rules
-
-slice_write_known : tie.Need-slice-write-known
-slice_write_known c = search rules
-
-same_length_4 : tie.Need-same-length-4
-same_length_4 c = search rules
-
-same_length_5 : tie.Need-same-length-5
-same_length_5 c = search rules
-
-returns_3 : tie.Need-returns-3
-returns_3 c =
-    let stored = c.before.before.before in
-    let second = stored.before.before in
-    let first = second.before in
-    let a = many_of c.before in
-    let g = a.pre.there in (
-      concludes_many g.members_fit (omega (arith, second.if2.false, first.if1.false)) (omega (arith, g.is_left.headed.ends, a.pre.within, a.pre.in_place.known_fit))
-          stored.set-row2.ensures.0 a.pre.hashed (ap (set a.args.known.now a.args.n.row) c.known_of.ensures.0),
+    let stored = c in
+    let second = stored in
+    let first = second in
+    let a = c in
+    let g = a.requires.there in (
+      concludes_many g.members_fit (omega (arith, second.if-left-eq1.false, first.if-left-eq0.false)) (omega (arith, g.is_left.headed.ends, a.requires.within, a.requires.in_place.known_fit))
+          stored.set_row-2.ensures.0 a.requires.hashed (ap (set a.args.known.now a.args.n.row) c.known_of.ensures.0),
       behind-set a.args.known.now _ refl,
     )
 
@@ -131,22 +103,22 @@ pub conclude_spec : {M : Type 1} → statement M
 conclude_spec =
     tie.close
     (tie.spec
-    hollow_requires
-    same_length
-    same_length_2
-    returns
-    member_requires
-    row_of_requires
-    sub_set_row
-    set_row_requires
-    same_length_3
-    returns_2
-    sub_set_row_2
-    set_row_requires_2
-    known_of_requires
-    cast_known
-    mul_known
-    slice_write_known
-    same_length_4
-    same_length_5
-    returns_3)
+    hollow-requires
+    shape_of-b-then-left-eq0
+    shape_of-known-then-left-eq0
+    returns-then-left-eq0
+    member-requires
+    row_of-child-requires
+    overflow_sub-child
+    set_row-requires
+    shape_of-b-then-left-eq1
+    returns-then-left-eq1
+    overflow_sub-end
+    set_row-requires-2
+    known_of-requires
+    overflow_cast-known
+    offset_bounds-known-r
+    bounds-known-r
+    shape_of-b
+    shape_of-known
+    returns)

@@ -6,16 +6,19 @@ use native.Mathlib.Omega.{arith}
 use Rattle.tree_order.proofs.compare.compare_numbers.Statement.{statement}
 use Rattle.tree_order.proofs.compare.compare_numbers.Tie as tie
 
+returns-then-a-b : tie.Need-returns-then-a-b
+returns-then-a-b c = sym (numbers-before _ _ (omega arith))
+
+returns-then-b-a : tie.Need-returns-then-b-a
+returns-then-b-a c = sym (numbers_after _ _ (omega arith))
+
 returns : tie.Need-returns
-returns c = sym (numbers-before _ _ (omega arith))
-
-returns_2 : tie.Need-returns-2
-returns_2 c = sym (numbers_after _ _ (omega arith))
-
-returns_3 : tie.Need-returns-3
-returns_3 c =
-    let e : c.before.before.args.a ≡ c.before.before.args.b = omega arith in
-    sym (ap (λ n. compare_numbers n c.before.before.args.b) e ∙ numbers_same c.before.before.args.b)
+returns c =
+    let e : c.args.a ≡ c.args.b = omega arith in
+    sym (ap (λ n. compare_numbers n c.args.b) e ∙ numbers_same c.args.b)
 
 pub compare_numbers_spec : {M : Type 1} → statement M
-compare_numbers_spec = tie.close (tie.spec returns returns_2 returns_3)
+compare_numbers_spec = tie.close (tie.spec
+    returns-then-a-b
+    returns-then-b-a
+    returns)

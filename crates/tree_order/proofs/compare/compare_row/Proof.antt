@@ -7,108 +7,93 @@ use borrow.Author.Rules.{rules}
 use Rattle.tree_order.proofs.compare.compare_row.Statement.{statement}
 use Rattle.tree_order.proofs.compare.compare_row.Tie as tie
 
-abbrev entered : tie.After-kind-at2 → tie.After-struct-known
-entered c = c.before.before.before
+overflow_add-s : tie.Need-overflow_add-s
+overflow_add-s c = search rules
 
-abbrev start : tie.After-kind-at2 → tie.Start
-start c = (entered c).before.before.before
+kind_at-k-requires : tie.Need-kind_at-k-requires
+kind_at-k-requires c κs = search rules
 
-abbrev after_kind_at : tie.After-kind-at2 → tie.After-kind-at
-after_kind_at c = c.before.before
+overflow_add-t : tie.Need-overflow_add-t
+overflow_add-t c = search rules
 
-abbrev after_kind_at2 : tie.After-argument-at → tie.After-kind-at2
-after_kind_at2 c = c.before.before
+kind_at-l-requires : tie.Need-kind_at-l-requires
+kind_at-l-requires c κs = search rules
 
-abbrev after_compare_numbers : tie.After-then → tie.After-compare-numbers
-after_compare_numbers c = c.before.before.before
+overflow_add-s-2 : tie.Need-overflow_add-s-2
+overflow_add-s-2 c = search rules
 
-add_kind_at : tie.Need-overflow-add-kind-at
-add_kind_at c = search rules
+argument_at-m-requires : tie.Need-argument_at-m-requires
+argument_at-m-requires c κs = search rules
 
-kind_at_requires : tie.Need-kind-at-requires
-kind_at_requires c κs = search rules
+overflow_add-t-2 : tie.Need-overflow_add-t-2
+overflow_add-t-2 c = search rules
 
-add_kind_at_2 : tie.Need-overflow-add-kind-at-2
-add_kind_at_2 c = search rules
+argument_at-n-requires : tie.Need-argument_at-n-requires
+argument_at-n-requires c κs = search rules
 
-kind_at_requires_2 : tie.Need-kind-at-requires-2
-kind_at_requires_2 c κs = search rules
+class_of-requires : tie.Need-class_of-requires
+class_of-requires c κs = search rules
 
-add_argument_at : tie.Need-overflow-add-argument-at
-add_argument_at c = search rules
+class_of-requires-2 : tie.Need-class_of-requires-2
+class_of-requires-2 c κs = search rules
 
-argument_at_requires : tie.Need-argument-at-requires
-argument_at_requires c κs = search rules
+compare_numbers-classes-requires : tie.Need-compare_numbers-classes-requires
+compare_numbers-classes-requires c κs = search rules
 
-add_argument_at_2 : tie.Need-overflow-add-argument-at-2
-add_argument_at_2 c = search rules
+compare_numbers-arguments-requires : tie.Need-compare_numbers-arguments-requires
+compare_numbers-arguments-requires c κs = search rules
 
-argument_at_requires_2 : tie.Need-argument-at-requires-2
-argument_at_requires_2 c κs = search rules
+overflow_cast-k : tie.Need-overflow_cast-k
+overflow_cast-k c = search rules
 
-class_of_requires : tie.Need-class-of-requires
-class_of_requires c κs = search rules
+overflow_cast-l : tie.Need-overflow_cast-l
+overflow_cast-l c = search rules
 
-class_of_requires_2 : tie.Need-class-of-requires-2
-class_of_requires_2 c κs = search rules
+compare_numbers-signs-requires : tie.Need-compare_numbers-signs-requires
+compare_numbers-signs-requires c κs = search rules
 
-compare_numbers_requires : tie.Need-compare-numbers-requires
-compare_numbers_requires c κs = search rules
+then-requires : tie.Need-then-requires
+then-requires c κs = search rules
 
-compare_numbers_requires_2 : tie.Need-compare-numbers-requires-2
-compare_numbers_requires_2 c κs = search rules
-
-cast_compare_numbers : tie.Need-overflow-cast-compare-numbers
-cast_compare_numbers c = search rules
-
-cast_compare_numbers_2 : tie.Need-overflow-cast-compare-numbers-2
-cast_compare_numbers_2 c = search rules
-
-compare_numbers_requires_3 : tie.Need-compare-numbers-requires-3
-compare_numbers_requires_3 c κs = search rules
-
-then_requires : tie.Need-then-requires
-then_requires c κs = search rules
-
-then_requires_2 : tie.Need-then-requires-2
-then_requires_2 c κs = search rules
+then-requires-2 : tie.Need-then-requires-2
+then-requires-2 c κs = search rules
 
 returns : tie.Need-returns
 returns c =
-    let numbers = after_compare_numbers c.before in
-    let classes = numbers.before.before in
-    let at-kind-at2 = after_kind_at2 classes.before.before.before in
-    let a = (start at-kind-at2).args in
+    let numbers = c in
+    let classes = numbers in
+    let at-kind-at2 = classes in
+    let a = at-kind-at2.args in
     row_compared (row_in a.s a.first.now a.i) (row_in a.t a.second.now a.j)
-    ((after_kind_at at-kind-at2).kind_at.ensures ∙ kind_in a.s a.first.now a.i)
-    (at-kind-at2.kind-at2.ensures ∙ kind_in a.t a.second.now a.j)
-    (classes.before.before.before.argument-at.ensures.0 ∙ argument_in a.s a.first.now a.i)
-    (classes.before.argument-at2.ensures.0 ∙ argument_in a.t a.second.now a.j)
-    (numbers.compare_numbers.ensures ∙ ap₂ compare_numbers numbers.before.before.class_of.ensures numbers.before.class-of2.ensures)
-    c.before.before.before.compare-numbers2.ensures
-    c.before.before.compare-numbers3.ensures
-    c.before.then.ensures
-    c.then2.ensures
+    (at-kind-at2.kind_at-k.ensures ∙ kind_in a.s a.first.now a.i)
+    (at-kind-at2.kind_at-l.ensures ∙ kind_in a.t a.second.now a.j)
+    (classes.argument_at-m.ensures.0 ∙ argument_in a.s a.first.now a.i)
+    (classes.argument_at-n.ensures.0 ∙ argument_in a.t a.second.now a.j)
+    (numbers.compare_numbers-classes.ensures ∙ ap₂ compare_numbers numbers.class_of.ensures numbers.class_of-2.ensures)
+    c.compare_numbers-arguments.ensures
+    c.compare_numbers-signs.ensures
+    c.then.ensures
+    c.then-2.ensures
 
 pub compare_row_spec : {M : Type 1} → statement M
 compare_row_spec =
     tie.close
     (tie.spec
-    add_kind_at
-    kind_at_requires
-    add_kind_at_2
-    kind_at_requires_2
-    add_argument_at
-    argument_at_requires
-    add_argument_at_2
-    argument_at_requires_2
-    class_of_requires
-    class_of_requires_2
-    compare_numbers_requires
-    compare_numbers_requires_2
-    cast_compare_numbers
-    cast_compare_numbers_2
-    compare_numbers_requires_3
-    then_requires
-    then_requires_2
+    overflow_add-s
+    kind_at-k-requires
+    overflow_add-t
+    kind_at-l-requires
+    overflow_add-s-2
+    argument_at-m-requires
+    overflow_add-t-2
+    argument_at-n-requires
+    class_of-requires
+    class_of-requires-2
+    compare_numbers-classes-requires
+    compare_numbers-arguments-requires
+    overflow_cast-k
+    overflow_cast-l
+    compare_numbers-signs-requires
+    then-requires
+    then-requires-2
     returns)

@@ -9,117 +9,105 @@ use Rattle.tree_order.proofs.Rows.{Locked, locked_differ, locked_on, locked_out}
 use Rattle.tree_order.proofs.compare.compare_rows.Statement.{statement}
 use Rattle.tree_order.proofs.compare.compare_rows.Tie as tie
 
-abbrev invariant-loop : tie.invariant-loop
-invariant-loop first s at second t to n j₀ j = Locked s first at t second to j
+abbrev invariant-loop-j : tie.invariant-loop-j
+invariant-loop-j first s at second t to n j₀ j = Locked s first at t second to j
 
-abbrev decreases-loop : tie.decreases-loop
-decreases-loop first s at second t to n j₀ j = n - j
+abbrev decreases-loop-j : tie.decreases-loop-j
+decreases-loop-j first s at second t to n j₀ j = n - j
 
-abbrev entered : tie.At-loop invariant-loop decreases-loop → tie.After-shared-slice-known3 invariant-loop decreases-loop
-entered c = c.before.before.before
+within_left : (c : tie.At-loop-j invariant-loop-j decreases-loop-j) → c.loop-j.j < c.shorter-n.result → c.loop-j.j < length c.args.at.now
+within_left c h = omega (arith, c.shorter-n.ensures)
 
-abbrev start : tie.At-loop invariant-loop decreases-loop → tie.Start invariant-loop decreases-loop
-start c = (entered c).before.before.before
+within_right : (c : tie.At-loop-j invariant-loop-j decreases-loop-j) → c.loop-j.j < c.shorter-n.result → c.loop-j.j < length c.args.to.now
+within_right c h = omega (arith, c.shorter-n.ensures)
 
-abbrev at_loop : tie.In-loop invariant-loop decreases-loop → tie.At-loop invariant-loop decreases-loop
-at_loop c = c.before
+shorter-n-requires : tie.Need-shorter-n-requires invariant-loop-j decreases-loop-j
+shorter-n-requires c κs = tt
 
-abbrev in_loop : tie.After-compare-row invariant-loop decreases-loop → tie.In-loop invariant-loop decreases-loop
-in_loop c = c.before.before.before
+loop-j-init : tie.Need-loop-j-init invariant-loop-j decreases-loop-j
+loop-j-init c = record { same_rows = refl }
 
-within_left : (c : tie.At-loop invariant-loop decreases-loop) → c.loop.j < c.before.shorter.result → c.loop.j < length (start c).args.at.now
-within_left c h = omega (arith, c.before.shorter.ensures)
+offset_bounds-at-j : tie.Need-offset_bounds-at-j invariant-loop-j decreases-loop-j
+offset_bounds-at-j c = omega arith
 
-within_right : (c : tie.At-loop invariant-loop decreases-loop) → c.loop.j < c.before.shorter.result → c.loop.j < length (start c).args.to.now
-within_right c h = omega (arith, c.before.shorter.ensures)
+bounds-at-j : tie.Need-bounds-at-j invariant-loop-j decreases-loop-j
+bounds-at-j c = within_left c.before.before c.loop-j-test.true
 
-shorter_requires : tie.Need-shorter-requires invariant-loop decreases-loop
-shorter_requires c κs = tt
+overflow_cast-at : tie.Need-overflow_cast-at invariant-loop-j decreases-loop-j
+overflow_cast-at c = omega (arith, c.shared_slice_known-in-loop-j-1.given c.loop-j.j)
 
-loop_holds : tie.Need-loop-init invariant-loop decreases-loop
-loop_holds c = record { same_rows = refl }
+offset_bounds-to-j : tie.Need-offset_bounds-to-j invariant-loop-j decreases-loop-j
+offset_bounds-to-j c = omega arith
 
-mul_compare_row : tie.Need-overflow-mul-compare-row invariant-loop decreases-loop
-mul_compare_row c = omega arith
+bounds-to-j : tie.Need-bounds-to-j invariant-loop-j decreases-loop-j
+bounds-to-j c = within_right c.before.before.before c.loop-j-test.true
 
-shared_slice_read_compare_row : tie.Need-shared-slice-read-compare-row invariant-loop decreases-loop
-shared_slice_read_compare_row c = within_left c.before.before c.before.loop-test.true
+overflow_cast-to : tie.Need-overflow_cast-to invariant-loop-j decreases-loop-j
+overflow_cast-to c = omega (arith, c.shared_slice_known-in-loop-j-2-1.given c.loop-j.j)
 
-cast_compare_row : tie.Need-overflow-cast-compare-row invariant-loop decreases-loop
-cast_compare_row c = omega (arith, c.shared-slice-known5.given c.before.before.loop.j)
-
-mul_compare_row_2 : tie.Need-overflow-mul-compare-row-2 invariant-loop decreases-loop
-mul_compare_row_2 c = omega arith
-
-shared_slice_read_compare_row_2 : tie.Need-shared-slice-read-compare-row-2 invariant-loop decreases-loop
-shared_slice_read_compare_row_2 c = within_right c.before.before.before c.before.before.loop-test.true
-
-cast_compare_row_2 : tie.Need-overflow-cast-compare-row-2 invariant-loop decreases-loop
-cast_compare_row_2 c = omega (arith, c.shared-slice-known6.given c.before.before.before.loop.j)
-
-compare_row_requires : tie.Need-compare-row-requires invariant-loop decreases-loop
-compare_row_requires c κs =
-    let head = c.before.before.before in
-    let a = start head in
-    let j = head.loop.j in
-    let test = c.before.before.loop-test.true in (
-      a.pre.0,
-      every_at _ a.args.at.now j 0 a.pre.1 (within_left head test),
-      a.pre.2,
-      every_at _ a.args.to.now j 0 a.pre.3 (within_right head test),
+compare_row-o-requires : tie.Need-compare_row-o-requires invariant-loop-j decreases-loop-j
+compare_row-o-requires c κs =
+    let head = c in
+    let a = head in
+    let j = head.loop-j.j in
+    let test = c.loop-j-test.true in (
+      a.requires.0,
+      every_at _ a.args.at.now j 0 a.requires.1 (within_left head.before.before.before test),
+      a.requires.2,
+      every_at _ a.args.to.now j 0 a.requires.3 (within_right head.before.before.before test),
     )
 
-is_same_requires : tie.Need-is-same-requires invariant-loop decreases-loop
-is_same_requires c κs = tt
+is_same-requires : tie.Need-is_same-requires invariant-loop-j decreases-loop-j
+is_same-requires c κs = tt
 
-returns : tie.Need-returns invariant-loop decreases-loop
+returns-then-not-is_same : tie.Need-returns-then-not-is_same invariant-loop-j decreases-loop-j
+returns-then-not-is_same c =
+    let inside = c in
+    let head = inside in
+    let a = head.args in
+    let test = inside.loop-j-test.true in
+    locked_differ a.s a.first.now a.at.now a.t a.second.now a.to.now head.loop-j.j (within_left head.before.before.before.before.before.before test) (within_right head.before.before.before.before.before.before test)
+    head.loop-j.invariant c.compare_row-o.ensures (sym c.is_same.ensures ∙ c.if-not-is_same.true)
+
+overflow_add-j : tie.Need-overflow_add-j invariant-loop-j decreases-loop-j
+overflow_add-j c = omega arith
+
+loop-j-smaller : tie.Need-loop-j-smaller invariant-loop-j decreases-loop-j
+loop-j-smaller c = omega arith
+
+loop-j-preserved : tie.Need-loop-j-preserved invariant-loop-j decreases-loop-j
+loop-j-preserved c =
+    let inside = c in
+    let head = inside in
+    let a = head.args in
+    let test = inside.loop-j-test.true in
+    locked_on a.s a.first.now a.at.now a.t a.second.now a.to.now head.loop-j.j (omega arith) (within_left head.before.before.before.before.before.before test)
+    (within_right head.before.before.before.before.before.before test) head.loop-j.invariant c.compare_row-o.ensures (sym c.is_same.ensures ∙ c.if-not-is_same.false)
+
+returns : tie.Need-returns invariant-loop-j decreases-loop-j
 returns c =
-    let inside = in_loop c.before.before in
-    let head = at_loop inside in
-    let a = (start head).args in
-    let test = inside.loop-test.taken in
-    locked_differ a.s a.first.now a.at.now a.t a.second.now a.to.now head.loop.j (within_left head test) (within_right head test)
-    head.loop.inv c.before.before.compare_row.ensures (sym c.before.is_same.ensures ∙ not-true _ c.if1.true)
-
-add_j : tie.Need-overflow-add-j invariant-loop decreases-loop
-add_j c = omega arith
-
-loop_less : tie.Need-loop-smaller invariant-loop decreases-loop
-loop_less c = omega arith
-
-loop_again : tie.Need-loop-preserved invariant-loop decreases-loop
-loop_again c =
-    let inside = in_loop c.before.before in
-    let head = at_loop inside in
-    let a = (start head).args in
-    let test = inside.loop-test.taken in
-    locked_on a.s a.first.now a.at.now a.t a.second.now a.to.now head.loop.j (omega arith) (within_left head test)
-    (within_right head test) head.loop.inv c.before.before.compare_row.ensures (sym c.before.is_same.ensures ∙ not-false _ c.if1.false)
-
-returns_2 : tie.Need-returns-2 invariant-loop decreases-loop
-returns_2 c =
-    let a = (start c.before).args in
-    locked_out a.s a.first.now a.at.now a.t a.second.now a.to.now c.before.loop.j c.before.before.shorter.ensures c.loop-test.false
-    c.before.loop.invariant
+    let a = c.args in
+    locked_out a.s a.first.now a.at.now a.t a.second.now a.to.now c.loop-j.j c.shorter-n.ensures c.loop-j-test.false
+    c.loop-j.invariant
 
 pub compare_rows_spec : {M : Type 1} → statement M
 compare_rows_spec =
     tie.close
     (tie.spec
-    invariant-loop
-    decreases-loop
-    shorter_requires
-    loop_holds
-    mul_compare_row
-    shared_slice_read_compare_row
-    cast_compare_row
-    mul_compare_row_2
-    shared_slice_read_compare_row_2
-    cast_compare_row_2
-    compare_row_requires
-    is_same_requires
-    returns
-    add_j
-    loop_less
-    loop_again
-    returns_2)
+    invariant-loop-j
+    decreases-loop-j
+    shorter-n-requires
+    loop-j-init
+    offset_bounds-at-j
+    bounds-at-j
+    overflow_cast-at
+    offset_bounds-to-j
+    bounds-to-j
+    overflow_cast-to
+    compare_row-o-requires
+    is_same-requires
+    returns-then-not-is_same
+    overflow_add-j
+    loop-j-smaller
+    loop-j-preserved
+    returns)

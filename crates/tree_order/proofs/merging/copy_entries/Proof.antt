@@ -6,59 +6,59 @@ use Rattle.tree_order.proofs.Copying.{Copied, copied_none, copied_one, copied_al
 use Rattle.tree_order.proofs.merging.copy_entries.Statement.{statement}
 use Rattle.tree_order.proofs.merging.copy_entries.Tie as tie
 
-abbrev invariant-loop : tie.invariant-loop
-invariant-loop from table₀ to i₀ table i = Copied from table₀ to table i
+abbrev invariant-loop-i : tie.invariant-loop-i
+invariant-loop-i from table₀ to i₀ table i = Copied from table₀ to table i
 
-abbrev decreases-loop : tie.decreases-loop
-decreases-loop from table₀ to i₀ table i = length from - i
+abbrev decreases-loop-i : tie.decreases-loop-i
+decreases-loop-i from table₀ to i₀ table i = length from - i
 
-loop_holds : tie.Need-loop-init invariant-loop decreases-loop
-loop_holds c = copied_none _ _ _ c.requires
+loop-i-init : tie.Need-loop-i-init invariant-loop-i decreases-loop-i
+loop-i-init c = copied_none _ _ _ c.requires
 
-mul_table : tie.Need-overflow-mul-table invariant-loop decreases-loop
-mul_table c = omega arith
+offset_bounds-from-i : tie.Need-offset_bounds-from-i invariant-loop-i decreases-loop-i
+offset_bounds-from-i c = omega arith
 
-shared_slice_read_table : tie.Need-shared-slice-read-table invariant-loop decreases-loop
-shared_slice_read_table c = omega arith
+bounds-from-i : tie.Need-bounds-from-i invariant-loop-i decreases-loop-i
+bounds-from-i c = omega arith
 
-add_table : tie.Need-overflow-add-table invariant-loop decreases-loop
-add_table c = omega arith
+overflow_add-table : tie.Need-overflow_add-table invariant-loop-i decreases-loop-i
+overflow_add-table c = omega arith
 
-mul_table_2 : tie.Need-overflow-mul-table-2 invariant-loop decreases-loop
-mul_table_2 c = omega arith
+offset_bounds-table-to : tie.Need-offset_bounds-table-to invariant-loop-i decreases-loop-i
+offset_bounds-table-to c = omega arith
 
-slice_write_table : tie.Need-slice-write-table invariant-loop decreases-loop
-slice_write_table c = omega arith
+bounds-table-to : tie.Need-bounds-table-to invariant-loop-i decreases-loop-i
+bounds-table-to c = omega arith
 
-add_i : tie.Need-overflow-add-i invariant-loop decreases-loop
-add_i c = omega arith
+overflow_add-i : tie.Need-overflow_add-i invariant-loop-i decreases-loop-i
+overflow_add-i c = omega arith
 
-loop_less : tie.Need-loop-smaller invariant-loop decreases-loop
-loop_less c = omega arith
+loop-i-smaller : tie.Need-loop-i-smaller invariant-loop-i decreases-loop-i
+loop-i-smaller c = omega arith
 
-loop_again : tie.Need-loop-preserved invariant-loop decreases-loop
-loop_again c = copied_one _ _ _ c.before.before.before.requires c.before.loop-test.true c.before.before.loop.invariant
+loop-i-preserved : tie.Need-loop-i-preserved invariant-loop-i decreases-loop-i
+loop-i-preserved c = copied_one _ _ _ c.requires c.loop-i-test.true c.loop-i.invariant
 
-same_length : tie.Need-same-length invariant-loop decreases-loop
-same_length c = c.before.loop.invariant.same_length
+shape_of-table : tie.Need-shape_of-table invariant-loop-i decreases-loop-i
+shape_of-table c = c.loop-i.invariant.same_length
 
-returns : tie.Need-returns invariant-loop decreases-loop
-returns c = copied_all _ _ _ c.before.before.requires c.loop-test.false c.before.loop.invariant
+returns : tie.Need-returns invariant-loop-i decreases-loop-i
+returns c = copied_all _ _ _ c.requires c.loop-i-test.false c.loop-i.invariant
 
 pub copy_entries_spec : {M : Type 1} → statement M
 copy_entries_spec =
     tie.close
     (tie.spec
-    invariant-loop
-    decreases-loop
-    loop_holds
-    mul_table
-    shared_slice_read_table
-    add_table
-    mul_table_2
-    slice_write_table
-    add_i
-    loop_less
-    loop_again
-    same_length
+    invariant-loop-i
+    decreases-loop-i
+    loop-i-init
+    offset_bounds-from-i
+    bounds-from-i
+    overflow_add-table
+    offset_bounds-table-to
+    bounds-table-to
+    overflow_add-i
+    loop-i-smaller
+    loop-i-preserved
+    shape_of-table
     returns)

@@ -5,23 +5,23 @@ use borrow.Author.Rules.{rules}
 use Rattle.tree_order.proofs.merging.first_size.Statement.{statement}
 use Rattle.tree_order.proofs.merging.first_size.Tie as tie
 
-shared_slice_read_i : tie.Need-shared-slice-read-i
-shared_slice_read_i c = search rules
+bounds-at-0 : tie.Need-bounds-at-0
+bounds-at-0 c = search rules
 
-cast_i : tie.Need-overflow-cast-i
-cast_i c = search rules
+overflow_cast-i : tie.Need-overflow_cast-i
+overflow_cast-i c = search rules
 
-mul_result : tie.Need-overflow-mul-result
-mul_result c = search rules
+offset_bounds-ends-i : tie.Need-offset_bounds-ends-i
+offset_bounds-ends-i c = search rules
 
-shared_slice_read_result : tie.Need-shared-slice-read-result
-shared_slice_read_result c = search rules
+bounds-ends-i : tie.Need-bounds-ends-i
+bounds-ends-i c = search rules
 
-cast_result : tie.Need-overflow-cast-result
-cast_result c = omega (arith, c.shared-slice-known2.given (get_or c.before.before.args.at.now 0 0))
+overflow_cast-result : tie.Need-overflow_cast-result
+overflow_cast-result c = omega (arith, c.shared_slice_known-2-1.given (get_or c.args.at.now 0 0))
 
-sub_result : tie.Need-overflow-sub-result
-sub_result c = search rules
+overflow_sub-result : tie.Need-overflow_sub-result
+overflow_sub-result c = search rules
 
 returns : tie.Need-returns
 returns c = search rules
@@ -30,10 +30,10 @@ pub first_size_spec : {M : Type 1} → statement M
 first_size_spec =
     tie.close
     (tie.spec
-    shared_slice_read_i
-    cast_i
-    mul_result
-    shared_slice_read_result
-    cast_result
-    sub_result
+    bounds-at-0
+    overflow_cast-i
+    offset_bounds-ends-i
+    bounds-ends-i
+    overflow_cast-result
+    overflow_sub-result
     returns)

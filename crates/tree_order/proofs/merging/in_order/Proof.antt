@@ -11,84 +11,75 @@ use borrow.Author.Rules.{rules}
 use Rattle.tree_order.proofs.merging.in_order.Statement.{statement}
 use Rattle.tree_order.proofs.merging.in_order.Tie as tie
 
-abbrev start : tie.After-shared-slice-known3 → tie.Start
-start c = c.before.before.before
+first_size-m-requires : tie.Need-first_size-m-requires
+first_size-m-requires c κs =
+    let a = c in
+    first-sized a.requires.0 a.args.at.now (omega arith) a.requires.1
 
-abbrev entered : tie.After-first-size → tie.After-shared-slice-known3
-entered c = c.before.before
+first_size-n-requires : tie.Need-first_size-n-requires
+first_size-n-requires c κs =
+    let a = c in
+    first-sized a.requires.0 a.args.to.now (omega arith) a.requires.2
 
-abbrev after_first_size : tie.After-compare-rows-arg2 → tie.After-first-size
-after_first_size c = c.before.before.before
+slice_bounds-compare_rows-end : tie.Need-slice_bounds-compare_rows-end
+slice_bounds-compare_rows-end c =
+    let a = c in
+    first_counted a.requires.0 a.args.at.now (omega arith) a.requires.1 c.first_size-m.ensures
 
-first_size_requires : tie.Need-first-size-requires
-first_size_requires c κs =
-    let a = start c.before in
-    first-sized a.pre.0 a.args.at.now (omega arith) a.pre.1
+slice_bounds-compare_rows-end-2 : tie.Need-slice_bounds-compare_rows-end-2
+slice_bounds-compare_rows-end-2 c =
+    let a = c in
+    first_counted a.requires.0 a.args.to.now (omega arith) a.requires.2 c.first_size-n.ensures
 
-first_size_requires_2 : tie.Need-first-size-requires-2
-first_size_requires_2 c κs =
-    let a = start (entered c) in
-    first-sized a.pre.0 a.args.to.now (omega arith) a.pre.2
-
-slice_aggregate_compare_rows : tie.Need-slice-aggregate-compare-rows
-slice_aggregate_compare_rows c =
-    let a = start (entered c.before.before) in
-    first_counted a.pre.0 a.args.at.now (omega arith) a.pre.1 c.before.before.first_size.ensures
-
-slice_aggregate_compare_rows_2 : tie.Need-slice-aggregate-compare-rows-2
-slice_aggregate_compare_rows_2 c =
-    let a = start (entered (after_first_size c)) in
-    first_counted a.pre.0 a.args.to.now (omega arith) a.pre.2 c.before.before.first-size2.ensures
-
-compare_rows_requires : tie.Need-compare-rows-requires
-compare_rows_requires c κs =
-    let at-first-size = after_first_size c in
-    let a = start (entered at-first-size) in (
-      a.pre.0.readable,
-      first-numbers a.pre.0 a.args.at.now (omega arith) a.pre.1 at-first-size.first_size.ensures,
-      a.pre.0.readable,
-      first-numbers a.pre.0 a.args.to.now (omega arith) a.pre.2 c.before.before.first-size2.ensures,
+compare_rows-o-requires : tie.Need-compare_rows-o-requires
+compare_rows-o-requires c κs =
+    let at-first-size = c in
+    let a = at-first-size in (
+      a.requires.0.readable,
+      first-numbers a.requires.0 a.args.at.now (omega arith) a.requires.1 at-first-size.first_size-m.ensures,
+      a.requires.0.readable,
+      first-numbers a.requires.0 a.args.to.now (omega arith) a.requires.2 c.first_size-n.ensures,
     )
 
-enum_told : tie.Need-enum-told
-enum_told c = search rules
+enum_told-1 : tie.Need-enum_told-1
+enum_told-1 c = search rules
 
-enum_told_2 : tie.Need-enum-told-2
-enum_told_2 c = search rules
+enum_told-in-Before : tie.Need-enum_told-in-Before
+enum_told-in-Before c = search rules
 
-enum_told_3 : tie.Need-enum-told-3
-enum_told_3 c = search rules
+enum_told-in-Same : tie.Need-enum_told-in-Same
+enum_told-in-Same c = search rules
 
-compared : (c : tie.After-compare-rows) →
-    let a = (start (entered (after_first_size c.before))).args in
-    not_after (ordering c.compare_rows.result) ≡ leads (root (standing a.s a.b.now a.at.now)) (root (standing a.s a.b.now a.to.now))
+compared : (c : tie.After-compare_rows-o) →
+    let a = c.args in
+    not_after (ordering c.compare_rows-o.result) ≡ leads (root (standing a.s a.b.now a.at.now)) (root (standing a.s a.b.now a.to.now))
 compared c =
-    let at-first-size = after_first_size c.before in
-    let a = start (entered at-first-size) in
-    first_compared a.pre.0 a.args.at.now a.args.to.now a.pre.1 a.pre.2 at-first-size.first_size.ensures
-    c.before.before.before.first-size2.ensures c.compare_rows.ensures
+    let at-first-size = c in
+    let a = at-first-size in
+    first_compared a.requires.0 a.args.at.now a.args.to.now a.requires.1 a.requires.2 at-first-size.first_size-m.ensures
+    c.first_size-n.ensures c.compare_rows-o.ensures
 
-returns : tie.Need-returns
-returns c = ap (λ (o : Order). not_after (ordering o)) (sym c.enum_told.given.1) ∙ compared c.before.before
+returns-in-After : tie.Need-returns-in-After
+returns-in-After c = ap (λ (o : Order). not_after (ordering o)) (sym c.in-After.is) ∙ compared c.before
 
-returns_2 : tie.Need-returns-2
-returns_2 c = ap (λ (o : Order). not_after (ordering o)) (sym c.enum-told2.given.1) ∙ compared c.before.before
+returns-in-Before : tie.Need-returns-in-Before
+returns-in-Before c = ap (λ (o : Order). not_after (ordering o)) (sym c.in-Before.is) ∙ compared c.before
 
-returns_3 : tie.Need-returns-3
-returns_3 c = ap (λ (o : Order). not_after (ordering o)) (sym c.enum-told3.given.1) ∙ compared c.before.before
+returns-in-Same : tie.Need-returns-in-Same
+returns-in-Same c = ap (λ (o : Order). not_after (ordering o)) (sym c.in-Same.is) ∙ compared c.before
 
 pub in_order_spec : {M : Type 1} → statement M
 in_order_spec =
     tie.close
     (tie.spec
-    first_size_requires
-    first_size_requires_2
-    slice_aggregate_compare_rows
-    slice_aggregate_compare_rows_2
-    compare_rows_requires
-    enum_told
-    enum_told_2
-    enum_told_3
-    returns
-    returns_2
-    returns_3)
+    first_size-m-requires
+    first_size-n-requires
+    slice_bounds-compare_rows-end
+    slice_bounds-compare_rows-end-2
+    compare_rows-o-requires
+    enum_told-1
+    enum_told-in-Before
+    enum_told-in-Same
+    returns-in-After
+    returns-in-Before
+    returns-in-Same)

@@ -11,67 +11,61 @@ use Rattle.tree_order.proofs.MergeTurn.{starts-within, left_alone, left_compared
 use Rattle.tree_order.proofs.merging.takes_left.Statement.{statement}
 use Rattle.tree_order.proofs.merging.takes_left.Tie as tie
 
-abbrev start : tie.After-shared-slice-known3 → tie.Start
-start c = c.before.before.before
+returns-then-m-eq0 : tie.Need-returns-then-m-eq0
+returns-then-m-eq0 c =
+    let a = c in
+    left_alone a.requires.0 a.args.at.now a.args.m a.requires.1 a.requires.2 c.if-m-eq0.true
 
-abbrev entered : tie.After-in-order-arg → tie.After-shared-slice-known3
-entered c = c.before.before.before
+left_within : (c : tie.Else-m-eq0) → c.args.m.left < length c.args.at.now
+left_within c =
+    let a = c in
+    starts-within a.requires.0 a.args.at.now a.args.m.left a.requires.2 a.requires.1.left_stands
+
+some_right : (c : tie.Else-m-eq0) → 0 < c.args.m.rights
+some_right c = omega arith
+
+right_within : (c : tie.Else-m-eq0) → c.args.m.right < length c.args.at.now
+right_within c =
+    let a = c in
+    starts-within a.requires.0 a.args.at.now a.args.m.right (some_right c) a.requires.1.right_stands
+
+offset_bounds-at-left : tie.Need-offset_bounds-at-left
+offset_bounds-at-left c = omega (arith, left_within c)
+
+slice_bounds-in_order-count : tie.Need-slice_bounds-in_order-count
+slice_bounds-in_order-count c = omega (arith, left_within c)
+
+slice_bounds-in_order-start : tie.Need-slice_bounds-in_order-start
+slice_bounds-in_order-start c = omega (arith, left_within c)
+
+slice_bounds-in_order-end : tie.Need-slice_bounds-in_order-end
+slice_bounds-in_order-end c = omega arith
+
+offset_bounds-at-right : tie.Need-offset_bounds-at-right
+offset_bounds-at-right c = omega (arith, right_within c.before)
+
+slice_bounds-in_order-count-2 : tie.Need-slice_bounds-in_order-count-2
+slice_bounds-in_order-count-2 c = omega (arith, right_within c.before)
+
+slice_bounds-in_order-start-2 : tie.Need-slice_bounds-in_order-start-2
+slice_bounds-in_order-start-2 c = omega (arith, right_within c.before)
+
+slice_bounds-in_order-end-2 : tie.Need-slice_bounds-in_order-end-2
+slice_bounds-in_order-end-2 c = omega arith
+
+in_order-requires : tie.Need-in_order-requires
+in_order-requires c κs =
+    let a = c in
+    let holds : List ℕ → Type 0 = λ l. Stands a.args.s a.args.b.now a.args.ends.now l 1 in (
+      a.requires.0,
+      subst holds (sym (suffix a.args.at.now a.args.m.left)) (fewer a.requires.2 a.requires.1.left_stands),
+      subst holds (sym (suffix a.args.at.now a.args.m.right)) (fewer (some_right c.before.before) a.requires.1.right_stands),
+    )
 
 returns : tie.Need-returns
 returns c =
-    let a = start c.before.before in
-    left_alone a.pre.0 a.args.at.now a.args.m a.pre.1 a.pre.2 c.if1.true
-
-left_within : (c : tie.Else1) → (start c.before.before).args.m.left < length (start c.before.before).args.at.now
-left_within c =
-    let a = start c.before.before in
-    starts-within a.pre.0 a.args.at.now a.args.m.left a.pre.2 a.pre.1.left_stands
-
-some_right : (c : tie.Else1) → 0 < (start c.before.before).args.m.rights
-some_right c = omega arith
-
-right_within : (c : tie.Else1) → (start c.before.before).args.m.right < length (start c.before.before).args.at.now
-right_within c =
-    let a = start c.before.before in
-    starts-within a.pre.0 a.args.at.now a.args.m.right (some_right c) a.pre.1.right_stands
-
-mul_in_order : tie.Need-overflow-mul-in-order
-mul_in_order c = omega (arith, left_within c)
-
-sub_in_order : tie.Need-overflow-sub-in-order
-sub_in_order c = omega (arith, left_within c)
-
-part_in_order_start : tie.Need-slice-bounds-in-order-start
-part_in_order_start c = omega (arith, left_within c)
-
-part_in_order_end : tie.Need-slice-bounds-in-order-end
-part_in_order_end c = omega arith
-
-mul_in_order_2 : tie.Need-overflow-mul-in-order-2
-mul_in_order_2 c = omega (arith, right_within c.before)
-
-sub_in_order_2 : tie.Need-overflow-sub-in-order-2
-sub_in_order_2 c = omega (arith, right_within c.before)
-
-part_in_order_start_2 : tie.Need-slice-bounds-in-order-start-2
-part_in_order_start_2 c = omega (arith, right_within c.before)
-
-part_in_order_end_2 : tie.Need-slice-bounds-in-order-end-2
-part_in_order_end_2 c = omega arith
-
-in_order_requires : tie.Need-in-order-requires
-in_order_requires c κs =
-    let a = start (entered c.before) in
-    let holds : List ℕ → Type 0 = λ l. Stands a.args.s a.args.b.now a.args.ends.now l 1 in (
-      a.pre.0,
-      subst holds (sym (suffix a.args.at.now a.args.m.left)) (fewer a.pre.2 a.pre.1.left_stands),
-      subst holds (sym (suffix a.args.at.now a.args.m.right)) (fewer (some_right c.before.before) a.pre.1.right_stands),
-    )
-
-returns_2 : tie.Need-returns-2
-returns_2 c =
-    let a = start (entered c.before.before) in
-    left_compared a.pre.0 a.args.at.now a.args.m a.pre.1 a.pre.2 (some_right c.before.before.before)
+    let a = c in
+    left_compared a.requires.0 a.args.at.now a.args.m a.requires.1 a.requires.2 (some_right c.before.before.before)
     (c.in_order.ensures ∙
     ap₂ (λ x y. leads (root (standing a.args.s a.args.b.now x)) (root (standing a.args.s a.args.b.now y)))
     (suffix a.args.at.now a.args.m.left) (suffix a.args.at.now a.args.m.right))
@@ -80,14 +74,14 @@ pub takes_left_spec : {M : Type 1} → statement M
 takes_left_spec =
     tie.close
     (tie.spec
-    returns
-    mul_in_order
-    sub_in_order
-    part_in_order_start
-    part_in_order_end
-    mul_in_order_2
-    sub_in_order_2
-    part_in_order_start_2
-    part_in_order_end_2
-    in_order_requires
-    returns_2)
+    returns-then-m-eq0
+    offset_bounds-at-left
+    slice_bounds-in_order-count
+    slice_bounds-in_order-start
+    slice_bounds-in_order-end
+    offset_bounds-at-right
+    slice_bounds-in_order-count-2
+    slice_bounds-in_order-start-2
+    slice_bounds-in_order-end-2
+    in_order-requires
+    returns)

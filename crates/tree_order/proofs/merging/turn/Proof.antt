@@ -14,172 +14,151 @@ use borrow.Author.Rules.{rules}
 use Rattle.tree_order.proofs.merging.turn.Statement.{statement}
 use Rattle.tree_order.proofs.merging.turn.Tie as tie
 
-abbrev start : tie.After-shared-slice-known3 → tie.Start
-start c = c.before.before.before
-
-abbrev else_1 : tie.After-copy-first2 → tie.Else1
-else_1 c = c.before.before.before
-
-abbrev then_1 : tie.After-copy-first → tie.Then1
-then_1 c = c.before.before.before
-
-abbrev after_copy_first : tie.After-struct-known → tie.After-copy-first
-after_copy_first c = c.before.before.before
-
-abbrev after_copy_first2 : tie.After-struct-known3 → tie.After-copy-first2
-after_copy_first2 c = c.before.before.before
-
-abbrev before_left : tie.Then1 → tie.Start
-before_left c = start c.before.before.before
-
-abbrev before_right : tie.Else1 → tie.Start
-before_right c = start c.before.before.before
-
-left_stays : (c : tie.Then1) → (before_left c).args.m.left < length (before_left c).args.at.now
+left_stays : (c : tie.Then-from_left) → c.args.m.left < length c.args.at.now
 left_stays c =
-    let a = before_left c in
-    starts-within a.pre.0 a.args.at.now a.args.m.left a.pre.2 a.pre.1.left_stands
+    let a = c in
+    starts-within a.requires.0 a.args.at.now a.args.m.left a.requires.2 a.requires.1.left_stands
 
 -- the left run's next tree, with as many rows as it has
-left_next : (c : tie.Then1) {n : ℕ} → n ≡ first_size (before_left c).args.ends.now (drop (before_left c).args.m.left (before_left c).args.at.now) →
-    let a = (before_left c).args in Advanced a.s a.b.now a.ends.now a.at.now a.m.left a.m.lefts n
+left_next : (c : tie.Then-from_left) {n : ℕ} → n ≡ first_size c.args.ends.now (drop c.args.m.left c.args.at.now) →
+    let a = c.args in Advanced a.s a.b.now a.ends.now a.at.now a.m.left a.m.lefts n
 left_next c e =
-    let a = before_left c in
-    advanced a.pre.0 a.args.at.now a.args.m.left a.pre.2 a.pre.1.left_stands e
+    let a = c in
+    advanced a.requires.0 a.args.at.now a.args.m.left a.requires.2 a.requires.1.left_stands e
 
-left_room : (c : tie.Then1) {n : ℕ} → n ≡ first_size (before_left c).args.ends.now (drop (before_left c).args.m.left (before_left c).args.at.now) →
-    (before_left c).args.m.to + n ≤ length (before_left c).args.spare.now
+left_room : (c : tie.Then-from_left) {n : ℕ} → n ≡ first_size c.args.ends.now (drop c.args.m.left c.args.at.now) →
+    c.args.m.to + n ≤ length c.args.spare.now
 left_room c e =
-    let a = before_left c in
-    room_left a.pre.0 a.args.at.now a.args.m a.pre.1 a.pre.2 a.args.spare.now a.pre.3 (left_next c e)
+    let a = c in
+    room_left a.requires.0 a.args.at.now a.args.m a.requires.1 a.requires.2 a.args.spare.now a.requires.3 (left_next c e)
 
-late : (c : tie.Else1) →
-    let a = (before_right c).args in
+late : (c : tie.Else-from_left) →
+    let a = c.args in
     first_leads (root (standing a.s a.b.now (drop a.m.left a.at.now))) (right_trees a.s a.b.now a.at.now a.m) ≡ false
-late c = sym c.before.takes-left.ensures ∙ c.if1.false
+late c = sym c.takes_left-from_left.ensures ∙ c.if-from_left.false
 
-right_some : (c : tie.Else1) → 0 < (before_right c).args.m.rights
+right_some : (c : tie.Else-from_left) → 0 < c.args.m.rights
 right_some c =
-    let a = before_right c in
-    some_right a.pre.0 a.args.at.now a.args.m a.pre.1 a.pre.2 (late c)
+    let a = c in
+    some_right a.requires.0 a.args.at.now a.args.m a.requires.1 a.requires.2 (late c)
 
-right_stays : (c : tie.Else1) → (before_right c).args.m.right < length (before_right c).args.at.now
+right_stays : (c : tie.Else-from_left) → c.args.m.right < length c.args.at.now
 right_stays c =
-    let a = before_right c in
-    starts-within a.pre.0 a.args.at.now a.args.m.right (right_some c) a.pre.1.right_stands
+    let a = c in
+    starts-within a.requires.0 a.args.at.now a.args.m.right (right_some c) a.requires.1.right_stands
 
-right_next : (c : tie.Else1) {n : ℕ} → n ≡ first_size (before_right c).args.ends.now (drop (before_right c).args.m.right (before_right c).args.at.now) →
-    let a = (before_right c).args in Advanced a.s a.b.now a.ends.now a.at.now a.m.right a.m.rights n
+right_next : (c : tie.Else-from_left) {n : ℕ} → n ≡ first_size c.args.ends.now (drop c.args.m.right c.args.at.now) →
+    let a = c.args in Advanced a.s a.b.now a.ends.now a.at.now a.m.right a.m.rights n
 right_next c e =
-    let a = before_right c in
-    advanced a.pre.0 a.args.at.now a.args.m.right (right_some c) a.pre.1.right_stands e
+    let a = c in
+    advanced a.requires.0 a.args.at.now a.args.m.right (right_some c) a.requires.1.right_stands e
 
-right_room : (c : tie.Else1) {n : ℕ} → n ≡ first_size (before_right c).args.ends.now (drop (before_right c).args.m.right (before_right c).args.at.now) →
-    (before_right c).args.m.to + n ≤ length (before_right c).args.spare.now
+right_room : (c : tie.Else-from_left) {n : ℕ} → n ≡ first_size c.args.ends.now (drop c.args.m.right c.args.at.now) →
+    c.args.m.to + n ≤ length c.args.spare.now
 right_room c e =
-    let a = before_right c in
-    room_right a.pre.0 a.args.at.now a.args.m a.pre.1 a.pre.2 a.args.spare.now a.pre.3 (right_next c e)
+    let a = c in
+    room_right a.requires.0 a.args.at.now a.args.m a.requires.1 a.requires.2 a.args.spare.now a.requires.3 (right_next c e)
 
-left_size : (c : tie.After-copy-first) → c.copy-first.result ≡
-    first_size (before_left (then_1 c)).args.ends.now
-    (drop (before_left (then_1 c)).args.m.left (before_left (then_1 c)).args.at.now)
+left_size : (c : tie.After-copy_first-n) → c.copy_first-n.result ≡
+    first_size c.args.ends.now
+    (drop c.args.m.left c.args.at.now)
 left_size c =
-    let a = (before_left (then_1 c)).args in
-    c.copy-first.ensures.0 ∙ ap (first_size a.ends.now) (suffix a.at.now a.m.left)
+    let a = c.args in
+    c.copy_first-n.ensures.0 ∙ ap (first_size a.ends.now) (suffix a.at.now a.m.left)
 
-right_size : (c : tie.After-copy-first2) → c.copy-first2.result ≡
-    first_size (before_right (else_1 c)).args.ends.now
-    (drop (before_right (else_1 c)).args.m.right (before_right (else_1 c)).args.at.now)
+right_size : (c : tie.After-copy_first-n-2) → c.copy_first-n-2.result ≡
+    first_size c.args.ends.now
+    (drop c.args.m.right c.args.at.now)
 right_size c =
-    let a = (before_right (else_1 c)).args in
-    c.copy-first2.ensures.0 ∙ ap (first_size a.ends.now) (suffix a.at.now a.m.right)
+    let a = c.args in
+    c.copy_first-n-2.ensures.0 ∙ ap (first_size a.ends.now) (suffix a.at.now a.m.right)
 
-takes_left_requires : tie.Need-takes-left-requires
-takes_left_requires c κs =
-    let a = start c.before in
-    (a.pre.0, a.pre.1, a.pre.2)
+takes_left-from_left-requires : tie.Need-takes_left-from_left-requires
+takes_left-from_left-requires c κs =
+    let a = c in
+    (a.requires.0, a.requires.1, a.requires.2)
 
-mul_copy_first : tie.Need-overflow-mul-copy-first
-mul_copy_first c = omega (arith, left_stays c)
+offset_bounds-at-left : tie.Need-offset_bounds-at-left
+offset_bounds-at-left c = omega (arith, left_stays c)
 
-sub_copy_first : tie.Need-overflow-sub-copy-first
-sub_copy_first c = omega (arith, left_stays c)
+slice_bounds-copy_first-count : tie.Need-slice_bounds-copy_first-count
+slice_bounds-copy_first-count c = omega (arith, left_stays c)
 
-part_copy_first_start : tie.Need-slice-bounds-copy-first-start
-part_copy_first_start c = omega (arith, left_stays c)
+slice_bounds-copy_first-start : tie.Need-slice_bounds-copy_first-start
+slice_bounds-copy_first-start c = omega (arith, left_stays c)
 
-part_copy_first_end : tie.Need-slice-bounds-copy-first-end
-part_copy_first_end c = omega arith
+slice_bounds-copy_first-end : tie.Need-slice_bounds-copy_first-end
+slice_bounds-copy_first-end c = omega arith
 
-copy_first_requires : tie.Need-copy-first-requires
-copy_first_requires c κs =
-    let a = before_left c.before.before in
-    copies_first a.pre.0 a.args.at.now a.args.spare.now a.args.m.left a.args.m.to a.pre.2 a.pre.1.left_stands
+copy_first-n-requires : tie.Need-copy_first-n-requires
+copy_first-n-requires c κs =
+    let a = c in
+    copies_first a.requires.0 a.args.at.now a.args.spare.now a.args.m.left a.args.m.to a.requires.2 a.requires.1.left_stands
     (left_room c.before.before refl)
 
-add_t13 : tie.Need-overflow-add-t13
-add_t13 c = omega (arith, (left_next (then_1 c.before.before) (left_size c.before.before)).is_within)
+overflow_add-result : tie.Need-overflow_add-result
+overflow_add-result c = omega (arith, (left_next c.before.before.before.before.before (left_size c.before.before)).is_within)
 
-sub_t15 : tie.Need-overflow-sub-t15
-sub_t15 c = omega (arith, (before_left (then_1 (after_copy_first c))).requires.2)
+overflow_sub-result : tie.Need-overflow_sub-result
+overflow_sub-result c = omega (arith, c.requires.2)
 
-add_t20 : tie.Need-overflow-add-t20
-add_t20 c = omega (arith, left_room (then_1 (after_copy_first c.before)) (left_size (after_copy_first c.before)))
+overflow_add-result-then-from_left : tie.Need-overflow_add-result-then-from_left
+overflow_add-result-then-from_left c = omega (arith, left_room c.before.before.before.before.before.before.before (left_size c.before.before.before.before))
 
-same_length : tie.Need-same-length
-same_length c = search rules
+shape_of-spare-then-from_left : tie.Need-shape_of-spare-then-from_left
+shape_of-spare-then-from_left c = search rules
 
-returns : tie.Need-returns
-returns c =
-    let moved = after_copy_first c.before in
-    let chosen = then_1 moved in
-    let a = before_left chosen in
-    let n = moved.copy-first.result in
-    turned_left a.pre.0 a.args.at.now a.args.m a.pre.1 a.pre.2 a.args.spare.now moved.copy-first.last.1.1.0 a.pre.3
-    (left_next chosen (left_size moved)) (sym chosen.before.takes-left.ensures ∙ chosen.if1.taken)
-    (moved.copy-first.ensures.1 ∙
+returns-then-from_left : tie.Need-returns-then-from_left
+returns-then-from_left c =
+    let moved = c in
+    let chosen = moved in
+    let a = chosen in
+    let n = moved.copy_first-n.result in
+    turned_left a.requires.0 a.args.at.now a.args.m a.requires.1 a.requires.2 a.args.spare.now moved.copy_first-n.new.spare a.requires.3
+    (left_next chosen.before.before.before.before.before.before.before (left_size moved.before.before.before.before)) (sym chosen.takes_left-from_left.ensures ∙ chosen.if-from_left.true)
+    (moved.copy_first-n.ensures.1 ∙
     ap (λ l. take a.args.m.to a.args.spare.now ++ take n l ++ drop (a.args.m.to + n) a.args.spare.now)
     (suffix a.args.at.now a.args.m.left))
 
-mul_copy_first_2 : tie.Need-overflow-mul-copy-first-2
-mul_copy_first_2 c = omega (arith, right_stays c)
+offset_bounds-at-right : tie.Need-offset_bounds-at-right
+offset_bounds-at-right c = omega (arith, right_stays c)
 
-sub_copy_first_2 : tie.Need-overflow-sub-copy-first-2
-sub_copy_first_2 c = omega (arith, right_stays c)
+slice_bounds-copy_first-count-2 : tie.Need-slice_bounds-copy_first-count-2
+slice_bounds-copy_first-count-2 c = omega (arith, right_stays c)
 
-part_copy_first_start_2 : tie.Need-slice-bounds-copy-first-start-2
-part_copy_first_start_2 c = omega (arith, right_stays c)
+slice_bounds-copy_first-start-2 : tie.Need-slice_bounds-copy_first-start-2
+slice_bounds-copy_first-start-2 c = omega (arith, right_stays c)
 
-part_copy_first_end_2 : tie.Need-slice-bounds-copy-first-end-2
-part_copy_first_end_2 c = omega arith
+slice_bounds-copy_first-end-2 : tie.Need-slice_bounds-copy_first-end-2
+slice_bounds-copy_first-end-2 c = omega arith
 
-copy_first_requires_2 : tie.Need-copy-first-requires-2
-copy_first_requires_2 c κs =
-    let a = before_right c.before.before in
-    copies_first a.pre.0 a.args.at.now a.args.spare.now a.args.m.right a.args.m.to (right_some c.before.before) a.pre.1.right_stands
+copy_first-n-requires-2 : tie.Need-copy_first-n-requires-2
+copy_first-n-requires-2 c κs =
+    let a = c in
+    copies_first a.requires.0 a.args.at.now a.args.spare.now a.args.m.right a.args.m.to (right_some c.before.before) a.requires.1.right_stands
     (right_room c.before.before refl)
 
-add_t21 : tie.Need-overflow-add-t21
-add_t21 c = omega (arith, (right_next (else_1 c.before.before) (right_size c.before.before)).is_within)
+overflow_add-result-2 : tie.Need-overflow_add-result-2
+overflow_add-result-2 c = omega (arith, (right_next c.before.before.before.before.before (right_size c.before.before)).is_within)
 
-sub_t23 : tie.Need-overflow-sub-t23
-sub_t23 c = omega (arith, right_some (else_1 (after_copy_first2 c)))
+overflow_sub-result-2 : tie.Need-overflow_sub-result-2
+overflow_sub-result-2 c = omega (arith, right_some c.before.before.before.before.before.before)
 
-add_t28 : tie.Need-overflow-add-t28
-add_t28 c = omega (arith, right_room (else_1 (after_copy_first2 c.before)) (right_size (after_copy_first2 c.before)))
+overflow_add-result-3 : tie.Need-overflow_add-result-3
+overflow_add-result-3 c = omega (arith, right_room c.before.before.before.before.before.before.before (right_size c.before.before.before.before))
 
-same_length_2 : tie.Need-same-length-2
-same_length_2 c = search rules
+shape_of-spare : tie.Need-shape_of-spare
+shape_of-spare c = search rules
 
-returns_2 : tie.Need-returns-2
-returns_2 c =
-    let moved = after_copy_first2 c.before in
-    let chosen = else_1 moved in
-    let a = before_right chosen in
-    let n = moved.copy-first2.result in
-    turned_right a.pre.0 a.args.at.now a.args.m a.pre.1 a.pre.2 a.args.spare.now moved.copy-first2.last.1.1.0 a.pre.3
-    (right_next chosen (right_size moved)) (late chosen)
-    (moved.copy-first2.ensures.1 ∙
+returns : tie.Need-returns
+returns c =
+    let moved = c in
+    let chosen = moved in
+    let a = chosen in
+    let n = moved.copy_first-n-2.result in
+    turned_right a.requires.0 a.args.at.now a.args.m a.requires.1 a.requires.2 a.args.spare.now moved.copy_first-n-2.new.spare a.requires.3
+    (right_next chosen.before.before.before.before.before.before.before (right_size moved.before.before.before.before)) (late chosen.before.before.before.before.before.before.before)
+    (moved.copy_first-n-2.ensures.1 ∙
     ap (λ l. take a.args.m.to a.args.spare.now ++ take n l ++ drop (a.args.m.to + n) a.args.spare.now)
     (suffix a.args.at.now a.args.m.right))
 
@@ -187,24 +166,24 @@ pub turn_spec : {M : Type 1} → statement M
 turn_spec =
     tie.close
     (tie.spec
-    takes_left_requires
-    mul_copy_first
-    sub_copy_first
-    part_copy_first_start
-    part_copy_first_end
-    copy_first_requires
-    add_t13
-    sub_t15
-    add_t20
-    same_length
-    returns
-    mul_copy_first_2
-    sub_copy_first_2
-    part_copy_first_start_2
-    part_copy_first_end_2
-    copy_first_requires_2
-    add_t21
-    sub_t23
-    add_t28
-    same_length_2
-    returns_2)
+    takes_left-from_left-requires
+    offset_bounds-at-left
+    slice_bounds-copy_first-count
+    slice_bounds-copy_first-start
+    slice_bounds-copy_first-end
+    copy_first-n-requires
+    overflow_add-result
+    overflow_sub-result
+    overflow_add-result-then-from_left
+    shape_of-spare-then-from_left
+    returns-then-from_left
+    offset_bounds-at-right
+    slice_bounds-copy_first-count-2
+    slice_bounds-copy_first-start-2
+    slice_bounds-copy_first-end-2
+    copy_first-n-requires-2
+    overflow_add-result-2
+    overflow_sub-result-2
+    overflow_add-result-3
+    shape_of-spare
+    returns)

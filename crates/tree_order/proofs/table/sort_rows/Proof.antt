@@ -5,49 +5,40 @@ use borrow.Author.Rules.{rules}
 use Rattle.tree_order.proofs.table.sort_rows.Statement.{statement}
 use Rattle.tree_order.proofs.table.sort_rows.Tie as tie
 
-abbrev start : tie.After-ends → tie.Start
-start c = c.before.before.before
+slice_bounds-fill_ends-end : tie.Need-slice_bounds-fill_ends-end
+slice_bounds-fill_ends-end c = search rules
 
-abbrev after_ends : tie.After-ends3 → tie.After-ends
-after_ends c = c.before.before.before
+fill_ends-requires : tie.Need-fill_ends-requires
+fill_ends-requires c κs = search rules
 
-abbrev after_ends3 : tie.After-fill-sorted → tie.After-ends3
-after_ends3 c = c.before.before.before
+slice_bounds-fill_sorted-end : tie.Need-slice_bounds-fill_sorted-end
+slice_bounds-fill_sorted-end c = search rules
 
-slice_aggregate_fill_ends : tie.Need-slice-aggregate-fill-ends
-slice_aggregate_fill_ends c = search rules
+slice_bounds-fill_sorted-end-2 : tie.Need-slice_bounds-fill_sorted-end-2
+slice_bounds-fill_sorted-end-2 c = search rules
 
-fill_ends_requires : tie.Need-fill-ends-requires
-fill_ends_requires c κs = search rules
+fill_sorted-requires : tie.Need-fill_sorted-requires
+fill_sorted-requires c κs = search rules
 
-slice_aggregate_fill_sorted : tie.Need-slice-aggregate-fill-sorted
-slice_aggregate_fill_sorted c = search rules
-
-slice_aggregate_fill_sorted_2 : tie.Need-slice-aggregate-fill-sorted-2
-slice_aggregate_fill_sorted_2 c = search rules
-
-fill_sorted_requires : tie.Need-fill-sorted-requires
-fill_sorted_requires c κs = search rules
-
-same_length : tie.Need-same-length
-same_length c = search rules
+shape_of-at : tie.Need-shape_of-at
+shape_of-at c = search rules
 
 returns : tie.Need-returns
 returns c =
-    let d = c.before.before.before in
-    let a = start (after_ends (after_ends3 c.before.before.before)) in (
-      rows-picked_tree a.args.s a.args.b.now _ d.fill-sorted.new.1.1.1.0 _ d.fill-sorted.ensures,
-      numbers_tree a.args.s a.args.b.now _ d.fill-sorted.new.1.1.1.0 _ (length-nodes a.args.b.now a.pre.0) d.fill-sorted.ensures,
+    let d = c in
+    let a = c in (
+      rows-picked_tree a.args.s a.args.b.now _ d.fill_sorted.new.at _ d.fill_sorted.ensures,
+      numbers_tree a.args.s a.args.b.now _ d.fill_sorted.new.at _ (length-nodes a.args.b.now a.requires.0) d.fill_sorted.ensures,
     )
 
 pub sort_rows_spec : {M : Type 1} → statement M
 sort_rows_spec =
     tie.close
     (tie.spec
-    slice_aggregate_fill_ends
-    fill_ends_requires
-    slice_aggregate_fill_sorted
-    slice_aggregate_fill_sorted_2
-    fill_sorted_requires
-    same_length
+    slice_bounds-fill_ends-end
+    fill_ends-requires
+    slice_bounds-fill_sorted-end
+    slice_bounds-fill_sorted-end-2
+    fill_sorted-requires
+    shape_of-at
     returns)
