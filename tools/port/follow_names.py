@@ -488,6 +488,8 @@ def rewrite(path, entry, say, nots):
                 out.pop()
             continue
         t = Turner(f, helpers, lemmas, local, {}, say)
+        t.needs, t.heads_by = needs, heads
+        t.heads = {n: heads[plain(n)] for n in frames if plain(n) in heads}
         if name in typed:
             old = f.at.get(local.get(name))
             v = re.search(rf"^{re.escape(name)} (?!:)([^\s=]+)", chunk, re.M)

@@ -185,7 +185,7 @@ module _ (x : ℕ) (f : Formula) {set : List ℕ} (d : Dependents x f set) where
     pub lowest-dependents : r ≤ 1024 → r ≡ lowest_of (dependents x f)
     lowest-dependents h =
         let size = d.words in
-        lowest_is (dependents x f) r (listed r ∙ l.is_in (omega (arith, h, size))) (λ v k. listed v ∙ l.none-below v k)
+        lowest_is (dependents x f) r (listed r ∙ l.is_in (omega (arith, h, size))) (λ v k. listed v ∙ l.none_below v k)
 
     pub no-dependents : 1025 ≤ r → 0 ≡ lowest_of (dependents x f)
     unfolding dependents lowest_of
@@ -194,5 +194,5 @@ module _ (x : ℕ) (f : Formula) {set : List ℕ} (d : Dependents x f set) where
         by : (v : ℕ) (m : Bool) → depends x f v ≡ m → m ≡ false
         by v true e =
             let near = few v e in
-            sym (d.is v ∙ e) ∙ l.none-below v (omega (arith, near, h))
+            sym (d.is v ∙ e) ∙ l.none_below v (omega (arith, near, h))
         by v false e = refl

@@ -2,6 +2,7 @@
 // with a literal in its relevant subtree, those with one in the relevant subtree of a depending one, and so on. A set of variables has a
 // bit for each number, in words of 64 bits.
 #![tactic(auto)]
+
 use rows::Layout;
 
 pub mod answer;

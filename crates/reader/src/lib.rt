@@ -1,6 +1,7 @@
 // A text with the offset of its next unread byte (N1). Thin: each function takes the reader apart, and the work is done on the text and
 // the offset.
 #![tactic(auto)]
+
 ghost use Rattle.std.specs.Prelude.{◌≡◌, ◌≤◌, length, drop};
 ghost use Rattle.sheet.specs.Qdimacs.{qdimacs_call};
 ghost use Rattle.sheet.specs.Truthful.{TruthfulText};

@@ -1,5 +1,6 @@
 // Tidiness: the first operator at fault ("Tidy sheets", refusal 9).
 #![tactic(auto)]
+
 ghost use Rattle.std.specs.Prelude.{◌≡◌, cond, ◌<◌};
 ghost use Rattle.formula.specs.Tidy.{is_tidy, first_fault};
 ghost use Rattle.rows.specs.Formulas.{matrix_in};

@@ -4,27 +4,30 @@ use Rattle.reader.proofs.Heading.{headed_from}
 use Rattle.reader.proofs.header_from.Statement.{statement}
 use Rattle.reader.proofs.header_from.Tie as tie
 
-abbrev start : tie.After-header-of → tie.Start
-start c = c.before.before.before
+slice_bounds-header_of-count : tie.Need-slice_bounds-header_of-count
+slice_bounds-header_of-count c = search rules
 
-sub_header_of : tie.Need-overflow-sub-header-of
-sub_header_of c = search rules
+slice_bounds-header_of-start : tie.Need-slice_bounds-header_of-start
+slice_bounds-header_of-start c = search rules
 
-part_header_of_start : tie.Need-slice-bounds-header-of-start
-part_header_of_start c = search rules
+slice_bounds-header_of-end : tie.Need-slice_bounds-header_of-end
+slice_bounds-header_of-end c = search rules
 
-part_header_of_end : tie.Need-slice-bounds-header-of-end
-part_header_of_end c = search rules
+header_of-h-requires : tie.Need-header_of-h-requires
+header_of-h-requires c κs = search rules
 
-header_of_requires : tie.Need-header-of-requires
-header_of_requires c κs = search rules
-
-add_to : tie.Need-overflow-add-to
-add_to c = search rules
+overflow_add-to : tie.Need-overflow_add-to
+overflow_add-to c = search rules
 
 returns : tie.Need-returns
 returns c =
-    let a = start c.before.before in headed_from a.args.text.now a.args.at a.pre c.before.before.header_of.ensures
+    let a = c in headed_from a.args.text.now a.args.at a.requires c.header_of-h.ensures
 
 pub header_from_spec : {M : Type 1} → statement M
-header_from_spec = tie.close (tie.spec sub_header_of part_header_of_start part_header_of_end header_of_requires add_to returns)
+header_from_spec = tie.close (tie.spec
+    slice_bounds-header_of-count
+    slice_bounds-header_of-start
+    slice_bounds-header_of-end
+    header_of-h-requires
+    overflow_add-to
+    returns)

@@ -4,41 +4,43 @@ use Rattle.reader.proofs.Heading.{end_inside, headed}
 use Rattle.reader.proofs.header_of.Statement.{statement}
 use Rattle.reader.proofs.header_of.Tie as tie
 
-abbrev start : tie.After-header-line → tie.Start
-start c = c.before.before
+header_line-from-requires : tie.Need-header_line-from-requires
+header_line-from-requires c κs = search rules
 
-abbrev after_header_line : tie.After-read-header → tie.After-header-line
-after_header_line c = c.before.before.before
+end_of-end-requires : tie.Need-end_of-end-requires
+end_of-end-requires c κs = search rules
 
-header_line_requires : tie.Need-header-line-requires
-header_line_requires c κs = search rules
+slice_bounds-read_header-count : tie.Need-slice_bounds-read_header-count
+slice_bounds-read_header-count c = search rules
 
-end_of_requires : tie.Need-end-of-requires
-end_of_requires c κs = search rules
+slice_bounds-read_header-start : tie.Need-slice_bounds-read_header-start
+slice_bounds-read_header-start c = search rules
 
-sub_read_header : tie.Need-overflow-sub-read-header
-sub_read_header c = search rules
+slice_bounds-read_header-end : tie.Need-slice_bounds-read_header-end
+slice_bounds-read_header-end c = end_inside c.args.text.now c.header_line-from.ensures c.end_of-end.ensures
 
-part_read_header_start : tie.Need-slice-bounds-read-header-start
-part_read_header_start c = search rules
+read_header-header-requires : tie.Need-read_header-header-requires
+read_header-header-requires c κs = search rules
 
-part_read_header_end : tie.Need-slice-bounds-read-header-end
-part_read_header_end c = end_inside (start c.before).args.text.now c.before.header-line.ensures c.end_of.ensures
-
-read_header_requires : tie.Need-read-header-requires
-read_header_requires c κs = search rules
-
-next_line_requires : tie.Need-next-line-requires
-next_line_requires c κs = search rules
+next_line-to-requires : tie.Need-next_line-to-requires
+next_line-to-requires c κs = search rules
 
 returns : tie.Need-returns
 returns c =
-    let at-header-line = after_header_line c.before in
-    headed (start at-header-line).args.text.now at-header-line.header-line.ensures
-    c.before.before.before.end_of.ensures c.before.read-header.ensures
-    c.next_line.ensures
+    let at-header-line = c in
+    headed at-header-line.args.text.now at-header-line.header_line-from.ensures
+    c.end_of-end.ensures c.read_header-header.ensures
+    c.next_line-to.ensures
 
 pub header_of_spec : {M : Type 1} → statement M
 header_of_spec =
     tie.close
-    (tie.spec header_line_requires end_of_requires sub_read_header part_read_header_start part_read_header_end read_header_requires next_line_requires returns)
+    (tie.spec
+    header_line-from-requires
+    end_of-end-requires
+    slice_bounds-read_header-count
+    slice_bounds-read_header-start
+    slice_bounds-read_header-end
+    read_header-header-requires
+    next_line-to-requires
+    returns)

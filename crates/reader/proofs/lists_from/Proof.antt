@@ -12,71 +12,65 @@ use Rattle.reader.proofs.Listing.{malformed, crowded, listed_from}
 use Rattle.reader.proofs.lists_from.Statement.{statement}
 use Rattle.reader.proofs.lists_from.Tie as tie
 
-abbrev called : tie.After-struct-known → tie.Start
-called c = c.before.before.before
+returns-then-not-h : tie.Need-returns-then-not-h
+returns-then-not-h c =
+    let a = c.args in
+    malformed a.f a.h (drop a.at a.text.now) a.out.now (not-true _ c.if-not-h.true)
+
+most_variables-requires : tie.Need-most_variables-requires
+most_variables-requires c κs = tt
+
+-- the header is well formed
+formed : (c : tie.After-most_variables) → c.args.h.well_formed ≡ true
+formed c = not-false _ c.if-not-h.false
+
+returns-then-most_variables-h : tie.Need-returns-then-most_variables-h
+returns-then-most_variables-h c =
+    let m = c in
+    let a = m.args in
+    crowded a.f a.h (drop a.at a.text.now) a.out.now (formed m.before.before) (omega (arith, c.if-most_variables-h.true, m.most_variables.ensures))
+
+-- and has no more variables than the format
+few : (c : tie.Else-most_variables-h)
+    → let a = c.args in
+    a.h.variables ≤ (format_of a.f).most_variables
+few c = omega (arith, c.if-most_variables-h.false, c.most_variables.ensures)
+
+slice_bounds-read_body-count : tie.Need-slice_bounds-read_body-count
+slice_bounds-read_body-count c = search rules
+
+slice_bounds-read_body-start : tie.Need-slice_bounds-read_body-start
+slice_bounds-read_body-start c = search rules
+
+slice_bounds-read_body-end : tie.Need-slice_bounds-read_body-end
+slice_bounds-read_body-end c = search rules
+
+read_body-requires : tie.Need-read_body-requires
+read_body-requires c κs =
+    let e = c in
+    (omega (arith, few e.before.before, (limits e.args.f).few_variables), search rules)
+
+shape_of-out : tie.Need-shape_of-out
+shape_of-out c = search rules
 
 returns : tie.Need-returns
 returns c =
-    let a = (called c.before).args in
-    malformed a.f a.h (drop a.at a.text.now) a.out.now (not-true _ c.if1.true)
-
-most_variables_requires : tie.Need-most-variables-requires
-most_variables_requires c κs = tt
-
--- the header is well formed
-abbrev start : tie.After-most-variables → tie.Start
-start c = called c.before.before
-
-formed : (c : tie.After-most-variables) → (start c).args.h.well_formed ≡ true
-formed c = not-false _ c.before.if1.false
-
-returns_2 : tie.Need-returns-2
-returns_2 c =
-    let m = c.before.before in
-    let a = (start m).args in
-    crowded a.f a.h (drop a.at a.text.now) a.out.now (formed m) (omega (arith, c.if2.true, m.most_variables.ensures))
-
--- and has no more variables than the format
-few : (c : tie.Else2)
-    → let a = (start c.before.before).args in
-    a.h.variables ≤ (format_of a.f).most_variables
-few c = omega (arith, c.if2.false, c.before.before.most_variables.ensures)
-
-sub_read_body : tie.Need-overflow-sub-read-body
-sub_read_body c = search rules
-
-part_read_body_start : tie.Need-slice-bounds-read-body-start
-part_read_body_start c = search rules
-
-part_read_body_end : tie.Need-slice-bounds-read-body-end
-part_read_body_end c = search rules
-
-read_body_requires : tie.Need-read-body-requires
-read_body_requires c κs =
-    let e = c.before.before in
-    (omega (arith, few e, (limits (start e.before.before).args.f).few_variables), search rules)
-
-same_length : tie.Need-same-length
-same_length c = search rules
-
-returns_3 : tie.Need-returns-3
-returns_3 c =
-    let read = c.before.before in
-    let e = read.before.before.before in
-    let m = e.before.before in
-    let a = (start m).args in
-    listed_from a.f a.h a.text.now a.at a.out.now (formed m) (few e) read.read-body.ensures
+    let read = c in
+    let e = read in
+    let m = e in
+    let a = m.args in
+    listed_from a.f a.h a.text.now a.at a.out.now (formed m.before.before.before.before.before.before.before) (few e.before.before.before.before.before) read.read_body.ensures
 
 pub lists_from_spec : {M : Type 1} → statement M
 lists_from_spec =
     tie.close
     (tie.spec
-    returns
-    most_variables_requires
-    returns_2
-    sub_read_body
-    part_read_body_start
-    part_read_body_end
-    read_body_requires
-    same_length
-    returns_3)
+    returns-then-not-h
+    most_variables-requires
+    returns-then-most_variables-h
+    slice_bounds-read_body-count
+    slice_bounds-read_body-start
+    slice_bounds-read_body-end
+    read_body-requires
+    shape_of-out
+    returns)

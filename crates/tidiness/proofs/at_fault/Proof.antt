@@ -9,62 +9,55 @@ use Rattle.tidiness.proofs.Faults.{fault_literal, fault_childless, fault_alone, 
 use Rattle.tidiness.proofs.at_fault.Statement.{statement}
 use Rattle.tidiness.proofs.at_fault.Tie as tie
 
--- places in the code, each from a later one
-abbrev start : tie.After-kind-at → tie.Start
-start c = c.before.before.before
+kind_at-kind-requires : tie.Need-kind_at-kind-requires
+kind_at-kind-requires c κs = search rules
 
-abbrev seen : tie.After-argument-at → tie.After-kind-at
-seen c = c.before.before
+returns-then-kind-le-NEGATIVE : tie.Need-returns-then-kind-le-NEGATIVE
+returns-then-kind-le-NEGATIVE c =
+    let a = c in
+    let k = c.kind_at-kind.ensures in
+    sym (fault_literal a.args.i _ (omega arith))
 
-kind_at_requires : tie.Need-kind-at-requires
-kind_at_requires c κs = search rules
+argument_at-count-requires : tie.Need-argument_at-count-requires
+argument_at-count-requires c κs = search rules
+
+returns-then-count-eq0 : tie.Need-returns-then-count-eq0
+returns-then-count-eq0 c =
+    let told = c in
+    let a = told in
+    let k = told.kind_at-kind.ensures in
+    sym (fault_childless a.args.i _ (omega arith) (sym c.argument_at-count.ensures.0 ∙ c.if-count-eq0.true))
+
+returns-then-count-eq1 : tie.Need-returns-then-count-eq1
+returns-then-count-eq1 c =
+    let told = c in
+    let a = told in
+    let k = told.kind_at-kind.ensures in
+    sym (fault_alone a.args.i _ (omega arith) (sym c.argument_at-count.ensures.0 ∙ c.if-count-eq1.true))
+
+overflow_add-i : tie.Need-overflow_add-i
+overflow_add-i c = search rules
+
+-- the children stand from the next row on
+children : (c : tie.Else-count-eq1) →
+    let a = c.args in
+    Children a.s a.b.now a.i (a.i + 1) c.argument_at-count.result
+children c =
+    let told = c in
+    let a = told in
+    let k = told.kind_at-kind.ensures in
+    children_of a.args.b.now a.requires.0.readable a.args.i a.requires.1 (omega arith) (omega arith) c.argument_at-count.ensures.0
+
+some_kind-requires : tie.Need-some_kind-requires
+some_kind-requires c κs =
+    (c.requires.0, (children c).few)
 
 returns : tie.Need-returns
 returns c =
-    let a = start c.before in
-    let k = c.before.kind_at.ensures in
-    sym (fault_literal a.args.i _ (omega arith))
-
-argument_at_requires : tie.Need-argument-at-requires
-argument_at_requires c κs = search rules
-
-returns_2 : tie.Need-returns-2
-returns_2 c =
-    let told = seen c.before in
-    let a = start told in
-    let k = told.kind_at.ensures in
-    sym (fault_childless a.args.i _ (omega arith) (sym c.before.argument-at.ensures.0 ∙ c.if2.true))
-
-returns_3 : tie.Need-returns-3
-returns_3 c =
-    let told = seen c.before.before in
-    let a = start told in
-    let k = told.kind_at.ensures in
-    sym (fault_alone a.args.i _ (omega arith) (sym c.before.before.argument-at.ensures.0 ∙ c.if3.true))
-
-add_t8 : tie.Need-overflow-add-t8
-add_t8 c = search rules
-
--- the children stand from the next row on
-children : (c : tie.Else3) →
-    let a = (start (seen c.before.before)).args in
-    Children a.s a.b.now a.i (a.i + 1) c.before.before.argument-at.result
-children c =
-    let told = seen c.before.before in
-    let a = start told in
-    let k = told.kind_at.ensures in
-    children_of a.args.b.now a.pre.0.readable a.args.i a.pre.1 (omega arith) (omega arith) c.before.before.argument-at.ensures.0
-
-some_kind_requires : tie.Need-some-kind-requires
-some_kind_requires c κs =
-    ((start (seen c.before.before)).requires.0, (children c).few)
-
-returns_4 : tie.Need-returns-4
-returns_4 c =
-    let told = seen c.before.before.before in
-    let a = start told in
-    let k = told.kind_at.ensures in
-    let x = c.before.before.before.argument-at.ensures.0 in
+    let told = c in
+    let a = told in
+    let k = told.kind_at-kind.ensures in
+    let x = c.argument_at-count.ensures.0 in
     c.some_kind.ensures ∙ ap₂ some_kind k (children c.before).are ∙
     sym (fault_more a.args.i _ (omega arith) (omega arith))
 
@@ -72,11 +65,11 @@ pub at_fault_spec : {M : Type 1} → statement M
 at_fault_spec =
     tie.close
     (tie.spec
-    kind_at_requires
-    returns
-    argument_at_requires
-    returns_2
-    returns_3
-    add_t8
-    some_kind_requires
-    returns_4)
+    kind_at-kind-requires
+    returns-then-kind-le-NEGATIVE
+    argument_at-count-requires
+    returns-then-count-eq0
+    returns-then-count-eq1
+    overflow_add-i
+    some_kind-requires
+    returns)

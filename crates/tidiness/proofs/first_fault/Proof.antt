@@ -7,158 +7,136 @@ use Rattle.tidiness.proofs.Faults.{fault_plain, fault_two, fault_none, Passing, 
 use Rattle.tidiness.proofs.first_fault.Statement.{statement}
 use Rattle.tidiness.proofs.first_fault.Tie as tie
 
-abbrev invariant-loop : tie.invariant-loop
-invariant-loop b s ends hashes heads₀ links₀ members₀ i₀ heads links members i = Passing s b heads links members i
+abbrev invariant-loop-i : tie.invariant-loop-i
+invariant-loop-i b s ends hashes heads₀ links₀ members₀ i₀ heads links members i = Passing s b heads links members i
 
-abbrev decreases-loop : tie.decreases-loop
-decreases-loop b s ends hashes heads₀ links₀ members₀ i₀ heads links members i = s.nodes - i
+abbrev decreases-loop-i : tie.decreases-loop-i
+decreases-loop-i b s ends hashes heads₀ links₀ members₀ i₀ heads links members i = s.nodes - i
 
--- places in the code, each from a later one
-abbrev start : tie.After-hashes invariant-loop decreases-loop → tie.Start invariant-loop decreases-loop
-start c = c.before.before.before
+slice_bounds-fill_hashes-end : tie.Need-slice_bounds-fill_hashes-end invariant-loop-i decreases-loop-i
+slice_bounds-fill_hashes-end c = refl
 
-abbrev hashed : tie.At-loop invariant-loop decreases-loop → tie.After-fill-hashes invariant-loop decreases-loop
-hashed c = c.before.before
+fill_hashes-requires : tie.Need-fill_hashes-requires invariant-loop-i decreases-loop-i
+fill_hashes-requires c κs = let a = c in (a.requires, a.requires.readable.few_nodes)
 
-abbrev entry : tie.At-loop invariant-loop decreases-loop → tie.Start invariant-loop decreases-loop
-entry c = start (hashed c).before
+loop-i-init : tie.Need-loop-i-init invariant-loop-i decreases-loop-i
+loop-i-init c =
+    let a = c in
+    record { searching = search_start a.args.b.now a.requires.readable; all_heads = refl; all_links = refl; all_members = refl }
 
-abbrev at_loop : tie.After-at-fault invariant-loop decreases-loop → tie.At-loop invariant-loop decreases-loop
-at_loop c = c.before.before.before
+at_fault-requires : tie.Need-at_fault-requires invariant-loop-i decreases-loop-i
+at_fault-requires c κs = (c.requires, c.loop-i-test.true)
 
-abbrev tried : tie.After-members invariant-loop decreases-loop → tie.After-at-fault invariant-loop decreases-loop
-tried c = c.before.before.before
+returns-then-at_fault : tie.Need-returns-then-at_fault invariant-loop-i decreases-loop-i
+returns-then-at_fault c =
+    let head = c in
+    let a = head in
+    let i = head.loop-i.i in
+    search_found a.args.b.now a.requires.readable i c.loop-i-test.true head.loop-i.invariant.searching
+    (fault_plain i (subtree_in a.args.s a.args.b.now i) (sym c.at_fault.ensures ∙ c.if-at_fault.true))
 
-abbrev gathered : tie.After-links invariant-loop decreases-loop → tie.After-gather invariant-loop decreases-loop
-gathered c = c.before.before.before
+slice_bounds-gather-end : tie.Need-slice_bounds-gather-end invariant-loop-i decreases-loop-i
+slice_bounds-gather-end c = sym c.fill_hashes.auto.hashes
 
-abbrev searched : tie.After-members4 invariant-loop decreases-loop → tie.After-some-clash invariant-loop decreases-loop
-searched c = c.before.before.before
+slice_bounds-gather-end-in-loop-i : tie.Need-slice_bounds-gather-end-in-loop-i invariant-loop-i decreases-loop-i
+slice_bounds-gather-end-in-loop-i c = sym c.loop-i.invariant.all_members
 
-slice_aggregate_fill_hashes : tie.Need-slice-aggregate-fill-hashes invariant-loop decreases-loop
-slice_aggregate_fill_hashes c = refl
+gather-n-requires : tie.Need-gather-n-requires invariant-loop-i decreases-loop-i
+gather-n-requires c κs =
+    let head = c in
+    let a = head in
+    (a.requires, c.loop-i-test.true, head.fill_hashes.ensures, omega (arith, head.loop-i.invariant.all_members, a.requires.readable.few_nodes))
 
-fill_hashes_requires : tie.Need-fill-hashes-requires invariant-loop decreases-loop
-fill_hashes_requires c κs = let a = start c in (a.pre, a.pre.readable.few_nodes)
+slice_bounds-some_clash-end : tie.Need-slice_bounds-some_clash-end invariant-loop-i decreases-loop-i
+slice_bounds-some_clash-end c = sym c.loop-i.invariant.all_heads
 
-loop_holds : tie.Need-loop-init invariant-loop decreases-loop
-loop_holds c =
-    let a = start c.before.before in
-    record { searching = search_start a.args.b.now a.pre.readable; all_heads = refl; all_links = refl; all_members = refl }
+slice_bounds-some_clash-end-in-loop-i : tie.Need-slice_bounds-some_clash-end-in-loop-i invariant-loop-i decreases-loop-i
+slice_bounds-some_clash-end-in-loop-i c = sym c.loop-i.invariant.all_links
 
-at_fault_requires : tie.Need-at-fault-requires invariant-loop decreases-loop
-at_fault_requires c κs = ((entry c.before.before).pre, c.if1.true)
+slice_bounds-some_clash-end-in-loop-i-2 : tie.Need-slice_bounds-some_clash-end-in-loop-i-2 invariant-loop-i decreases-loop-i
+slice_bounds-some_clash-end-in-loop-i-2 c =
+    let g = c in
+    sym (g.gather-n.auto.members ∙ g.loop-i.invariant.all_members)
 
-returns : tie.Need-returns invariant-loop decreases-loop
-returns c =
-    let head = at_loop c.before in
-    let a = entry head in
-    let i = head.loop.i in
-    search_found a.args.b.now a.pre.readable i c.before.before.if1.true head.loop.inv.searching
-    (fault_plain i (subtree_in a.args.s a.args.b.now i) (sym c.before.at_fault.ensures ∙ c.if2.true))
-
-slice_aggregate_gather : tie.Need-slice-aggregate-gather invariant-loop decreases-loop
-slice_aggregate_gather c = sym (hashed (at_loop c.before.before)).fill-hashes.kept.1.1.1.0
-
-slice_aggregate_gather_2 : tie.Need-slice-aggregate-gather-2 invariant-loop decreases-loop
-slice_aggregate_gather_2 c = sym (at_loop (tried c)).loop.inv.all_members
-
-gather_requires : tie.Need-gather-requires invariant-loop decreases-loop
-gather_requires c κs =
-    let head = at_loop (tried c) in
-    let a = entry head in
-    (a.pre, (tried c).before.if1.true, (hashed head).fill-hashes.ensures, omega (arith, head.loop.inv.all_members, a.pre.readable.few_nodes))
-
-slice_aggregate_some_clash : tie.Need-slice-aggregate-some-clash invariant-loop decreases-loop
-slice_aggregate_some_clash c = sym (at_loop (tried c.before.before.before)).loop.inv.all_heads
-
-slice_aggregate_some_clash_2 : tie.Need-slice-aggregate-some-clash-2 invariant-loop decreases-loop
-slice_aggregate_some_clash_2 c = sym (at_loop (tried (gathered c).before)).loop.inv.all_links
-
-slice_aggregate_some_clash_3 : tie.Need-slice-aggregate-some-clash-3 invariant-loop decreases-loop
-slice_aggregate_some_clash_3 c =
-    let g = gathered c.before in
-    sym (g.gather.kept.1.1.1.1.0 ∙ (at_loop (tried g.before)).loop.inv.all_members)
-
-some_clash_requires : tie.Need-some-clash-requires invariant-loop decreases-loop
-some_clash_requires c κs =
-    let after = gathered c.before in
-    let head = at_loop (tried after.before) in
-    let a = entry head in
-    let g = after.gather in (
-      a.pre.readable,
+some_clash-requires : tie.Need-some_clash-requires invariant-loop-i decreases-loop-i
+some_clash-requires c κs =
+    let after = c in
+    let head = after in
+    let a = head in
+    let g = after.gather-n in (
+      a.requires.readable,
       g.ensures.0.are_members,
       record {
-        all_heads = head.loop.inv.all_heads;
-        links_fit = omega (arith, head.loop.inv.all_links, g.ensures.1, a.pre.readable.few_nodes);
-        members_fit = omega (arith, g.kept.1.1.1.1.0, head.loop.inv.all_members, g.ensures.1, a.pre.readable.few_nodes);
-        countable = omega (arith, g.ensures.1, a.pre.readable.few_nodes);
+        all_heads = head.loop-i.invariant.all_heads;
+        links_fit = omega (arith, head.loop-i.invariant.all_links, g.ensures.1, a.requires.readable.few_nodes);
+        members_fit = omega (arith, g.auto.members, head.loop-i.invariant.all_members, g.ensures.1, a.requires.readable.few_nodes);
+        countable = omega (arith, g.ensures.1, a.requires.readable.few_nodes);
       },
     )
 
-returns_2 : tie.Need-returns-2 invariant-loop decreases-loop
-returns_2 c =
-    let search = searched c.before in
-    let gave = gathered search.before.before in
-    let asked = tried gave.before in
-    let head = at_loop asked in
-    let a = entry head in
-    let i = head.loop.i in
-    search_found a.args.b.now a.pre.readable i asked.before.if1.taken head.loop.inv.searching
+returns-then-some_clash : tie.Need-returns-then-some_clash invariant-loop-i decreases-loop-i
+returns-then-some_clash c =
+    let search = c in
+    let gave = search in
+    let asked = gave in
+    let head = asked in
+    let a = head in
+    let i = head.loop-i.i in
+    search_found a.args.b.now a.requires.readable i asked.loop-i-test.true head.loop-i.invariant.searching
     (fault_two i (subtree_in a.args.s a.args.b.now i)
-    (sym gave.gather.ensures.0.two_clash_there ∙ sym search.some-clash.ensures ∙ c.if3.true))
+    (sym gave.gather-n.ensures.0.two_clash_there ∙ sym search.some_clash.ensures ∙ c.if-some_clash.true))
 
-add_i : tie.Need-overflow-add-i invariant-loop decreases-loop
-add_i c = omega arith
+overflow_add-i : tie.Need-overflow_add-i invariant-loop-i decreases-loop-i
+overflow_add-i c = omega arith
 
-loop_less : tie.Need-loop-smaller invariant-loop decreases-loop
-loop_less c = omega arith
+loop-i-smaller : tie.Need-loop-i-smaller invariant-loop-i decreases-loop-i
+loop-i-smaller c = omega arith
 
-loop_again : tie.Need-loop-preserved invariant-loop decreases-loop
-loop_again c =
-    let search = searched c.before in
-    let gave = gathered search.before.before in
-    let asked = tried gave.before in
-    let head = at_loop asked in
-    let a = entry head in
-    let i = head.loop.i in
-    let kept = search.some-clash.kept in
+loop-i-preserved : tie.Need-loop-i-preserved invariant-loop-i decreases-loop-i
+loop-i-preserved c =
+    let search = c in
+    let gave = search in
+    let asked = gave in
+    let head = asked in
+    let a = head in
+    let i = head.loop-i.i in
+    let kept = search.some_clash.auto in
     record {
       searching =
-          search_on a.args.b.now a.pre.readable i asked.before.if1.taken (omega arith) head.loop.inv.searching
-          (fault_none i (subtree_in a.args.s a.args.b.now i) (sym asked.at_fault.ensures ∙ gave.before.before.before.if2.left)
-          (sym gave.gather.ensures.0.two_clash_there ∙ sym search.some-clash.ensures ∙ c.if3.false));
-      all_heads = kept.1.1.0 ∙ head.loop.inv.all_heads;
-      all_links = kept.1.1.1.0 ∙ head.loop.inv.all_links;
-      all_members = kept.1.1.1.1.0 ∙ gave.gather.kept.1.1.1.1.0 ∙ head.loop.inv.all_members;
+          search_on a.args.b.now a.requires.readable i asked.loop-i-test.true (omega arith) head.loop-i.invariant.searching
+          (fault_none i (subtree_in a.args.s a.args.b.now i) (sym asked.at_fault.ensures ∙ gave.if-at_fault.false)
+          (sym gave.gather-n.ensures.0.two_clash_there ∙ sym search.some_clash.ensures ∙ c.if-some_clash.false));
+      all_heads = kept.heads ∙ head.loop-i.invariant.all_heads;
+      all_links = kept.links ∙ head.loop-i.invariant.all_links;
+      all_members = kept.members ∙ gave.gather-n.auto.members ∙ head.loop-i.invariant.all_members;
     }
 
-returns_3 : tie.Need-returns-3 invariant-loop decreases-loop
-returns_3 c =
-    let head = c.before.before in
-    let a = entry head in
-    search_all a.args.b.now a.pre.readable head.loop.i c.if1.false head.loop.invariant.searching
+returns : tie.Need-returns invariant-loop-i decreases-loop-i
+returns c =
+    let head = c in
+    let a = head in
+    search_all a.args.b.now a.requires.readable head.loop-i.i c.loop-i-test.false head.loop-i.invariant.searching
 
 pub first_fault_spec : {M : Type 1} → statement M
 first_fault_spec =
     tie.close
     (tie.spec
-    invariant-loop
-    decreases-loop
-    slice_aggregate_fill_hashes
-    fill_hashes_requires
-    loop_holds
-    at_fault_requires
-    returns
-    slice_aggregate_gather
-    slice_aggregate_gather_2
-    gather_requires
-    slice_aggregate_some_clash
-    slice_aggregate_some_clash_2
-    slice_aggregate_some_clash_3
-    some_clash_requires
-    returns_2
-    add_i
-    loop_less
-    loop_again
-    returns_3)
+    invariant-loop-i
+    decreases-loop-i
+    slice_bounds-fill_hashes-end
+    fill_hashes-requires
+    loop-i-init
+    at_fault-requires
+    returns-then-at_fault
+    slice_bounds-gather-end
+    slice_bounds-gather-end-in-loop-i
+    gather-n-requires
+    slice_bounds-some_clash-end
+    slice_bounds-some_clash-end-in-loop-i
+    slice_bounds-some_clash-end-in-loop-i-2
+    some_clash-requires
+    returns-then-some_clash
+    overflow_add-i
+    loop-i-smaller
+    loop-i-preserved
+    returns)

@@ -10,82 +10,75 @@ use Rattle.tidiness.proofs.Faults.{some_kind-none, some_kind_more}
 use Rattle.tidiness.proofs.some_kind.Statement.{statement}
 use Rattle.tidiness.proofs.some_kind.Tie as tie
 
-abbrev invariant-loop : tie.invariant-loop
-invariant-loop b s ends kind at₀ left₀ at left = Looking (some_kind kind) s b (some_kind kind (siblings_in s b at₀ left₀)) at left
+abbrev invariant-loop-left : tie.invariant-loop-left
+invariant-loop-left b s ends kind at₀ left₀ at left = Looking (some_kind kind) s b (some_kind kind (siblings_in s b at₀ left₀)) at left
 
-abbrev decreases-loop : tie.decreases-loop
-decreases-loop b s ends kind at₀ left₀ at left = left
+abbrev decreases-loop-left : tie.decreases-loop-left
+decreases-loop-left b s ends kind at₀ left₀ at left = left
 
--- places in the code, each from a later one
-abbrev start : tie.At-loop invariant-loop decreases-loop → tie.Start invariant-loop decreases-loop
-start c = c.before.before.before
-
-abbrev at_loop : tie.After-kind-at invariant-loop decreases-loop → tie.At-loop invariant-loop decreases-loop
-at_loop c = c.before.before
-
-loop_holds : tie.Need-loop-init invariant-loop decreases-loop
-loop_holds c = record { few = c.before.before.requires.1; same = refl }
+loop-left-init : tie.Need-loop-left-init invariant-loop-left decreases-loop-left
+loop-left-init c = record { few = c.requires.1; same = refl }
 
 -- the walk's next step
-walked : (c : tie.In-loop invariant-loop decreases-loop) →
-    let a = (start c.before).args in
-    Walked a.s a.b.now a.ends.now c.before.loop.at c.before.loop.left
+walked : (c : tie.In-loop-left invariant-loop-left decreases-loop-left) →
+    let a = c.args in
+    Walked a.s a.b.now a.ends.now c.loop-left.at c.loop-left.left
 walked c =
-    let a = start c.before in
-    walk_on a.args.b.now a.pre.0.readable a.args.ends.now a.pre.0 c.before.loop.at c.loop-test.true
-    c.before.loop.invariant.few
+    let a = c in
+    walk_on a.args.b.now a.requires.0.readable a.args.ends.now a.requires.0 c.loop-left.at c.loop-left-test.true
+    c.loop-left.invariant.few
 
-kind_at_requires : tie.Need-kind-at-requires invariant-loop decreases-loop
-kind_at_requires c κs = let a = start c.before in (a.pre.0.readable, (walked c).inside)
+kind_at-requires : tie.Need-kind_at-requires invariant-loop-left decreases-loop-left
+kind_at-requires c κs = let a = c in (a.requires.0.readable, (walked c).inside)
 
-returns : tie.Need-returns invariant-loop decreases-loop
-returns c =
-    let head = c.before.before.before in
-    let k = head.before.before.before.args.kind in
+returns-then-kind_at-kind : tie.Need-returns-then-kind_at-kind invariant-loop-left decreases-loop-left
+returns-then-kind_at-kind c =
+    let head = c in
+    let k = head.args.kind in
     sym
-    (look-found (λ t ts. eqb (top t).kind k) (some_kind k) (some_kind-none k) (some_kind_more k) (walked c.before.before) head.loop.invariant
-    (eq-eqb _ k (sym c.before.kind_at.ensures ∙ c.if1.true)))
+    (look-found (λ t ts. eqb (top t).kind k) (some_kind k) (some_kind-none k) (some_kind_more k) (walked c.before.before) head.loop-left.invariant
+    (eq-eqb _ k (sym c.kind_at.ensures ∙ c.if-kind_at-kind.true)))
 
-mul_at : tie.Need-overflow-mul-at invariant-loop decreases-loop
-mul_at c = let w = walked c.before.before in omega arith
+offset_bounds-ends-at : tie.Need-offset_bounds-ends-at invariant-loop-left decreases-loop-left
+offset_bounds-ends-at c = let w = walked c.before.before in omega arith
 
-shared_slice_read_at : tie.Need-shared-slice-read-at invariant-loop decreases-loop
-shared_slice_read_at c = let w = walked c.before.before.before in omega (arith, (start (at_loop c.before.before)).pre.0.holds)
+bounds-ends-at : tie.Need-bounds-ends-at invariant-loop-left decreases-loop-left
+bounds-ends-at c = let w = walked c.before.before.before in omega (arith, c.requires.0.holds)
 
-cast_at : tie.Need-overflow-cast-at invariant-loop decreases-loop
-cast_at c = omega (arith, c.shared-slice-known3.given (at_loop c.before.before).loop.at)
+overflow_cast-at : tie.Need-overflow_cast-at invariant-loop-left decreases-loop-left
+overflow_cast-at c = omega (arith, c.shared_slice_known-in-loop-left-1.given c.loop-left.at)
 
-sub_left : tie.Need-overflow-sub-left invariant-loop decreases-loop
-sub_left c = omega arith
+overflow_sub-left : tie.Need-overflow_sub-left invariant-loop-left decreases-loop-left
+overflow_sub-left c = omega arith
 
-loop_less : tie.Need-loop-smaller invariant-loop decreases-loop
-loop_less c = omega arith
+loop-left-smaller : tie.Need-loop-left-smaller invariant-loop-left decreases-loop-left
+loop-left-smaller c = omega arith
 
-loop_again : tie.Need-loop-preserved invariant-loop decreases-loop
-loop_again c =
-    let head = at_loop c.before.before in
-    let k = head.before.before.before.args.kind in
-    look-on (λ t ts. eqb (top t).kind k) (some_kind k) (some_kind-none k) (some_kind_more k) (walked c.before.before.before) head.loop.inv
-    (ne_eqb _ k (λ e. c.before.if1.false (c.before.before.kind_at.ensures ∙ e)))
+loop-left-preserved : tie.Need-loop-left-preserved invariant-loop-left decreases-loop-left
+loop-left-preserved c =
+    let head = c in
+    let k = head.args.kind in
+    look-on (λ t ts. eqb (top t).kind k) (some_kind k) (some_kind-none k) (some_kind_more k) (walked c.before.before.before) head.loop-left.invariant
+    (ne_eqb _ k (λ e. c.if-kind_at-kind.false (c.kind_at.ensures ∙ e)))
 
-returns_2 : tie.Need-returns-2 invariant-loop decreases-loop
-returns_2 c =
-    let k = (start c.before).args.kind in
-    sym (look_none (λ t ts. eqb (top t).kind k) (some_kind k) (some_kind-none k) (some_kind_more k) c.loop-test.false c.before.loop.invariant)
+returns : tie.Need-returns invariant-loop-left decreases-loop-left
+returns c =
+    let k = c.args.kind in
+    sym (look_none (λ t ts. eqb (top t).kind k) (some_kind k) (some_kind-none k) (some_kind_more k) c.loop-left-test.false c.loop-left.invariant)
 
 pub some_kind_spec : {M : Type 1} → statement M
 some_kind_spec =
     tie.close
     (tie.spec
-    invariant-loop
-    decreases-loop
-    loop_holds
-    kind_at_requires
-    returns
-    mul_at
-    shared_slice_read_at
-    cast_at
-    sub_left
-    loop_less
-    loop_again
-    returns_2)
+    invariant-loop-left
+    decreases-loop-left
+    loop-left-init
+    kind_at-requires
+    returns-then-kind_at-kind
+    offset_bounds-ends-at
+    bounds-ends-at
+    overflow_cast-at
+    overflow_sub-left
+    loop-left-smaller
+    loop-left-preserved
+    returns)

@@ -41,7 +41,9 @@ write_row-at-requires c κs =
     (a.requires.0.room, omega (arith, p.room, p.joined_length, p.begins, p.ordered), p.fits_two)
 
 slice_bounds-write_below-end : tie.Need-slice_bounds-write_below-end
-slice_bounds-write_below-end c = search rules
+slice_bounds-write_below-end c =
+    let a = c in
+    sym (length-take-le 1025 a.args.tables.now (omega (arith, a.requires.0.two_tables)))
 
 slice_bounds-write_below-count : tie.Need-slice_bounds-write_below-count
 slice_bounds-write_below-count c =

@@ -32,7 +32,7 @@ write_rows-requires c κs =
     let site = sited a.args.s a.args.b.now a.args.tables.now a.args.e a.requires.0 a.requires.1.0 in (
       ready_raw a.requires.0,
       record { ordered = omega arith; inside = omega (arith, site.inside, site.end_in) },
-      omega (arith, site.decreases),
+      omega (arith, site.measured),
     )
 
 write_subtree-end-requires : tie.Need-write_subtree-end-requires
@@ -47,7 +47,7 @@ write_rows-requires-2 c κs =
     let site = sited a.args.s a.args.b.now a.args.tables.now a.args.e a.requires.0 a.requires.1.0 in (
       ready_on (ready_raw a.requires.0) (new.write_subtree-end.auto.out ∙ new.write_rows.auto.out),
       record { ordered = omega (arith, site.end_in); inside = omega arith },
-      omega (arith, new.write_subtree-end.ensures.next_row, site.decreases, site.end_in),
+      omega (arith, new.write_subtree-end.ensures.next_row, site.measured, site.end_in),
     )
 
 shape_of-out : tie.Need-shape_of-out

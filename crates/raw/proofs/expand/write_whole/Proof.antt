@@ -41,7 +41,9 @@ write_row-at-requires c κs =
     (a.requires.0.room, omega (arith, w.room), w.fits_two)
 
 slice_bounds-write_copy-end : tie.Need-slice_bounds-write_copy-end
-slice_bounds-write_copy-end c = search rules
+slice_bounds-write_copy-end c =
+    let a = c in
+    sym (length-take-le 1025 a.args.tables.now (omega (arith, a.requires.0.two_tables)))
 
 write_copy-end-requires : tie.Need-write_copy-end-requires
 write_copy-end-requires c κs =
