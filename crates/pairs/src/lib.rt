@@ -1,6 +1,7 @@
 // Pairs of a variable and its function, written as rows of a strategy's sheet: below the root, an OR, one AND for each pair, with the
 // variable's positive literal and then the function's tree.
 #![tactic(auto)]
+
 ghost use Rattle.std.specs.Prelude.{◌≡◌, [], ◌∷◌, ◌++◌, map, ◌+◌, ◌≤◌, ◌<◌, length};
 ghost use Rattle.formula.specs.Strategy.{winner, left};
 ghost use Rattle.sheet.specs.Format.{row};

@@ -1,6 +1,7 @@
 // Reduce: from each clause the universal literals go that have no existential literal of that clause after them in the prefix, and the
 // tree is tidied (N8). A literal that goes becomes OR of nothing in its row, which tidying takes away, so no row moves before that.
 #![tactic(auto)]
+
 ghost use Rattle.std.specs.Prelude.{◌≡◌, length};
 ghost use Rattle.formula.specs.Reduce.{reduced};
 ghost use Rattle.sheet.specs.Sheet.{formula, sheet};

@@ -9,65 +9,61 @@ use Rattle.pairs.proofs.Leaving.{none_counted, counted_next}
 use Rattle.pairs.proofs.count_left.Statement.{statement}
 use Rattle.pairs.proofs.count_left.Tie as tie
 
-abbrev invariant-loop : tie.invariant-loop
-invariant-loop b s exists n₀ i₀ n i =
+abbrev invariant-loop-i : tie.invariant-loop-i
+invariant-loop-i b s exists n₀ i₀ n i =
     (i ≤ s.variables) × (n ≤ s.variables - i) × (n ≡ length (left (winner exists) (drop i (prefix_in s b))))
 
-abbrev decreases-loop : tie.decreases-loop
-decreases-loop b s exists n₀ i₀ n i = i
+abbrev decreases-loop-i : tie.decreases-loop-i
+decreases-loop-i b s exists n₀ i₀ n i = i
 
--- places in the code, each from a later one
-abbrev entry : tie.At-loop invariant-loop decreases-loop → tie.Start invariant-loop decreases-loop
-entry c = c.before.before
-
-loop_holds : tie.Need-loop-init invariant-loop decreases-loop
-loop_holds c =
-    let a = c.before in
+loop-i-init : tie.Need-loop-i-init invariant-loop-i decreases-loop-i
+loop-i-init c =
+    let a = c in
     (omega arith, omega arith, none_counted (winner a.args.exists) a.args.s a.args.b.now a.requires)
 
-sub_i : tie.Need-overflow-sub-i invariant-loop decreases-loop
-sub_i c = omega arith
+overflow_sub-i : tie.Need-overflow_sub-i invariant-loop-i decreases-loop-i
+overflow_sub-i c = omega arith
 
-one_if_left_requires : tie.Need-one-if-left-requires invariant-loop decreases-loop
-one_if_left_requires c κs = ((entry c.before).pre, omega (arith, c.before.loop.invariant.0))
+one_if_left-n-requires : tie.Need-one_if_left-n-requires invariant-loop-i decreases-loop-i
+one_if_left-n-requires c κs = (c.requires, omega (arith, c.loop-i.invariant.0))
 
-add_n : tie.Need-overflow-add-n invariant-loop decreases-loop
-add_n c =
-    let head = c.before.before in
-    omega (arith, c.one-if-left.ensures.1, head.loop.invariant.0, head.loop.invariant.1, (entry head).requires.few_variables)
+overflow_add-n : tie.Need-overflow_add-n invariant-loop-i decreases-loop-i
+overflow_add-n c =
+    let head = c in
+    omega (arith, c.one_if_left-n.ensures.1, head.loop-i.invariant.0, head.loop-i.invariant.1, head.requires.few_variables)
 
-loop_less : tie.Need-loop-smaller invariant-loop decreases-loop
-loop_less c = omega arith
+loop-i-smaller : tie.Need-loop-i-smaller invariant-loop-i decreases-loop-i
+loop-i-smaller c = omega arith
 
-loop_again : tie.Need-loop-preserved invariant-loop decreases-loop
-loop_again c =
-    let head = c.before.before in
-    let a = entry head in
-    let back : suc (head.loop.i - 1) ≡ head.loop.i = omega arith in (
-      omega (arith, head.loop.invariant.0),
-      omega (arith, c.one-if-left.ensures.1, head.loop.invariant.0, head.loop.invariant.1),
-      counted_next (winner a.args.exists) a.args.s a.args.b.now a.pre (omega (arith, head.loop.invariant.0))
-          (head.loop.invariant.2 ∙ ap (λ k. length (left (winner a.args.exists) (drop k (prefix_in a.args.s a.args.b.now)))) (sym back))
-          c.one-if-left.ensures.0,
+loop-i-preserved : tie.Need-loop-i-preserved invariant-loop-i decreases-loop-i
+loop-i-preserved c =
+    let head = c in
+    let a = head in
+    let back : suc (head.loop-i.i - 1) ≡ head.loop-i.i = omega arith in (
+      omega (arith, head.loop-i.invariant.0),
+      omega (arith, c.one_if_left-n.ensures.1, head.loop-i.invariant.0, head.loop-i.invariant.1),
+      counted_next (winner a.args.exists) a.args.s a.args.b.now a.requires (omega (arith, head.loop-i.invariant.0))
+          (head.loop-i.invariant.2 ∙ ap (λ k. length (left (winner a.args.exists) (drop k (prefix_in a.args.s a.args.b.now)))) (sym back))
+          c.one_if_left-n.ensures.0,
     )
 
-returns : tie.Need-returns invariant-loop decreases-loop
+returns : tie.Need-returns invariant-loop-i decreases-loop-i
 returns c =
-    let head = c.before in
-    let a = entry head in
-    let none : head.loop.i ≡ 0 = omega arith in
-    head.loop.invariant.2 ∙ ap (λ k. length (left (winner a.args.exists) (drop k (prefix_in a.args.s a.args.b.now)))) none
+    let head = c in
+    let a = head in
+    let none : head.loop-i.i ≡ 0 = omega arith in
+    head.loop-i.invariant.2 ∙ ap (λ k. length (left (winner a.args.exists) (drop k (prefix_in a.args.s a.args.b.now)))) none
 
 pub count_left_spec : {M : Type 1} → statement M
 count_left_spec =
     tie.close
     (tie.spec
-    invariant-loop
-    decreases-loop
-    loop_holds
-    sub_i
-    one_if_left_requires
-    add_n
-    loop_less
-    loop_again
+    invariant-loop-i
+    decreases-loop-i
+    loop-i-init
+    overflow_sub-i
+    one_if_left-n-requires
+    overflow_add-n
+    loop-i-smaller
+    loop-i-preserved
     returns)

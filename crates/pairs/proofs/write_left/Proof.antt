@@ -7,66 +7,65 @@ use Rattle.pairs.proofs.Leaving.{Leaving, leaving_none, leaving_all, row_room, l
 use Rattle.pairs.proofs.write_left.Statement.{statement}
 use Rattle.pairs.proofs.write_left.Tie as tie
 
-abbrev invariant-loop : tie.invariant-loop
-invariant-loop b s exists out₀ t v at₀ i₀ out at i = Leaving (winner exists) s b t out₀ at₀ out at i
+abbrev invariant-loop-i : tie.invariant-loop-i
+invariant-loop-i b s exists out₀ t v at₀ i₀ out at i = Leaving (winner exists) s b t out₀ at₀ out at i
 
-abbrev decreases-loop : tie.decreases-loop
-decreases-loop b s exists out₀ t v at₀ i₀ out at i = v - i
+abbrev decreases-loop-i : tie.decreases-loop-i
+decreases-loop-i b s exists out₀ t v at₀ i₀ out at i = v - i
 
--- places in the code, each from a later one
-abbrev start : tie.After-t invariant-loop decreases-loop → tie.Start invariant-loop decreases-loop
-start c = c.before.before.before
+loop-i-init : tie.Need-loop-i-init invariant-loop-i decreases-loop-i
+loop-i-init c =
+    let a = c in
+    leaving_none (winner a.args.exists) a.args.s a.args.b.now a.requires.0 a.args.to.layout a.args.out.now a.args.to.at
 
-abbrev entry : tie.In-loop invariant-loop decreases-loop → tie.Start invariant-loop decreases-loop
-entry c = start c.before.before
-
-abbrev in_turn : tie.After-write-if-left invariant-loop decreases-loop → tie.In-loop invariant-loop decreases-loop
-in_turn c = c.before.before
-
-loop_holds : tie.Need-loop-init invariant-loop decreases-loop
-loop_holds c =
-    let a = start c in
-    leaving_none (winner a.args.exists) a.args.s a.args.b.now a.pre.0 a.args.to.layout a.args.out.now a.args.to.at
-
-write_if_left_requires : tie.Need-write-if-left-requires invariant-loop decreases-loop
-write_if_left_requires c κs =
-    let turn = c.before in
-    let a = entry turn in
-    let r = turn.before.loop.invariant in (
+write_if_left-at-requires : tie.Need-write_if_left-at-requires invariant-loop-i decreases-loop-i
+write_if_left-at-requires c κs =
+    let turn = c in
+    let a = turn in
+    let r = turn.loop-i.invariant in (
       (
-        a.pre.0,
-        turn.loop-test.true,
-        room_on a.pre.1.has_room r.same_length,
-        a.pre.1.fits turn.before.loop.i turn.loop-test.true,
+        a.requires.0,
+        turn.loop-i-test.true,
+        room_on a.requires.1.has_room r.same_length,
+        a.requires.1.fits turn.loop-i.i turn.loop-i-test.true,
       ),
-      row_room (winner a.args.exists) a.args.s a.args.b.now a.pre.0 a.args.to.layout a.args.out.now a.args.to.at
-          turn.loop-test.true r a.pre.1.room,
+      row_room (winner a.args.exists) a.args.s a.args.b.now a.requires.0 a.args.to.layout a.args.out.now a.args.to.at
+          turn.loop-i-test.true r a.requires.1.room,
     )
 
-add_i : tie.Need-overflow-add-i invariant-loop decreases-loop
-add_i c = omega arith
+overflow_add-i : tie.Need-overflow_add-i invariant-loop-i decreases-loop-i
+overflow_add-i c = omega arith
 
-loop_less : tie.Need-loop-smaller invariant-loop decreases-loop
-loop_less c = omega arith
+loop-i-smaller : tie.Need-loop-i-smaller invariant-loop-i decreases-loop-i
+loop-i-smaller c = omega arith
 
-loop_again : tie.Need-loop-preserved invariant-loop decreases-loop
-loop_again c =
-    let wrote = c.before.before in
-    let turn = in_turn wrote in
-    let a = entry turn in
-    leaving-next (winner a.args.exists) a.args.s a.args.b.now a.pre.0 a.args.to.layout a.args.out.now a.args.to.at
-    turn.loop-test.taken turn.before.loop.inv wrote.write-if-left.ensures wrote.write-if-left.auto.1.1.1.1.0
+loop-i-preserved : tie.Need-loop-i-preserved invariant-loop-i decreases-loop-i
+loop-i-preserved c =
+    let wrote = c in
+    let turn = wrote in
+    let a = turn in
+    leaving-next (winner a.args.exists) a.args.s a.args.b.now a.requires.0 a.args.to.layout a.args.out.now a.args.to.at
+    turn.loop-i-test.true turn.loop-i.invariant wrote.write_if_left-at.ensures wrote.write_if_left-at.auto.out
 
-same_length : tie.Need-same-length invariant-loop decreases-loop
-same_length c = c.before.loop.invariant.same_length
+shape_of-out : tie.Need-shape_of-out invariant-loop-i decreases-loop-i
+shape_of-out c = c.loop-i.invariant.same_length
 
-returns : tie.Need-returns invariant-loop decreases-loop
+returns : tie.Need-returns invariant-loop-i decreases-loop-i
 returns c =
-    let a = start c.before.before in
-    leaving_all (winner a.args.exists) a.args.s a.args.b.now a.pre.0 a.args.to.layout a.args.out.now a.args.to.at
-    c.loop-test.false c.before.loop.invariant
+    let a = c in
+    leaving_all (winner a.args.exists) a.args.s a.args.b.now a.requires.0 a.args.to.layout a.args.out.now a.args.to.at
+    c.loop-i-test.false c.loop-i.invariant
 
 pub write_left_spec : {M : Type 1} → statement M
 write_left_spec =
     tie.close
-    (tie.spec invariant-loop decreases-loop loop_holds write_if_left_requires add_i loop_less loop_again same_length returns)
+    (tie.spec
+    invariant-loop-i
+    decreases-loop-i
+    loop-i-init
+    write_if_left-at-requires
+    overflow_add-i
+    loop-i-smaller
+    loop-i-preserved
+    shape_of-out
+    returns)

@@ -12,68 +12,65 @@ use Rattle.reduce.proofs.Deciding.{refused_call, reduced_call}
 use Rattle.reduce.proofs.reduce.Statement.{statement}
 use Rattle.reduce.proofs.reduce.Tie as tie
 
-plan_reduce_requires : tie.Need-plan-reduce-requires
-plan_reduce_requires c κs = search rules
+plan_reduce-p-requires : tie.Need-plan_reduce-p-requires
+plan_reduce-p-requires c κs = search rules
 
-enum_known_p : tie.Need-enum-known-p
-enum_known_p c = search rules
+enum_known-p : tie.Need-enum_known-p
+enum_known-p c = search rules
 
-enum_known_p_2 : tie.Need-enum-known-p-2
-enum_known_p_2 c = search rules
+enum_known-p-in-Reduces-1 : tie.Need-enum_known-p-in-Reduces-1
+enum_known-p-in-Reduces-1 c = search rules
 
-abbrev start : tie.After-plan-reduce → tie.Start
-start c = c.before.before.before
-
-planned : (c : tie.After-p2)
-    → let a = (start c.before.before).args in
-    ReducePlanned a.f a.sheet.now (length a.out.now) c.p2.given.0.0
+planned : (c : tie.In-Reduces)
+    → let a = c.args in
+    ReducePlanned a.f a.sheet.now (length a.out.now) c.in-Reduces.s
 planned c =
-    let a = (start c.before.before).args in
-    subst (ReducePlans a.f a.sheet.now (length a.out.now)) c.p2.given.1 c.before.before.plan-reduce.ensures
+    let a = c.args in
+    subst (ReducePlans a.f a.sheet.now (length a.out.now)) c.in-Reduces.is c.plan_reduce-p.ensures
 
 -- the layout's own format
-same_format : (c : tie.After-p2) → c.p2.given.0.0.format ≡ (start c.before.before).args.f
+same_format : (c : tie.In-Reduces) → c.in-Reduces.s.format ≡ c.args.f
 same_format c = sheet_format (planned c).sheet
 
-own : (c : tie.After-p2)
-    → let a = (start c.before.before).args in
-    ReducePlanned c.p2.given.0.0.format a.sheet.now (length a.out.now) c.p2.given.0.0
+own : (c : tie.In-Reduces)
+    → let a = c.args in
+    ReducePlanned c.in-Reduces.s.format a.sheet.now (length a.out.now) c.in-Reduces.s
 own c =
-    let a = (start c.before.before).args in
-    subst (λ g. ReducePlanned g a.sheet.now (length a.out.now) c.p2.given.0.0) (sym (same_format c)) (planned c)
+    let a = c.args in
+    subst (λ g. ReducePlanned g a.sheet.now (length a.out.now) c.in-Reduces.s) (sym (same_format c)) (planned c)
 
-reduce_into_requires : tie.Need-reduce-into-requires
-reduce_into_requires c κs = own c.before.before
+reduce_into-requires : tie.Need-reduce_into-requires
+reduce_into-requires c κs = own c.before
 
-returns : tie.Need-returns
-returns c =
-    let told = c.before in
-    let plan = told.before.before in
-    let a = (start plan).args in
+returns-in-Refused : tie.Need-returns-in-Refused
+returns-in-Refused c =
+    let told = c in
+    let plan = told in
+    let a = plan.args in
     let e = refused_call (format_of a.f) a.sheet.now a.out.now
-    (subst (ReducePlans a.f a.sheet.now (length a.out.now)) told.p.given.1 plan.plan-reduce.ensures) in
+    (subst (ReducePlans a.f a.sheet.now (length a.out.now)) told.in-Refused.is plan.plan_reduce-p.ensures) in
     (e, reduce_truthful (format_of a.f) (sound a.f) a.sheet.now a.out.now e)
 
-same_length : tie.Need-same-length
-same_length c = search rules
+shape_of-out : tie.Need-shape_of-out
+shape_of-out c = search rules
 
-returns_2 : tie.Need-returns-2
-returns_2 c =
-    let reduced = c.before.before in
-    let told = reduced.before.before.before in
-    let a = (start told.before.before).args in
-    let e = reduced_call a.out.now (own told) reduced.reduce-into.ensures.1 reduced.reduce-into.ensures.0 ∙
-    ap (λ g. reduce_call (format_of g) a.sheet.now a.out.now) (same_format told) in
+returns-in-Reduces : tie.Need-returns-in-Reduces
+returns-in-Reduces c =
+    let reduced = c in
+    let told = reduced in
+    let a = told.args in
+    let e = reduced_call a.out.now (own told.before.before.before.before) reduced.reduce_into.ensures.1 reduced.reduce_into.ensures.0 ∙
+    ap (λ g. reduce_call (format_of g) a.sheet.now a.out.now) (same_format told.before.before.before.before) in
     (e, reduce_truthful (format_of a.f) (sound a.f) a.sheet.now a.out.now e)
 
 pub reduce_spec : {M : Type 1} → statement M
 reduce_spec =
     tie.close
     (tie.spec
-    plan_reduce_requires
-    enum_known_p
-    enum_known_p_2
-    reduce_into_requires
-    returns
-    same_length
-    returns_2)
+    plan_reduce-p-requires
+    enum_known-p
+    enum_known-p-in-Reduces-1
+    reduce_into-requires
+    returns-in-Refused
+    shape_of-out
+    returns-in-Reduces)

@@ -5,18 +5,21 @@ use mathlib.Core.Bool.{Bool, cond}
 use Rattle.choice.proofs.expand.cheaper_of.Statement.{statement}
 use Rattle.choice.proofs.expand.cheaper_of.Tie as tie
 
-is_cheaper_requires : tie.Need-is-cheaper-requires
-is_cheaper_requires c κs = search rules
+is_cheaper-requires : tie.Need-is_cheaper-requires
+is_cheaper-requires c κs = search rules
+
+returns-then-is_cheaper : tie.Need-returns-then-is_cheaper
+returns-then-is_cheaper c =
+    let a = c.args in
+    sym (ap (λ (m : Bool). cond m a.best a.own) (sym c.is_cheaper.ensures ∙ c.if-is_cheaper.true))
 
 returns : tie.Need-returns
 returns c =
-    let a = c.before.before.args in
-    sym (ap (λ (m : Bool). cond m a.best a.own_val) (sym c.before.is-cheaper.ensures ∙ c.if1.true))
-
-returns_2 : tie.Need-returns-2
-returns_2 c =
-    let a = c.before.before.args in
-    sym (ap (λ (m : Bool). cond m a.best a.own_val) (sym c.before.is-cheaper.ensures ∙ c.if1.false))
+    let a = c.args in
+    sym (ap (λ (m : Bool). cond m a.best a.own) (sym c.is_cheaper.ensures ∙ c.if-is_cheaper.false))
 
 pub cheaper_of_spec : {M : Type 1} → statement M
-cheaper_of_spec = tie.close (tie.spec is_cheaper_requires returns returns_2)
+cheaper_of_spec = tie.close (tie.spec
+    is_cheaper-requires
+    returns-then-is_cheaper
+    returns)

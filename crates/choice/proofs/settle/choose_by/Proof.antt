@@ -5,37 +5,45 @@ use Rattle.choice.proofs.Settling.{Choosing, settle_start, settle_on, settle_all
 use Rattle.choice.proofs.settle.choose_by.Statement.{statement}
 use Rattle.choice.proofs.settle.choose_by.Tie as tie
 
-abbrev invariant-loop : tie.invariant-loop
-invariant-loop b s signs v best₀ i₀ best i = Choosing s b i best
+abbrev invariant-loop-i : tie.invariant-loop-i
+invariant-loop-i b s signs v best₀ i₀ best i = Choosing s b i best
 
-abbrev decreases-loop : tie.decreases-loop
-decreases-loop b s signs v best₀ i₀ best i = v - i
+abbrev decreases-loop-i : tie.decreases-loop-i
+decreases-loop-i b s signs v best₀ i₀ best i = v - i
 
-loop_holds : tie.Need-loop-init invariant-loop decreases-loop
-loop_holds c = settle_start _ _
+loop-i-init : tie.Need-loop-i-init invariant-loop-i decreases-loop-i
+loop-i-init c = settle_start _ _
 
-choose_to_requires : tie.Need-choose-to-requires invariant-loop decreases-loop
-choose_to_requires c κs =
-    let head = c.before in
-    let a = head.before.before.before in
-    ((a.requires.0, a.requires.1, a.requires.2, c.loop-test.true), head.loop.invariant.chosen)
+choose_to-best-requires : tie.Need-choose_to-best-requires invariant-loop-i decreases-loop-i
+choose_to-best-requires c κs =
+    let head = c in
+    let a = head in
+    ((a.requires.0, a.requires.1, a.requires.2, c.loop-i-test.true), head.loop-i.invariant.chosen)
 
-add_i : tie.Need-overflow-add-i invariant-loop decreases-loop
-add_i c = omega arith
+overflow_add-i : tie.Need-overflow_add-i invariant-loop-i decreases-loop-i
+overflow_add-i c = omega arith
 
-loop_less : tie.Need-loop-smaller invariant-loop decreases-loop
-loop_less c = omega arith
+loop-i-smaller : tie.Need-loop-i-smaller invariant-loop-i decreases-loop-i
+loop-i-smaller c = omega arith
 
-loop_again : tie.Need-loop-preserved invariant-loop decreases-loop
-loop_again c = settle_on c.before.loop-test.true (omega arith) c.choose-to.ensures
+loop-i-preserved : tie.Need-loop-i-preserved invariant-loop-i decreases-loop-i
+loop-i-preserved c = settle_on c.loop-i-test.true (omega arith) c.choose_to-best.ensures
 
-returns : tie.Need-returns invariant-loop decreases-loop
+returns : tie.Need-returns invariant-loop-i decreases-loop-i
 returns c =
-    let head = c.before in
-    let a = head.before.before.before in
-    settle_all a.args.b.now a.requires.0 c.loop-test.false head.loop.invariant
+    let head = c in
+    let a = head in
+    settle_all a.args.b.now a.requires.0 c.loop-i-test.false head.loop-i.invariant
 
 pub choose_by_spec : {M : Type 1} → statement M
 choose_by_spec =
     tie.close
-    (tie.spec invariant-loop decreases-loop loop_holds choose_to_requires add_i loop_less loop_again returns)
+    (tie.spec
+    invariant-loop-i
+    decreases-loop-i
+    loop-i-init
+    choose_to-best-requires
+    overflow_add-i
+    loop-i-smaller
+    loop-i-preserved
+    returns)

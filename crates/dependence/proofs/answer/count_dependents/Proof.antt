@@ -7,14 +7,16 @@ use Rattle.dependence.proofs.Answers.{size-dependents}
 use Rattle.dependence.proofs.answer.count_dependents.Statement.{statement}
 use Rattle.dependence.proofs.answer.count_dependents.Tie as tie
 
-count_requires : tie.Need-count-requires
-count_requires c κs = search rules
+count-requires : tie.Need-count-requires
+count-requires c κs = search rules
 
 returns : tie.Need-returns
 returns c = (
   λ x f own d. c.count.ensures ∙ size-dependents x f d own,
-  let a = c.before.before in let most = size_most a.args.set.now in omega (arith, c.count.ensures, most, a.requires),
+  let a = c in let most = size_most a.args.set.now in omega (arith, c.count.ensures, most, a.requires),
 )
 
 pub count_dependents_spec : {M : Type 1} → statement M
-count_dependents_spec = tie.close (tie.spec count_requires returns)
+count_dependents_spec = tie.close (tie.spec
+    count-requires
+    returns)

@@ -5,14 +5,17 @@ use Rattle.dependence.proofs.Answers.{lowest-dependents, no-dependents}
 use Rattle.dependence.proofs.answer.lowest_dependent.Statement.{statement}
 use Rattle.dependence.proofs.answer.lowest_dependent.Tie as tie
 
-lowest_requires : tie.Need-lowest-requires
-lowest_requires c κs = search rules
+lowest-v-requires : tie.Need-lowest-v-requires
+lowest-v-requires c κs = search rules
+
+returns-then-v-ge-NUMBERS : tie.Need-returns-then-v-ge-NUMBERS
+returns-then-v-ge-NUMBERS c = λ x f d. no-dependents x f d c.lowest-v.ensures c.if-v-ge-NUMBERS.true
 
 returns : tie.Need-returns
-returns c = λ x f d. no-dependents x f d c.before.lowest.ensures c.if1.true
-
-returns_2 : tie.Need-returns-2
-returns_2 c = λ x f d. lowest-dependents x f d c.before.lowest.ensures (omega arith)
+returns c = λ x f d. lowest-dependents x f d c.lowest-v.ensures (omega arith)
 
 pub lowest_dependent_spec : {M : Type 1} → statement M
-lowest_dependent_spec = tie.close (tie.spec lowest_requires returns returns_2)
+lowest_dependent_spec = tie.close (tie.spec
+    lowest-v-requires
+    returns-then-v-ge-NUMBERS
+    returns)

@@ -5,41 +5,40 @@ use Rattle.dependence.proofs.Blocks.{with_row, without_row}
 use Rattle.dependence.proofs.block.add_row.Statement.{statement}
 use Rattle.dependence.proofs.block.add_row.Tie as tie
 
--- places in the code, each from a later one
-abbrev start : tie.After-slice-known → tie.Start
-start c = c.before.before.before
+is_row-requires : tie.Need-is_row-requires
+is_row-requires c κs = search rules
 
-abbrev bound : tie.After-bound-at → tie.Then1
-bound c = c.before.before
+bound_at-requires : tie.Need-bound_at-requires
+bound_at-requires c κs = search rules
 
-is_row_requires : tie.Need-is-row-requires
-is_row_requires c κs = search rules
+add-requires : tie.Need-add-requires
+add-requires c κs =
+    let a = c in
+    omega (arith, c.bound_at.ensures.0, a.requires.1 a.args.j a.requires.3, a.requires.4)
 
-bound_at_requires : tie.Need-bound-at-requires
-bound_at_requires c κs = search rules
+shape_of-set : tie.Need-shape_of-set
+shape_of-set c = search rules
 
-add_requires : tie.Need-add-requires
-add_requires c κs =
-    let a = start (bound c).before.before in
-    omega (arith, c.bound_at.ensures.0, a.pre.1 a.args.j a.pre.3, a.pre.4)
-
-same_length : tie.Need-same-length
-same_length c = search rules
-
-returns : tie.Need-returns
-returns c =
-    let added = c.before.before in
-    let here = bound added.before in
-    let a = (start here.before.before).args in
-    with_row a.s a.b.now a.j here.before.is_row.ensures here.if1.taken added.before.bound_at.ensures.0
+returns-then-is_row : tie.Need-returns-then-is_row
+returns-then-is_row c =
+    let added = c in
+    let here = added in
+    let a = here.args in
+    with_row a.s a.b.now a.j here.is_row.ensures here.if-is_row.true added.bound_at.ensures.0
     added.add.ensures.0 added.add.ensures.1
 
-returns_2 : tie.Need-returns-2
-returns_2 c =
-    let a = (start c.before.before).args in
-    without_row a.s a.b.now a.j c.before.is_row.ensures c.if1.false
+returns-else-is_row : tie.Need-returns-else-is_row
+returns-else-is_row c =
+    let a = c.args in
+    without_row a.s a.b.now a.j c.is_row.ensures c.if-is_row.false
 
 pub add_row_spec : {M : Type 1} → statement M
 add_row_spec =
     tie.close
-    (tie.spec is_row_requires bound_at_requires add_requires same_length returns returns_2)
+    (tie.spec
+    is_row-requires
+    bound_at-requires
+    add-requires
+    shape_of-set
+    returns-then-is_row
+    returns-else-is_row)

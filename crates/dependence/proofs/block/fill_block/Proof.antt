@@ -8,66 +8,56 @@ use Rattle.dependence.proofs.Blocks.{Adding, adding_start, adding_on, adding_don
 use Rattle.dependence.proofs.block.fill_block.Statement.{statement}
 use Rattle.dependence.proofs.block.fill_block.Tie as tie
 
-abbrev invariant-loop : tie.invariant-loop
-invariant-loop b ranges set₀ s v j₀ set j = Adding s b j₀ j set
+abbrev invariant-loop-j : tie.invariant-loop-j
+invariant-loop-j b ranges set₀ s v j₀ set j = Adding s b j₀ j set
 
-abbrev decreases-loop : tie.decreases-loop
-decreases-loop b ranges set₀ s v j₀ set j = v - j
+abbrev decreases-loop-j : tie.decreases-loop-j
+decreases-loop-j b ranges set₀ s v j₀ set j = v - j
 
--- places in the code, each from a later one
-abbrev known : tie.After-struct-known invariant-loop decreases-loop → tie.After-shared-slice-known2 invariant-loop decreases-loop
-known c = c.before.before.before
+overflow_add-j : tie.Need-overflow_add-j invariant-loop-j decreases-loop-j
+overflow_add-j c = let a = c in omega (arith, a.requires.2.inside, a.requires.0.few_variables)
 
-abbrev start : tie.After-struct-known invariant-loop decreases-loop → tie.Start invariant-loop decreases-loop
-start c = (known c).before.before
+loop-j-init : tie.Need-loop-j-init invariant-loop-j decreases-loop-j
+loop-j-init c = let a = c in adding_start a.args.t.layout a.args.b.now _ (omega (arith, a.requires.2.inside)) a.requires.3
 
-abbrev turn : tie.After-add-row invariant-loop decreases-loop → tie.In-loop invariant-loop decreases-loop
-turn c = c.before.before
+add_row-requires : tie.Need-add_row-requires invariant-loop-j decreases-loop-j
+add_row-requires c κs =
+    let a = c in
+    (a.requires.0, a.requires.2.few_numbers, a.requires.1, c.loop-j-test.true, c.loop-j.invariant.words)
 
-add_j : tie.Need-overflow-add-j invariant-loop decreases-loop
-add_j c = let a = start c in omega (arith, a.pre.2.inside, a.pre.0.few_variables)
+overflow_add-j-in-loop-j : tie.Need-overflow_add-j-in-loop-j invariant-loop-j decreases-loop-j
+overflow_add-j-in-loop-j c = omega arith
 
-loop_holds : tie.Need-loop-init invariant-loop decreases-loop
-loop_holds c = let a = start c in adding_start a.args.t.layout a.args.b.now _ (omega (arith, a.pre.2.inside)) a.pre.3
+loop-j-smaller : tie.Need-loop-j-smaller invariant-loop-j decreases-loop-j
+loop-j-smaller c = omega arith
 
-add_row_requires : tie.Need-add-row-requires invariant-loop decreases-loop
-add_row_requires c κs =
-    let a = start c.before.before.before in
-    (a.pre.0, a.pre.2.few_numbers, a.pre.1, c.before.loop-test.true, c.before.before.loop.invariant.words)
+loop-j-preserved : tie.Need-loop-j-preserved invariant-loop-j decreases-loop-j
+loop-j-preserved c =
+    let added = c in
+    let head = added in
+    let a = head in
+    adding_on a.args.b.now a.requires.0 a.requires.2.few_numbers head.loop-j.invariant added.loop-j-test.true (omega arith) added.add_row.ensures
 
-add_j_2 : tie.Need-overflow-add-j-2 invariant-loop decreases-loop
-add_j_2 c = omega arith
+shape_of-set : tie.Need-shape_of-set invariant-loop-j decreases-loop-j
+shape_of-set c =
+    c.loop-j.invariant.words ∙ sym (ap (λ (ws : List ℕ). length ws) c.requires.3 ∙ length-replicate {A = ℕ} 17 0)
 
-loop_less : tie.Need-loop-smaller invariant-loop decreases-loop
-loop_less c = omega arith
-
-loop_again : tie.Need-loop-preserved invariant-loop decreases-loop
-loop_again c =
-    let added = c.before.before in
-    let head = (turn added).before in
-    let a = start head.before in
-    adding_on a.args.b.now a.pre.0 a.pre.2.few_numbers head.loop.inv (turn added).loop-test.true (omega arith) added.add_row.ensures
-
-same_length : tie.Need-same-length invariant-loop decreases-loop
-same_length c =
-    c.before.loop.invariant.words ∙ sym (ap (λ (ws : List ℕ). length ws) (start c.before.before).pre.3 ∙ length-replicate {A = ℕ} 17 0)
-
-returns : tie.Need-returns invariant-loop decreases-loop
+returns : tie.Need-returns invariant-loop-j decreases-loop-j
 returns c =
-    let a = start c.before.before in
-    adding_done a.args.b.now a.pre.0 a.pre.2.few_numbers c.before.loop.invariant a.pre.2 (omega arith) c.loop-test.false
+    let a = c in
+    adding_done a.args.b.now a.requires.0 a.requires.2.few_numbers c.loop-j.invariant a.requires.2 (omega arith) c.loop-j-test.false
 
 pub fill_block_spec : {M : Type 1} → statement M
 fill_block_spec =
     tie.close
     (tie.spec
-    invariant-loop
-    decreases-loop
-    add_j
-    loop_holds
-    add_row_requires
-    add_j_2
-    loop_less
-    loop_again
-    same_length
+    invariant-loop-j
+    decreases-loop-j
+    overflow_add-j
+    loop-j-init
+    add_row-requires
+    overflow_add-j-in-loop-j
+    loop-j-smaller
+    loop-j-preserved
+    shape_of-set
     returns)

@@ -11,223 +11,192 @@ use Rattle.dependence.proofs.Growing.{Growing, Closing, grow_start, Taken, take_
 use Rattle.dependence.proofs.closure.fill_dependents.Statement.{statement}
 use Rattle.dependence.proofs.closure.fill_dependents.Tie as tie
 
-abbrev invariant-loop : tie.invariant-loop
-invariant-loop b ends ranges next set₀ s x block found₀ y₀ set found y = Closing x (formula_in s b) block found set y
+abbrev invariant-loop-y : tie.invariant-loop-y
+invariant-loop-y b ends ranges next set₀ s x block found₀ y₀ set found y = Closing x (formula_in s b) block found set y
 
-abbrev decreases-loop : tie.decreases-loop
-decreases-loop b ends ranges next set₀ s x block found₀ y₀ set found y = 1088 - size set
+abbrev decreases-loop-y : tie.decreases-loop-y
+decreases-loop-y b ends ranges next set₀ s x block found₀ y₀ set found y = 1088 - size set
 
--- places in the code, each from a later one
-abbrev known : tie.After-s invariant-loop decreases-loop → tie.After-shared-slice-known3 invariant-loop decreases-loop
-known c = c.before.before.before
+occurs-requires : tie.Need-occurs-requires invariant-loop-y decreases-loop-y
+occurs-requires c κs = let a = c in (a.requires.1.holds, a.requires.2.few)
 
-abbrev start : tie.After-s invariant-loop decreases-loop → tie.Start invariant-loop decreases-loop
-start c = (known c).before.before.before
-
-abbrev occurring : tie.After-block2 invariant-loop decreases-loop → tie.Else1 invariant-loop decreases-loop
-occurring c = c.before.before.before
-
-abbrev ranged : tie.After-mark-relevant invariant-loop decreases-loop → tie.After-block2 invariant-loop decreases-loop
-ranged c = c.before.before.before
-
-abbrev marked : tie.After-found3 invariant-loop decreases-loop → tie.After-mark-relevant invariant-loop decreases-loop
-marked c = c.before.before.before
-
-abbrev entry : tie.At-loop invariant-loop decreases-loop → tie.Start invariant-loop decreases-loop
-entry c = start (occurring (ranged (marked c.before.before.before))).before.before
-
-abbrev turn : tie.After-add invariant-loop decreases-loop → tie.In-loop invariant-loop decreases-loop
-turn c = c.before.before
-
-abbrev added : tie.After-range-of2 invariant-loop decreases-loop → tie.After-add invariant-loop decreases-loop
-added c = c.before.before.before
-
-abbrev again : tie.After-block4 invariant-loop decreases-loop → tie.After-mark-relevant2 invariant-loop decreases-loop
-again c = c.before.before
-
-abbrev over : tie.After-intersect-arg invariant-loop decreases-loop → tie.After-loop invariant-loop decreases-loop
-over c = c.before.before.before
-
-occurs_requires : tie.Need-occurs-requires invariant-loop decreases-loop
-occurs_requires c κs = let a = start c in (a.pre.1.holds, a.pre.2.few)
-
-returns : tie.Need-returns invariant-loop decreases-loop
-returns c =
-    let a = start c.before.before in
-    grow_none a.args.t.variable _ (occurs_read a.args.b.now a.pre.1 a.pre.2.few c.before.occurs.ensures (not-true _ c.if1.true))
-    a.pre.3
+returns-then-not-occurs : tie.Need-returns-then-not-occurs invariant-loop-y decreases-loop-y
+returns-then-not-occurs c =
+    let a = c in
+    grow_none a.args.t.variable _ (occurs_read a.args.b.now a.requires.1 a.requires.2.few c.occurs.ensures (c.if-not-occurs.true))
+    a.requires.3
 
 -- the variable has a literal
-occurs : (c : tie.Else1 invariant-loop decreases-loop) →
-    let a = (start c.before.before).args in has (of a.t.variable) (formula_in a.t.layout a.b.now).matrix ≡ true
+occurs : (c : tie.Else-not-occurs invariant-loop-y decreases-loop-y) →
+    let a = c.args in has (of a.t.variable) (formula_in a.t.layout a.b.now).matrix ≡ true
 occurs c =
-    let a = start c.before.before in
-    occurs_read a.args.b.now a.pre.1 a.pre.2.few c.before.occurs.ensures (not-false _ c.if1.false)
+    let a = c in
+    occurs_read a.args.b.now a.requires.1 a.requires.2.few c.occurs.ensures (c.if-not-occurs.false)
 
-slice_aggregate_fill_block : tie.Need-slice-aggregate-fill-block invariant-loop decreases-loop
-slice_aggregate_fill_block c = refl
+slice_bounds-fill_block-end : tie.Need-slice_bounds-fill_block-end invariant-loop-y decreases-loop-y
+slice_bounds-fill_block-end c = refl
 
-fill_block_requires : tie.Need-fill-block-requires invariant-loop decreases-loop
-fill_block_requires c κs =
-    let a = start c.before.before.before in
-    (a.pre.0.readable, record { holds = a.pre.1.holds; tells = a.pre.1.tells }, a.pre.2, refl)
+fill_block-requires : tie.Need-fill_block-requires invariant-loop-y decreases-loop-y
+fill_block-requires c κs =
+    let a = c in
+    (a.requires.0.readable, record { holds = a.requires.1.holds; tells = a.requires.1.tells }, a.requires.2, refl)
 
-range_of_requires : tie.Need-range-of-requires invariant-loop decreases-loop
-range_of_requires c κs = let a = start (occurring c).before.before in (a.pre.1.holds, a.pre.2.few)
+range_of-own-requires : tie.Need-range_of-own-requires invariant-loop-y decreases-loop-y
+range_of-own-requires c κs = let a = c in (a.requires.1.holds, a.requires.2.few)
 
-slice_aggregate_mark_relevant : tie.Need-slice-aggregate-mark-relevant invariant-loop decreases-loop
-slice_aggregate_mark_relevant c = refl
+slice_bounds-mark_relevant-end : tie.Need-slice_bounds-mark_relevant-end invariant-loop-y decreases-loop-y
+slice_bounds-mark_relevant-end c = refl
 
-mark_relevant_requires : tie.Need-mark-relevant-requires invariant-loop decreases-loop
-mark_relevant_requires c κs =
-    let here = occurring c.before.before in
-    let a = start here.before.before in
-    (chained-range a.args.b.now a.pre.1 a.pre.2.few c.before.range-of.ensures (occurs here) a.pre.0, refl)
+mark_relevant-requires : tie.Need-mark_relevant-requires invariant-loop-y decreases-loop-y
+mark_relevant-requires c κs =
+    let here = c in
+    let a = here in
+    (chained-range a.args.b.now a.requires.1 a.requires.2.few c.range_of-own.ensures (occurs here.before.before.before.before.before) a.requires.0, refl)
 
-slice_aggregate_next_member : tie.Need-slice-aggregate-next-member invariant-loop decreases-loop
-slice_aggregate_next_member c = sym (ranged c.before.before).before.fill-block.ensures.words
+slice_bounds-next_member-end : tie.Need-slice_bounds-next_member-end invariant-loop-y decreases-loop-y
+slice_bounds-next_member-end c = sym c.fill_block.ensures.words
 
-growing : (c : tie.After-mark-relevant invariant-loop decreases-loop) →
-    let a = (start (occurring (ranged c)).before.before).args in
-    Growing a.t.variable (formula_in a.t.layout a.b.now) c.mark-relevant.new.1.1.1.1.1.0 a.set.now
+growing : (c : tie.After-mark_relevant invariant-loop-y decreases-loop-y) →
+    let a = c.args in
+    Growing a.t.variable (formula_in a.t.layout a.b.now) c.mark_relevant.new.set a.set.now
 growing c =
-    let here = occurring (ranged c) in
-    let a = start here.before.before in
-    grow_start a.args.t.variable _ (occurs here) refl a.pre.3
-    (marked-range a.args.b.now a.pre.1 a.pre.2.few c.before.before.range-of.ensures (occurs here) c.mark-relevant.ensures)
+    let here = c in
+    let a = here in
+    grow_start a.args.t.variable _ (occurs here.before.before.before.before.before.before) refl a.requires.3
+    (marked-range a.args.b.now a.requires.1 a.requires.2.few c.range_of-own.ensures (occurs here.before.before.before.before.before.before) c.mark_relevant.ensures)
 
-slice_aggregate_next_member_2 : tie.Need-slice-aggregate-next-member-2 invariant-loop decreases-loop
-slice_aggregate_next_member_2 c = sym (growing (marked c)).room
+slice_bounds-next_member-end-2 : tie.Need-slice_bounds-next_member-end-2 invariant-loop-y decreases-loop-y
+slice_bounds-next_member-end-2 c = sym (growing c.before.before.before).room
 
-next_member_requires : tie.Need-next-member-requires invariant-loop decreases-loop
-next_member_requires c κs =
-    let first = marked c.before in
-    let g = growing first in
-    ((ranged first).before.fill-block.ensures.words, g.room, g.words)
+next_member-y-requires : tie.Need-next_member-y-requires invariant-loop-y decreases-loop-y
+next_member-y-requires c κs =
+    let first = c in
+    let g = growing first.before.before.before in
+    (first.fill_block.ensures.words, g.room, g.words)
 
-loop_holds : tie.Need-loop-init invariant-loop decreases-loop
-loop_holds c =
-    let first = marked c.before.before in
-    record { block_is = (ranged first).before.fill-block.ensures; growing = growing first; next_is = c.next-member.ensures }
+loop-y-init : tie.Need-loop-y-init invariant-loop-y decreases-loop-y
+loop-y-init c =
+    let first = c in
+    record { block_is = first.fill_block.ensures; growing = growing first.before.before.before.before; next_is = c.next_member-y.ensures }
 
-taken : (c : tie.In-loop invariant-loop decreases-loop) →
-    let a = (entry c.before).args in Taken a.t.variable (formula_in a.t.layout a.b.now) c.before.loop.set c.before.loop.y
+taken : (c : tie.In-loop-y invariant-loop-y decreases-loop-y) →
+    let a = c.args in Taken a.t.variable (formula_in a.t.layout a.b.now) c.loop-y.set c.loop-y.y
 taken c =
-    let a = (entry c.before).args in
-    let inv = c.before.loop.invariant in
-    take_left a.t.variable (formula_in a.t.layout a.b.now) inv c.loop-test.true
+    let a = c.args in
+    let inv = c.loop-y.invariant in
+    take_left a.t.variable (formula_in a.t.layout a.b.now) inv c.loop-y-test.true
 
-add_requires : tie.Need-add-requires invariant-loop decreases-loop
-add_requires c κs = omega (arith, (taken c.before).near, c.before.before.loop.invariant.growing.words)
+add-requires : tie.Need-add-requires invariant-loop-y decreases-loop-y
+add-requires c κs = omega (arith, (taken c.before).near, c.loop-y.invariant.growing.words)
 
-range_of_requires_2 : tie.Need-range-of-requires-2 invariant-loop decreases-loop
-range_of_requires_2 c κs =
-    let here = turn c.before.before in
-    let a = entry here.before in
-    (a.pre.1.holds, omega (arith, a.pre.2.few, (taken here).near))
+range_of-range-requires : tie.Need-range_of-range-requires invariant-loop-y decreases-loop-y
+range_of-range-requires c κs =
+    let here = c in
+    let a = here in
+    (a.requires.1.holds, omega (arith, a.requires.2.few, (taken here.before.before.before.before).near))
 
-slice_aggregate_mark_relevant_2 : tie.Need-slice-aggregate-mark-relevant-2 invariant-loop decreases-loop
-slice_aggregate_mark_relevant_2 c = sym (turn (added c.before)).before.loop.inv.growing.room
+slice_bounds-mark_relevant-end-in-loop-y : tie.Need-slice_bounds-mark_relevant-end-in-loop-y invariant-loop-y decreases-loop-y
+slice_bounds-mark_relevant-end-in-loop-y c = sym c.loop-y.invariant.growing.room
 
-mark_relevant_requires_2 : tie.Need-mark-relevant-requires-2 invariant-loop decreases-loop
-mark_relevant_requires_2 c κs =
-    let here = turn (added c.before) in
-    let a = entry here.before in
-    let k = taken here in (
-      chained-range a.args.b.now a.pre.1 k.near c.before.range-of2.ensures k.occurs a.pre.0,
-      here.before.loop.inv.growing.room,
+mark_relevant-requires-in-loop-y : tie.Need-mark_relevant-requires-in-loop-y invariant-loop-y decreases-loop-y
+mark_relevant-requires-in-loop-y c κs =
+    let here = c in
+    let a = here in
+    let k = taken here.before.before.before.before.before.before in (
+      chained-range a.args.b.now a.requires.1 k.near c.range_of-range.ensures k.occurs a.requires.0,
+      here.loop-y.invariant.growing.room,
     )
 
-grown : (c : tie.After-mark-relevant2 invariant-loop decreases-loop) →
-    let a = (entry (turn (added c.before.before)).before).args in
-    Growing a.t.variable (formula_in a.t.layout a.b.now) c.mark-relevant2.new.1.1.1.1.1.0 (added c.before.before).add.last.0
+grown : (c : tie.After-mark_relevant-in-loop-y invariant-loop-y decreases-loop-y) →
+    let a = c.args in
+    Growing a.t.variable (formula_in a.t.layout a.b.now) c.mark_relevant-in-loop-y.new.set c.add.new.set
 grown c =
-    let grew = added c.before.before in
-    let head = (turn grew).before in
-    let a = entry head in
-    let k = taken (turn grew) in
-    grow_on a.args.t.variable (formula_in a.args.t.layout a.args.b.now) k head.loop.inv.growing grew.add.ensures.0 grew.add.ensures.1
-    (marked-range a.args.b.now a.pre.1 k.near c.before.before.range-of2.ensures k.occurs c.mark-relevant2.ensures)
+    let grew = c in
+    let head = grew in
+    let a = head in
+    let k = taken grew.before.before.before.before.before.before.before in
+    grow_on a.args.t.variable (formula_in a.args.t.layout a.args.b.now) k head.loop-y.invariant.growing grew.add.ensures.0 grew.add.ensures.1
+    (marked-range a.args.b.now a.requires.1 k.near c.range_of-range.ensures k.occurs c.mark_relevant-in-loop-y.ensures)
 
-slice_aggregate_next_member_3 : tie.Need-slice-aggregate-next-member-3 invariant-loop decreases-loop
-slice_aggregate_next_member_3 c = sym (turn (added (again c).before.before)).before.loop.inv.block_is.words
+slice_bounds-next_member-end-in-loop-y : tie.Need-slice_bounds-next_member-end-in-loop-y invariant-loop-y decreases-loop-y
+slice_bounds-next_member-end-in-loop-y c = sym c.loop-y.invariant.block_is.words
 
-slice_aggregate_next_member_4 : tie.Need-slice-aggregate-next-member-4 invariant-loop decreases-loop
-slice_aggregate_next_member_4 c = sym (grown c.before.before.before).room
+slice_bounds-next_member-end-in-loop-y-2 : tie.Need-slice_bounds-next_member-end-in-loop-y-2 invariant-loop-y decreases-loop-y
+slice_bounds-next_member-end-in-loop-y-2 c = sym (grown c.before.before.before).room
 
-next_member_requires_2 : tie.Need-next-member-requires-2 invariant-loop decreases-loop
-next_member_requires_2 c κs =
-    let gone = again c.before.before in
-    let g = grown gone in
-    ((turn (added gone.before.before)).before.loop.inv.block_is.words, g.room, g.words)
+next_member-y-requires-in-loop-y : tie.Need-next_member-y-requires-in-loop-y invariant-loop-y decreases-loop-y
+next_member-y-requires-in-loop-y c κs =
+    let gone = c in
+    let g = grown gone.before.before.before in
+    (gone.loop-y.invariant.block_is.words, g.room, g.words)
 
-loop_less : tie.Need-loop-smaller invariant-loop decreases-loop
-loop_less c =
-    let grew = added (again c.before.before.before).before.before in
-    let head = (turn grew).before in
-    let a = (entry head).args in
-    grow_less a.t.variable (formula_in a.t.layout a.b.now) head.loop.set grew.add.last.0 (taken (turn grew))
-    head.loop.inv.growing grew.add.ensures.0 grew.add.ensures.1
+loop-y-smaller : tie.Need-loop-y-smaller invariant-loop-y decreases-loop-y
+loop-y-smaller c =
+    let grew = c in
+    let head = grew in
+    let a = head.args in
+    grow_less a.t.variable (formula_in a.t.layout a.b.now) head.loop-y.set grew.add.new.set (taken grew.before.before.before.before.before.before.before.before.before.before.before)
+    head.loop-y.invariant.growing grew.add.ensures.0 grew.add.ensures.1
 
-loop_again : tie.Need-loop-preserved invariant-loop decreases-loop
-loop_again c =
-    let gone = again c.before.before.before in
-    let head = (turn (added gone.before.before)).before in
-    record { block_is = head.loop.inv.block_is; growing = grown gone; next_is = c.next-member2.ensures }
+loop-y-preserved : tie.Need-loop-y-preserved invariant-loop-y decreases-loop-y
+loop-y-preserved c =
+    let gone = c in
+    let head = gone in
+    record { block_is = head.loop-y.invariant.block_is; growing = grown gone.before.before.before.before; next_is = c.next_member-y-in-loop-y.ensures }
 
-slice_aggregate_intersect : tie.Need-slice-aggregate-intersect invariant-loop decreases-loop
-slice_aggregate_intersect c = sym c.before.before.loop.invariant.block_is.words
+slice_bounds-intersect-end : tie.Need-slice_bounds-intersect-end invariant-loop-y decreases-loop-y
+slice_bounds-intersect-end c = sym c.loop-y.invariant.block_is.words
 
-slice_aggregate_intersect_2 : tie.Need-slice-aggregate-intersect-2 invariant-loop decreases-loop
-slice_aggregate_intersect_2 c = sym c.before.before.before.loop.invariant.growing.room
+slice_bounds-intersect-end-2 : tie.Need-slice_bounds-intersect-end-2 invariant-loop-y decreases-loop-y
+slice_bounds-intersect-end-2 c = sym c.loop-y.invariant.growing.room
 
-intersect_requires : tie.Need-intersect-requires invariant-loop decreases-loop
-intersect_requires c κs =
-    let inv = (over c).before.loop.invariant in
+intersect-requires : tie.Need-intersect-requires invariant-loop-y decreases-loop-y
+intersect-requires c κs =
+    let inv = c.loop-y.invariant in
     (inv.growing.room ∙ sym inv.block_is.words, inv.growing.words ∙ sym inv.block_is.words)
 
-same_length : tie.Need-same-length invariant-loop decreases-loop
-same_length c =
-    let head = (over c.before.before.before).before in
-    c.before.before.intersect.ensures.0 ∙ head.loop.inv.growing.words ∙ sym (seventeen (entry head).pre.3)
+shape_of-set : tie.Need-shape_of-set invariant-loop-y decreases-loop-y
+shape_of-set c =
+    let head = c in
+    c.intersect.ensures.0 ∙ head.loop-y.invariant.growing.words ∙ sym (seventeen head.requires.3)
 
-returns_2 : tie.Need-returns-2 invariant-loop decreases-loop
-returns_2 c =
-    let met = c.before.before in
-    let behind = over met.before in
-    let a = (entry behind.before).args in
-    let inv = behind.before.loop.inv in
-    grow_done a.t.variable (formula_in a.t.layout a.b.now) inv behind.loop-test.left
+returns : tie.Need-returns invariant-loop-y decreases-loop-y
+returns c =
+    let met = c in
+    let behind = met in
+    let a = behind.args in
+    let inv = behind.loop-y.invariant in
+    grow_done a.t.variable (formula_in a.t.layout a.b.now) inv behind.loop-y-test.false
     met.intersect.ensures.0 met.intersect.ensures.1
 
 pub fill_dependents_spec : {M : Type 1} → statement M
 fill_dependents_spec =
     tie.close
     (tie.spec
-    invariant-loop
-    decreases-loop
-    occurs_requires
-    returns
-    slice_aggregate_fill_block
-    fill_block_requires
-    range_of_requires
-    slice_aggregate_mark_relevant
-    mark_relevant_requires
-    slice_aggregate_next_member
-    slice_aggregate_next_member_2
-    next_member_requires
-    loop_holds
-    add_requires
-    range_of_requires_2
-    slice_aggregate_mark_relevant_2
-    mark_relevant_requires_2
-    slice_aggregate_next_member_3
-    slice_aggregate_next_member_4
-    next_member_requires_2
-    loop_less
-    loop_again
-    slice_aggregate_intersect
-    slice_aggregate_intersect_2
-    intersect_requires
-    same_length
-    returns_2)
+    invariant-loop-y
+    decreases-loop-y
+    occurs-requires
+    returns-then-not-occurs
+    slice_bounds-fill_block-end
+    fill_block-requires
+    range_of-own-requires
+    slice_bounds-mark_relevant-end
+    mark_relevant-requires
+    slice_bounds-next_member-end
+    slice_bounds-next_member-end-2
+    next_member-y-requires
+    loop-y-init
+    add-requires
+    range_of-range-requires
+    slice_bounds-mark_relevant-end-in-loop-y
+    mark_relevant-requires-in-loop-y
+    slice_bounds-next_member-end-in-loop-y
+    slice_bounds-next_member-end-in-loop-y-2
+    next_member-y-requires-in-loop-y
+    loop-y-smaller
+    loop-y-preserved
+    slice_bounds-intersect-end
+    slice_bounds-intersect-end-2
+    intersect-requires
+    shape_of-set
+    returns)

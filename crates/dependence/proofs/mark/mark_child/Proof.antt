@@ -4,29 +4,26 @@ use Rattle.dependence.proofs.Marks.{child_marked, child_unmarked}
 use Rattle.dependence.proofs.mark.mark_child.Statement.{statement}
 use Rattle.dependence.proofs.mark.mark_child.Tie as tie
 
--- places in the code, each from a later one
-abbrev start : tie.Then1 → tie.Start
-start c = c.before.before.before
+mark_rows-requires : tie.Need-mark_rows-requires
+mark_rows-requires c κs = search rules
 
-abbrev there : tie.After-mark-rows → tie.Then1
-there c = c.before.before
+shape_of-set : tie.Need-shape_of-set
+shape_of-set c = search rules
 
-mark_rows_requires : tie.Need-mark-rows-requires
-mark_rows_requires c κs = search rules
+returns-then-row-end : tie.Need-returns-then-row-end
+returns-then-row-end c =
+    let marked = c in
+    let a = marked.args in
+    child_marked a.s a.b.now a.at a.end a.row marked.if-row-end.true marked.mark_rows.ensures
 
-same_length : tie.Need-same-length
-same_length c = search rules
-
-returns : tie.Need-returns
-returns c =
-    let marked = c.before.before in
-    let a = (start (there marked)).args in
-    child_marked a.s a.b.now a.at a.end a.row (there marked).if1.true marked.mark-rows.ensures
-
-returns_2 : tie.Need-returns-2
-returns_2 c =
-    let a = c.before.before.before.args in
-    child_unmarked a.s a.b.now a.at a.end a.row c.if1.false
+returns-else-row-end : tie.Need-returns-else-row-end
+returns-else-row-end c =
+    let a = c.args in
+    child_unmarked a.s a.b.now a.at a.end a.row c.if-row-end.false
 
 pub mark_child_spec : {M : Type 1} → statement M
-mark_child_spec = tie.close (tie.spec mark_rows_requires same_length returns returns_2)
+mark_child_spec = tie.close (tie.spec
+    mark_rows-requires
+    shape_of-set
+    returns-then-row-end
+    returns-else-row-end)

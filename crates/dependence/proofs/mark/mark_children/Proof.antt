@@ -12,120 +12,104 @@ use Rattle.dependence.proofs.mark.mark_children.Statement.{statement}
 use Rattle.dependence.proofs.mark.mark_children.Tie as tie
 
 -- whatever the set is whose literals the walk goes along
-abbrev invariant-loop : tie.invariant-loop
-invariant-loop b s ends next set₀ left₀ at₀ row₀ set left at row =
+abbrev invariant-loop-left : tie.invariant-loop-left
+invariant-loop-left b s ends next set₀ left₀ at₀ row₀ set left at row =
     (L : Literals) → Begun L s b ends next at₀ left₀ row₀ → Marking L s b (siblings_in s b at₀ left₀) set₀ at left row set
 
-abbrev decreases-loop : tie.decreases-loop
-decreases-loop b s ends next set₀ left₀ at₀ row₀ set left at row = left
+abbrev decreases-loop-left : tie.decreases-loop-left
+decreases-loop-left b s ends next set₀ left₀ at₀ row₀ set left at row = left
 
--- places in the code, each from a later one
-abbrev known : tie.After-slice-known invariant-loop decreases-loop → tie.After-shared-slice-known invariant-loop decreases-loop
-known c = c.before.before.before
+children_at-left-requires : tie.Need-children_at-left-requires invariant-loop-left decreases-loop-left
+children_at-left-requires c κs =
+    let a = c in
+    (a.requires.0.chained.indexed.readable, site_inside a.args.b.now a.requires.0)
 
-abbrev start : tie.After-slice-known invariant-loop decreases-loop → tie.Start invariant-loop decreases-loop
-start c = (known c).before
+begun : (c : tie.At-loop-left invariant-loop-left decreases-loop-left) →
+    let a = c in
+    SiteBegun a.requires.0.chained.chosen a.args.s a.args.b.now a.args.ends.now a.args.next.now a.args.site c.children_at-left.result
+begun c = let a = c in site-chosen a.args.b.now a.requires.0 c.children_at-left.ensures.0
 
-abbrev entry : tie.At-loop invariant-loop decreases-loop → tie.Start invariant-loop decreases-loop
-entry c = start c.before.before.before
+marking : (c : tie.At-loop-left invariant-loop-left decreases-loop-left) →
+    let a = c in
+    Marking a.requires.0.chained.chosen a.args.s a.args.b.now
+    (siblings_in a.args.s a.args.b.now (a.args.site.operator + 1) c.children_at-left.result)
+    a.args.set.now c.loop-left.at c.loop-left.left c.loop-left.row c.loop-left.set
+marking c = c.loop-left.invariant _ (begun c)
 
-abbrev turn : tie.After-mark-child invariant-loop decreases-loop → tie.In-loop invariant-loop decreases-loop
-turn c = c.before.before.before
+walk : (c : tie.In-loop-left invariant-loop-left decreases-loop-left) →
+    let a = c.args in Walked a.s a.b.now a.ends.now c.loop-left.at c.loop-left.left
+walk c = walked _ (begun c.before) c.loop-left-test.true (marking c.before).walk
 
-abbrev marked : tie.After-first-behind invariant-loop decreases-loop → tie.After-mark-child invariant-loop decreases-loop
-marked c = c.before.before.before
+overflow_add-at : tie.Need-overflow_add-at invariant-loop-left decreases-loop-left
+overflow_add-at c = let k = c.requires.0 in omega (arith, k.before)
 
-children_at_requires : tie.Need-children-at-requires invariant-loop decreases-loop
-children_at_requires c κs =
-    let a = start c in
-    (a.pre.0.chained.indexed.readable, site_inside a.args.b.now a.pre.0)
+loop-left-init : tie.Need-loop-left-init invariant-loop-left decreases-loop-left
+loop-left-init c = λ L k. marking_start L k _
 
-begun : (c : tie.At-loop invariant-loop decreases-loop) →
-    let a = entry c in
-    SiteBegun a.pre.0.chained.chosen a.args.s a.args.b.now a.args.ends.now a.args.next.now a.args.site c.before.before.children-at.result
-begun c = let a = entry c in site-chosen a.args.b.now a.pre.0 c.before.before.children-at.ensures.0
+offset_bounds-ends-at : tie.Need-offset_bounds-ends-at invariant-loop-left decreases-loop-left
+offset_bounds-ends-at c = omega (arith, (walk c).inside, c.requires.0.chained.indexed.readable.few_nodes)
 
-marking : (c : tie.At-loop invariant-loop decreases-loop) →
-    let a = entry c in
-    Marking a.pre.0.chained.chosen a.args.s a.args.b.now
-    (siblings_in a.args.s a.args.b.now (a.args.site.operator + 1) c.before.before.children-at.result)
-    a.args.set.now c.loop.at c.loop.left c.loop.row c.loop.set
-marking c = c.loop.invariant _ (begun c)
+bounds-ends-at : tie.Need-bounds-ends-at invariant-loop-left decreases-loop-left
+bounds-ends-at c = omega (arith, (walk c.before).inside, c.requires.0.chained.indexed.holds)
 
-walk : (c : tie.In-loop invariant-loop decreases-loop) →
-    let a = (entry c.before).args in Walked a.s a.b.now a.ends.now c.before.loop.at c.before.loop.left
-walk c = walked _ (begun c.before) c.loop-test.true (marking c.before).walk
+overflow_cast-end : tie.Need-overflow_cast-end invariant-loop-left decreases-loop-left
+overflow_cast-end c = omega (arith, c.shared_slice_known-in-loop-left-1.given c.loop-left.at)
 
-add_at : tie.Need-overflow-add-at invariant-loop decreases-loop
-add_at c = let k = (start c.before.before).pre.0 in omega (arith, k.before)
-
-loop_holds : tie.Need-loop-init invariant-loop decreases-loop
-loop_holds c = λ L k. marking_start L k _
-
-mul_end : tie.Need-overflow-mul-end invariant-loop decreases-loop
-mul_end c = omega (arith, (walk c).inside, (entry c.before).pre.0.chained.indexed.readable.few_nodes)
-
-shared_slice_read_end : tie.Need-shared-slice-read-end invariant-loop decreases-loop
-shared_slice_read_end c = omega (arith, (walk c.before).inside, (entry c.before.before).pre.0.chained.indexed.holds)
-
-cast_end : tie.Need-overflow-cast-end invariant-loop decreases-loop
-cast_end c = omega (arith, c.shared-slice-known4.given c.before.before.loop.at)
-
-mark_child_requires : tie.Need-mark-child-requires invariant-loop decreases-loop
-mark_child_requires c κs =
-    let head = c.before.before.before in
-    let a = entry head in (
-      a.pre.0.chained.indexed.readable,
-      omega (arith, end_later _ (begun head) c.before.before.loop-test.true (marking head).walk),
+mark_child-requires : tie.Need-mark_child-requires invariant-loop-left decreases-loop-left
+mark_child-requires c κs =
+    let head = c in
+    let a = head in (
+      a.requires.0.chained.indexed.readable,
+      omega (arith, end_later _ (begun head.before.before.before) c.loop-left-test.true (marking head.before.before.before).walk),
       (walk c.before.before).next_within,
-      (marking head).same_length ∙ a.pre.1,
+      (marking head.before.before.before).same_length ∙ a.requires.1,
     )
 
-first_behind_requires : tie.Need-first-behind-requires invariant-loop decreases-loop
-first_behind_requires c κs =
-    let here = turn c.before.before in
-    leads _ (begun here.before) here.loop-test.taken (marking here.before).walk
+first_behind-row-requires : tie.Need-first_behind-row-requires invariant-loop-left decreases-loop-left
+first_behind-row-requires c κs =
+    let here = c in
+    leads _ (begun here.before.before.before.before.before.before) here.loop-left-test.true (marking here.before.before.before.before.before.before).walk
 
-sub_left : tie.Need-overflow-sub-left invariant-loop decreases-loop
-sub_left c = omega arith
+overflow_sub-left : tie.Need-overflow_sub-left invariant-loop-left decreases-loop-left
+overflow_sub-left c = omega arith
 
-loop_less : tie.Need-loop-smaller invariant-loop decreases-loop
-loop_less c = omega arith
+loop-left-smaller : tie.Need-loop-left-smaller invariant-loop-left decreases-loop-left
+loop-left-smaller c = omega arith
 
-loop_again : tie.Need-loop-preserved invariant-loop decreases-loop
-loop_again c =
-    let here = turn (marked c) in
-    λ L k. marking_on L k here.loop-test.taken (here.before.loop.inv L k) (marked c).mark-child.ensures c.first-behind.ensures
+loop-left-preserved : tie.Need-loop-left-preserved invariant-loop-left decreases-loop-left
+loop-left-preserved c =
+    let here = c in
+    λ L k. marking_on L k here.loop-left-test.true (here.loop-left.invariant L k) c.mark_child.ensures c.first_behind-row.ensures
 
-same_length : tie.Need-same-length invariant-loop decreases-loop
-same_length c = (marking c.before).same_length
+shape_of-set : tie.Need-shape_of-set invariant-loop-left decreases-loop-left
+shape_of-set c = (marking c.before).same_length
 
-returns : tie.Need-returns invariant-loop decreases-loop
+returns : tie.Need-returns invariant-loop-left decreases-loop-left
 returns c =
-    let head = c.before in
-    let a = entry head in
-    let read = head.before.before.children-at.ensures.0 in
+    let head = c in
+    let a = head in
+    let read = head.children_at-left.ensures.0 in
     λ L last k.
-    let over = site-begun a.args.b.now a.pre.0 read L last k in
-    marked_as (marking_done L over c.loop-test.false (head.loop.invariant L over))
-    (λ v h. ap (λ (ts : Forest). has_any (of v) (relevant L ts)) (site-children a.args.b.now a.pre.0 read).are)
+    let over = site-begun a.args.b.now a.requires.0 read L last k in
+    marked_as (marking_done L over c.loop-left-test.false (head.loop-left.invariant L over))
+    (λ v h. ap (λ (ts : Forest). has_any (of v) (relevant L ts)) (site-children a.args.b.now a.requires.0 read).are)
 
 pub mark_children_spec : {M : Type 1} → statement M
 mark_children_spec =
     tie.close
     (tie.spec
-    invariant-loop
-    decreases-loop
-    children_at_requires
-    add_at
-    loop_holds
-    mul_end
-    shared_slice_read_end
-    cast_end
-    mark_child_requires
-    first_behind_requires
-    sub_left
-    loop_less
-    loop_again
-    same_length
+    invariant-loop-left
+    decreases-loop-left
+    children_at-left-requires
+    overflow_add-at
+    loop-left-init
+    offset_bounds-ends-at
+    bounds-ends-at
+    overflow_cast-end
+    mark_child-requires
+    first_behind-row-requires
+    overflow_sub-left
+    loop-left-smaller
+    loop-left-preserved
+    shape_of-set
     returns)

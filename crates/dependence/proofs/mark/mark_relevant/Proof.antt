@@ -14,81 +14,65 @@ use Rattle.dependence.proofs.Within.{within-literal, within_operator}
 use Rattle.dependence.proofs.mark.mark_relevant.Statement.{statement}
 use Rattle.dependence.proofs.mark.mark_relevant.Tie as tie
 
--- places in the code, each from a later one
-abbrev known : tie.After-slice-known → tie.After-shared-slice-known
-known c = c.before.before.before
-
-abbrev start : tie.After-relevant-subtree → tie.Start
-start c = (known c.before).before
-
-abbrev found : tie.After-struct-known2 → tie.After-relevant-subtree
-found c = c.before.before
-
-abbrev literal : tie.After-mark-row → tie.Then1
-literal c = c.before.before
-
-abbrev operator : tie.After-mark-children → tie.Else1
-operator c = c.before.before
-
-relevant_subtree_requires : tie.Need-relevant-subtree-requires
-relevant_subtree_requires c κs = search rules
+relevant_subtree-relevant-requires : tie.Need-relevant_subtree-relevant-requires
+relevant_subtree-relevant-requires c κs = search rules
 
 -- the operator that is found
-at : (c : tie.After-relevant-subtree) →
-    let a = (start c).args in
+at : (c : tie.After-relevant_subtree-relevant) →
+    let a = c.args in
     (L : Literals) → Chain L a.s a.b.now a.next.now a.range.first a.range.last
-    → c.relevant_subtree.result.operator ≡ (relevant_subtree L 0 (matrix_in a.s a.b.now)).operator
-at c L k = ap (λ (p : Relevant). p.operator) (c.relevant_subtree.ensures L k)
+    → c.relevant_subtree-relevant.result.operator ≡ (relevant_subtree L 0 (matrix_in a.s a.b.now)).operator
+at c L k = ap (λ (p : Relevant). p.operator) (c.relevant_subtree-relevant.ensures L k)
 
-mark_row_requires : tie.Need-mark-row-requires
-mark_row_requires c κs = search rules
+mark_row-requires : tie.Need-mark_row-requires
+mark_row-requires c κs = search rules
 
-same_length : tie.Need-same-length
-same_length c = search rules
+shape_of-set-then-relevant-range : tie.Need-shape_of-set-then-relevant-range
+shape_of-set-then-relevant-range c = search rules
+
+returns-then-relevant-range : tie.Need-returns-then-relevant-range
+returns-then-relevant-range c =
+    let here = c in
+    let there = here in
+    let a = there in
+    λ L k.
+    marked_as c.mark_row.ensures
+    (λ v h. sym
+    (within-literal L (of v) a.args.b.now a.requires.0.indexed.readable a.args.range k.bounds (at there.before.before.before.before.before.before.before L k) here.if-relevant-range.true))
+
+before : (c : tie.Else-relevant-range) → c.relevant_subtree-relevant.result.operator < c.args.range.first
+before c =
+    let a = c in
+    let k = a.requires.0.chain in
+    found_before a.requires.0.chosen a.args.b.now a.requires.0.indexed.readable a.args.range k.bounds (at c.before.before.before a.requires.0.chosen k)
+    c.if-relevant-range.false
+
+mark_children-requires : tie.Need-mark_children-requires
+mark_children-requires c κs =
+    let a = c in
+    (record { last = a.args.range.last; chained = a.requires.0; before = before c.before }, a.requires.1)
+
+shape_of-set : tie.Need-shape_of-set
+shape_of-set c = search rules
 
 returns : tie.Need-returns
 returns c =
-    let here = literal c.before.before in
-    let there = found here.before in
-    let a = start there in
+    let here = c in
+    let there = here in
+    let a = there in
     λ L k.
-    marked_as c.before.before.mark-row.ensures
+    marked_as (c.mark_children.ensures L a.args.range.last k)
     (λ v h. sym
-    (within-literal L (of v) a.args.b.now a.pre.0.indexed.readable a.args.range k.bounds (at there L k) here.if1.taken))
-
-before : (c : tie.Else1) → (found c.before).relevant_subtree.result.operator < (start (found c.before)).args.range.first
-before c =
-    let a = start (found c.before) in
-    let k = a.pre.0.chain in
-    found_before a.pre.0.chosen a.args.b.now a.pre.0.indexed.readable a.args.range k.bounds (at (found c.before) a.pre.0.chosen k)
-    c.if1.false
-
-mark_children_requires : tie.Need-mark-children-requires
-mark_children_requires c κs =
-    let a = start (found c.before.before) in
-    (record { last = a.args.range.last; chained = a.pre.0; before = before c.before }, a.pre.1)
-
-same_length_2 : tie.Need-same-length-2
-same_length_2 c = search rules
-
-returns_2 : tie.Need-returns-2
-returns_2 c =
-    let here = operator c.before.before in
-    let there = found here.before in
-    let a = start there in
-    λ L k.
-    marked_as (c.before.before.mark-children.ensures L a.args.range.last k)
-    (λ v h. sym
-    (within_operator L (of v) a.args.b.now a.pre.0.indexed.readable a.args.range k.bounds (at there L k) here.if1.left))
+    (within_operator L (of v) a.args.b.now a.requires.0.indexed.readable a.args.range k.bounds (at there.before.before.before.before.before.before.before L k) here.if-relevant-range.false))
 
 pub mark_relevant_spec : {M : Type 1} → statement M
 mark_relevant_spec =
     tie.close
     (tie.spec
-    relevant_subtree_requires
-    mark_row_requires
-    same_length
-    returns
-    mark_children_requires
-    same_length_2
-    returns_2)
+    relevant_subtree-relevant-requires
+    mark_row-requires
+    shape_of-set-then-relevant-range
+    returns-then-relevant-range
+    mark_children-requires
+    shape_of-set
+    returns)

@@ -4,33 +4,31 @@ use Rattle.dependence.proofs.Marks.{row-marked, row_unmarked}
 use Rattle.dependence.proofs.mark.mark_row.Statement.{statement}
 use Rattle.dependence.proofs.mark.mark_row.Tie as tie
 
--- places in the code, each from a later one
-abbrev start : tie.After-literal-at → tie.Start
-start c = c.before.before.before
+literal_at-v-requires : tie.Need-literal_at-v-requires
+literal_at-v-requires c κs = search rules
 
-abbrev read : tie.After-add → tie.After-literal-at
-read c = c.before.before.before
+returns-then-v-ge-NUMBERS : tie.Need-returns-then-v-ge-NUMBERS
+returns-then-v-ge-NUMBERS c =
+    let a = c.args in
+    row_unmarked a.s a.b.now a.i c.literal_at-v.ensures.0 c.if-v-ge-NUMBERS.true
 
-literal_at_requires : tie.Need-literal-at-requires
-literal_at_requires c κs = search rules
+add-requires : tie.Need-add-requires
+add-requires c κs = search rules
+
+shape_of-set : tie.Need-shape_of-set
+shape_of-set c = search rules
 
 returns : tie.Need-returns
 returns c =
-    let a = (start c.before).args in
-    row_unmarked a.s a.b.now a.i c.before.literal-at.ensures.0 c.if1.true
-
-add_requires : tie.Need-add-requires
-add_requires c κs = search rules
-
-same_length : tie.Need-same-length
-same_length c = search rules
-
-returns_2 : tie.Need-returns-2
-returns_2 c =
-    let added = c.before.before in
-    let a = (start (read added)).args in
-    row-marked a.s a.b.now a.i (read added).literal-at.ensures.0 added.add.ensures.0 added.add.ensures.1
+    let added = c in
+    let a = added.args in
+    row-marked a.s a.b.now a.i added.literal_at-v.ensures.0 added.add.ensures.0 added.add.ensures.1
 
 pub mark_row_spec : {M : Type 1} → statement M
 mark_row_spec =
-    tie.close (tie.spec literal_at_requires returns add_requires same_length returns_2)
+    tie.close (tie.spec
+    literal_at-v-requires
+    returns-then-v-ge-NUMBERS
+    add-requires
+    shape_of-set
+    returns)

@@ -11,47 +11,47 @@ use Rattle.elimination.specs.Admission.{admission_tests, Admits}
 use Rattle.elimination.proofs.admission.admit.Statement.{statement}
 use Rattle.elimination.proofs.admission.admit.Tie as tie
 
--- places in the code, each from a later one
-abbrev entry : tie.After-check → tie.Start
-entry c = c.before.before.before
+check-c-requires : tie.Need-check-c-requires
+check-c-requires c κs = search rules
 
-check_requires : tie.Need-check-requires
-check_requires c κs = search rules
+enum_known-c : tie.Need-enum_known-c
+enum_known-c c = search rules
 
-enum_known_c : tie.Need-enum-known-c
-enum_known_c c = search rules
+enum_known-c-in-Accepted-1 : tie.Need-enum_known-c-in-Accepted-1
+enum_known-c-in-Accepted-1 c = search rules
 
-enum_known_c_2 : tie.Need-enum-known-c-2
-enum_known_c_2 c = search rules
+checked : (c : tie.In-Accepted) → Sheet c.args.f c.args.sheet.now c.in-Accepted.s
+checked c = sheet_checked c.in-Accepted.is c.check-c.ensures
 
-abbrev start : tie.After-c2 → tie.Start
-start c = entry c.before.before
+admit_checked-requires : tie.Need-admit_checked-requires
+admit_checked-requires c κs = (sheet_own (checked c.before), c.requires)
 
-checked : (c : tie.After-c2) → Sheet (start c).args.f (start c).args.sheet.now c.c2.given.0.0
-checked c = sheet_checked c.c2.given.1 c.before.before.check.ensures
-
-admit_checked_requires : tie.Need-admit-checked-requires
-admit_checked_requires c κs = (sheet_own (checked c.before.before), (start c.before.before).requires)
-
-returns : tie.Need-returns
+returns-in-Refused : tie.Need-returns-in-Refused
 unfolding admission_tests check
-returns c =
-    let told = c.before in
-    let checked = told.before.before in
-    let a = checked.before.before.before.args in
+returns-in-Refused c =
+    let told = c in
+    let checked = told in
+    let a = checked.args in
     refused_first (check_tests (format_of a.f) a.sheet.now) (tidy_and_bound_tests (format_of a.f) a.sheet.now a.x) _ a.x
-    (sheet_refused a.f a.sheet.now told.c.given.1 checked.check.ensures)
+    (sheet_refused a.f a.sheet.now told.in-Refused.is checked.check-c.ensures)
 
-same_length : tie.Need-same-length
-same_length c = search rules
+shape_of-ends : tie.Need-shape_of-ends
+shape_of-ends c = search rules
 
-returns_2 : tie.Need-returns-2
-returns_2 c =
-    let admitted = c.before.before in
-    let told = admitted.before.before.before in
-    let a = (start told).args in
-    subst (λ f. Admits f a.sheet.now a.x admitted.admit-checked.new.1.1.1.0 admitted.admit-checked.result) (sheet_format (checked told)) admitted.admit-checked.ensures
+returns-in-Accepted : tie.Need-returns-in-Accepted
+returns-in-Accepted c =
+    let admitted = c in
+    let told = admitted in
+    let a = told.args in
+    subst (λ f. Admits f a.sheet.now a.x admitted.admit_checked.new.ends admitted.admit_checked.result) (sheet_format (checked told.before.before.before.before)) admitted.admit_checked.ensures
 
 pub admit_spec : {M : Type 1} → statement M
 admit_spec =
-    tie.close (tie.spec check_requires enum_known_c enum_known_c_2 admit_checked_requires returns same_length returns_2)
+    tie.close (tie.spec
+    check-c-requires
+    enum_known-c
+    enum_known-c-in-Accepted-1
+    admit_checked-requires
+    returns-in-Refused
+    shape_of-ends
+    returns-in-Accepted)

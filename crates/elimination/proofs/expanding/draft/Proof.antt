@@ -5,32 +5,35 @@ use native.Mathlib.Omega.{arith}
 use Rattle.elimination.proofs.expanding.draft.Statement.{statement}
 use Rattle.elimination.proofs.expanding.draft.Tie as tie
 
--- places in the code, each from a later one
-abbrev start : tie.After-struct-known → tie.Start
-start c = c.before.before.before
+overflow_mul-result : tie.Need-overflow_mul-result
+overflow_mul-result c = search rules
 
-mul_t6 : tie.Need-overflow-mul-t6
-mul_t6 c = search rules
+offset_bounds-ranges-c : tie.Need-offset_bounds-ranges-c
+offset_bounds-ranges-c c = search rules
 
-mul_t7 : tie.Need-overflow-mul-t7
-mul_t7 c = search rules
+bounds-ranges-c : tie.Need-bounds-ranges-c
+bounds-ranges-c c = search rules
 
-shared_slice_read_t9 : tie.Need-shared-slice-read-t9
-shared_slice_read_t9 c = search rules
+overflow_cast-result : tie.Need-overflow_cast-result
+overflow_cast-result c = omega (arith, c.shared_slice_known-3-1.given (2 * c.args.c.variable))
 
-cast_t10 : tie.Need-overflow-cast-t10
-cast_t10 c = omega (arith, c.shared-slice-known3.given (2 * (start c.before).args.c.variable))
+overflow_sub-result : tie.Need-overflow_sub-result
+overflow_sub-result c = search rules
 
-sub_t11 : tie.Need-overflow-sub-t11
-sub_t11 c = search rules
-
-joint_at_requires : tie.Need-joint-at-requires
-joint_at_requires c κs = search rules
+joint_at-requires : tie.Need-joint_at-requires
+joint_at-requires c κs = search rules
 
 returns : tie.Need-returns
-returns c = rw c.joint-at.ensures
+returns c = rw c.joint_at.ensures
 
 pub draft_spec : {M : Type 1} → statement M
 draft_spec =
     tie.close
-    (tie.spec mul_t6 mul_t7 shared_slice_read_t9 cast_t10 sub_t11 joint_at_requires returns)
+    (tie.spec
+    overflow_mul-result
+    offset_bounds-ranges-c
+    bounds-ranges-c
+    overflow_cast-result
+    overflow_sub-result
+    joint_at-requires
+    returns)

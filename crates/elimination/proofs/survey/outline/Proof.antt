@@ -7,36 +7,43 @@ use Rattle.elimination.specs.Survey.{Ended, outline_by}
 use Rattle.elimination.proofs.survey.outline.Statement.{statement}
 use Rattle.elimination.proofs.survey.outline.Tie as tie
 
-enum_told : tie.Need-enum-told
-enum_told c = search rules
+enum_told-1 : tie.Need-enum_told-1
+enum_told-1 c = search rules
 
-enum_known_found : tie.Need-enum-known-found
-enum_known_found c = search rules
+enum_known-found : tie.Need-enum_known-found
+enum_known-found c = search rules
 
 -- the part that is present has its entry
-ended : (c : tie.After-found) → Ended c.before.before.args.ends.now (Present c.found.given.0.0)
-ended c = subst (Ended c.before.before.args.ends.now) c.found.given.1 c.before.before.requires
+ended : (c : tie.In-Present) → Ended c.args.ends.now (Present c.in-Present.relevant)
+ended c = subst (Ended c.args.ends.now) c.in-Present.is c.requires
 
-mul_end : tie.Need-overflow-mul-end
-mul_end c = omega (arith, (ended c.before).0)
+offset_bounds-ends-operator : tie.Need-offset_bounds-ends-operator
+offset_bounds-ends-operator c = omega (arith, (ended c).0)
 
-shared_slice_read_end : tie.Need-shared-slice-read-end
-shared_slice_read_end c = omega (arith, (ended c.before.before).1)
+bounds-ends-operator : tie.Need-bounds-ends-operator
+bounds-ends-operator c = omega (arith, (ended c.before).1)
 
-cast_end : tie.Need-overflow-cast-end
-cast_end c = omega (arith, c.shared-slice-known.given c.before.before.found.given.0.0.operator)
+overflow_cast-end : tie.Need-overflow_cast-end
+overflow_cast-end c = omega (arith, c.shared_slice_known-1.given c.in-Present.relevant.operator)
 
-returns : tie.Need-returns
-returns c =
-    let a = c.before.before.args in
-    sym (ap (outline_by a.s a.ends.now a.d) c.enum_told.given.1)
+returns-in-Absent : tie.Need-returns-in-Absent
+returns-in-Absent c =
+    let a = c.args in
+    sym (ap (outline_by a.s a.ends.now a.d) c.in-Absent.is)
 
-returns_2 : tie.Need-returns-2
-returns_2 c =
-    let found = c.before.before in
-    let a = found.before.before.args in
-    sym (ap (outline_by a.s a.ends.now a.d) found.found.given.1)
+returns-in-Present : tie.Need-returns-in-Present
+returns-in-Present c =
+    let found = c in
+    let a = found.args in
+    sym (ap (outline_by a.s a.ends.now a.d) found.in-Present.is)
 
 pub outline_spec : {M : Type 1} → statement M
 outline_spec =
-    tie.close (tie.spec enum_told enum_known_found mul_end shared_slice_read_end cast_end returns returns_2)
+    tie.close (tie.spec
+    enum_told-1
+    enum_known-found
+    offset_bounds-ends-operator
+    bounds-ends-operator
+    overflow_cast-end
+    returns-in-Absent
+    returns-in-Present)

@@ -4,34 +4,32 @@ use Rattle.elimination.proofs.Surveying.{ended, surveyed-whole, sited, surveyed-
 use Rattle.elimination.proofs.survey.survey_draft.Statement.{statement}
 use Rattle.elimination.proofs.survey.survey_draft.Tie as tie
 
--- places in the code, each from a later one
-abbrev entry : tie.After-shared-slice-known3 → tie.Start
-entry c = c.before.before.before
+outline-e-requires : tie.Need-outline-e-requires
+outline-e-requires c κs = ended c.requires.0.1
 
-abbrev start : tie.After-outline → tie.Start
-start c = entry c.before.before
+returns-then-e : tie.Need-returns-then-e
+returns-then-e c = λ L k. surveyed-whole k c.outline-e.ensures c.if-e.true
 
-outline_requires : tie.Need-outline-requires
-outline_requires c κs = ended (entry c.before).requires.0.1
+fill_cuts-k-requires : tie.Need-fill_cuts-k-requires
+fill_cuts-k-requires c κs =
+    let outlined = c in
+    let p = outlined.requires in
+    (sited p.0.1 outlined.outline-e.ensures c.if-e.false, p.1)
+
+shape_of-cuts : tie.Need-shape_of-cuts
+shape_of-cuts c = search rules
 
 returns : tie.Need-returns
-returns c = λ L k. surveyed-whole k c.before.outline.ensures c.if1.true
-
-fill_cuts_requires : tie.Need-fill-cuts-requires
-fill_cuts_requires c κs =
-    let outlined = c.before.before in
-    let p = (start outlined).requires in
-    (sited p.0.1 outlined.outline.ensures c.before.if1.false, p.1)
-
-same_length : tie.Need-same-length
-same_length c = search rules
-
-returns_2 : tie.Need-returns-2
-returns_2 c =
-    let filled = c.before.before in
-    let some = filled.before.before in
-    let outlined = some.before in
-    λ L k. surveyed-cut k outlined.outline.ensures some.if1.false (start outlined).args.cuts.now filled.fill-cuts.ensures
+returns c =
+    let filled = c in
+    let some = filled in
+    let outlined = some in
+    λ L k. surveyed-cut k outlined.outline-e.ensures some.if-e.false outlined.args.cuts.now filled.fill_cuts-k.ensures
 
 pub survey_draft_spec : {M : Type 1} → statement M
-survey_draft_spec = tie.close (tie.spec outline_requires returns fill_cuts_requires same_length returns_2)
+survey_draft_spec = tie.close (tie.spec
+    outline-e-requires
+    returns-then-e
+    fill_cuts-k-requires
+    shape_of-cuts
+    returns)

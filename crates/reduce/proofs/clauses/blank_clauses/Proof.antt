@@ -12,109 +12,99 @@ use native.Mathlib.Omega.{arith}
 use Rattle.reduce.proofs.clauses.blank_clauses.Statement.{statement}
 use Rattle.reduce.proofs.clauses.blank_clauses.Tie as tie
 
-abbrev invariant-loop : tie.invariant-loop
-invariant-loop b s places out₀ end r₀ out r =
+abbrev invariant-loop-r : tie.invariant-loop-r
+invariant-loop-r b s places out₀ end r₀ out r =
     Reducing (prefix_in s b) (rows_in s b) (formula_rows (blanked (formula_in s b))) (rows_in s out) r × (length out ≡ length out₀)
 
-abbrev decreases-loop : tie.decreases-loop
-decreases-loop b s places out₀ end r₀ out r = end - r
+abbrev decreases-loop-r : tie.decreases-loop-r
+decreases-loop-r b s places out₀ end r₀ out r = end - r
 
--- places in the code, each from a later one
-abbrev start : tie.After-slice-known invariant-loop decreases-loop → tie.Start invariant-loop decreases-loop
-start c = c.before.before.before
+overflow_add-end : tie.Need-overflow_add-end invariant-loop-r decreases-loop-r
+overflow_add-end c = omega (arith, c.requires.0.placed.numbered.readable.few_variables, c.requires.0.placed.numbered.readable.few_nodes)
 
-abbrev entered : tie.At-loop invariant-loop decreases-loop → tie.After-slice-known invariant-loop decreases-loop
-entered c = c.before.before.before
-
-abbrev turn : tie.After-blank-literals-arg invariant-loop decreases-loop → tie.In-loop invariant-loop decreases-loop
-turn c = c.before.before.before
-
-add_end : tie.Need-overflow-add-end invariant-loop decreases-loop
-add_end c = omega (arith, (start c.before).pre.0.placed.numbered.readable.few_variables, (start c.before).pre.0.placed.numbered.readable.few_nodes)
-
-first_clause_requires : tie.Need-first-clause-requires invariant-loop decreases-loop
-first_clause_requires c κs =
-    let ok = (start c.before).pre.0.placed.numbered.readable in
+first_clause-r-requires : tie.Need-first_clause-r-requires invariant-loop-r decreases-loop-r
+first_clause-r-requires c κs =
+    let ok = c.requires.0.placed.numbered.readable in
     (ok.room, omega (arith, ok.some_nodes))
 
-loop_holds : tie.Need-loop-init invariant-loop decreases-loop
-loop_holds c =
-    let a = start c.before.before in
-    (clauses_start a.pre.0 c.first_clause.ensures a.pre.2, refl)
+loop-r-init : tie.Need-loop-r-init invariant-loop-r decreases-loop-r
+loop-r-init c =
+    let a = c in
+    (clauses_start a.requires.0 c.first_clause-r.ensures a.requires.2, refl)
 
-add_next : tie.Need-overflow-add-next invariant-loop decreases-loop
-add_next c = omega (arith, c.loop-test.true)
+overflow_add-next : tie.Need-overflow_add-next invariant-loop-r decreases-loop-r
+overflow_add-next c = omega (arith, c.loop-r-test.true)
 
-children_at_requires : tie.Need-children-at-requires invariant-loop decreases-loop
-children_at_requires c κs = ((start (entered c.before)).pre.0.placed.numbered.readable.room, c.loop-test.true)
+children_at-requires : tie.Need-children_at-requires invariant-loop-r decreases-loop-r
+children_at-requires c κs = (c.requires.0.placed.numbered.readable.room, c.loop-r-test.true)
 
-add_next_2 : tie.Need-overflow-add-next-2 invariant-loop decreases-loop
-add_next_2 c = omega (arith, c.before.loop-test.true, c.children-at.ensures.1)
+overflow_add-next-in-loop-r : tie.Need-overflow_add-next-in-loop-r invariant-loop-r decreases-loop-r
+overflow_add-next-in-loop-r c = omega (arith, c.loop-r-test.true, c.children_at.ensures.1)
 
-first_literal_requires : tie.Need-first-literal-requires invariant-loop decreases-loop
-first_literal_requires c κs =
-    let ok = (start (entered c.before.before)).pre.0.placed.numbered.readable in
-    (ok.room, c.before.loop-test.true, omega (arith, ok.few_variables, ok.few_nodes))
+first_literal-requires : tie.Need-first_literal-requires invariant-loop-r decreases-loop-r
+first_literal-requires c κs =
+    let ok = c.requires.0.placed.numbered.readable in
+    (ok.room, c.loop-r-test.true, omega (arith, ok.few_variables, ok.few_nodes))
 
-blank_literals_requires : tie.Need-blank-literals-requires invariant-loop decreases-loop
-blank_literals_requires c κs =
-    let first = c.before in
-    let count = first.before in
-    let head = count.before.before in
-    let a = start (entered head) in
-    let inv = head.loop.invariant in
-    let h = count.before.loop-test.true in
-    let to = ap (λ (n : ℕ). head.loop.r + 1 + n) count.children-at.ensures.0 in
-    let from = first.first-literal.ensures in (
-      a.pre.0.placed,
-      clause-literals a.args.b.now a.pre.0 a.args.out.now head.loop.out a.pre.1 inv.1 inv.0 h from to,
+blank_literals-requires : tie.Need-blank_literals-requires invariant-loop-r decreases-loop-r
+blank_literals-requires c κs =
+    let first = c in
+    let count = first in
+    let head = count in
+    let a = head in
+    let inv = head.loop-r.invariant in
+    let h = count.loop-r-test.true in
+    let to = ap (λ (n : ℕ). head.loop-r.r + 1 + n) count.children_at.ensures.0 in
+    let from = first.first_literal.ensures in (
+      a.requires.0.placed,
+      clause-literals a.args.b.now a.requires.0 a.args.out.now head.loop-r.out a.requires.1 inv.1 inv.0 h from to,
       record {
-        room = new_rows a.args.b.now a.pre.0 a.args.out.now head.loop.out a.pre.1 inv.1 inv.0;
-        same = clause-left a.args.b.now a.pre.0 a.args.out.now head.loop.out a.pre.1 inv.1 inv.0 h from to;
+        room = new_rows a.args.b.now a.requires.0 a.args.out.now head.loop-r.out a.requires.1 inv.1 inv.0;
+        same = clause-left a.args.b.now a.requires.0 a.args.out.now head.loop-r.out a.requires.1 inv.1 inv.0 h from to;
       },
     )
 
-loop_less : tie.Need-loop-smaller invariant-loop decreases-loop
-loop_less c = omega (arith, (turn c.before.before.before).loop-test.taken)
+loop-r-smaller : tie.Need-loop-r-smaller invariant-loop-r decreases-loop-r
+loop-r-smaller c = omega (arith, c.loop-r-test.true)
 
-loop_again : tie.Need-loop-preserved invariant-loop decreases-loop
-loop_again c =
-    let call = c.before.before in
-    let first = call.before.before in
-    let count = first.before in
-    let head = count.before.before in
-    let a = start (entered head) in
-    let inv = head.loop.invariant in
-    let to = ap (λ (n : ℕ). head.loop.r + 1 + n) count.children-at.ensures.0 in (
-      clause-on a.args.b.now a.pre.0 a.args.out.now head.loop.out a.pre.1 inv.1 inv.0
-          count.before.loop-test.true first.first-literal.ensures to _ call.blank-literals.ensures,
-      call.blank-literals.auto.1.1.1.1.1.0 ∙ inv.1,
+loop-r-preserved : tie.Need-loop-r-preserved invariant-loop-r decreases-loop-r
+loop-r-preserved c =
+    let call = c in
+    let first = call in
+    let count = first in
+    let head = count in
+    let a = head in
+    let inv = head.loop-r.invariant in
+    let to = ap (λ (n : ℕ). head.loop-r.r + 1 + n) count.children_at.ensures.0 in (
+      clause-on a.args.b.now a.requires.0 a.args.out.now head.loop-r.out a.requires.1 inv.1 inv.0
+          count.loop-r-test.true first.first_literal.ensures to _ call.blank_literals.ensures,
+      call.blank_literals.auto.out ∙ inv.1,
     )
 
-same_length : tie.Need-same-length invariant-loop decreases-loop
-same_length c = c.before.loop.invariant.1
+shape_of-out : tie.Need-shape_of-out invariant-loop-r decreases-loop-r
+shape_of-out c = c.loop-r.invariant.1
 
-returns : tie.Need-returns invariant-loop decreases-loop
+returns : tie.Need-returns invariant-loop-r decreases-loop-r
 returns c =
-    let a = start (entered c.before) in
-    let inv = c.before.loop.invariant in
-    clauses_done a.args.b.now a.pre.0 a.args.out.now c.before.loop.out a.pre.1 inv.1 inv.0 c.loop-test.false
+    let a = c in
+    let inv = c.loop-r.invariant in
+    clauses_done a.args.b.now a.requires.0 a.args.out.now c.loop-r.out a.requires.1 inv.1 inv.0 c.loop-r-test.false
 
 pub blank_clauses_spec : {M : Type 1} → statement M
 blank_clauses_spec =
     tie.close
     (tie.spec
-    invariant-loop
-    decreases-loop
-    add_end
-    first_clause_requires
-    loop_holds
-    add_next
-    children_at_requires
-    add_next_2
-    first_literal_requires
-    blank_literals_requires
-    loop_less
-    loop_again
-    same_length
+    invariant-loop-r
+    decreases-loop-r
+    overflow_add-end
+    first_clause-r-requires
+    loop-r-init
+    overflow_add-next
+    children_at-requires
+    overflow_add-next-in-loop-r
+    first_literal-requires
+    blank_literals-requires
+    loop-r-smaller
+    loop-r-preserved
+    shape_of-out
     returns)

@@ -9,24 +9,28 @@ use borrow.Author.Tests.{le-leb, lt-leb}
 use Rattle.reduce.proofs.clauses.first_literal.Statement.{statement}
 use Rattle.reduce.proofs.clauses.first_literal.Tie as tie
 
-kind_at_requires : tie.Need-kind-at-requires
-kind_at_requires c κs = search rules
+kind_at-requires : tie.Need-kind_at-requires
+kind_at-requires c κs = search rules
+
+returns-then-kind_at-le-NEGATIVE : tie.Need-returns-then-kind_at-le-NEGATIVE
+returns-then-kind_at-le-NEGATIVE c =
+    let a = c in
+    let kind = c.kind_at.ensures in
+    sym (add-zero a.args.r) ∙
+    ap (λ (m : Bool). a.args.r + cond m 0 1) (sym (ap (λ (k : ℕ). leb k 4) (sym kind) ∙ le-leb _ 4 c.if-kind_at-le-NEGATIVE.true))
+
+overflow_add-result : tie.Need-overflow_add-result
+overflow_add-result c = search rules
 
 returns : tie.Need-returns
 returns c =
-    let a = c.before.before.before in
-    let kind = c.before.kind_at.ensures in
-    sym (add-zero a.args.r) ∙
-    ap (λ (m : Bool). a.args.r + cond m 0 1) (sym (ap (λ (k : ℕ). leb k 4) (sym kind) ∙ le-leb _ 4 c.if1.true))
-
-add_result : tie.Need-overflow-add-result
-add_result c = search rules
-
-returns_2 : tie.Need-returns-2
-returns_2 c =
-    let a = c.before.before.before in
-    let kind = c.before.kind_at.ensures in
-    ap (λ (m : Bool). a.args.r + cond m 0 1) (sym (ap (λ (k : ℕ). leb k 4) (sym kind) ∙ lt-leb _ 4 c.if1.false))
+    let a = c in
+    let kind = c.kind_at.ensures in
+    ap (λ (m : Bool). a.args.r + cond m 0 1) (sym (ap (λ (k : ℕ). leb k 4) (sym kind) ∙ lt-leb _ 4 c.if-kind_at-le-NEGATIVE.false))
 
 pub first_literal_spec : {M : Type 1} → statement M
-first_literal_spec = tie.close (tie.spec kind_at_requires returns add_result returns_2)
+first_literal_spec = tie.close (tie.spec
+    kind_at-requires
+    returns-then-kind_at-le-NEGATIVE
+    overflow_add-result
+    returns)

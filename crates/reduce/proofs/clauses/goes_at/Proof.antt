@@ -4,29 +4,34 @@ use Rattle.reduce.proofs.Table.{existential-stays, universal-goes}
 use Rattle.reduce.proofs.clauses.goes_at.Statement.{statement}
 use Rattle.reduce.proofs.clauses.goes_at.Tie as tie
 
-place_at_requires : tie.Need-place-at-requires
-place_at_requires c κs = search rules
+place_at-i-requires : tie.Need-place_at-i-requires
+place_at-i-requires c κs = search rules
 
-is_existential_requires : tie.Need-is-existential-requires
-is_existential_requires c κs = search rules
+is_existential-requires : tie.Need-is_existential-requires
+is_existential-requires c κs = search rules
+
+returns-then-is_existential : tie.Need-returns-then-is_existential
+returns-then-is_existential c =
+    let i = c in
+    let a = i in
+    existential-stays a.args.b.now a.requires.0 a.requires.1 i.place_at-i.ensures.0 c.is_existential.ensures a.args.last
+    c.if-is_existential.true
+
+overflow_add-result : tie.Need-overflow_add-result
+overflow_add-result c = search rules
 
 returns : tie.Need-returns
 returns c =
-    let i = c.before.before in
-    let a = i.before.before.before in
-    existential-stays a.args.b.now a.requires.0 a.requires.1 i.place_at.ensures.0 c.before.is-existential.ensures a.args.last
-    c.if1.true
-
-add_result : tie.Need-overflow-add-result
-add_result c = search rules
-
-returns_2 : tie.Need-returns-2
-returns_2 c =
-    let i = c.before.before in
-    let a = i.before.before.before in
-    universal-goes a.args.b.now a.requires.0 a.requires.1 i.place_at.ensures.0 c.before.is-existential.ensures a.args.last
-    c.if1.false
+    let i = c in
+    let a = i in
+    universal-goes a.args.b.now a.requires.0 a.requires.1 i.place_at-i.ensures.0 c.is_existential.ensures a.args.last
+    c.if-is_existential.false
 
 pub goes_at_spec : {M : Type 1} → statement M
 goes_at_spec =
-    tie.close (tie.spec place_at_requires is_existential_requires returns add_result returns_2)
+    tie.close (tie.spec
+    place_at-i-requires
+    is_existential-requires
+    returns-then-is_existential
+    overflow_add-result
+    returns)

@@ -5,57 +5,53 @@ use Rattle.reduce.proofs.ClauseTurns.{Lasting, last_none, last_row, last-all}
 use Rattle.reduce.proofs.clauses.last_existential.Statement.{statement}
 use Rattle.reduce.proofs.clauses.last_existential.Tie as tie
 
-abbrev invariant-loop : tie.invariant-loop
-invariant-loop b s places from to last₀ r₀ last r = Lasting s b from to last r
+abbrev invariant-loop-r : tie.invariant-loop-r
+invariant-loop-r b s places from to last₀ r₀ last r = Lasting s b from to last r
 
-abbrev decreases-loop : tie.decreases-loop
-decreases-loop b s places from to last₀ r₀ last r = to - r
+abbrev decreases-loop-r : tie.decreases-loop-r
+decreases-loop-r b s places from to last₀ r₀ last r = to - r
 
--- places in the code, each from a later one
-abbrev start : tie.At-loop invariant-loop decreases-loop → tie.Start invariant-loop decreases-loop
-start c = c.before.before.before
-
-loop_holds : tie.Need-loop-init invariant-loop decreases-loop
-loop_holds c =
-    let a = c.before.before in
+loop-r-init : tie.Need-loop-r-init invariant-loop-r decreases-loop-r
+loop-r-init c =
+    let a = c in
     last_none a.args.b.now a.requires.0.numbered.readable.room a.requires.1
 
-behind_at_requires : tie.Need-behind-at-requires invariant-loop decreases-loop
-behind_at_requires c κs =
-    let a = start c.before in
-    (a.pre.0, a.pre.1.are_bound c.before.loop.r c.before.loop.invariant.start c.loop-test.true)
+behind_at-requires : tie.Need-behind_at-requires invariant-loop-r decreases-loop-r
+behind_at-requires c κs =
+    let a = c in
+    (a.requires.0, a.requires.1.are_bound c.loop-r.r c.loop-r.invariant.start c.loop-r-test.true)
 
-later_requires : tie.Need-later-requires invariant-loop decreases-loop
-later_requires c κs = tt
+later-last-requires : tie.Need-later-last-requires invariant-loop-r decreases-loop-r
+later-last-requires c κs = tt
 
-add_r : tie.Need-overflow-add-r invariant-loop decreases-loop
-add_r c = omega (arith, (start c.before.before.before).pre.1.inside, c.before.before.loop-test.true)
+overflow_add-r : tie.Need-overflow_add-r invariant-loop-r decreases-loop-r
+overflow_add-r c = omega (arith, c.requires.1.inside, c.loop-r-test.true)
 
-loop_less : tie.Need-loop-smaller invariant-loop decreases-loop
-loop_less c = omega arith
+loop-r-smaller : tie.Need-loop-r-smaller invariant-loop-r decreases-loop-r
+loop-r-smaller c = omega arith
 
-loop_again : tie.Need-loop-preserved invariant-loop decreases-loop
-loop_again c =
-    let head = c.before.before.before in
-    let a = head.before.before.before in
-    last_row a.args.b.now a.requires.0.numbered.readable.room a.requires.1 (omega arith) c.before.before.loop-test.true
-    head.loop.invariant c.before.behind_at.ensures c.later.ensures
+loop-r-preserved : tie.Need-loop-r-preserved invariant-loop-r decreases-loop-r
+loop-r-preserved c =
+    let head = c in
+    let a = head in
+    last_row a.args.b.now a.requires.0.numbered.readable.room a.requires.1 (omega arith) c.loop-r-test.true
+    head.loop-r.invariant c.behind_at.ensures c.later-last.ensures
 
-returns : tie.Need-returns invariant-loop decreases-loop
+returns : tie.Need-returns invariant-loop-r decreases-loop-r
 returns c =
-    let a = start c.before in
-    last-all a.args.b.now a.pre.0.numbered.readable.room a.pre.1 c.loop-test.false c.before.loop.invariant
+    let a = c in
+    last-all a.args.b.now a.requires.0.numbered.readable.room a.requires.1 c.loop-r-test.false c.loop-r.invariant
 
 pub last_existential_spec : {M : Type 1} → statement M
 last_existential_spec =
     tie.close
     (tie.spec
-    invariant-loop
-    decreases-loop
-    loop_holds
-    behind_at_requires
-    later_requires
-    add_r
-    loop_less
-    loop_again
+    invariant-loop-r
+    decreases-loop-r
+    loop-r-init
+    behind_at-requires
+    later-last-requires
+    overflow_add-r
+    loop-r-smaller
+    loop-r-preserved
     returns)

@@ -5,71 +5,67 @@ use Rattle.reduce.proofs.Table.{Filling, few_here, filling_none, filling_row, fi
 use Rattle.reduce.proofs.places.fill_places.Statement.{statement}
 use Rattle.reduce.proofs.places.fill_places.Tie as tie
 
-abbrev invariant-loop : tie.invariant-loop
-invariant-loop b s places₀ i₀ places i = Filling s b places i
+abbrev invariant-loop-i : tie.invariant-loop-i
+invariant-loop-i b s places₀ i₀ places i = Filling s b places i
 
-abbrev decreases-loop : tie.decreases-loop
-decreases-loop b s places₀ i₀ places i = i
+abbrev decreases-loop-i : tie.decreases-loop-i
+decreases-loop-i b s places₀ i₀ places i = i
 
--- places in the code, each from a later one
-abbrev start : tie.At-loop invariant-loop decreases-loop → tie.Start invariant-loop decreases-loop
-start c = c.before.before.before
+loop-i-init : tie.Need-loop-i-init invariant-loop-i decreases-loop-i
+loop-i-init c = filling_none _ c.requires.0 c.requires.1
 
-loop_holds : tie.Need-loop-init invariant-loop decreases-loop
-loop_holds c = filling_none _ c.before.before.requires.0 c.before.before.requires.1
+overflow_sub-i : tie.Need-overflow_sub-i invariant-loop-i decreases-loop-i
+overflow_sub-i c = omega arith
 
-sub_i : tie.Need-overflow-sub-i invariant-loop decreases-loop
-sub_i c = omega arith
+overflow_cast-places : tie.Need-overflow_cast-places invariant-loop-i decreases-loop-i
+overflow_cast-places c = omega (arith, c.requires.0.readable.few_variables, c.loop-i.invariant.within)
 
-cast_places : tie.Need-overflow-cast-places invariant-loop decreases-loop
-cast_places c = omega (arith, (start c.before).pre.0.readable.few_variables, c.before.loop.invariant.within)
+bound_at-requires : tie.Need-bound_at-requires invariant-loop-i decreases-loop-i
+bound_at-requires c κs = (c.requires.0.readable, omega (arith, c.loop-i.invariant.within))
 
-bound_at_requires : tie.Need-bound-at-requires invariant-loop decreases-loop
-bound_at_requires c κs = ((start c.before).pre.0.readable, omega (arith, c.before.loop.invariant.within))
+offset_bounds-places-bound_at : tie.Need-offset_bounds-places-bound_at invariant-loop-i decreases-loop-i
+offset_bounds-places-bound_at c = omega arith
 
-mul_places : tie.Need-overflow-mul-places invariant-loop decreases-loop
-mul_places c = omega arith
-
-slice_write_places : tie.Need-slice-write-places invariant-loop decreases-loop
-slice_write_places c =
-    let head = c.before.before in
-    let a = head.before.before.before in
+bounds-places-bound_at : tie.Need-bounds-places-bound_at invariant-loop-i decreases-loop-i
+bounds-places-bound_at c =
+    let head = c in
+    let a = head in
     omega (
       arith,
-      few_here a.args.b.now a.requires.0 _ (omega (arith, head.loop.invariant.within)) c.bound_at.ensures.0,
-      head.loop.invariant.size,
+      few_here a.args.b.now a.requires.0 _ (omega (arith, head.loop-i.invariant.within)) c.bound_at.ensures.0,
+      head.loop-i.invariant.size,
     )
 
-loop_less : tie.Need-loop-smaller invariant-loop decreases-loop
-loop_less c = omega arith
+loop-i-smaller : tie.Need-loop-i-smaller invariant-loop-i decreases-loop-i
+loop-i-smaller c = omega arith
 
-loop_again : tie.Need-loop-preserved invariant-loop decreases-loop
-loop_again c =
-    let head = c.before.before in
-    let a = head.before.before.before in
-    filling_row a.args.b.now a.requires.0 (omega arith) c.bound_at.ensures.0 head.loop.invariant
+loop-i-preserved : tie.Need-loop-i-preserved invariant-loop-i decreases-loop-i
+loop-i-preserved c =
+    let head = c in
+    let a = head in
+    filling_row a.args.b.now a.requires.0 (omega arith) c.bound_at.ensures.0 head.loop-i.invariant
 
-same_length : tie.Need-same-length invariant-loop decreases-loop
-same_length c = c.before.loop.invariant.size ∙ sym (start c.before).pre.1
+shape_of-places : tie.Need-shape_of-places invariant-loop-i decreases-loop-i
+shape_of-places c = c.loop-i.invariant.size ∙ sym c.requires.1
 
-returns : tie.Need-returns invariant-loop decreases-loop
+returns : tie.Need-returns invariant-loop-i decreases-loop-i
 returns c =
-    let a = start c.before in
-    filling_all a.args.b.now a.pre.0 c.loop-test.false c.before.loop.invariant
+    let a = c in
+    filling_all a.args.b.now a.requires.0 c.loop-i-test.false c.loop-i.invariant
 
 pub fill_places_spec : {M : Type 1} → statement M
 fill_places_spec =
     tie.close
     (tie.spec
-    invariant-loop
-    decreases-loop
-    loop_holds
-    sub_i
-    cast_places
-    bound_at_requires
-    mul_places
-    slice_write_places
-    loop_less
-    loop_again
-    same_length
+    invariant-loop-i
+    decreases-loop-i
+    loop-i-init
+    overflow_sub-i
+    overflow_cast-places
+    bound_at-requires
+    offset_bounds-places-bound_at
+    bounds-places-bound_at
+    loop-i-smaller
+    loop-i-preserved
+    shape_of-places
     returns)

@@ -11,40 +11,43 @@ use Rattle.reduce.specs.Inner.ReducePlan.{ReducePlans}
 use Rattle.reduce.proofs.plan.plan_reduce.Statement.{statement}
 use Rattle.reduce.proofs.plan.plan_reduce.Tie as tie
 
-check_requires : tie.Need-check-requires
-check_requires c κs = search rules
+check-c-requires : tie.Need-check-c-requires
+check-c-requires c κs = search rules
 
-enum_known_c : tie.Need-enum-known-c
-enum_known_c c = search rules
+enum_known-c : tie.Need-enum_known-c
+enum_known-c c = search rules
 
-enum_known_c_2 : tie.Need-enum-known-c-2
-enum_known_c_2 c = search rules
+enum_known-c-in-Accepted-1 : tie.Need-enum_known-c-in-Accepted-1
+enum_known-c-in-Accepted-1 c = search rules
 
-abbrev start : tie.After-check → tie.Start
-start c = c.before.before
+accepted : (c : tie.In-Accepted) → Sheet c.args.f c.args.sheet.now c.in-Accepted.s
+accepted c = sheet_checked c.in-Accepted.is c.check-c.ensures
 
-accepted : (c : tie.After-c2) → Sheet (start c.before.before).args.f (start c.before.before).args.sheet.now c.c2.given.0.0
-accepted c = sheet_checked c.c2.given.1 c.before.before.check.ensures
+plan_checked-requires : tie.Need-plan_checked-requires
+plan_checked-requires c κs = sheet_own (accepted c)
 
-plan_checked_requires : tie.Need-plan-checked-requires
-plan_checked_requires c κs = sheet_own (accepted c.before)
-
-returns : tie.Need-returns
+returns-in-Refused : tie.Need-returns-in-Refused
 unfolding reduce_tests check
-returns c =
-    let told = c.before in
-    let checked = told.before.before in
-    let a = (start checked).args in
+returns-in-Refused c =
+    let told = c in
+    let checked = told in
+    let a = checked.args in
     refused_first (check_tests (format_of a.f) a.sheet.now) _ _ a.room
-    (sheet_refused a.f a.sheet.now told.c.given.1 checked.check.ensures)
+    (sheet_refused a.f a.sheet.now told.in-Refused.is checked.check-c.ensures)
 
-returns_2 : tie.Need-returns-2
-returns_2 c =
-    let told = c.before.before in
-    let a = (start told.before.before).args in
-    subst (λ g. ReducePlans g a.sheet.now a.room c.plan-checked.result) (sheet_format (accepted told)) c.plan-checked.ensures
+returns-in-Accepted : tie.Need-returns-in-Accepted
+returns-in-Accepted c =
+    let told = c in
+    let a = told.args in
+    subst (λ g. ReducePlans g a.sheet.now a.room c.plan_checked.result) (sheet_format (accepted told.before)) c.plan_checked.ensures
 
 pub plan_reduce_spec : {M : Type 1} → statement M
 plan_reduce_spec =
     tie.close
-    (tie.spec check_requires enum_known_c enum_known_c_2 plan_checked_requires returns returns_2)
+    (tie.spec
+    check-c-requires
+    enum_known-c
+    enum_known-c-in-Accepted-1
+    plan_checked-requires
+    returns-in-Refused
+    returns-in-Accepted)

@@ -5,64 +5,60 @@ use Rattle.reduce.proofs.InnerAnd.{Looking, look_start, look-found, look-on, loo
 use Rattle.reduce.proofs.profile.has_inner_and.Statement.{statement}
 use Rattle.reduce.proofs.profile.has_inner_and.Tie as tie
 
-abbrev invariant-loop : tie.invariant-loop
-invariant-loop b s end r₀ r = Looking s b r
+abbrev invariant-loop-r : tie.invariant-loop-r
+invariant-loop-r b s end r₀ r = Looking s b r
 
-abbrev decreases-loop : tie.decreases-loop
-decreases-loop b s end r₀ r = end - r
+abbrev decreases-loop-r : tie.decreases-loop-r
+decreases-loop-r b s end r₀ r = end - r
 
--- places in the code, each from a later one
-abbrev start : tie.After-struct-known2 invariant-loop decreases-loop → tie.Start invariant-loop decreases-loop
-start c = c.before.before.before
+overflow_add-end : tie.Need-overflow_add-end invariant-loop-r decreases-loop-r
+overflow_add-end c = omega (arith, c.requires.few_variables, c.requires.few_nodes)
 
-add_end : tie.Need-overflow-add-end invariant-loop decreases-loop
-add_end c = omega (arith, c.before.before.requires.few_variables, c.before.before.requires.few_nodes)
+overflow_add-r : tie.Need-overflow_add-r invariant-loop-r decreases-loop-r
+overflow_add-r c = omega (arith, c.requires.few_variables)
 
-add_r : tie.Need-overflow-add-r invariant-loop decreases-loop
-add_r c = omega (arith, c.before.before.before.requires.few_variables)
+loop-r-init : tie.Need-loop-r-init invariant-loop-r decreases-loop-r
+loop-r-init c = look_start c.args.b.now c.requires
 
-loop_holds : tie.Need-loop-init invariant-loop decreases-loop
-loop_holds c = look_start c.before.before.before.args.b.now c.before.before.before.requires
+kind_at-requires : tie.Need-kind_at-requires invariant-loop-r decreases-loop-r
+kind_at-requires c κs = (c.requires.room, c.loop-r-test.true)
 
-kind_at_requires : tie.Need-kind-at-requires invariant-loop decreases-loop
-kind_at_requires c κs = ((start c.before.before).pre.room, c.loop-test.true)
+returns-then-kind_at-eq-AND : tie.Need-returns-then-kind_at-eq-AND invariant-loop-r decreases-loop-r
+returns-then-kind_at-eq-AND c =
+    let head = c in
+    let a = head in
+    look-found a.args.b.now a.requires c.loop-r-test.true head.loop-r.invariant c.kind_at.ensures c.if-kind_at-eq-AND.true
 
-returns : tie.Need-returns invariant-loop decreases-loop
+overflow_add-r-in-loop-r : tie.Need-overflow_add-r-in-loop-r invariant-loop-r decreases-loop-r
+overflow_add-r-in-loop-r c = omega (arith, c.loop-r-test.true)
+
+loop-r-smaller : tie.Need-loop-r-smaller invariant-loop-r decreases-loop-r
+loop-r-smaller c = omega arith
+
+loop-r-preserved : tie.Need-loop-r-preserved invariant-loop-r decreases-loop-r
+loop-r-preserved c =
+    let head = c in
+    let a = head in
+    look-on a.args.b.now a.requires c.loop-r-test.true head.loop-r.invariant c.kind_at.ensures (omega arith)
+    c.if-kind_at-eq-AND.false
+
+returns : tie.Need-returns invariant-loop-r decreases-loop-r
 returns c =
-    let head = c.before.before.before in
-    let a = start head.before in
-    look-found a.args.b.now a.pre c.before.before.loop-test.true head.loop.invariant c.before.kind_at.ensures c.if1.true
-
-add_r_2 : tie.Need-overflow-add-r-2 invariant-loop decreases-loop
-add_r_2 c = omega (arith, c.before.before.loop-test.true)
-
-loop_less : tie.Need-loop-smaller invariant-loop decreases-loop
-loop_less c = omega arith
-
-loop_again : tie.Need-loop-preserved invariant-loop decreases-loop
-loop_again c =
-    let head = c.before.before.before in
-    let a = start head.before in
-    look-on a.args.b.now a.pre c.before.before.loop-test.true head.loop.invariant c.before.kind_at.ensures (omega arith)
-    c.if1.false
-
-returns_2 : tie.Need-returns-2 invariant-loop decreases-loop
-returns_2 c =
-    let a = start c.before.before in
-    look_none a.args.b.now a.pre c.loop-test.false c.before.loop.invariant
+    let a = c in
+    look_none a.args.b.now a.requires c.loop-r-test.false c.loop-r.invariant
 
 pub has_inner_and_spec : {M : Type 1} → statement M
 has_inner_and_spec =
     tie.close
     (tie.spec
-    invariant-loop
-    decreases-loop
-    add_end
-    add_r
-    loop_holds
-    kind_at_requires
-    returns
-    add_r_2
-    loop_less
-    loop_again
-    returns_2)
+    invariant-loop-r
+    decreases-loop-r
+    overflow_add-end
+    overflow_add-r
+    loop-r-init
+    kind_at-requires
+    returns-then-kind_at-eq-AND
+    overflow_add-r-in-loop-r
+    loop-r-smaller
+    loop-r-preserved
+    returns)

@@ -15,86 +15,71 @@ use borrow.Author.Rules.{rules}
 use Rattle.renaming.proofs.numbers.fill_tables.Statement.{statement}
 use Rattle.renaming.proofs.numbers.fill_tables.Tie as tie
 
-abbrev entered : tie.After-fill-used → tie.After-slice-known
-entered c = c.before.before
+slice_bounds-fill_used-end : tie.Need-slice_bounds-fill_used-end
+slice_bounds-fill_used-end c = search rules
 
-abbrev start : tie.After-fill-used → tie.Start
-start c = (entered c).before.before.before
+fill_used-requires : tie.Need-fill_used-requires
+fill_used-requires c κs = search rules
 
-abbrev after_fill_used : tie.After-fill-both → tie.After-fill-used
-after_fill_used c = c.before.before.before
+fill_both-requires : tie.Need-fill_both-requires
+fill_both-requires c κs = search rules
 
-abbrev after_fill_both : tie.After-used3 → tie.After-fill-both
-after_fill_both c = c.before.before.before
+slice_bounds-rename_all-end : tie.Need-slice_bounds-rename_all-end
+slice_bounds-rename_all-end c = search rules
 
-abbrev after_used3 : tie.After-tables2 → tie.After-used3
-after_used3 c = c.before.before.before
+slice_bounds-rename_all-count : tie.Need-slice_bounds-rename_all-count
+slice_bounds-rename_all-count c = search rules
 
-slice_aggregate_fill_used : tie.Need-slice-aggregate-fill-used
-slice_aggregate_fill_used c = search rules
+slice_bounds-rename_all-start : tie.Need-slice_bounds-rename_all-start
+slice_bounds-rename_all-start c = search rules
 
-fill_used_requires : tie.Need-fill-used-requires
-fill_used_requires c κs = search rules
+slice_bounds-rename_all-end-2 : tie.Need-slice_bounds-rename_all-end-2
+slice_bounds-rename_all-end-2 c = search rules
 
-fill_both_requires : tie.Need-fill-both-requires
-fill_both_requires c κs = search rules
-
-slice_aggregate_rename_all : tie.Need-slice-aggregate-rename-all
-slice_aggregate_rename_all c = search rules
-
-sub_rename_all : tie.Need-overflow-sub-rename-all
-sub_rename_all c = search rules
-
-part_rename_all_start : tie.Need-slice-bounds-rename-all-start
-part_rename_all_start c = search rules
-
-part_rename_all_end : tie.Need-slice-bounds-rename-all-end
-part_rename_all_end c = search rules
-
-rename_all_requires : tie.Need-rename-all-requires
-rename_all_requires c κs =
-    let at-fill-both = after_fill_both c.before in
-    let at-fill-used = after_fill_used at-fill-both in
-    let a = start at-fill-used in
+rename_all-requires : tie.Need-rename_all-requires
+rename_all-requires c κs =
+    let at-fill-both = c in
+    let at-fill-used = at-fill-both in
+    let a = at-fill-used in
     let x = a.args.x in (
       (
-        a.pre.0.0,
-        a.pre.0.1,
-        a.pre.0.2,
-        at-fill-used.fill-used.ensures.words,
-        a.pre.0.3,
-        ap length (second_lent (putting x false) (putting x true) at-fill-both.fill-both.ensures (length-putting x false)) ∙ length-putting x true,
+        a.requires.0.0,
+        a.requires.0.1,
+        a.requires.0.2,
+        at-fill-used.fill_used.ensures.words,
+        a.requires.0.3,
+        ap length (second_lent (putting x false) (putting x true) at-fill-both.fill_both.ensures (length-putting x false)) ∙ length-putting x true,
       ),
-      omega (arith, a.pre.1, ap length (free-unused at-fill-used.fill-used.ensures a.args.highest 1)),
+      omega (arith, a.requires.1, ap length (free-unused at-fill-used.fill_used.ensures a.args.highest 1)),
     )
 
-same_length : tie.Need-same-length
-same_length c = search rules
+shape_of-tables : tie.Need-shape_of-tables
+shape_of-tables c = search rules
 
 returns : tie.Need-returns
 returns c =
-    let at-used3 = after_used3 c.before in
-    let at-fill-both = after_fill_both at-used3 in
-    let at-fill-used = after_fill_used at-fill-both in
-    let a = start at-fill-used in
+    let at-used3 = c in
+    let at-fill-both = at-used3 in
+    let at-fill-used = at-fill-both in
+    let a = at-fill-used in
     let x = a.args.x in
-    second_back (putting x false) (putting x true) at-fill-both.fill-both.ensures (length-putting x false) _ ∙
+    second_back (putting x false) (putting x true) at-fill-both.fill_both.ensures (length-putting x false) _ ∙
     ap (λ l. putting x false ++ l)
-    (c.before.before.rename-all.ensures ∙
-    ap₂ (renumbered (those (holds a.args.set.now) (prefix_in a.args.s a.args.b.now))) (free-unused at-fill-used.fill-used.ensures a.args.highest 1)
-    (second_lent (putting x false) (putting x true) at-fill-both.fill-both.ensures (length-putting x false)))
+    (c.rename_all.ensures ∙
+    ap₂ (renumbered (those (holds a.args.set.now) (prefix_in a.args.s a.args.b.now))) (free-unused at-fill-used.fill_used.ensures a.args.highest 1)
+    (second_lent (putting x false) (putting x true) at-fill-both.fill_both.ensures (length-putting x false)))
 
 pub fill_tables_spec : {M : Type 1} → statement M
 fill_tables_spec =
     tie.close
     (tie.spec
-    slice_aggregate_fill_used
-    fill_used_requires
-    fill_both_requires
-    slice_aggregate_rename_all
-    sub_rename_all
-    part_rename_all_start
-    part_rename_all_end
-    rename_all_requires
-    same_length
+    slice_bounds-fill_used-end
+    fill_used-requires
+    fill_both-requires
+    slice_bounds-rename_all-end
+    slice_bounds-rename_all-count
+    slice_bounds-rename_all-start
+    slice_bounds-rename_all-end-2
+    rename_all-requires
+    shape_of-tables
     returns)

@@ -8,71 +8,65 @@ use Rattle.renaming.proofs.Renumbering.{Using, using_none, using_next, using_all
 use Rattle.renaming.proofs.numbers.fill_used.Statement.{statement}
 use Rattle.renaming.proofs.numbers.fill_used.Tie as tie
 
-abbrev invariant-loop : tie.invariant-loop
-invariant-loop b s used₀ v j₀ used j = Using (prefix_in s b) used j × (j ≤ s.variables) × (length used ≡ length used₀)
+abbrev invariant-loop-j : tie.invariant-loop-j
+invariant-loop-j b s used₀ v j₀ used j = Using (prefix_in s b) used j × (j ≤ s.variables) × (length used ≡ length used₀)
 
-abbrev decreases-loop : tie.decreases-loop
-decreases-loop b s used₀ v j₀ used j = s.variables - j
+abbrev decreases-loop-j : tie.decreases-loop-j
+decreases-loop-j b s used₀ v j₀ used j = s.variables - j
 
-abbrev start : tie.At-loop invariant-loop decreases-loop → tie.Start invariant-loop decreases-loop
-start c = c.before.before.before
-
-abbrev at_loop : tie.After-bound-at invariant-loop decreases-loop → tie.At-loop invariant-loop decreases-loop
-at_loop c = c.before.before.before
-
-loop_holds : tie.Need-loop-init invariant-loop decreases-loop
-loop_holds c =
-    let a = c.before.before in
+loop-j-init : tie.Need-loop-j-init invariant-loop-j decreases-loop-j
+loop-j-init c =
+    let a = c in
     (using_none a.args.b.now a.requires.0 a.requires.2, omega arith, refl)
 
-bound_at_requires : tie.Need-bound-at-requires invariant-loop decreases-loop
-bound_at_requires c κs =
-    ((start c.before.before).pre.0, omega arith)
+bound_at-requires : tie.Need-bound_at-requires invariant-loop-j decreases-loop-j
+bound_at-requires c κs =
+    (c.requires.0, omega arith)
 
-add_requires : tie.Need-add-requires invariant-loop decreases-loop
-add_requires c κs =
-    let turn = at_loop c in
-    let a = start turn in
-    omega (arith, turn.loop.inv.0.words, c.bound_at.ensures.0, a.pre.1.few_numbers turn.loop.j (omega arith))
+add-requires : tie.Need-add-requires invariant-loop-j decreases-loop-j
+add-requires c κs =
+    let turn = c in
+    let a = turn in
+    omega (arith, turn.loop-j.invariant.0.words, c.bound_at.ensures.0, a.requires.1.few_numbers turn.loop-j.j (omega arith))
 
-add_j : tie.Need-overflow-add-j invariant-loop decreases-loop
-add_j c =
-    omega (arith, (at_loop c.before.before.before).loop.inv.1)
+overflow_add-j : tie.Need-overflow_add-j invariant-loop-j decreases-loop-j
+overflow_add-j c =
+    omega (arith, c.loop-j.invariant.1)
 
-loop_less : tie.Need-loop-smaller invariant-loop decreases-loop
-loop_less c = omega arith
+loop-j-smaller : tie.Need-loop-j-smaller invariant-loop-j decreases-loop-j
+loop-j-smaller c = omega arith
 
-loop_again : tie.Need-loop-preserved invariant-loop decreases-loop
-loop_again c =
-    let turn = at_loop c.before.before.before in
-    let a = start turn in
-    let l = turn.loop in (
-      using_next a.args.b.now a.pre.0 (omega arith) (omega arith) c.before.before.before.bound_at.ensures.0 l.inv.0
-          c.before.before.add.ensures.0 c.before.before.add.ensures.1,
+loop-j-preserved : tie.Need-loop-j-preserved invariant-loop-j decreases-loop-j
+loop-j-preserved c =
+    let turn = c in
+    let a = turn in
+    let l = turn.loop-j in (
+      using_next a.args.b.now a.requires.0 (omega arith) (omega arith) c.bound_at.ensures.0 l.invariant.0
+          c.add.ensures.0 c.add.ensures.1,
       omega arith,
-      c.before.before.add.ensures.0 ∙ l.inv.2,
+      c.add.ensures.0 ∙ l.invariant.2,
     )
 
-same_length : tie.Need-same-length invariant-loop decreases-loop
-same_length c =
-    c.before.loop.invariant.2
+shape_of-used : tie.Need-shape_of-used invariant-loop-j decreases-loop-j
+shape_of-used c =
+    c.loop-j.invariant.2
 
-returns : tie.Need-returns invariant-loop decreases-loop
+returns : tie.Need-returns invariant-loop-j decreases-loop-j
 returns c =
-    let a = start c.before in
-    using_all a.args.b.now a.pre.0 (omega (arith, c.before.loop.invariant.1)) c.before.loop.invariant.0
+    let a = c in
+    using_all a.args.b.now a.requires.0 (omega (arith, c.loop-j.invariant.1)) c.loop-j.invariant.0
 
 pub fill_used_spec : {M : Type 1} → statement M
 fill_used_spec =
     tie.close
     (tie.spec
-    invariant-loop
-    decreases-loop
-    loop_holds
-    bound_at_requires
-    add_requires
-    add_j
-    loop_less
-    loop_again
-    same_length
+    invariant-loop-j
+    decreases-loop-j
+    loop-j-init
+    bound_at-requires
+    add-requires
+    overflow_add-j
+    loop-j-smaller
+    loop-j-preserved
+    shape_of-used
     returns)

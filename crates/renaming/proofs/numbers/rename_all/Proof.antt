@@ -7,83 +7,71 @@ use Rattle.renaming.proofs.Renumbering.{Renaming, renaming-none, some_left, rena
 use Rattle.renaming.proofs.numbers.rename_all.Statement.{statement}
 use Rattle.renaming.proofs.numbers.rename_all.Tie as tie
 
-abbrev invariant-loop : tie.invariant-loop
-invariant-loop b s set used highest table₀ count from₀ j₀ table from j = Renaming (prefix_in s b) set used highest table₀ table from j × (j ≤ s.variables)
+abbrev invariant-loop-j : tie.invariant-loop-j
+invariant-loop-j b s set used highest table₀ count from₀ j₀ table from j = Renaming (prefix_in s b) set used highest table₀ table from j × (j ≤ s.variables)
 
-abbrev decreases-loop : tie.decreases-loop
-decreases-loop b s set used highest table₀ count from₀ j₀ table from j = s.variables - j
+abbrev decreases-loop-j : tie.decreases-loop-j
+decreases-loop-j b s set used highest table₀ count from₀ j₀ table from j = s.variables - j
 
-abbrev start : tie.After-shared-slice-known3 invariant-loop decreases-loop → tie.Start invariant-loop decreases-loop
-start c = c.before.before.before
+loop-j-init : tie.Need-loop-j-init invariant-loop-j decreases-loop-j
+loop-j-init c =
+    let a = c in
+    (renaming-none a.args.b.now a.requires.0.0 a.args.set.now a.args.used.now a.args.highest a.args.table.now a.requires.1, omega arith)
 
-abbrev entered : tie.At-loop invariant-loop decreases-loop → tie.After-shared-slice-known3 invariant-loop decreases-loop
-entered c = c.before.before
+bound_at-v-requires : tie.Need-bound_at-v-requires invariant-loop-j decreases-loop-j
+bound_at-v-requires c κs =
+    (c.requires.0.0, omega arith)
 
-abbrev at_loop : tie.After-bound-at invariant-loop decreases-loop → tie.At-loop invariant-loop decreases-loop
-at_loop c = c.before.before
-
-abbrev after_bound_at : tie.After-table invariant-loop decreases-loop → tie.After-bound-at invariant-loop decreases-loop
-after_bound_at c = c.before.before.before
-
-loop_holds : tie.Need-loop-init invariant-loop decreases-loop
-loop_holds c =
-    let a = start c.before in
-    (renaming-none a.args.b.now a.pre.0.0 a.args.set.now a.args.used.now a.args.highest a.args.table.now a.pre.1, omega arith)
-
-bound_at_requires : tie.Need-bound-at-requires invariant-loop decreases-loop
-bound_at_requires c κs =
-    ((start (entered c.before)).pre.0.0, omega arith)
-
-rename_requires : tie.Need-rename-requires invariant-loop decreases-loop
-rename_requires c κs =
-    let turn = at_loop c.before in
-    let a = start (entered turn) in
-    let l = turn.loop in (
-      (a.pre.0.2, a.pre.0.3, a.pre.0.4, l.inv.0.within),
+rename-from-requires : tie.Need-rename-from-requires invariant-loop-j decreases-loop-j
+rename-from-requires c κs =
+    let turn = c in
+    let a = turn in
+    let l = turn.loop-j in (
+      (a.requires.0.2, a.requires.0.3, a.requires.0.4, l.invariant.0.within),
       (
-        (omega (arith, c.before.bound_at.ensures.0, a.pre.0.1.few_numbers l.j (omega arith)), l.inv.0.same_length ∙ a.pre.0.5),
-        some_left a.args.b.now a.pre.0.0 a.args.set.now a.args.used.now a.args.highest (omega arith) l.inv.0 c.before.bound_at.ensures.0,
+        (omega (arith, c.bound_at-v.ensures.0, a.requires.0.1.few_numbers l.j (omega arith)), l.invariant.0.same_length ∙ a.requires.0.5),
+        some_left a.args.b.now a.requires.0.0 a.args.set.now a.args.used.now a.args.highest (omega arith) l.invariant.0 c.bound_at-v.ensures.0,
       ),
     )
 
-add_j : tie.Need-overflow-add-j invariant-loop decreases-loop
-add_j c =
-    omega (arith, (at_loop (after_bound_at c.before)).loop.inv.1)
+overflow_add-j : tie.Need-overflow_add-j invariant-loop-j decreases-loop-j
+overflow_add-j c =
+    omega (arith, c.loop-j.invariant.1)
 
-loop_less : tie.Need-loop-smaller invariant-loop decreases-loop
-loop_less c = omega arith
+loop-j-smaller : tie.Need-loop-j-smaller invariant-loop-j decreases-loop-j
+loop-j-smaller c = omega arith
 
-loop_again : tie.Need-loop-preserved invariant-loop decreases-loop
-loop_again c =
-    let at-bound-at = after_bound_at c.before in
-    let turn = at_loop at-bound-at in
-    let a = start (entered turn) in
-    let l = turn.loop in (
-      renaming-next a.args.b.now a.pre.0.0 a.args.set.now a.args.used.now a.args.highest (omega arith) l.inv.0
-          at-bound-at.bound_at.ensures.0 (omega arith) c.before.before.rename.ensures,
+loop-j-preserved : tie.Need-loop-j-preserved invariant-loop-j decreases-loop-j
+loop-j-preserved c =
+    let at-bound-at = c in
+    let turn = at-bound-at in
+    let a = turn in
+    let l = turn.loop-j in (
+      renaming-next a.args.b.now a.requires.0.0 a.args.set.now a.args.used.now a.args.highest (omega arith) l.invariant.0
+          at-bound-at.bound_at-v.ensures.0 (omega arith) c.rename-from.ensures,
       omega arith,
     )
 
-same_length : tie.Need-same-length invariant-loop decreases-loop
-same_length c =
-    c.before.loop.invariant.0.same_length
+shape_of-table : tie.Need-shape_of-table invariant-loop-j decreases-loop-j
+shape_of-table c =
+    c.loop-j.invariant.0.same_length
 
-returns : tie.Need-returns invariant-loop decreases-loop
+returns : tie.Need-returns invariant-loop-j decreases-loop-j
 returns c =
-    let a = start (entered c.before) in
-    renaming-all a.args.b.now a.pre.0.0 a.args.set.now a.args.used.now a.args.highest (omega (arith, c.before.loop.invariant.1)) c.before.loop.invariant.0
+    let a = c in
+    renaming-all a.args.b.now a.requires.0.0 a.args.set.now a.args.used.now a.args.highest (omega (arith, c.loop-j.invariant.1)) c.loop-j.invariant.0
 
 pub rename_all_spec : {M : Type 1} → statement M
 rename_all_spec =
     tie.close
     (tie.spec
-    invariant-loop
-    decreases-loop
-    loop_holds
-    bound_at_requires
-    rename_requires
-    add_j
-    loop_less
-    loop_again
-    same_length
+    invariant-loop-j
+    decreases-loop-j
+    loop-j-init
+    bound_at-v-requires
+    rename-from-requires
+    overflow_add-j
+    loop-j-smaller
+    loop-j-preserved
+    shape_of-table
     returns)

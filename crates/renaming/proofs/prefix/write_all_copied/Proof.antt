@@ -7,82 +7,67 @@ use Rattle.renaming.proofs.Copied.{Copying, copying-none, copying-room, copying-
 use Rattle.renaming.proofs.prefix.write_all_copied.Statement.{statement}
 use Rattle.renaming.proofs.prefix.write_all_copied.Tie as tie
 
-abbrev invariant-loop : tie.invariant-loop
-invariant-loop b s table out₀ t v at₀ j₀ out at j = Copying table (prefix_in s b) t out₀ at₀ out at j × (j ≤ s.variables)
+abbrev invariant-loop-j : tie.invariant-loop-j
+invariant-loop-j b s table out₀ t v at₀ j₀ out at j = Copying table (prefix_in s b) t out₀ at₀ out at j × (j ≤ s.variables)
 
-abbrev decreases-loop : tie.decreases-loop
-decreases-loop b s table out₀ t v at₀ j₀ out at j = s.variables - j
+abbrev decreases-loop-j : tie.decreases-loop-j
+decreases-loop-j b s table out₀ t v at₀ j₀ out at j = s.variables - j
 
-abbrev entered : tie.After-t invariant-loop decreases-loop → tie.After-slice-known invariant-loop decreases-loop
-entered c = c.before
+loop-j-init : tie.Need-loop-j-init invariant-loop-j decreases-loop-j
+loop-j-init c =
+    let a = c in
+    (copying-none a.args.b.now a.requires.0 a.args.table.now a.args.to.layout a.args.out.now a.args.to.at, omega arith)
 
-abbrev start : tie.After-t invariant-loop decreases-loop → tie.Start invariant-loop decreases-loop
-start c = (entered c).before.before.before
+bound_at-x-requires : tie.Need-bound_at-x-requires invariant-loop-j decreases-loop-j
+bound_at-x-requires c κs =
+    (c.requires.0, omega arith)
 
-abbrev after_t : tie.After-bound-at invariant-loop decreases-loop → tie.After-t invariant-loop decreases-loop
-after_t c = c.before.before.before
-
-abbrev at_loop : tie.After-bound-at invariant-loop decreases-loop → tie.At-loop invariant-loop decreases-loop
-at_loop c = c.before.before
-
-abbrev after_bound_at : tie.After-out invariant-loop decreases-loop → tie.After-bound-at invariant-loop decreases-loop
-after_bound_at c = c.before.before.before
-
-loop_holds : tie.Need-loop-init invariant-loop decreases-loop
-loop_holds c =
-    let a = start c in
-    (copying-none a.args.b.now a.pre.0 a.args.table.now a.args.to.layout a.args.out.now a.args.to.at, omega arith)
-
-bound_at_requires : tie.Need-bound-at-requires invariant-loop decreases-loop
-bound_at_requires c κs =
-    ((start c.before.before).pre.0, omega arith)
-
-write_copied_requires : tie.Need-write-copied-requires invariant-loop decreases-loop
-write_copied_requires c κs =
-    let a = start (after_t c.before) in
-    let l = (at_loop c.before).loop in (
-      room_on a.pre.1 l.inv.0.same_length,
-      copying-room a.args.b.now a.pre.0 a.args.table.now a.args.to.layout a.args.out.now a.args.to.at (omega arith)
-          l.inv.0 c.before.bound_at.ensures.0 a.pre.2,
+write_copied-at-requires : tie.Need-write_copied-at-requires invariant-loop-j decreases-loop-j
+write_copied-at-requires c κs =
+    let a = c in
+    let l = c.loop-j in (
+      room_on a.requires.1 l.invariant.0.same_length,
+      copying-room a.args.b.now a.requires.0 a.args.table.now a.args.to.layout a.args.out.now a.args.to.at (omega arith)
+          l.invariant.0 c.bound_at-x.ensures.0 a.requires.2,
     )
 
-add_j : tie.Need-overflow-add-j invariant-loop decreases-loop
-add_j c =
-    omega (arith, (at_loop (after_bound_at c.before)).loop.inv.1)
+overflow_add-j : tie.Need-overflow_add-j invariant-loop-j decreases-loop-j
+overflow_add-j c =
+    omega (arith, c.loop-j.invariant.1)
 
-loop_less : tie.Need-loop-smaller invariant-loop decreases-loop
-loop_less c = omega arith
+loop-j-smaller : tie.Need-loop-j-smaller invariant-loop-j decreases-loop-j
+loop-j-smaller c = omega arith
 
-loop_again : tie.Need-loop-preserved invariant-loop decreases-loop
-loop_again c =
-    let at-bound-at = after_bound_at c.before in
-    let a = start (after_t at-bound-at) in
-    let l = (at_loop at-bound-at).loop in (
-      copying-next a.args.b.now a.pre.0 a.args.table.now a.args.to.layout a.args.out.now a.args.to.at (omega arith) l.inv.0
-          at-bound-at.bound_at.ensures.0 (omega arith) c.before.before.write-copied.ensures c.before.before.write-copied.auto.0,
+loop-j-preserved : tie.Need-loop-j-preserved invariant-loop-j decreases-loop-j
+loop-j-preserved c =
+    let at-bound-at = c in
+    let a = at-bound-at in
+    let l = at-bound-at.loop-j in (
+      copying-next a.args.b.now a.requires.0 a.args.table.now a.args.to.layout a.args.out.now a.args.to.at (omega arith) l.invariant.0
+          at-bound-at.bound_at-x.ensures.0 (omega arith) c.write_copied-at.ensures c.write_copied-at.auto.out,
       omega arith,
     )
 
-same_length : tie.Need-same-length invariant-loop decreases-loop
-same_length c =
-    c.before.loop.invariant.0.same_length
+shape_of-out : tie.Need-shape_of-out invariant-loop-j decreases-loop-j
+shape_of-out c =
+    c.loop-j.invariant.0.same_length
 
-returns : tie.Need-returns invariant-loop decreases-loop
+returns : tie.Need-returns invariant-loop-j decreases-loop-j
 returns c =
-    let a = start c.before.before in
-    copying-all a.args.b.now a.pre.0 a.args.table.now a.args.to.layout a.args.out.now a.args.to.at (omega (arith, c.before.loop.invariant.1)) c.before.loop.invariant.0
+    let a = c in
+    copying-all a.args.b.now a.requires.0 a.args.table.now a.args.to.layout a.args.out.now a.args.to.at (omega (arith, c.loop-j.invariant.1)) c.loop-j.invariant.0
 
 pub write_all_copied_spec : {M : Type 1} → statement M
 write_all_copied_spec =
     tie.close
     (tie.spec
-    invariant-loop
-    decreases-loop
-    loop_holds
-    bound_at_requires
-    write_copied_requires
-    add_j
-    loop_less
-    loop_again
-    same_length
+    invariant-loop-j
+    decreases-loop-j
+    loop-j-init
+    bound_at-x-requires
+    write_copied-at-requires
+    overflow_add-j
+    loop-j-smaller
+    loop-j-preserved
+    shape_of-out
     returns)

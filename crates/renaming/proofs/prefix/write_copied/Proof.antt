@@ -9,50 +9,44 @@ use borrow.Author.Rules.{rules}
 use Rattle.renaming.proofs.prefix.write_copied.Statement.{statement}
 use Rattle.renaming.proofs.prefix.write_copied.Tie as tie
 
-abbrev start : tie.After-entry → tie.Start
-start c = c.before.before.before
+entry-n-requires : tie.Need-entry-n-requires
+entry-n-requires c κs = search rules
 
-abbrev after_entry : tie.Else2 → tie.After-entry
-after_entry c = c.before.before
+returns-then-n-v : tie.Need-returns-then-n-v
+returns-then-n-v c =
+    let a = c in
+    laid_none a.args.to.layout a.args.out.now a.args.to.at (same_row a.args.table.now a.args.v c.entry-n.ensures c.if-n-v.true)
 
-abbrev else_1 : tie.Else2 → tie.Else1
-else_1 c = c.before
+returns-then-n-ge-NUMBERS : tie.Need-returns-then-n-ge-NUMBERS
+returns-then-n-ge-NUMBERS c =
+    let a = c in
+    laid_none a.args.to.layout a.args.out.now a.args.to.at
+    (put-row a.args.table.now a.args.v c.entry-n.ensures c.if-n-v.false c.if-n-ge-NUMBERS.true)
 
-abbrev else_2 : tie.After-out → tie.Else2
-else_2 c = c.before.before.before
+write_row-requires : tie.Need-write_row-requires
+write_row-requires c κs =
+    let at_entry_lem = c in
+    let a = at_entry_lem in
+    let is = new_row a.args.table.now a.args.v at_entry_lem.entry-n.ensures c.if-n-v.false c.if-n-ge-NUMBERS.false in
+    (a.requires.0, omega (arith, a.requires.1, ap length is), number_fits a.args.to.layout.format (omega arith))
 
-entry_requires : tie.Need-entry-requires
-entry_requires c κs = search rules
+shape_of-out : tie.Need-shape_of-out
+shape_of-out c = search rules
 
 returns : tie.Need-returns
 returns c =
-    let a = start c.before in
-    laid_none a.args.to.layout a.args.out.now a.args.to.at (same_row a.args.table.now a.args.v c.before.entry.ensures c.if1.true)
-
-returns_2 : tie.Need-returns-2
-returns_2 c =
-    let a = start c.before.before in
-    laid_none a.args.to.layout a.args.out.now a.args.to.at
-    (put-row a.args.table.now a.args.v c.before.before.entry.ensures c.before.if1.false c.if2.true)
-
-write_row_requires : tie.Need-write-row-requires
-write_row_requires c κs =
-    let at_entry_lem = after_entry c.before in
-    let a = start at_entry_lem in
-    let is = new_row a.args.table.now a.args.v at_entry_lem.entry.ensures c.before.before.if1.false c.before.if2.false in
-    (a.pre.0, omega (arith, a.pre.1, ap length is), number_fits a.args.to.layout.format (omega arith))
-
-same_length : tie.Need-same-length
-same_length c = search rules
-
-returns_3 : tie.Need-returns-3
-returns_3 c =
-    let branch2 = else_2 c.before in
-    let at_entry_lem = after_entry branch2 in
-    let a = start at_entry_lem in
+    let branch2 = c in
+    let at_entry_lem = branch2 in
+    let a = at_entry_lem in
     subst (Laid a.args.to.layout a.args.out.now _ a.args.to.at _)
-    (sym (new_row a.args.table.now a.args.v at_entry_lem.entry.ensures (else_1 branch2).if1.left branch2.if2.left)) c.before.before.write-row.ensures
+    (sym (new_row a.args.table.now a.args.v at_entry_lem.entry-n.ensures branch2.if-n-v.false branch2.if-n-ge-NUMBERS.false)) c.write_row.ensures
 
 pub write_copied_spec : {M : Type 1} → statement M
 write_copied_spec =
-    tie.close (tie.spec entry_requires returns returns_2 write_row_requires same_length returns_3)
+    tie.close (tie.spec
+    entry-n-requires
+    returns-then-n-v
+    returns-then-n-ge-NUMBERS
+    write_row-requires
+    shape_of-out
+    returns)
