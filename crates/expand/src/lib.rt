@@ -1,6 +1,7 @@
 // Expand: the relevant subtree of an innermost variable gives way to two copies of it, and the tree is tidied ("Expand x"). Execute does
 // the same under a ceiling, which a quote gives.
 #![tactic(auto)]
+
 ghost use Rattle.std.specs.Prelude.{◌≡◌};
 ghost use Rattle.sheet.specs.Operations.{expand_call, execute_call};
 ghost use Rattle.sheet.specs.Truthful.{truth_of, TruthfulSheet};

@@ -1,6 +1,7 @@
 // Expansion of a universal variable one block out (N6): the subtree that its literals and those of all depending variables choose gives
 // way to two copies of it, of which the second has new variables, and the tree is tidied.
 #![tactic(auto)]
+
 ghost use Rattle.std.specs.Prelude.{◌≡◌, length};
 ghost use Rattle.sheet.specs.Sheet.{sheet};
 ghost use Rattle.sheet.specs.Operations.{padded};

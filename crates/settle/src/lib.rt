@@ -1,5 +1,6 @@
 // Settle: a pure or a unit literal gives the value of a variable, its row goes, and the tree is tidied ("Settle x").
 #![tactic(auto)]
+
 ghost use Rattle.std.specs.Prelude.{◌≡◌};
 ghost use Rattle.sheet.specs.Operations.{settle_call};
 ghost use Rattle.sheet.specs.Truthful.{truth_of, TruthfulSheet};

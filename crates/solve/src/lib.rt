@@ -1,6 +1,7 @@
 // Solve: tidy, then settle or expand until the sheet is decided or the next raw sheet doesn't fit ("Solve"). The two lent buffers
 // hold all sheets: the first the one reached, the second the one that the step at hand writes.
 #![tactic(auto)]
+
 ghost use Rattle.std.specs.Prelude.{◌≡◌};
 ghost use Rattle.sheet.specs.Operations.{solve_call};
 ghost use Rattle.sheet.specs.Truthful.{truth_of, TruthfulSolve};

@@ -11,73 +11,60 @@ use Rattle.expand.proofs.Deciding.{refused_execution, above_ceiling, within_ceil
 use Rattle.expand.proofs.execute.Statement.{statement}
 use Rattle.expand.proofs.execute.Tie as tie
 
--- places in the code, each from a later one
-abbrev entry : tie.After-cuts → tie.Start
-entry c = c.before.before.before
+slice_bounds-plan_expand-end : tie.Need-slice_bounds-plan_expand-end
+slice_bounds-plan_expand-end c = search rules
 
-abbrev plan_told : tie.Else1 → tie.After-p2
-plan_told c = c.before.before.before
+plan_expand-p-requires : tie.Need-plan_expand-p-requires
+plan_expand-p-requires c κs = search rules
 
-slice_aggregate_plan_expand : tie.Need-slice-aggregate-plan-expand
-slice_aggregate_plan_expand c = search rules
+enum_known-p : tie.Need-enum_known-p
+enum_known-p c = search rules
 
-plan_expand_requires : tie.Need-plan-expand-requires
-plan_expand_requires c κs = search rules
+enum_known-p-in-Expands-1 : tie.Need-enum_known-p-in-Expands-1
+enum_known-p-in-Expands-1 c = search rules
 
-enum_known_p : tie.Need-enum-known-p
-enum_known_p c = search rules
-
-enum_known_p_2 : tie.Need-enum-known-p-2
-enum_known_p_2 c = search rules
-
-abbrev start : tie.After-plan-expand → tie.Start
-start c = entry c.before
-
-abbrev plan : tie.After-p2 → tie.After-plan-expand
-plan c = c.before.before.before
-
-planned : (c : tie.After-p2)
-    → let a = (start (plan c)).args in
-    ExpandPlans a.f a.sheet.now a.x (plan c).plan-expand.new.1.1.1.0 (Expands c.p2.given.0.0 c.p2.given.0.1.0)
+planned : (c : tie.In-Expands)
+    → let a = c.args in
+    ExpandPlans a.f a.sheet.now a.x c.plan_expand-p.new.cuts (Expands c.in-Expands.s c.in-Expands.w)
 planned c =
-    let a = (start (plan c)).args in
-    subst (ExpandPlans a.f a.sheet.now a.x (plan c).plan-expand.new.1.1.1.0) c.p2.given.1 (plan c).plan-expand.ensures
+    let a = c.args in
+    subst (ExpandPlans a.f a.sheet.now a.x c.plan_expand-p.new.cuts) c.in-Expands.is c.plan_expand-p.ensures
 
-returns : tie.Need-returns
-returns c =
-    let told = c.before.before.before in
-    let a = (start (plan told)).args in
-    let is = planned told in
-    let e = above_ceiling is.1 a.ceiling a.out.now c.if1.true ∙
+returns-then-ceiling-w : tie.Need-returns-then-ceiling-w
+returns-then-ceiling-w c =
+    let told = c in
+    let a = told.args in
+    let is = planned told.before.before in
+    let e = above_ceiling is.1 a.ceiling a.out.now c.if-ceiling-w.true ∙
     ap (λ f. execute_call (format_of f) a.sheet.now a.x a.ceiling a.out.now) is.0 in
     (e, execute_truthful (format_of a.f) (sound a.f) a.sheet.now a.x a.ceiling a.out.now e)
 
-slice_aggregate_expand_planned : tie.Need-slice-aggregate-expand-planned
-slice_aggregate_expand_planned c = search rules
+slice_bounds-expand_planned-end : tie.Need-slice_bounds-expand_planned-end
+slice_bounds-expand_planned-end c = search rules
 
-expand_planned_requires : tie.Need-expand-planned-requires
-expand_planned_requires c κs = (planned (plan_told c.before.before)).1
+expand_planned-requires : tie.Need-expand_planned-requires
+expand_planned-requires c κs = (planned c.before.before.before.before).1
 
-returns_2 : tie.Need-returns-2
-returns_2 c =
-    let told = c.before in
-    let plan = told.before.before.before in
-    let a = (start plan).args in
+returns-in-Refused : tie.Need-returns-in-Refused
+returns-in-Refused c =
+    let told = c in
+    let plan = told in
+    let a = plan.args in
     let e = refused_execution (format_of a.f) a.sheet.now a.x a.ceiling a.out.now
-    (subst (ExpandPlans a.f a.sheet.now a.x _) told.p.given.1 plan.plan-expand.ensures) in
+    (subst (ExpandPlans a.f a.sheet.now a.x _) told.in-Refused.is plan.plan_expand-p.ensures) in
     (e, execute_truthful (format_of a.f) (sound a.f) a.sheet.now a.x a.ceiling a.out.now e)
 
-same_length : tie.Need-same-length
-same_length c = search rules
+shape_of-out : tie.Need-shape_of-out
+shape_of-out c = search rules
 
-returns_3 : tie.Need-returns-3
-returns_3 c =
-    let carried = c.before.before in
-    let within = carried.before.before.before in
-    let told = within.before.before.before in
-    let a = (start (plan told)).args in
-    let is = planned told in
-    let e = carried.expand-planned.ensures ∙ sym (within_ceiling is.1 a.ceiling a.out.now within.if1.false) ∙
+returns-else-ceiling-w : tie.Need-returns-else-ceiling-w
+returns-else-ceiling-w c =
+    let carried = c in
+    let within = carried in
+    let told = within in
+    let a = told.args in
+    let is = planned told.before.before.before.before.before.before.before in
+    let e = carried.expand_planned.ensures ∙ sym (within_ceiling is.1 a.ceiling a.out.now within.if-ceiling-w.false) ∙
     ap (λ f. execute_call (format_of f) a.sheet.now a.x a.ceiling a.out.now) is.0 in
     (e, execute_truthful (format_of a.f) (sound a.f) a.sheet.now a.x a.ceiling a.out.now e)
 
@@ -85,13 +72,13 @@ pub execute_spec : {M : Type 1} → statement M
 execute_spec =
     tie.close
     (tie.spec
-    slice_aggregate_plan_expand
-    plan_expand_requires
-    enum_known_p
-    enum_known_p_2
-    returns
-    slice_aggregate_expand_planned
-    expand_planned_requires
-    returns_2
-    same_length
-    returns_3)
+    slice_bounds-plan_expand-end
+    plan_expand-p-requires
+    enum_known-p
+    enum_known-p-in-Expands-1
+    returns-then-ceiling-w
+    slice_bounds-expand_planned-end
+    expand_planned-requires
+    returns-in-Refused
+    shape_of-out
+    returns-else-ceiling-w)

@@ -12,86 +12,73 @@ use Rattle.outer.proofs.Telling.{outer_told}
 use Rattle.outer.proofs.outer.Statement.{statement}
 use Rattle.outer.proofs.outer.Tie as tie
 
--- places in the code, each from a later one
-abbrev entry : tie.After-tables → tie.Start
-entry c = c.before.before.before
-
-abbrev plan_made : tie.After-cuts2 → tie.After-plan-outer
-plan_made c = c.before.before
-
-abbrev plan_told : tie.After-cuts3 → tie.After-p2
-plan_told c = c.before.before.before
-
-abbrev start : tie.After-plan-outer → tie.Start
-start c = entry c.before.before
-
 -- what is written is planned
-planned : (c : tie.After-p2)
-    → let k = plan_made c.before.before in
-    let a = (start k).args in
-    OuterPlans a.f a.sheet.now a.x k.plan-outer.last.1.1.1.0 k.plan-outer.last.1.1.1.1.0 (Copies c.p2.given.0.0)
+planned : (c : tie.In-Copies)
+    → let k = c in
+    let a = k.args in
+    OuterPlans a.f a.sheet.now a.x k.plan_outer-p.new.tables k.plan_outer-p.new.cuts (Copies c.in-Copies.w)
 planned c =
-    let plan = plan_made c.before.before in
-    let a = (start plan).args in
-    subst (OuterPlans a.f a.sheet.now a.x _ _) c.p2.given.1 plan.plan-outer.ensures
+    let plan = c in
+    let a = plan.args in
+    subst (OuterPlans a.f a.sheet.now a.x _ _) c.in-Copies.is plan.plan_outer-p.ensures
 
-slice_aggregate_plan_outer : tie.Need-slice-aggregate-plan-outer
-slice_aggregate_plan_outer c = search rules
+slice_bounds-plan_outer-end : tie.Need-slice_bounds-plan_outer-end
+slice_bounds-plan_outer-end c = search rules
 
-slice_aggregate_plan_outer_2 : tie.Need-slice-aggregate-plan-outer-2
-slice_aggregate_plan_outer_2 c = search rules
+slice_bounds-plan_outer-end-2 : tie.Need-slice_bounds-plan_outer-end-2
+slice_bounds-plan_outer-end-2 c = search rules
 
-plan_outer_requires : tie.Need-plan-outer-requires
-plan_outer_requires c κs = search rules
+plan_outer-p-requires : tie.Need-plan_outer-p-requires
+plan_outer-p-requires c κs = search rules
 
-enum_known_p : tie.Need-enum-known-p
-enum_known_p c = search rules
+enum_known-p : tie.Need-enum_known-p
+enum_known-p c = search rules
 
-enum_known_p_2 : tie.Need-enum-known-p-2
-enum_known_p_2 c = search rules
+enum_known-p-in-Copies-1 : tie.Need-enum_known-p-in-Copies-1
+enum_known-p-in-Copies-1 c = search rules
 
-slice_aggregate_outer_planned : tie.Need-slice-aggregate-outer-planned
-slice_aggregate_outer_planned c = search rules
+slice_bounds-outer_planned-end : tie.Need-slice_bounds-outer_planned-end
+slice_bounds-outer_planned-end c = search rules
 
-slice_aggregate_outer_planned_2 : tie.Need-slice-aggregate-outer-planned-2
-slice_aggregate_outer_planned_2 c = search rules
+slice_bounds-outer_planned-end-in-Copies : tie.Need-slice_bounds-outer_planned-end-in-Copies
+slice_bounds-outer_planned-end-in-Copies c = search rules
 
-outer_planned_requires : tie.Need-outer-planned-requires
-outer_planned_requires c κs = (planned (plan_told c.before)).2
+outer_planned-requires : tie.Need-outer_planned-requires
+outer_planned-requires c κs = (planned c.before.before.before).2
 
-returns : tie.Need-returns
-returns c =
-    let told = c.before in
-    let plan = plan_made told.before.before in
-    let a = (start plan).args in
+returns-in-Refused : tie.Need-returns-in-Refused
+returns-in-Refused c =
+    let told = c in
+    let plan = told in
+    let a = plan.args in
     outer_told a.f a.sheet.now a.x a.out.now
     (refused_plan (format_of a.f) a.sheet.now a.x a.out.now
-    (subst (OuterPlans a.f a.sheet.now a.x _ _) told.p.given.1 plan.plan-outer.ensures))
+    (subst (OuterPlans a.f a.sheet.now a.x _ _) told.in-Refused.is plan.plan_outer-p.ensures))
 
-same_length : tie.Need-same-length
-same_length c = search rules
+shape_of-out : tie.Need-shape_of-out
+shape_of-out c = search rules
 
-returns_2 : tie.Need-returns-2
-returns_2 c =
-    let carried = c.before.before in
-    let told = plan_told carried.before.before in
-    let a = (start (plan_made told.before.before)).args in
-    let is = planned told in
+returns-in-Copies : tie.Need-returns-in-Copies
+returns-in-Copies c =
+    let carried = c in
+    let told = carried in
+    let a = told.args in
+    let is = planned told.before.before.before.before.before.before in
     outer_told a.f a.sheet.now a.x a.out.now
-    (carried.outer-planned.ensures ∙ ap₂ (λ (g : Format) (y : ℕ). outer_written (format_of g) a.sheet.now y a.out.now) is.0 is.1)
+    (carried.outer_planned.ensures ∙ ap₂ (λ (g : Format) (y : ℕ). outer_written (format_of g) a.sheet.now y a.out.now) is.0 is.1)
 
 pub outer_spec : {M : Type 1} → statement M
 outer_spec =
     tie.close
     (tie.spec
-    slice_aggregate_plan_outer
-    slice_aggregate_plan_outer_2
-    plan_outer_requires
-    enum_known_p
-    enum_known_p_2
-    slice_aggregate_outer_planned
-    slice_aggregate_outer_planned_2
-    outer_planned_requires
-    returns
-    same_length
-    returns_2)
+    slice_bounds-plan_outer-end
+    slice_bounds-plan_outer-end-2
+    plan_outer-p-requires
+    enum_known-p
+    enum_known-p-in-Copies-1
+    slice_bounds-outer_planned-end
+    slice_bounds-outer_planned-end-in-Copies
+    outer_planned-requires
+    returns-in-Refused
+    shape_of-out
+    returns-in-Copies)

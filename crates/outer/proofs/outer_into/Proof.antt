@@ -7,64 +7,48 @@ use Rattle.outer.proofs.Sheets.{few_raw, writes, raw-written, sheet-written, len
 use Rattle.outer.proofs.outer_into.Statement.{statement}
 use Rattle.outer.proofs.outer_into.Tie as tie
 
--- places in the code, each from a later one
-abbrev entry : tie.After-shared-slice-known3 → tie.Start
-entry c = c.before.before.before
-
-abbrev entered : tie.After-write-outer-arg → tie.After-slice-known
-entered c = c.before.before.before
-
-abbrev wrote_outer : tie.After-tidy-in-place-arg → tie.After-write-outer
-wrote_outer c = c.before.before.before
-
 -- the raw sheet is written, then tidied
-abbrev start : tie.After-write-outer → tie.Start
-start c = entry (entered c.before.before).before
+slice_bounds-write_outer-end : tie.Need-slice_bounds-write_outer-end
+slice_bounds-write_outer-end c =
+    let a = c in
+    sym (length-take-le a.args.w.survey.cuts a.args.cuts.now a.requires.planned.surveyed.few_cuts)
 
-abbrev raw : tie.After-tidy-in-place → tie.After-write-outer
-raw c = wrote_outer c.before
+write_outer-requires : tie.Need-write_outer-requires
+write_outer-requires c κs =
+    let a = c in
+    writes a.requires a.args.out.now refl
 
-slice_aggregate_write_outer : tie.Need-slice-aggregate-write-outer
-slice_aggregate_write_outer c =
-    let a = entry (entered c).before in
-    sym (length-take-le a.args.w.survey.cuts a.args.cuts.now a.pre.planned.surveyed.few_cuts)
+tidy_in_place-t-requires : tie.Need-tidy_in_place-t-requires
+tidy_in_place-t-requires c κs =
+    let k = c in
+    raw-written k.requires refl k.write_outer.auto.out k.write_outer.ensures
 
-write_outer_requires : tie.Need-write-outer-requires
-write_outer_requires c κs =
-    let a = entry (entered c.before).before in
-    writes a.pre a.args.out.now refl
-
-tidy_in_place_requires : tie.Need-tidy-in-place-requires
-tidy_in_place_requires c κs =
-    let k = c.before.before.before in
-    raw-written (start k).requires refl k.write-outer.auto.1.1.1.1.1.0 k.write-outer.ensures
-
-sheet_length_requires : tie.Need-sheet-length-requires
-sheet_length_requires c κs =
-    let tidied = c.before.before in
-    let few = few_raw (start (raw tidied)).requires.planned in
-    let sizes = tidied.tidy-in-place.ensures.1.1 in
+sheet_length-requires : tie.Need-sheet_length-requires
+sheet_length-requires c κs =
+    let tidied = c in
+    let few = few_raw tidied.requires.planned in
+    let sizes = tidied.tidy_in_place-t.ensures.1.1 in
     (omega (arith, few.0, sizes.0), omega (arith, few.1, sizes.1))
 
-same_length : tie.Need-same-length
-same_length c = search rules
+shape_of-out : tie.Need-shape_of-out
+shape_of-out c = search rules
 
 returns : tie.Need-returns
 returns c =
-    let tidied = c.before.before.before in
-    let k = raw tidied in
-    let same = k.write-outer.kept.1.1.1.1.1.0 in (
-      sheet-written (start k).pre refl same k.write-outer.ensures tidied.tidy-in-place.ensures.0,
-      length-written (start k).pre refl same k.write-outer.ensures tidied.tidy-in-place.ensures.1.0 c.sheet_length.ensures,
+    let tidied = c in
+    let k = tidied in
+    let same = k.write_outer.auto.out in (
+      sheet-written k.requires refl same k.write_outer.ensures tidied.tidy_in_place-t.ensures.0,
+      length-written k.requires refl same k.write_outer.ensures tidied.tidy_in_place-t.ensures.1.0 c.sheet_length.ensures,
     )
 
 pub outer_into_spec : {M : Type 1} → statement M
 outer_into_spec =
     tie.close
     (tie.spec
-    slice_aggregate_write_outer
-    write_outer_requires
-    tidy_in_place_requires
-    sheet_length_requires
-    same_length
+    slice_bounds-write_outer-end
+    write_outer-requires
+    tidy_in_place-t-requires
+    sheet_length-requires
+    shape_of-out
     returns)

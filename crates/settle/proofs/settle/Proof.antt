@@ -14,58 +14,52 @@ use Rattle.settle.proofs.Deciding.{refused_call, settled_call}
 use Rattle.settle.proofs.settle.Statement.{statement}
 use Rattle.settle.proofs.settle.Tie as tie
 
-plan_settle_requires : tie.Need-plan-settle-requires
-plan_settle_requires c κs = search rules
+plan_settle-p-requires : tie.Need-plan_settle-p-requires
+plan_settle-p-requires c κs = search rules
 
-enum_known_p : tie.Need-enum-known-p
-enum_known_p c = search rules
+enum_known-p : tie.Need-enum_known-p
+enum_known-p c = search rules
 
-enum_known_p_2 : tie.Need-enum-known-p-2
-enum_known_p_2 c = search rules
+enum_known-p-in-Settles-1 : tie.Need-enum_known-p-in-Settles-1
+enum_known-p-in-Settles-1 c = search rules
 
-abbrev start : tie.After-plan-settle → tie.Start
-start c = c.before.before.before
-
-planned : (c : tie.After-p2)
-    → let a = (start c.before.before).args in
-    SettlePlans a.f a.sheet.now a.x (length a.out.now) (Settles c.p2.given.0.0 c.p2.given.0.1.0)
+planned : (c : tie.In-Settles)
+    → let a = c.args in
+    SettlePlans a.f a.sheet.now a.x (length a.out.now) (Settles c.in-Settles.s c.in-Settles.put)
 planned c =
-    let plan = c.before.before in
-    let a = (start plan).args in
-    subst (SettlePlans a.f a.sheet.now a.x (length a.out.now)) c.p2.given.1 plan.plan-settle.ensures
+    let plan = c in
+    let a = plan.args in
+    subst (SettlePlans a.f a.sheet.now a.x (length a.out.now)) c.in-Settles.is plan.plan_settle-p.ensures
 
-settle_into_requires : tie.Need-settle-into-requires
-settle_into_requires c κs = (planned c.before.before).1.puts
+settle_into-t-requires : tie.Need-settle_into-t-requires
+settle_into-t-requires c κs = (planned c.before).1.puts
 
-abbrev told : tie.After-settle-into → tie.After-p2
-told c = c.before.before.before
-
-sheet_length_requires : tie.Need-sheet-length-requires
-sheet_length_requires c κs =
-    let wrote = c.before.before in
-    let few = (planned (told wrote)).1.puts.from.readable in
-    let sizes = wrote.settle-into.ensures.1.1 in
+sheet_length-requires : tie.Need-sheet_length-requires
+sheet_length-requires c κs =
+    let wrote = c in
+    let few = (planned wrote.before.before.before.before).1.puts.from.readable in
+    let sizes = wrote.settle_into-t.ensures.1.1 in
     (omega (arith, sizes.0, few.few_variables), omega (arith, sizes.1, few.few_nodes))
 
-returns : tie.Need-returns
-returns c =
-    let told = c.before in
-    let plan = told.before.before in
-    let a = (start plan).args in
+returns-in-Refused : tie.Need-returns-in-Refused
+returns-in-Refused c =
+    let told = c in
+    let plan = told in
+    let a = plan.args in
     let e = refused_call (format_of a.f) a.sheet.now a.x a.out.now
-    (subst (SettlePlans a.f a.sheet.now a.x (length a.out.now)) told.p.given.1 plan.plan-settle.ensures) in
+    (subst (SettlePlans a.f a.sheet.now a.x (length a.out.now)) told.in-Refused.is plan.plan_settle-p.ensures) in
     (e, settle_truthful (format_of a.f) (sound a.f) a.sheet.now a.x a.out.now e)
 
-same_length : tie.Need-same-length
-same_length c = search rules
+shape_of-out : tie.Need-shape_of-out
+shape_of-out c = search rules
 
-returns_2 : tie.Need-returns-2
-returns_2 c =
-    let wrote = c.before.before.before in
-    let a = (start (told wrote).before.before).args in
-    let is = planned (told wrote) in
-    let written = wrote.settle-into.ensures in
-    let t = wrote.settle-into.result in
+returns-in-Settles : tie.Need-returns-in-Settles
+returns-in-Settles c =
+    let wrote = c in
+    let a = wrote.args in
+    let is = planned wrote.before.before.before.before.before in
+    let written = wrote.settle_into-t.ensures in
+    let t = wrote.settle_into-t.result in
     let long = c.sheet_length.ensures ∙ ap (λ f. sheet_length (format_of f) t.variables t.nodes) (sym is.0) in
     let e = settled_call a.out.now is.1 written.1.0 long written.0 ∙ ap (λ f. settle_call (format_of f) a.sheet.now a.x a.out.now) is.0 in
     (e, settle_truthful (format_of a.f) (sound a.f) a.sheet.now a.x a.out.now e)
@@ -74,11 +68,11 @@ pub settle_spec : {M : Type 1} → statement M
 settle_spec =
     tie.close
     (tie.spec
-    plan_settle_requires
-    enum_known_p
-    enum_known_p_2
-    settle_into_requires
-    sheet_length_requires
-    returns
-    same_length
-    returns_2)
+    plan_settle-p-requires
+    enum_known-p
+    enum_known-p-in-Settles-1
+    settle_into-t-requires
+    sheet_length-requires
+    returns-in-Refused
+    shape_of-out
+    returns-in-Settles)

@@ -7,32 +7,30 @@ use Rattle.solve.proofs.Answering.{all_zeros, left}
 use Rattle.solve.proofs.run.Statement.{statement}
 use Rattle.solve.proofs.run.Tie as tie
 
--- places in the code, each from a later one
-abbrev run_ended : tie.After-second → tie.After-go
-run_ended c = c.before.before.before
+go-answer-requires : tie.Need-go-answer-requires
+go-answer-requires c κs = search rules
 
-abbrev cleared : tie.After-slice-known5 → tie.After-clear
-cleared c = c.before.before
+clear-requires : tie.Need-clear-requires
+clear-requires c κs = search rules
 
-go_requires : tie.Need-go-requires
-go_requires c κs = search rules
+shape_of-first : tie.Need-shape_of-first
+shape_of-first c = search rules
 
-clear_requires : tie.Need-clear-requires
-clear_requires c κs = search rules
-
-same_length : tie.Need-same-length
-same_length c = search rules
-
-same_length_2 : tie.Need-same-length-2
-same_length_2 c = search rules
+shape_of-second : tie.Need-shape_of-second
+shape_of-second c = search rules
 
 returns : tie.Need-returns
 unfolding run_call solving
 returns c =
-    let gone = run_ended (cleared c).before.before.before in
-    let went = gone.go.ensures in
-    let zeros = c.before.before.clear.ensures ∙ all_zeros gone.go.last.1.0 gone.go.kept.1.0 in
+    let gone = c in
+    let went = gone.go-answer.ensures in
+    let zeros = c.clear.ensures ∙ all_zeros gone.go-answer.new.second gone.go-answer.auto.second in
     left went.answers went.shows zeros
 
 pub run_spec : {M : Type 1} → statement M
-run_spec = tie.close (tie.spec go_requires clear_requires same_length same_length_2 returns)
+run_spec = tie.close (tie.spec
+    go-answer-requires
+    clear-requires
+    shape_of-first
+    shape_of-second
+    returns)

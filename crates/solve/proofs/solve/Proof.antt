@@ -11,67 +11,54 @@ use Rattle.solve.proofs.Answering.{unchecked_call}
 use Rattle.solve.proofs.solve.Statement.{statement}
 use Rattle.solve.proofs.solve.Tie as tie
 
--- places in the code, each from a later one
-abbrev entry : tie.After-slice-known2 → tie.Start
-entry c = c.before.before.before
+check-c-requires : tie.Need-check-c-requires
+check-c-requires c κs = search rules
 
-abbrev check_told : tie.After-solve-checked-arg2 → tie.After-c2
-check_told c = c.before.before.before
+enum_known-c : tie.Need-enum_known-c
+enum_known-c c = search rules
 
-abbrev answered : tie.After-second → tie.After-solve-checked
-answered c = c.before.before.before
+enum_known-c-in-Accepted-1 : tie.Need-enum_known-c-in-Accepted-1
+enum_known-c-in-Accepted-1 c = search rules
 
-check_requires : tie.Need-check-requires
-check_requires c κs = search rules
+checked : (c : tie.In-Accepted) → let a = c.args in Sheet a.f a.sheet.now c.in-Accepted.s
+checked c = sheet_checked c.in-Accepted.is c.check-c.ensures
 
-enum_known_c : tie.Need-enum-known-c
-enum_known_c c = search rules
+solve_checked-requires : tie.Need-solve_checked-requires
+solve_checked-requires c κs = sheet_own (checked c.before.before)
 
-enum_known_c_2 : tie.Need-enum-known-c-2
-enum_known_c_2 c = search rules
-
-abbrev start : tie.After-check → tie.Start
-start c = entry c.before
-
-checked : (c : tie.After-c2) → let a = (start c.before.before).args in Sheet a.f a.sheet.now c.c2.given.0.0
-checked c = sheet_checked c.c2.given.1 c.before.before.check.ensures
-
-solve_checked_requires : tie.Need-solve-checked-requires
-solve_checked_requires c κs = sheet_own (checked c.before.before.before)
-
-returns : tie.Need-returns
-returns c =
-    let told = c.before in
-    let check = told.before.before in
-    let a = (start check).args in
+returns-in-Refused : tie.Need-returns-in-Refused
+returns-in-Refused c =
+    let told = c in
+    let check = told in
+    let a = check.args in
     let e = unchecked_call (format_of a.f) a.sheet.now a.first.now a.second.now
-    (sheet_refused a.f a.sheet.now told.c.given.1 check.check.ensures) in
+    (sheet_refused a.f a.sheet.now told.in-Refused.is check.check-c.ensures) in
     (e, solve_truthful (format_of a.f) (sound a.f) a.sheet.now a.first.now a.second.now e)
 
-same_length : tie.Need-same-length
-same_length c = search rules
+shape_of-first : tie.Need-shape_of-first
+shape_of-first c = search rules
 
-same_length_2 : tie.Need-same-length-2
-same_length_2 c = search rules
+shape_of-second : tie.Need-shape_of-second
+shape_of-second c = search rules
 
-returns_2 : tie.Need-returns-2
-returns_2 c =
-    let solved = answered c.before in
-    let told = check_told solved.before in
-    let a = (start told.before.before).args in
-    let e = solved.solve-checked.ensures ∙
-    ap (λ f. solve_call (format_of f) a.sheet.now a.first.now a.second.now) (sheet_format (checked told)) in
+returns-in-Accepted : tie.Need-returns-in-Accepted
+returns-in-Accepted c =
+    let solved = c in
+    let told = solved in
+    let a = told.args in
+    let e = solved.solve_checked.ensures ∙
+    ap (λ f. solve_call (format_of f) a.sheet.now a.first.now a.second.now) (sheet_format (checked told.before.before.before.before.before.before.before)) in
     (e, solve_truthful (format_of a.f) (sound a.f) a.sheet.now a.first.now a.second.now e)
 
 pub solve_spec : {M : Type 1} → statement M
 solve_spec =
     tie.close
     (tie.spec
-    check_requires
-    enum_known_c
-    enum_known_c_2
-    solve_checked_requires
-    returns
-    same_length
-    same_length_2
-    returns_2)
+    check-c-requires
+    enum_known-c
+    enum_known-c-in-Accepted-1
+    solve_checked-requires
+    returns-in-Refused
+    shape_of-first
+    shape_of-second
+    returns-in-Accepted)

@@ -9,64 +9,48 @@ use Rattle.solve.proofs.Answering.{short_call, raw-ready, solved-call}
 use Rattle.solve.proofs.solve_checked.Statement.{statement}
 use Rattle.solve.proofs.solve_checked.Tie as tie
 
--- places in the code, each from a later one
-abbrev entry : tie.After-slice-known2 → tie.Start
-entry c = c.before.before.before
+shorter-requires : tie.Need-shorter-requires
+shorter-requires c κs = search rules
 
-abbrev front_copied : tie.After-run-raw-arg → tie.After-copy-front
-front_copied c = c.before.before.before
+returns-then-shorter-sheet : tie.Need-returns-then-shorter-sheet
+returns-then-shorter-sheet c =
+    let a = c in
+    short_call a.requires a.args.first.now a.args.second.now (omega (arith, c.shorter.ensures, c.if-shorter-sheet.true))
 
-abbrev run_done : tie.After-second → tie.After-run-raw
-run_done c = c.before.before.before
+copy_front-requires : tie.Need-copy_front-requires
+copy_front-requires c κs = search rules
 
-shorter_requires : tie.Need-shorter-requires
-shorter_requires c κs = search rules
+-- the sheet fits, and is copied
+has_room : (c : tie.After-copy_front) → let a = c.args in length a.sheet.now ≤ room a.first.now a.second.now
+has_room c = omega (arith, c.shorter.ensures, c.if-shorter-sheet.false)
 
-abbrev start : tie.After-shorter → tie.Start
-start c = entry c.before
+run_raw-requires : tie.Need-run_raw-requires
+run_raw-requires c κs =
+    let copied = c in
+    let a = copied in
+    raw-ready a.requires a.args.first.now a.args.second.now (has_room copied.before.before.before.before) copied.copy_front.ensures
+
+shape_of-first : tie.Need-shape_of-first
+shape_of-first c = search rules
+
+shape_of-second : tie.Need-shape_of-second
+shape_of-second c = search rules
 
 returns : tie.Need-returns
 returns c =
-    let a = start c.before in
-    short_call a.pre a.args.first.now a.args.second.now (omega (arith, c.before.shorter.ensures, c.if1.true))
-
-copy_front_requires : tie.Need-copy-front-requires
-copy_front_requires c κs = search rules
-
--- the sheet fits, and is copied
-abbrev before : tie.After-copy-front → tie.Start
-before c = start c.before.before.before
-
-has_room : (c : tie.After-copy-front) → let a = (before c).args in length a.sheet.now ≤ room a.first.now a.second.now
-has_room c = omega (arith, c.before.before.before.shorter.ensures, c.before.before.if1.false)
-
-run_raw_requires : tie.Need-run-raw-requires
-run_raw_requires c κs =
-    let copied = front_copied c.before in
-    let a = before copied in
-    raw-ready a.pre a.args.first.now a.args.second.now (has_room copied) copied.copy-front.ensures
-
-same_length : tie.Need-same-length
-same_length c = search rules
-
-same_length_2 : tie.Need-same-length-2
-same_length_2 c = search rules
-
-returns_2 : tie.Need-returns-2
-returns_2 c =
-    let ran = run_done c.before in
-    let copied = front_copied ran.before.before in
-    let a = before copied in
-    ran.run-raw.ensures ∙ solved-call a.pre a.args.first.now a.args.second.now (has_room copied) copied.copy-front.ensures
+    let ran = c in
+    let copied = ran in
+    let a = copied in
+    ran.run_raw.ensures ∙ solved-call a.requires a.args.first.now a.args.second.now (has_room copied.before.before.before.before.before.before.before.before.before) copied.copy_front.ensures
 
 pub solve_checked_spec : {M : Type 1} → statement M
 solve_checked_spec =
     tie.close
     (tie.spec
-    shorter_requires
-    returns
-    copy_front_requires
-    run_raw_requires
-    same_length
-    same_length_2
-    returns_2)
+    shorter-requires
+    returns-then-shorter-sheet
+    copy_front-requires
+    run_raw-requires
+    shape_of-first
+    shape_of-second
+    returns)

@@ -9,49 +9,45 @@ use Rattle.expand.proofs.Innermost.{same_kind, other_kind}
 use Rattle.expand.proofs.block.is_in_the_way.Statement.{statement}
 use Rattle.expand.proofs.block.is_in_the_way.Tie as tie
 
--- places in the code, each from a later one
-abbrev start : tie.After-is-existential → tie.Start
-start c = c.before.before.before
+is_existential-requires : tie.Need-is_existential-requires
+is_existential-requires c κs = search rules
 
-is_existential_requires : tie.Need-is-existential-requires
-is_existential_requires c κs = search rules
+is_existential-requires-2 : tie.Need-is_existential-requires-2
+is_existential-requires-2 c κs = search rules
 
-is_existential_requires_2 : tie.Need-is-existential-requires-2
-is_existential_requires_2 c κs = search rules
+returns-then-is_existential : tie.Need-returns-then-is_existential
+returns-then-is_existential c =
+    let kinds = c in
+    let a = kinds in
+    same_kind a.args.s a.args.b.now a.args.i a.args.j kinds.is_existential.ensures kinds.is_existential-2.ensures
+    c.if-is_existential.true
+
+bound_at-requires : tie.Need-bound_at-requires
+bound_at-requires c κs = search rules
+
+occurs-requires : tie.Need-occurs-requires
+occurs-requires c κs =
+    let a = c in
+    (a.requires.2.holds, omega (arith, c.bound_at.ensures.0, a.requires.1.few_numbers a.args.j a.requires.4))
 
 returns : tie.Need-returns
 returns c =
-    let kinds = c.before in
-    let a = start kinds.before in
-    same_kind a.args.s a.args.b.now a.args.i a.args.j kinds.before.is-existential.ensures kinds.is-existential2.ensures
-    c.if1.taken
-
-bound_at_requires : tie.Need-bound-at-requires
-bound_at_requires c κs = search rules
-
-occurs_requires : tie.Need-occurs-requires
-occurs_requires c κs =
-    let a = start c.before.before.before in
-    (a.pre.2.holds, omega (arith, c.bound_at.ensures.0, a.pre.1.few_numbers a.args.j a.pre.4))
-
-returns_2 : tie.Need-returns-2
-returns_2 c =
-    let named = c.before in
-    let kinds = named.before.before in
-    let a = start kinds.before in
+    let named = c in
+    let kinds = named in
+    let a = kinds in
     let x = named.bound_at.ensures.0 in
-    other_kind a.args.s a.args.b.now a.args.i a.args.j kinds.before.is-existential.ensures kinds.is-existential2.ensures
-    named.before.if1.left
+    other_kind a.args.s a.args.b.now a.args.i a.args.j kinds.is_existential.ensures kinds.is_existential-2.ensures
+    named.if-is_existential.false
     (c.occurs.ensures ∙ ap (λ (y : ℕ). ltb (get_or a.args.ranges.now (2 * y) 0) a.args.s.nodes) x ∙
-    a.pre.2.tells _ (a.pre.1.few_numbers a.args.j a.pre.4))
+    a.requires.2.tells _ (a.requires.1.few_numbers a.args.j a.requires.4))
 
 pub is_in_the_way_spec : {M : Type 1} → statement M
 is_in_the_way_spec =
     tie.close
     (tie.spec
-    is_existential_requires
-    is_existential_requires_2
-    returns
-    bound_at_requires
-    occurs_requires
-    returns_2)
+    is_existential-requires
+    is_existential-requires-2
+    returns-then-is_existential
+    bound_at-requires
+    occurs-requires
+    returns)

@@ -5,68 +5,64 @@ use Rattle.expand.proofs.Innermost.{Clear, clear_start, row-stops, row-passes, a
 use Rattle.expand.proofs.block.is_innermost.Statement.{statement}
 use Rattle.expand.proofs.block.is_innermost.Tie as tie
 
-abbrev invariant-loop : tie.invariant-loop
-invariant-loop b s ranges i v j₀ j = Clear s b i j
+abbrev invariant-loop-j : tie.invariant-loop-j
+invariant-loop-j b s ranges i v j₀ j = Clear s b i j
 
-abbrev decreases-loop : tie.decreases-loop
-decreases-loop b s ranges i v j₀ j = v - j
+abbrev decreases-loop-j : tie.decreases-loop-j
+decreases-loop-j b s ranges i v j₀ j = v - j
 
--- places in the code, each from a later one
-abbrev start : tie.At-loop invariant-loop decreases-loop → tie.Start invariant-loop decreases-loop
-start c = c.before.before.before
+overflow_add-j : tie.Need-overflow_add-j invariant-loop-j decreases-loop-j
+overflow_add-j c = omega (arith, c.requires.3.inside)
 
-add_j : tie.Need-overflow-add-j invariant-loop decreases-loop
-add_j c = omega (arith, c.before.before.requires.3.inside)
-
-loop_holds : tie.Need-loop-init invariant-loop decreases-loop
-loop_holds c =
-    let a = c.before.before in
+loop-j-init : tie.Need-loop-j-init invariant-loop-j decreases-loop-j
+loop-j-init c =
+    let a = c in
     clear_start a.args.s a.args.b.now a.requires.3.inside (omega arith)
 
-is_in_the_way_requires : tie.Need-is-in-the-way-requires invariant-loop decreases-loop
-is_in_the_way_requires c κs =
-    let a = start c.before in
-    (a.pre.0, a.pre.1, a.pre.2, a.pre.3.inside, omega arith)
+is_in_the_way-requires : tie.Need-is_in_the_way-requires invariant-loop-j decreases-loop-j
+is_in_the_way-requires c κs =
+    let a = c in
+    (a.requires.0, a.requires.1, a.requires.2, a.requires.3.inside, omega arith)
 
-returns : tie.Need-returns invariant-loop decreases-loop
-returns c =
-    let turn = c.before in
-    let head = turn.before.before in
-    let a = head.before.before.before in
-    row-stops a.args.b.now a.requires.0 head.loop.invariant turn.before.loop-test.true turn.is-in-the-way.ensures a.requires.3
-    c.if1.true
+returns-then-is_in_the_way : tie.Need-returns-then-is_in_the_way invariant-loop-j decreases-loop-j
+returns-then-is_in_the_way c =
+    let turn = c in
+    let head = turn in
+    let a = head in
+    row-stops a.args.b.now a.requires.0 head.loop-j.invariant turn.loop-j-test.true turn.is_in_the_way.ensures a.requires.3
+    c.if-is_in_the_way.true
 
-add_j_2 : tie.Need-overflow-add-j-2 invariant-loop decreases-loop
-add_j_2 c = omega arith
+overflow_add-j-in-loop-j : tie.Need-overflow_add-j-in-loop-j invariant-loop-j decreases-loop-j
+overflow_add-j-in-loop-j c = omega arith
 
-loop_less : tie.Need-loop-smaller invariant-loop decreases-loop
-loop_less c = omega arith
+loop-j-smaller : tie.Need-loop-j-smaller invariant-loop-j decreases-loop-j
+loop-j-smaller c = omega arith
 
-loop_again : tie.Need-loop-preserved invariant-loop decreases-loop
-loop_again c =
-    let turn = c.before in
-    let head = turn.before.before in
-    let a = head.before.before.before in
-    row-passes a.args.b.now a.requires.0 head.loop.invariant turn.before.loop-test.true turn.is-in-the-way.ensures c.if1.false
+loop-j-preserved : tie.Need-loop-j-preserved invariant-loop-j decreases-loop-j
+loop-j-preserved c =
+    let turn = c in
+    let head = turn in
+    let a = head in
+    row-passes a.args.b.now a.requires.0 head.loop-j.invariant turn.loop-j-test.true turn.is_in_the_way.ensures c.if-is_in_the_way.false
     (omega arith)
 
-returns_2 : tie.Need-returns-2 invariant-loop decreases-loop
-returns_2 c =
-    let head = c.before in
-    let a = head.before.before.before in
-    all_pass a.args.b.now a.requires.0 head.loop.invariant a.requires.3 c.loop-test.false
+returns : tie.Need-returns invariant-loop-j decreases-loop-j
+returns c =
+    let head = c in
+    let a = head in
+    all_pass a.args.b.now a.requires.0 head.loop-j.invariant a.requires.3 c.loop-j-test.false
 
 pub is_innermost_spec : {M : Type 1} → statement M
 is_innermost_spec =
     tie.close
     (tie.spec
-    invariant-loop
-    decreases-loop
-    add_j
-    loop_holds
-    is_in_the_way_requires
-    returns
-    add_j_2
-    loop_less
-    loop_again
-    returns_2)
+    invariant-loop-j
+    decreases-loop-j
+    overflow_add-j
+    loop-j-init
+    is_in_the_way-requires
+    returns-then-is_in_the_way
+    overflow_add-j-in-loop-j
+    loop-j-smaller
+    loop-j-preserved
+    returns)

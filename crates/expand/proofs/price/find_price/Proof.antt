@@ -5,55 +5,48 @@ use borrow.Author.Tests.{not-true, not-false}
 use Rattle.expand.proofs.price.find_price.Statement.{statement}
 use Rattle.expand.proofs.price.find_price.Tie as tie
 
--- places in the code, each from a later one
-abbrev occurrences_filled : tie.After-next → tie.After-fill-occurrences
-occurrences_filled c = c.before.before.before
+fill_occurrences-requires : tie.Need-fill_occurrences-requires
+fill_occurrences-requires c κs = search rules
 
-abbrev innermost_judged : tie.Else1 → tie.After-is-innermost
-innermost_judged c = c.before
+is_innermost-requires : tie.Need-is_innermost-requires
+is_innermost-requires c κs = search rules
 
-fill_occurrences_requires : tie.Need-fill-occurrences-requires
-fill_occurrences_requires c κs = search rules
+shape_of-ranges-then-not-is_innermost : tie.Need-shape_of-ranges-then-not-is_innermost
+shape_of-ranges-then-not-is_innermost c = search rules
 
-is_innermost_requires : tie.Need-is-innermost-requires
-is_innermost_requires c κs = search rules
+shape_of-next-then-not-is_innermost : tie.Need-shape_of-next-then-not-is_innermost
+shape_of-next-then-not-is_innermost c = search rules
 
-same_length : tie.Need-same-length
-same_length c = search rules
+returns-then-not-is_innermost : tie.Need-returns-then-not-is_innermost
+returns-then-not-is_innermost c = sym c.is_innermost.ensures ∙ c.if-not-is_innermost.true
 
-same_length_2 : tie.Need-same-length-2
-same_length_2 c = search rules
+price_row-requires : tie.Need-price_row-requires
+price_row-requires c κs = search rules
+
+shape_of-ranges : tie.Need-shape_of-ranges
+shape_of-ranges c = search rules
+
+shape_of-next : tie.Need-shape_of-next
+shape_of-next c = search rules
 
 returns : tie.Need-returns
-returns c = sym c.before.is-innermost.ensures ∙ not-true _ c.if1.true
-
-price_row_requires : tie.Need-price-row-requires
-price_row_requires c κs = search rules
-
-same_length_3 : tie.Need-same-length-3
-same_length_3 c = search rules
-
-same_length_4 : tie.Need-same-length-4
-same_length_4 c = search rules
-
-returns_2 : tie.Need-returns-2
-returns_2 c =
-    let inside = c.before.before.before in (
-      sym inside.before.is-innermost.ensures ∙ not-false _ inside.if1.false,
-      c.price-row.ensures,
-      (occurrences_filled (innermost_judged inside).before.before.before).fill-occurrences.ensures,
+returns c =
+    let inside = c in (
+      sym inside.is_innermost.ensures ∙ inside.if-not-is_innermost.false,
+      c.price_row.ensures,
+      inside.fill_occurrences.ensures,
     )
 
 pub find_price_spec : {M : Type 1} → statement M
 find_price_spec =
     tie.close
     (tie.spec
-    fill_occurrences_requires
-    is_innermost_requires
-    same_length
-    same_length_2
-    returns
-    price_row_requires
-    same_length_3
-    same_length_4
-    returns_2)
+    fill_occurrences-requires
+    is_innermost-requires
+    shape_of-ranges-then-not-is_innermost
+    shape_of-next-then-not-is_innermost
+    returns-then-not-is_innermost
+    price_row-requires
+    shape_of-ranges
+    shape_of-next
+    returns)

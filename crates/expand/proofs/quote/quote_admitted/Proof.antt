@@ -9,61 +9,51 @@ use Rattle.expand.proofs.Deciding.{not-innermost, refused_quote_call, counted}
 use Rattle.expand.proofs.quote.quote_admitted.Statement.{statement}
 use Rattle.expand.proofs.quote.quote_admitted.Tie as tie
 
--- places in the code, each from a later one
-abbrev entry : tie.After-ranges → tie.Start
-entry c = c.before.before.before
+slice_bounds-find_price-end : tie.Need-slice_bounds-find_price-end
+slice_bounds-find_price-end c = search rules
 
-abbrev priced : tie.After-next2 → tie.After-find-price
-priced c = c.before.before
-
-slice_aggregate_find_price : tie.Need-slice-aggregate-find-price
-slice_aggregate_find_price c = search rules
-
-slice_aggregate_find_price_2 : tie.Need-slice-aggregate-find-price-2
-slice_aggregate_find_price_2 c = search rules
+slice_bounds-find_price-end-2 : tie.Need-slice_bounds-find_price-end-2
+slice_bounds-find_price-end-2 c = search rules
 
 -- the variable is priced
-abbrev start : tie.After-find-price → tie.Start
-start c = entry c.before.before
-
-find_price_requires : tie.Need-find-price-requires
-find_price_requires c κs =
-    let a = entry c.before in
-    let d = a.pre in (
+find_price-p-requires : tie.Need-find_price-p-requires
+find_price-p-requires c κs =
+    let a = c in
+    let d = a.requires in (
       (d.indexed, sheet-bound d.sheet, d.named),
       (search rules, omega (arith, d.indexed.readable.few_nodes)),
     )
 
-enum_told : tie.Need-enum-told
-enum_told c = search rules
+enum_told-1 : tie.Need-enum_told-1
+enum_told-1 c = search rules
 
-enum_known_p : tie.Need-enum-known-p
-enum_known_p c = search rules
+enum_known-p : tie.Need-enum_known-p
+enum_known-p c = search rules
 
-returns : tie.Need-returns
-returns c =
-    let found = priced c.before.before in
-    let a = start found in
+returns-in-Outside : tie.Need-returns-in-Outside
+returns-in-Outside c =
+    let found = c in
+    let a = found in
     refused_quote_call (format_in a.args.s) a.args.sheet.now a.args.z.variable
-    (not-innermost a.pre
-    (subst (Prices a.args.s a.args.sheet.now a.args.z _ _) c.enum_told.given.1 found.find-price.ensures))
+    (not-innermost a.requires
+    (subst (Prices a.args.s a.args.sheet.now a.args.z _ _) c.in-Outside.is found.find_price-p.ensures))
 
-returns_2 : tie.Need-returns-2
-returns_2 c =
-    let told = c.before in
-    let found = priced told.before.before in
-    let a = start found in
-    let inside = subst (Prices a.args.s a.args.sheet.now a.args.z _ _) told.p.given.1 found.find-price.ensures in
-    counted a.pre inside.1 inside.0
+returns-in-Inside : tie.Need-returns-in-Inside
+returns-in-Inside c =
+    let told = c in
+    let found = told in
+    let a = found in
+    let inside = subst (Prices a.args.s a.args.sheet.now a.args.z _ _) told.in-Inside.is found.find_price-p.ensures in
+    counted a.requires inside.1 inside.0
 
 pub quote_admitted_spec : {M : Type 1} → statement M
 quote_admitted_spec =
     tie.close
     (tie.spec
-    slice_aggregate_find_price
-    slice_aggregate_find_price_2
-    find_price_requires
-    enum_told
-    enum_known_p
-    returns
-    returns_2)
+    slice_bounds-find_price-end
+    slice_bounds-find_price-end-2
+    find_price-p-requires
+    enum_told-1
+    enum_known-p
+    returns-in-Outside
+    returns-in-Inside)

@@ -9,23 +9,22 @@ use borrow.Author.Rules.{rules}
 use Rattle.outer.proofs.chain.is_chosen.Statement.{statement}
 use Rattle.outer.proofs.chain.is_chosen.Tie as tie
 
--- places in the code, each from a later one
-abbrev start : tie.After-literal-at → tie.Start
-start c = c.before.before.before
+literal_at-v-requires : tie.Need-literal_at-v-requires
+literal_at-v-requires c κs = search rules
 
-literal_at_requires : tie.Need-literal-at-requires
-literal_at_requires c κs = search rules
-
-entry_requires : tie.Need-entry-requires
-entry_requires c κs = search rules
+entry-requires : tie.Need-entry-requires
+entry-requires c κs = search rules
 
 returns : tie.Need-returns
 returns c =
-    let a = start c.before in
-    let v = c.before.literal-at.ensures.0 in
+    let a = c in
+    let v = c.literal_at-v.ensures.0 in
     let t = a.args.table.now in
-    ap (λ e. not (eqb e c.before.literal-at.result)) c.entry.ensures ∙ ap (λ n. not (eqb (entry t n) n)) v ∙
-    sym (chosen_at t a.pre.2 (subtree_in a.args.s a.args.b.now a.args.i))
+    ap (λ e. not (eqb e c.literal_at-v.result)) c.entry.ensures ∙ ap (λ n. not (eqb (entry t n) n)) v ∙
+    sym (chosen_at t a.requires.2 (subtree_in a.args.s a.args.b.now a.args.i))
 
 pub is_chosen_spec : {M : Type 1} → statement M
-is_chosen_spec = tie.close (tie.spec literal_at_requires entry_requires returns)
+is_chosen_spec = tie.close (tie.spec
+    literal_at-v-requires
+    entry-requires
+    returns)

@@ -9,85 +9,78 @@ use Rattle.outer.proofs.Linking.{linking_none, linking-turn, linked-all}
 use Rattle.outer.proofs.chain.link_chosen.Statement.{statement}
 use Rattle.outer.proofs.chain.link_chosen.Tie as tie
 
-abbrev invariant-loop : tie.invariant-loop
-invariant-loop b s table next₀ none r₀ i₀ next r i = Linking (chosen table) s b i next r × (i ≤ s.nodes) × (length next ≡ length next₀)
+abbrev invariant-loop-i : tie.invariant-loop-i
+invariant-loop-i b s table next₀ none r₀ i₀ next r i = Linking (chosen table) s b i next r × (i ≤ s.nodes) × (length next ≡ length next₀)
 
-abbrev decreases-loop : tie.decreases-loop
-decreases-loop b s table next₀ none r₀ i₀ next r i = i
+abbrev decreases-loop-i : tie.decreases-loop-i
+decreases-loop-i b s table next₀ none r₀ i₀ next r i = i
 
--- places in the code, each from a later one
-abbrev start : tie.After-slice-known invariant-loop decreases-loop → tie.Start invariant-loop decreases-loop
-start c = c.before.before.before
-
-abbrev turn : tie.After-with-row invariant-loop decreases-loop → tie.In-loop invariant-loop decreases-loop
-turn c = c.before.before.before
-
-loop_holds : tie.Need-loop-init invariant-loop decreases-loop
-loop_holds c =
-    let a = c.before.before.before in
+loop-i-init : tie.Need-loop-i-init invariant-loop-i decreases-loop-i
+loop-i-init c =
+    let a = c in
     (linking_none (chosen a.args.table.now) a.args.b.now a.requires.0 a.requires.2, omega arith, refl)
 
-sub_i : tie.Need-overflow-sub-i invariant-loop decreases-loop
-sub_i c = omega arith
+overflow_sub-i : tie.Need-overflow_sub-i invariant-loop-i decreases-loop-i
+overflow_sub-i c = omega arith
 
-cast_next : tie.Need-overflow-cast-next invariant-loop decreases-loop
-cast_next c =
-    omega (arith, c.before.before.loop.invariant.0.within, (start c.before.before.before).pre.0.few_nodes)
+overflow_cast-next : tie.Need-overflow_cast-next invariant-loop-i decreases-loop-i
+overflow_cast-next c =
+    omega (arith, c.loop-i.invariant.0.within, c.requires.0.few_nodes)
 
-mul_next : tie.Need-overflow-mul-next invariant-loop decreases-loop
-mul_next c =
-    omega (arith, c.before.before.loop.invariant.1, (start c.before.before.before).pre.0.few_nodes)
+offset_bounds-next-i : tie.Need-offset_bounds-next-i invariant-loop-i decreases-loop-i
+offset_bounds-next-i c =
+    omega (arith, c.loop-i.invariant.1, c.requires.0.few_nodes)
 
-slice_write_next : tie.Need-slice-write-next invariant-loop decreases-loop
-slice_write_next c =
-    omega (arith, c.before.before.loop.invariant.0.holds, c.before.before.loop.invariant.1)
+bounds-next-i : tie.Need-bounds-next-i invariant-loop-i decreases-loop-i
+bounds-next-i c =
+    omega (arith, c.loop-i.invariant.0.holds, c.loop-i.invariant.1)
 
-is_chosen_requires : tie.Need-is-chosen-requires invariant-loop decreases-loop
-is_chosen_requires c κs =
-    ((start c.before.before.before).pre.0, omega (arith, c.before.before.loop.invariant.1), (start c.before.before.before).pre.1)
+is_chosen-requires : tie.Need-is_chosen-requires invariant-loop-i decreases-loop-i
+is_chosen-requires c κs =
+    (c.requires.0, omega (arith, c.loop-i.invariant.1), c.requires.1)
 
-with_row_requires : tie.Need-with-row-requires invariant-loop decreases-loop
-with_row_requires c κs = tt
+with_row-r-requires : tie.Need-with_row-r-requires invariant-loop-i decreases-loop-i
+with_row-r-requires c κs = tt
 
-loop_less : tie.Need-loop-smaller invariant-loop decreases-loop
-loop_less c = omega arith
+loop-i-smaller : tie.Need-loop-i-smaller invariant-loop-i decreases-loop-i
+loop-i-smaller c = omega arith
 
-loop_again : tie.Need-loop-preserved invariant-loop decreases-loop
-loop_again c =
-    let a = start (turn c).before.before in
-    let l = (turn c).before.loop in
-    let inside : l.i - 1 < a.args.s.nodes = omega (arith, l.inv.1) in (
-      subst (Linking (chosen a.args.table.now) a.args.s a.args.b.now (l.i - 1) _) (sym c.with_row.ensures)
-          (linking-turn (chosen a.args.table.now) a.args.b.now a.pre.0 (omega arith) inside l.inv.0 c.before.is-chosen.ensures),
-      omega (arith, l.inv.1),
-      length-set l.next _ _ ∙ l.inv.2,
+loop-i-preserved : tie.Need-loop-i-preserved invariant-loop-i decreases-loop-i
+loop-i-preserved c =
+    let a = c in
+    let l = c.loop-i in
+    let inside : l.i - 1 < a.args.s.nodes = omega (arith, l.invariant.1) in (
+      subst (Linking (chosen a.args.table.now) a.args.s a.args.b.now (l.i - 1) _) (sym c.with_row-r.ensures)
+          (linking-turn (chosen a.args.table.now) a.args.b.now a.requires.0 (omega arith) inside l.invariant.0 c.is_chosen.ensures),
+      omega (arith, l.invariant.1),
+      length-set l.next _ _ ∙ l.invariant.2,
     )
 
-same_length : tie.Need-same-length invariant-loop decreases-loop
-same_length c =
-    c.before.loop.invariant.2
+shape_of-next : tie.Need-shape_of-next invariant-loop-i decreases-loop-i
+shape_of-next c =
+    c.loop-i.invariant.2
 
-returns : tie.Need-returns invariant-loop decreases-loop
+returns : tie.Need-returns invariant-loop-i decreases-loop-i
 returns c =
-    let a = start c.before.before in
-    let l = c.before.loop in
+    let a = c in
+    let l = c.loop-i in
     let all : l.i ≡ 0 = omega arith in
-    linked-all (chosen a.args.table.now) a.args.b.now a.pre.0 (rw all at l.invariant.0)
+    linked-all (chosen a.args.table.now) a.args.b.now a.requires.0 (rw all at l.invariant.0)
 
 pub link_chosen_spec : {M : Type 1} → statement M
 link_chosen_spec =
     tie.close
     (tie.spec
-    invariant-loop
-    decreases-loop
-    loop_holds
-    sub_i
-    cast_next
-    mul_next
-    slice_write_next
-    is_chosen_requires
-    with_row_requires
-    loop_less
-    loop_again
-    same_length
+    invariant-loop-i
+    decreases-loop-i
+    loop-i-init
+    overflow_sub-i
+    overflow_cast-next
+    offset_bounds-next-i
+    bounds-next-i
+    is_chosen-requires
+    with_row-r-requires
+    loop-i-smaller
+    loop-i-preserved
+    shape_of-next
     returns)

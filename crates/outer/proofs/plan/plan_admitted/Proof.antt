@@ -14,214 +14,174 @@ use Rattle.outer.proofs.Deciding.{Counted, located, second_size, distinct_here, 
 use Rattle.outer.proofs.plan.plan_admitted.Statement.{statement}
 use Rattle.outer.proofs.plan.plan_admitted.Tie as tie
 
--- places in the code, each from a later one
-abbrev entry : tie.After-slice-known → tie.Start
-entry c = c.before.before.before
-
-abbrev entered : tie.After-find-dependents → tie.After-slice-known2
-entered c = c.before.before.before
-
-abbrev few_enough : tie.After-set5 → tie.Else2
-few_enough c = c.before.before.before
-
-abbrev tables_filled : tie.After-struct-known2 → tie.After-fill-tables
-tables_filled c = c.before.before.before
-
-abbrev tables_back : tie.After-draft-chosen → tie.After-tables2
-tables_back c = c.before.before.before
-
-abbrev chosen_drafted : tie.After-survey-draft-arg → tie.After-draft-chosen
-chosen_drafted c = c.before.before.before
-
-abbrev start : tie.After-find-dependents → tie.Start
-start c = entry (entered c).before
-
 -- the variable is one block out
-abbrev out : tie.Else1 → tie.After-find-dependents
-out c = c.before.before
+abbrev members : tie.Else-not-find_dependents → List ℕ
+members c = c.find_dependents.new.set
 
-abbrev members : tie.Else1 → List ℕ
-members c = (out c).find-dependents.new.1.1.1.0
-
-found : (c : tie.Else1) → let a = (start (out c)).args in Dependents a.t.variable (formula_in a.t.layout a.sheet.now) (members c)
-found c = (out c).find-dependents.ensures.1 (not-false (out c).find-dependents.result c.if1.false)
+found : (c : tie.Else-not-find_dependents) → let a = c.args in Dependents a.t.variable (formula_in a.t.layout a.sheet.now) (members c)
+found c = c.find_dependents.ensures.1 (c.if-not-find_dependents.false)
 
 -- the depending variables are counted
-abbrev one_out : tie.After-most-variables → tie.Else1
-one_out c = c.before.before.before
-
-counted : (c : tie.After-most-variables)
-    → let k = one_out c in
-    let a = (start (out k)).args in
-    Counted a.sheet.now a.t (members k) c.before.count-dependents.result c.most_variables.result
+counted : (c : tie.After-most_variables-highest)
+    → let k = c in
+    let a = k.args in
+    Counted a.sheet.now a.t (members k.before.before.before) c.count_dependents-copied.result c.most_variables-highest.result
 counted c =
-    let k = one_out c in
-    let a = start (out k) in
+    let k = c in
+    let a = k in
     let f = formula_in a.args.t.layout a.args.sheet.now in
     record {
-      out = sym (out k).find-dependents.ensures.0 ∙ not-false (out k).find-dependents.result k.if1.left;
-      found = found k;
-      count_is = c.before.count-dependents.ensures.0 a.args.t.variable f (distinct_here a.args.t a.pre.0) (found k);
-      highest_is = c.most_variables.ensures;
+      out = sym k.find_dependents.ensures.0 ∙ k.if-not-find_dependents.false;
+      found = found k.before.before.before;
+      count_is = c.count_dependents-copied.ensures.0 a.args.t.variable f (distinct_here a.args.t a.requires.0) (found k.before.before.before);
+      highest_is = c.most_variables-highest.ensures;
     }
 
 -- enough numbers are left, and the tables are filled
-abbrev numbered : tie.Else2 → tie.After-most-variables
-numbered c = c.before.before
-
-abbrev begin : tie.Else2 → tie.Start
-begin c = start (out (one_out (numbered c)))
-
-abbrev enough : tie.After-fill-tables → tie.Else2
-enough c = few_enough c.before.before
-
 -- the expansion is drafted
-abbrev filled : tie.After-draft-chosen → tie.After-fill-tables
-filled c = tables_filled (tables_back c).before
+slice_bounds-find_dependents-end : tie.Need-slice_bounds-find_dependents-end
+slice_bounds-find_dependents-end c = search rules
 
-slice_aggregate_find_dependents : tie.Need-slice-aggregate-find-dependents
-slice_aggregate_find_dependents c = search rules
+find_dependents-requires : tie.Need-find_dependents-requires
+find_dependents-requires c κs =
+    let a = c in
+    (a.requires.0.indexed, located a.args.t a.requires.0, search rules)
 
-find_dependents_requires : tie.Need-find-dependents-requires
-find_dependents_requires c κs =
-    let a = entry c.before.before.before in
-    (a.pre.0.indexed, located a.args.t a.pre.0, search rules)
+returns-then-not-find_dependents : tie.Need-returns-then-not-find_dependents
+returns-then-not-find_dependents c =
+    let k = c in
+    not_out k.args.t k.requires.0
+    (sym k.find_dependents.ensures.0 ∙ c.if-not-find_dependents.true)
+
+slice_bounds-count_dependents-end : tie.Need-slice_bounds-count_dependents-end
+slice_bounds-count_dependents-end c = search rules
+
+count_dependents-copied-requires : tie.Need-count_dependents-copied-requires
+count_dependents-copied-requires c κs = (found c.before).words
+
+most_variables-highest-requires : tie.Need-most_variables-highest-requires
+most_variables-highest-requires c κs = search rules
+
+overflow_sub-highest : tie.Need-overflow_sub-highest
+overflow_sub-highest c =
+    let k = c in
+    omega (arith, (counted k.before).highest_is, (sheet_steppable k.requires.0.sheet).few_variables)
+
+returns-then-highest-s : tie.Need-returns-then-highest-s
+returns-then-highest-s c =
+    let k = c in
+    let a = k in
+    no_numbers a.args.t a.requires.0 (counted k.before.before) c.if-highest-s.true
+
+slice_bounds-lowest_dependent-end : tie.Need-slice_bounds-lowest_dependent-end
+slice_bounds-lowest_dependent-end c = search rules
+
+lowest_dependent-lowest-requires : tie.Need-lowest_dependent-lowest-requires
+lowest_dependent-lowest-requires c κs = (counted c.before.before.before).found.words
+
+slice_bounds-fill_tables-end : tie.Need-slice_bounds-fill_tables-end
+slice_bounds-fill_tables-end c = search rules
+
+fill_tables-requires : tie.Need-fill_tables-requires
+fill_tables-requires c κs =
+    let e = c in
+    let a = e in
+    let d = a.requires.0 in
+    let k = counted e.before.before.before.before.before.before in
+    let most = (limits a.args.t.layout.format).few_variables in (
+      (d.indexed.readable, sheet-numbered d.sheet, k.found.words, omega (arith, k.highest_is, most), d.named.few, a.requires.1),
+      room-for-all a.args.t d k e.if-highest-s.false,
+    )
+
+overflow_sub-variables : tie.Need-overflow_sub-variables
+overflow_sub-variables c = omega (arith, c.requires.0.named.inside)
+
+overflow_add-variables : tie.Need-overflow_add-variables
+overflow_add-variables c =
+    let e = c in
+    omega (arith, e.requires.0.indexed.readable.few_variables, e.count_dependents-copied.ensures.1)
+
+slice_bounds-draft_chosen-count : tie.Need-slice_bounds-draft_chosen-count
+slice_bounds-draft_chosen-count c =
+    let k = c in
+    omega (arith, k.requires.1, k.fill_tables.auto.tables)
+
+slice_bounds-draft_chosen-start : tie.Need-slice_bounds-draft_chosen-start
+slice_bounds-draft_chosen-start c =
+    let k = c in
+    omega (arith, k.requires.1, k.fill_tables.auto.tables)
+
+slice_bounds-draft_chosen-end : tie.Need-slice_bounds-draft_chosen-end
+slice_bounds-draft_chosen-end c = search rules
+
+slice_bounds-draft_chosen-end-2 : tie.Need-slice_bounds-draft_chosen-end-2
+slice_bounds-draft_chosen-end-2 c = search rules
+
+draft_chosen-d-requires : tie.Need-draft_chosen-d-requires
+draft_chosen-d-requires c κs =
+    let k = c in
+    let a = k in (
+      a.requires.0.indexed,
+      second_size a.args.t.variable _ _ k.fill_tables.ensures,
+      omega (arith, a.requires.0.indexed.readable.few_nodes),
+    )
+
+slice_bounds-survey_draft-end : tie.Need-slice_bounds-survey_draft-end
+slice_bounds-survey_draft-end c = search rules
+
+survey_draft-w-requires : tie.Need-survey_draft-w-requires
+survey_draft-w-requires c κs =
+    let drafted = c in
+    let a = drafted in
+    ((_, drafted.draft_chosen-d.ensures.drafts), omega (arith, a.requires.0.indexed.readable.few_nodes, a.requires.2))
+
+shape_of-tables : tie.Need-shape_of-tables
+shape_of-tables c = search rules
+
+shape_of-cuts : tie.Need-shape_of-cuts
+shape_of-cuts c = search rules
 
 returns : tie.Need-returns
 returns c =
-    let k = c.before.before in
-    not_out (start k).args.t (start k).requires.0
-    (sym k.find-dependents.ensures.0 ∙ not-true k.find-dependents.result c.if1.true)
-
-slice_aggregate_count_dependents : tie.Need-slice-aggregate-count-dependents
-slice_aggregate_count_dependents c = search rules
-
-count_dependents_requires : tie.Need-count-dependents-requires
-count_dependents_requires c κs = (found c.before).words
-
-most_variables_requires : tie.Need-most-variables-requires
-most_variables_requires c κs = search rules
-
-sub_if2 : tie.Need-overflow-sub-if2
-sub_if2 c =
-    let k = c.before in
-    omega (arith, (counted k).highest_is, (sheet_steppable (start (out (one_out k))).requires.0.sheet).few_variables)
-
-returns_2 : tie.Need-returns-2
-returns_2 c =
-    let k = c.before.before in
-    let a = start (out (one_out k)) in
-    no_numbers a.args.t a.pre.0 (counted k) c.if2.true
-
-slice_aggregate_lowest_dependent : tie.Need-slice-aggregate-lowest-dependent
-slice_aggregate_lowest_dependent c = search rules
-
-lowest_dependent_requires : tie.Need-lowest-dependent-requires
-lowest_dependent_requires c κs = (counted (numbered c.before)).found.words
-
-slice_aggregate_fill_tables : tie.Need-slice-aggregate-fill-tables
-slice_aggregate_fill_tables c = search rules
-
-fill_tables_requires : tie.Need-fill-tables-requires
-fill_tables_requires c κs =
-    let e = few_enough c.before in
-    let a = begin e in
-    let d = a.pre.0 in
-    let k = counted (numbered e) in
-    let most = (limits a.args.t.layout.format).few_variables in (
-      (d.indexed.readable, sheet-numbered d.sheet, k.found.words, omega (arith, k.highest_is, most), d.named.few, a.pre.1),
-      room-for-all a.args.t d k e.if2.left,
-    )
-
-sub_variables : tie.Need-overflow-sub-variables
-sub_variables c = omega (arith, (begin (enough c.before.before.before)).requires.0.named.inside)
-
-add_variables : tie.Need-overflow-add-variables
-add_variables c =
-    let e = enough c.before.before.before in
-    omega (arith, (begin e).pre.0.indexed.readable.few_variables, (numbered e).before.count-dependents.ensures.1)
-
-sub_draft_chosen : tie.Need-overflow-sub-draft-chosen
-sub_draft_chosen c =
-    let k = c.before.before.before in
-    omega (arith, (begin (enough k)).requires.1, k.fill-tables.auto.1.1.1.1.1.0)
-
-part_draft_chosen_start : tie.Need-slice-bounds-draft-chosen-start
-part_draft_chosen_start c =
-    let k = tables_filled c.before in
-    omega (arith, (begin (enough k)).requires.1, k.fill-tables.kept.1.1.1.1.1.0)
-
-part_draft_chosen_end : tie.Need-slice-bounds-draft-chosen-end
-part_draft_chosen_end c = search rules
-
-slice_aggregate_draft_chosen : tie.Need-slice-aggregate-draft-chosen
-slice_aggregate_draft_chosen c = search rules
-
-draft_chosen_requires : tie.Need-draft-chosen-requires
-draft_chosen_requires c κs =
-    let k = tables_filled c.before.before.before in
-    let a = begin (enough k) in (
-      a.pre.0.indexed,
-      second_size a.args.t.variable _ _ k.fill-tables.ensures,
-      omega (arith, a.pre.0.indexed.readable.few_nodes),
-    )
-
-slice_aggregate_survey_draft : tie.Need-slice-aggregate-survey-draft
-slice_aggregate_survey_draft c = search rules
-
-survey_draft_requires : tie.Need-survey-draft-requires
-survey_draft_requires c κs =
-    let drafted = c.before.before.before in
-    let a = begin (enough (filled drafted)) in
-    ((_, drafted.draft-chosen.ensures.drafts), omega (arith, a.pre.0.indexed.readable.few_nodes, a.pre.2))
-
-same_length : tie.Need-same-length
-same_length c = search rules
-
-same_length_2 : tie.Need-same-length-2
-same_length_2 c = search rules
-
-returns_3 : tie.Need-returns-3
-returns_3 c =
-    let surveyed = c.before.before in
-    let drafted = chosen_drafted surveyed.before in
-    let fill = filled drafted in
-    let e = enough fill in
-    let a = begin e in
-    let k = counted (numbered e) in
+    let surveyed = c in
+    let drafted = surveyed in
+    let fill = drafted in
+    let e = fill in
+    let a = e in
+    let k = counted e.before.before.before.before.before.before.before.before.before.before.before.before.before.before.before.before.before.before.before in
     let f = formula_in a.args.t.layout a.args.sheet.now in
-    let low = fill.before.before.before.lowest-dependent.ensures a.args.t.variable f k.found in (
+    let low = fill.lowest_dependent-lowest.ensures a.args.t.variable f k.found in (
       refl,
       refl,
-      planned a.args.t a.pre.0 k e.if2.left low fill.fill-tables.ensures (rest_of 1025 fill.fill-tables.last.1.1.1.1.1.0)
-          drafted.draft-chosen.ensures surveyed.survey-draft.ensures,
+      planned a.args.t a.requires.0 k e.if-highest-s.false low fill.fill_tables.ensures (rest_of 1025 fill.fill_tables.new.tables)
+          drafted.draft_chosen-d.ensures surveyed.survey_draft-w.ensures,
     )
 
 pub plan_admitted_spec : {M : Type 1} → statement M
 plan_admitted_spec =
     tie.close
     (tie.spec
-    slice_aggregate_find_dependents
-    find_dependents_requires
-    returns
-    slice_aggregate_count_dependents
-    count_dependents_requires
-    most_variables_requires
-    sub_if2
-    returns_2
-    slice_aggregate_lowest_dependent
-    lowest_dependent_requires
-    slice_aggregate_fill_tables
-    fill_tables_requires
-    sub_variables
-    add_variables
-    sub_draft_chosen
-    part_draft_chosen_start
-    part_draft_chosen_end
-    slice_aggregate_draft_chosen
-    draft_chosen_requires
-    slice_aggregate_survey_draft
-    survey_draft_requires
-    same_length
-    same_length_2
-    returns_3)
+    slice_bounds-find_dependents-end
+    find_dependents-requires
+    returns-then-not-find_dependents
+    slice_bounds-count_dependents-end
+    count_dependents-copied-requires
+    most_variables-highest-requires
+    overflow_sub-highest
+    returns-then-highest-s
+    slice_bounds-lowest_dependent-end
+    lowest_dependent-lowest-requires
+    slice_bounds-fill_tables-end
+    fill_tables-requires
+    overflow_sub-variables
+    overflow_add-variables
+    slice_bounds-draft_chosen-count
+    slice_bounds-draft_chosen-start
+    slice_bounds-draft_chosen-end
+    slice_bounds-draft_chosen-end-2
+    draft_chosen-d-requires
+    slice_bounds-survey_draft-end
+    survey_draft-w-requires
+    shape_of-tables
+    shape_of-cuts
+    returns)

@@ -37,14 +37,14 @@ returns-then-untidy c =
     let inner = c in
     let fault = inner in
     let a = fault in
-    not_tidy a.requires a.args.room fault.first_fault-fault.ensures (ltb-true _ _ c.if-untidy.true)
+    not_tidy a.requires a.args.room fault.first_fault-fault.ensures c.if-untidy.true
 
 returns-then-inner : tie.Need-returns-then-inner
 returns-then-inner c =
     let inner = c in
     let fault = inner in
     let a = fault in
-    not-clauses a.requires a.args.room fault.first_fault-fault.ensures (ltb-false _ _ c.if-untidy.false)
+    not-clauses a.requires a.args.room fault.first_fault-fault.ensures c.if-untidy.false
     inner.has_inner_and-inner.ensures c.if-inner.true
 
 returns-then-room-sheet : tie.Need-returns-then-room-sheet
@@ -52,7 +52,7 @@ returns-then-room-sheet c =
     let inner = c in
     let fault = inner in
     let a = fault in
-    no_room a.requires a.args.room fault.first_fault-fault.ensures (ltb-false _ _ c.if-untidy.false)
+    no_room a.requires a.args.room fault.first_fault-fault.ensures c.if-untidy.false
     inner.has_inner_and-inner.ensures c.if-inner.false c.if-room-sheet.true
 
 returns : tie.Need-returns
@@ -60,7 +60,7 @@ returns c =
     let inner = c in
     let fault = inner in
     let a = fault in
-    planned a.requires a.args.room fault.first_fault-fault.ensures (ltb-false _ _ c.if-untidy.false)
+    planned a.requires a.args.room fault.first_fault-fault.ensures c.if-untidy.false
     inner.has_inner_and-inner.ensures c.if-inner.false c.if-room-sheet.false
 
 pub plan_checked_spec : {M : Type 1} → statement M

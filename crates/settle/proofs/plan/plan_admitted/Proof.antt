@@ -11,79 +11,69 @@ use Rattle.settle.proofs.Deciding.{not_settled, no_room, planned}
 use Rattle.settle.proofs.plan.plan_admitted.Statement.{statement}
 use Rattle.settle.proofs.plan.plan_admitted.Tie as tie
 
--- places in the code, each from a later one
-abbrev start : tie.After-fill-signs → tie.Start
-start c = c.before.before.before
+slice_bounds-fill_signs-end : tie.Need-slice_bounds-fill_signs-end
+slice_bounds-fill_signs-end c = search rules
 
-abbrev value_found : tie.After-known-told → tie.After-value-at
-value_found c = c.before.before.before
-
-abbrev value_told : tie.After-sheet-length → tie.After-v
-value_told c = c.before.before.before
-
-slice_aggregate_fill_signs : tie.Need-slice-aggregate-fill-signs
-slice_aggregate_fill_signs c = search rules
-
-fill_signs_requires : tie.Need-fill-signs-requires
-fill_signs_requires c κs =
-    let a = c.before.before in
+fill_signs-requires : tie.Need-fill_signs-requires
+fill_signs-requires c κs =
+    let a = c in
     let sheet = a.requires.1.sheet in
     (sheet_readable sheet, unmarked 4100, numbered_covers (sheet-numbered sheet) (omega (arith, length-replicate 4100 false)))
 
-slice_aggregate_value_at : tie.Need-slice-aggregate-value-at
-slice_aggregate_value_at c = search rules
+slice_bounds-value_at-end : tie.Need-slice_bounds-value_at-end
+slice_bounds-value_at-end c = search rules
 
-value_at_requires : tie.Need-value-at-requires
-value_at_requires c κs =
-    let a = start c.before.before in
-    (sheet_readable a.pre.1.sheet, a.pre.1.named.inside, c.before.before.fill-signs.ensures)
+value_at-v-requires : tie.Need-value_at-v-requires
+value_at-v-requires c κs =
+    let a = c in
+    (sheet_readable a.requires.1.sheet, a.requires.1.named.inside, c.fill_signs.ensures)
 
-enum_known_v : tie.Need-enum-known-v
-enum_known_v c = search rules
+enum_known-v : tie.Need-enum_known-v
+enum_known-v c = search rules
 
-enum_told : tie.Need-enum-told
-enum_told c = search rules
+enum_told-1 : tie.Need-enum_told-1
+enum_told-1 c = search rules
+
+returns-in_default : tie.Need-returns-in_default
+returns-in_default c =
+    let value = c in
+    let a = value in
+    not_settled a.requires.1 a.args.room value.value_at-v.result value.value_at-v.ensures c.in_default.is
+
+overflow_sub-s : tie.Need-overflow_sub-s
+overflow_sub-s c = search rules
+
+sheet_length-requires : tie.Need-sheet_length-requires
+sheet_length-requires c κs = search rules
+
+returns-then-room-sheet_length : tie.Need-returns-then-room-sheet_length
+returns-then-room-sheet_length c =
+    let value = c in
+    let a = value in
+    no_room a.requires.1 a.args.room value.value_at-v.result value.value_at-v.ensures c.in-Take.is
+    (omega (arith, c.sheet_length.ensures, c.if-room-sheet_length.true))
 
 returns : tie.Need-returns
 returns c =
-    let value = c.before.before in
-    let a = start value.before.before.before in
-    not_settled a.pre.1 a.args.room value.value_at.result value.value_at.ensures c.enum_told.given.1
-
-sub_sheet_length : tie.Need-overflow-sub-sheet-length
-sub_sheet_length c = search rules
-
-sheet_length_requires : tie.Need-sheet-length-requires
-sheet_length_requires c κs = search rules
-
-returns_2 : tie.Need-returns-2
-returns_2 c =
-    let value = value_found c.before.before.before in
-    let a = start value.before.before.before in
-    no_room a.pre.1 a.args.room value.value_at.result value.value_at.ensures (value_told c.before).v.given.1
-    (omega (arith, c.before.sheet_length.ensures, c.if1.true))
-
-returns_3 : tie.Need-returns-3
-returns_3 c =
-    let value = value_found c.before.before.before in
-    let a = start value.before.before.before in (
+    let value = c in
+    let a = value in (
       refl,
-      planned a.pre.1 a.args.room value.value_at.result value.value_at.ensures _ (value_told c.before).v.given.1
-          (omega (arith, c.before.sheet_length.ensures, c.if1.false)),
+      planned a.requires.1 a.args.room value.value_at-v.result value.value_at-v.ensures _ c.in-Take.is
+          (omega (arith, c.sheet_length.ensures, c.if-room-sheet_length.false)),
     )
 
 pub plan_admitted_spec : {M : Type 1} → statement M
 plan_admitted_spec =
     tie.close
     (tie.spec
-    slice_aggregate_fill_signs
-    fill_signs_requires
-    slice_aggregate_value_at
-    value_at_requires
-    enum_known_v
-    enum_told
-    returns
-    sub_sheet_length
-    sheet_length_requires
-    returns_2
-    returns_3)
+    slice_bounds-fill_signs-end
+    fill_signs-requires
+    slice_bounds-value_at-end
+    value_at-v-requires
+    enum_known-v
+    enum_told-1
+    returns-in_default
+    overflow_sub-s
+    sheet_length-requires
+    returns-then-room-sheet_length
+    returns)

@@ -9,58 +9,52 @@ use Rattle.settle.proofs.Deciding.{refused_before}
 use Rattle.settle.proofs.plan.plan_settle.Statement.{statement}
 use Rattle.settle.proofs.plan.plan_settle.Tie as tie
 
-slice_aggregate_admit : tie.Need-slice-aggregate-admit
-slice_aggregate_admit c = search rules
+slice_bounds-admit-end : tie.Need-slice_bounds-admit-end
+slice_bounds-admit-end c = search rules
 
-admit_requires : tie.Need-admit-requires
-admit_requires c κs = search rules
+admit-a-requires : tie.Need-admit-a-requires
+admit-a-requires c κs = search rules
 
-enum_known_a : tie.Need-enum-known-a
-enum_known_a c = search rules
+enum_known-a : tie.Need-enum_known-a
+enum_known-a c = search rules
 
-enum_known_a_2 : tie.Need-enum-known-a-2
-enum_known_a_2 c = search rules
-
-abbrev start : tie.After-admit → tie.Start
-start c = c.before.before.before
+enum_known-a-in-Admitted-1 : tie.Need-enum_known-a-in-Admitted-1
+enum_known-a-in-Admitted-1 c = search rules
 
 -- tests 1 to 10 admit the variable
-abbrev told : tie.After-a2 → tie.After-admit
-told c = c.before.before.before
-
-admitted : (c : tie.After-a2)
-    → let a = (start (told c)).args in
-    Admits a.f a.sheet.now a.x (told c).admit.new.1.1.1.0 (Admitted c.a2.given.0.0 c.a2.given.0.1.0)
+admitted : (c : tie.In-Admitted)
+    → let a = c.args in
+    Admits a.f a.sheet.now a.x c.admit-a.new.ends (Admitted c.in-Admitted.s c.in-Admitted.z)
 admitted c =
-    let a = (start (told c)).args in
-    subst (Admits a.f a.sheet.now a.x (told c).admit.new.1.1.1.0) c.a2.given.1 (told c).admit.ensures
+    let a = c.args in
+    subst (Admits a.f a.sheet.now a.x c.admit-a.new.ends) c.in-Admitted.is c.admit-a.ensures
 
-plan_admitted_requires : tie.Need-plan-admitted-requires
-plan_admitted_requires c κs = (_, (admitted c.before).2)
+plan_admitted-requires : tie.Need-plan_admitted-requires
+plan_admitted-requires c κs = (_, (admitted c).2)
 
-returns : tie.Need-returns
-returns c =
-    let refused = c.before in
-    let admit = refused.before.before.before in
-    let a = (start admit).args in
+returns-in-Refused : tie.Need-returns-in-Refused
+returns-in-Refused c =
+    let refused = c in
+    let admit = refused in
+    let a = admit.args in
     refused_before (format_of a.f) a.sheet.now a.x a.room
-    (subst (Admits a.f a.sheet.now a.x admit.admit.new.1.1.1.0) refused.a.given.1 admit.admit.ensures)
+    (subst (Admits a.f a.sheet.now a.x admit.admit-a.new.ends) refused.in-Refused.is admit.admit-a.ensures)
 
-returns_2 : tie.Need-returns-2
-returns_2 c =
-    let found = c.before.before in
-    let a = (start (told found)).args in
-    let is = admitted found in
-    subst₂ (λ f y. SettlePlans f a.sheet.now y a.room c.plan-admitted.result) is.0 is.1 c.plan-admitted.ensures
+returns-in-Admitted : tie.Need-returns-in-Admitted
+returns-in-Admitted c =
+    let found = c in
+    let a = found.args in
+    let is = admitted found.before in
+    subst₂ (λ f y. SettlePlans f a.sheet.now y a.room c.plan_admitted.result) is.0 is.1 c.plan_admitted.ensures
 
 pub plan_settle_spec : {M : Type 1} → statement M
 plan_settle_spec =
     tie.close
     (tie.spec
-    slice_aggregate_admit
-    admit_requires
-    enum_known_a
-    enum_known_a_2
-    plan_admitted_requires
-    returns
-    returns_2)
+    slice_bounds-admit-end
+    admit-a-requires
+    enum_known-a
+    enum_known-a-in-Admitted-1
+    plan_admitted-requires
+    returns-in-Refused
+    returns-in-Admitted)

@@ -7,97 +7,81 @@ use Rattle.solve.proofs.Holding.{readable, numbered_to, bound}
 use Rattle.solve.proofs.step.open_step.Statement.{statement}
 use Rattle.solve.proofs.step.open_step.Tie as tie
 
--- places in the code, each from a later one
-abbrev entry : tie.After-slice-known3 → tie.Start
-entry c = c.before.before.before
+most_variables-requires : tie.Need-most_variables-requires
+most_variables-requires c κs = search rules
 
-abbrev entered : tie.After-most-variables → tie.After-slice-known3
-entered c = c.before.before.before
-
-abbrev settling_chosen : tie.After-fill-ends-arg → tie.After-choose-settle
-settling_chosen c = c.before.before.before
-
-abbrev ends_filled : tie.After-expand-step-arg → tie.After-fill-ends
-ends_filled c = c.before.before.before
-
-abbrev start : tie.After-choose-settle → tie.Start
-start c = entry (entered c.before)
-
-most_variables_requires : tie.Need-most-variables-requires
-most_variables_requires c κs = search rules
-
-choose_settle_requires : tie.Need-choose-settle-requires
-choose_settle_requires c κs =
-    let r = (entry (entered c)).requires.0 in
+choose_settle-c-requires : tie.Need-choose_settle-c-requires
+choose_settle-c-requires c κs =
+    let r = c.requires.0 in
     (readable r.held, bound r.held, rw c.most_variables.ensures (numbered_to r.held))
 
-enum_known_c : tie.Need-enum-known-c
-enum_known_c c = search rules
+enum_known-c : tie.Need-enum_known-c
+enum_known-c c = search rules
 
-settle_step_requires : tie.Need-settle-step-requires
-settle_step_requires c κs =
-    let told = c.before.before.before in
-    let chosen = told.before.before in
-    let a = start chosen in
-    (a.pre.0, a.pre.1, subst (ToSettle a.args.s.sheet a.args.first.now) told.c.given.1 chosen.choose-settle.ensures)
+settle_step-requires : tie.Need-settle_step-requires
+settle_step-requires c κs =
+    let told = c in
+    let chosen = told in
+    let a = chosen in
+    (a.requires.0, a.requires.1, subst (ToSettle a.args.s.sheet a.args.first.now) told.in-Settle.is chosen.choose_settle-c.ensures)
 
-enum_told : tie.Need-enum-told
-enum_told c = search rules
+enum_told-1 : tie.Need-enum_told-1
+enum_told-1 c = search rules
 
-fill_ends_requires : tie.Need-fill-ends-requires
-fill_ends_requires c κs =
-    let a = start (settling_chosen c.before) in
-    let ok = readable a.pre.0.held in
-    (ok, omega (arith, ok.few_nodes, a.pre.2))
+fill_ends-requires : tie.Need-fill_ends-requires
+fill_ends-requires c κs =
+    let a = c in
+    let ok = readable a.requires.0.held in
+    (ok, omega (arith, ok.few_nodes, a.requires.2))
 
-expand_step_requires : tie.Need-expand-step-requires
-expand_step_requires c κs =
-    let filled = ends_filled c.before.before in
-    let told = filled.before.before.before in
-    let chosen = told.before.before in
-    let a = start chosen in (
-      a.pre.0,
-      a.pre.1,
-      subst (ToSettle a.args.s.sheet a.args.first.now) told.enum_told.given.1 chosen.choose-settle.ensures,
-      filled.fill-ends.ensures.0,
+expand_step-requires : tie.Need-expand_step-requires
+expand_step-requires c κs =
+    let filled = c in
+    let told = filled in
+    let chosen = told in
+    let a = chosen in (
+      a.requires.0,
+      a.requires.1,
+      subst (ToSettle a.args.s.sheet a.args.first.now) told.in-Nothing.is chosen.choose_settle-c.ensures,
+      filled.fill_ends.ensures.0,
     )
 
-same_length : tie.Need-same-length
-same_length c = search rules
+shape_of-first-in-Settle : tie.Need-shape_of-first-in-Settle
+shape_of-first-in-Settle c = search rules
 
-same_length_2 : tie.Need-same-length-2
-same_length_2 c = search rules
+shape_of-second-in-Settle : tie.Need-shape_of-second-in-Settle
+shape_of-second-in-Settle c = search rules
 
-returns : tie.Need-returns
-returns c = search rules
+returns-in-Settle : tie.Need-returns-in-Settle
+returns-in-Settle c = search rules
 
-same_length_3 : tie.Need-same-length-3
-same_length_3 c = search rules
+shape_of-first-in-Nothing : tie.Need-shape_of-first-in-Nothing
+shape_of-first-in-Nothing c = search rules
 
-same_length_4 : tie.Need-same-length-4
-same_length_4 c = search rules
+shape_of-second-in-Nothing : tie.Need-shape_of-second-in-Nothing
+shape_of-second-in-Nothing c = search rules
 
-same_length_5 : tie.Need-same-length-5
-same_length_5 c = search rules
+shape_of-ends : tie.Need-shape_of-ends
+shape_of-ends c = search rules
 
-returns_2 : tie.Need-returns-2
-returns_2 c = search rules
+returns-in-Nothing : tie.Need-returns-in-Nothing
+returns-in-Nothing c = search rules
 
 pub open_step_spec : {M : Type 1} → statement M
 open_step_spec =
     tie.close
     (tie.spec
-    most_variables_requires
-    choose_settle_requires
-    enum_known_c
-    settle_step_requires
-    enum_told
-    fill_ends_requires
-    expand_step_requires
-    same_length
-    same_length_2
-    returns
-    same_length_3
-    same_length_4
-    same_length_5
-    returns_2)
+    most_variables-requires
+    choose_settle-c-requires
+    enum_known-c
+    settle_step-requires
+    enum_told-1
+    fill_ends-requires
+    expand_step-requires
+    shape_of-first-in-Settle
+    shape_of-second-in-Settle
+    returns-in-Settle
+    shape_of-first-in-Nothing
+    shape_of-second-in-Nothing
+    shape_of-ends
+    returns-in-Nothing)

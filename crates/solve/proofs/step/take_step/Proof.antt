@@ -7,59 +7,55 @@ use Rattle.solve.proofs.Arriving.{decided_end}
 use Rattle.solve.proofs.step.take_step.Statement.{statement}
 use Rattle.solve.proofs.step.take_step.Tie as tie
 
--- places in the code, each from a later one
-abbrev start : tie.After-slice-known3 → tie.Start
-start c = c.before.before.before
+decide-d-requires : tie.Need-decide-d-requires
+decide-d-requires c κs =
+    readable c.requires.0.held
 
-decide_requires : tie.Need-decide-requires
-decide_requires c κs =
-    readable (start c.before).requires.0.held
+enum_known-d : tie.Need-enum_known-d
+enum_known-d c = search rules
 
-enum_known_d : tie.Need-enum-known-d
-enum_known_d c = search rules
+enum_told-1 : tie.Need-enum_told-1
+enum_told-1 c = search rules
 
-enum_told : tie.Need-enum-told
-enum_told c = search rules
+open_step-requires : tie.Need-open_step-requires
+open_step-requires c κs =
+    let told = c in
+    let decided = told in
+    let a = decided in
+    (a.requires.0, sym decided.decide-d.ensures ∙ ap decision_of told.in-Open.is, a.requires.1)
 
-open_step_requires : tie.Need-open-step-requires
-open_step_requires c κs =
-    let told = c.before.before.before in
-    let decided = told.before.before in
-    let a = start decided.before.before in
-    (a.pre.0, sym decided.decide.ensures ∙ ap decision_of told.enum_told.given.1, a.pre.1)
+shape_of-first-in-Decided : tie.Need-shape_of-first-in-Decided
+shape_of-first-in-Decided c = search rules
 
-same_length : tie.Need-same-length
-same_length c = search rules
+returns-in-Decided : tie.Need-returns-in-Decided
+returns-in-Decided c =
+    let told = c in
+    let decided = told in
+    (decided_end decided.requires.0 (sym decided.decide-d.ensures ∙ ap decision_of told.in-Decided.is), refl, refl)
 
-returns : tie.Need-returns
-returns c =
-    let told = c.before in
-    let decided = told.before.before in
-    (decided_end (start decided.before.before).requires.0 (sym decided.decide.ensures ∙ ap decision_of told.d.given.1), refl, refl)
+shape_of-first-in-Open : tie.Need-shape_of-first-in-Open
+shape_of-first-in-Open c = search rules
 
-same_length_2 : tie.Need-same-length-2
-same_length_2 c = search rules
+shape_of-second : tie.Need-shape_of-second
+shape_of-second c = search rules
 
-same_length_3 : tie.Need-same-length-3
-same_length_3 c = search rules
+shape_of-ends : tie.Need-shape_of-ends
+shape_of-ends c = search rules
 
-same_length_4 : tie.Need-same-length-4
-same_length_4 c = search rules
-
-returns_2 : tie.Need-returns-2
-returns_2 c = search rules
+returns-in-Open : tie.Need-returns-in-Open
+returns-in-Open c = search rules
 
 pub take_step_spec : {M : Type 1} → statement M
 take_step_spec =
     tie.close
     (tie.spec
-    decide_requires
-    enum_known_d
-    enum_told
-    open_step_requires
-    same_length
-    returns
-    same_length_2
-    same_length_3
-    same_length_4
-    returns_2)
+    decide-d-requires
+    enum_known-d
+    enum_told-1
+    open_step-requires
+    shape_of-first-in-Decided
+    returns-in-Decided
+    shape_of-first-in-Open
+    shape_of-second
+    shape_of-ends
+    returns-in-Open)

@@ -7,46 +7,45 @@ use Rattle.solve.proofs.Deciding.{open_literal, open_operator, decided_true, dec
 use Rattle.solve.proofs.verdicts.decide.Statement.{statement}
 use Rattle.solve.proofs.verdicts.decide.Tie as tie
 
--- places in the code, each from a later one
-abbrev start : tie.Else1 → tie.Start
-start c = c.before.before.before
+kind_at-kind-requires : tie.Need-kind_at-kind-requires
+kind_at-kind-requires c κs = search rules
 
-abbrev kind_read : tie.Else2 → tie.After-kind-at
-kind_read c = c.before.before.before
+returns-then-kind-le-NEGATIVE : tie.Need-returns-then-kind-le-NEGATIVE
+unfolding matrix_in subtree_in forest_in
+returns-then-kind-le-NEGATIVE c =
+    let a = c.args in
+    open_literal (subtree_in a.s a.b.now 0) (omega (arith, c.kind_at-kind.ensures))
 
-kind_at_requires : tie.Need-kind-at-requires
-kind_at_requires c κs = search rules
+argument_at-requires : tie.Need-argument_at-requires
+argument_at-requires c κs = search rules
+
+returns-then-argument_at-ne0 : tie.Need-returns-then-argument_at-ne0
+unfolding matrix_in subtree_in forest_in
+returns-then-argument_at-ne0 c =
+    let a = c.args in
+    open_operator (subtree_in a.s a.b.now 0) (omega (arith, c.kind_at-kind.ensures)) (λ e. omega (arith, c.argument_at.ensures.0))
+
+returns-then-kind-eq-AND : tie.Need-returns-then-kind-eq-AND
+unfolding matrix_in subtree_in forest_in
+returns-then-kind-eq-AND c =
+    let a = c.args in
+    decided_true (subtree_in a.s a.b.now 0) (omega (arith, c.kind_at-kind.ensures)) (omega (arith, c.argument_at.ensures.0))
 
 returns : tie.Need-returns
 unfolding matrix_in subtree_in forest_in
 returns c =
-    let a = c.before.before.before.args in
-    open_literal (subtree_in a.s a.b.now 0) (omega (arith, c.before.kind_at.ensures))
-
-argument_at_requires : tie.Need-argument-at-requires
-argument_at_requires c κs = search rules
-
-returns_2 : tie.Need-returns-2
-unfolding matrix_in subtree_in forest_in
-returns_2 c =
-    let a = (start c.before.before).args in
-    open_operator (subtree_in a.s a.b.now 0) (omega (arith, c.before.before.before.kind_at.ensures)) (λ e. omega (arith, c.before.argument-at.ensures.0))
-
-returns_3 : tie.Need-returns-3
-unfolding matrix_in subtree_in forest_in
-returns_3 c =
-    let a = (start c.before.before.before).args in
-    decided_true (subtree_in a.s a.b.now 0) (omega (arith, (kind_read c.before).kind_at.ensures)) (omega (arith, c.before.before.argument-at.ensures.0))
-
-returns_4 : tie.Need-returns-4
-unfolding matrix_in subtree_in forest_in
-returns_4 c =
-    let a = (start c.before.before.before).args in
-    let kind = (kind_read c.before).kind_at.ensures in
+    let a = c.args in
+    let kind = c.kind_at-kind.ensures in
     decided_false (subtree_in a.s a.b.now 0) (omega (arith, kind)) (λ e. omega (arith, kind))
-    (omega (arith, c.before.before.argument-at.ensures.0))
+    (omega (arith, c.argument_at.ensures.0))
 
 pub decide_spec : {M : Type 1} → statement M
 decide_spec =
     tie.close
-    (tie.spec kind_at_requires returns argument_at_requires returns_2 returns_3 returns_4)
+    (tie.spec
+    kind_at-kind-requires
+    returns-then-kind-le-NEGATIVE
+    argument_at-requires
+    returns-then-argument_at-ne0
+    returns-then-kind-eq-AND
+    returns)
