@@ -190,6 +190,7 @@ class Turner:
         f = self.f
         here = self.env[var][1]
         k, rest = key(segs[0]), segs[1:]
+        k = "fits" if k == "fits2" and k not in f.fields else k
         line = f.line(here)
         best = None
         for place, field, step, p, to in f.arms:
@@ -200,6 +201,8 @@ class Turner:
         if best:
             segs = best[1]
         else:
+            if k == "fits2" and k not in f.fields:
+                k = "fits"
             if k not in f.fields and k[0].isupper() and k[0].lower() + k[1:] in f.fields:
                 k = k[0].lower() + k[1:]
             if k in f.callee and rest[:1] in (["kept"], ["auto"], ["last"], ["new"]):

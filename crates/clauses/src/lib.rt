@@ -1,6 +1,7 @@
 // Clauses (Certificates): an equal question whose matrix is AND of clauses. Every operator but the root and the ORs that are clauses gets a
 // name, a new existential variable, with the clauses "name implies the operator of its children's names".
 #![tactic(auto)]
+
 ghost use Rattle.std.specs.Prelude.{◌≡◌, true, length};
 ghost use Rattle.sheet.specs.Sheet.{sheet};
 ghost use Rattle.sheet.specs.Operations.{padded};

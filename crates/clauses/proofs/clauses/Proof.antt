@@ -9,56 +9,49 @@ use Rattle.clauses.proofs.Answering.{unchecked_call, own_call}
 use Rattle.clauses.proofs.clauses.Statement.{statement}
 use Rattle.clauses.proofs.clauses.Tie as tie
 
--- places in the code, each from a later one
-abbrev start : tie.After-check → tie.Start
-start c = c.before.before.before
-
 -- Check has accepted the sheet
-checked : (c : tie.After-c2) → Sheet (start c.before.before).args.f (start c.before.before).args.sheet.now c.c2.given.0.0
-checked c = sheet_checked c.c2.given.1 c.before.before.check.ensures
+checked : (c : tie.In-Accepted) → Sheet c.args.f c.args.sheet.now c.in-Accepted.s
+checked c = sheet_checked c.in-Accepted.is c.check-c.ensures
 
-abbrev told : tie.After-clauses-checked → tie.After-c2
-told c = c.before.before.before
+check-c-requires : tie.Need-check-c-requires
+check-c-requires c κs = search rules
 
-check_requires : tie.Need-check-requires
-check_requires c κs = search rules
+enum_known-c : tie.Need-enum_known-c
+enum_known-c c = search rules
 
-enum_known_c : tie.Need-enum-known-c
-enum_known_c c = search rules
+enum_known-c-in-Accepted-1 : tie.Need-enum_known-c-in-Accepted-1
+enum_known-c-in-Accepted-1 c = search rules
 
-enum_known_c_2 : tie.Need-enum-known-c-2
-enum_known_c_2 c = search rules
+clauses_checked-requires : tie.Need-clauses_checked-requires
+clauses_checked-requires c κs = sheet_own (checked c.before)
 
-clauses_checked_requires : tie.Need-clauses-checked-requires
-clauses_checked_requires c κs = sheet_own (checked c.before.before)
-
-returns : tie.Need-returns
-returns c =
-    let k = c.before in
-    let call = k.before.before in
-    let a = (start call).args in
-    let e = unchecked_call a.f a.sheet.now a.out.now (sheet_refused a.f a.sheet.now k.c.given.1 call.check.ensures) in
+returns-in-Refused : tie.Need-returns-in-Refused
+returns-in-Refused c =
+    let k = c in
+    let call = k in
+    let a = call.args in
+    let e = unchecked_call a.f a.sheet.now a.out.now (sheet_refused a.f a.sheet.now k.in-Refused.is call.check-c.ensures) in
     (e, clauses_truthful (format_of a.f) (sound a.f) a.sheet.now a.out.now e)
 
-same_length : tie.Need-same-length
-same_length c = search rules
+shape_of-out : tie.Need-shape_of-out
+shape_of-out c = search rules
 
-returns_2 : tie.Need-returns-2
-returns_2 c =
-    let w = c.before.before in
-    let k = told w in
-    let a = (start k.before.before).args in
-    let e = own_call a.out.now (checked k) w.clauses-checked.ensures in
+returns-in-Accepted : tie.Need-returns-in-Accepted
+returns-in-Accepted c =
+    let w = c in
+    let k = w in
+    let a = k.args in
+    let e = own_call a.out.now (checked k.before.before.before.before) w.clauses_checked.ensures in
     (e, clauses_truthful (format_of a.f) (sound a.f) a.sheet.now a.out.now e)
 
 pub clauses_spec : {M : Type 1} → statement M
 clauses_spec =
     tie.close
     (tie.spec
-    check_requires
-    enum_known_c
-    enum_known_c_2
-    clauses_checked_requires
-    returns
-    same_length
-    returns_2)
+    check-c-requires
+    enum_known-c
+    enum_known-c-in-Accepted-1
+    clauses_checked-requires
+    returns-in-Refused
+    shape_of-out
+    returns-in-Accepted)

@@ -13,147 +13,119 @@ use Rattle.clauses.proofs.Answering.{few_lines, few_variables, enough, no_number
 use Rattle.clauses.proofs.clauses_checked.Statement.{statement}
 use Rattle.clauses.proofs.clauses_checked.Tie as tie
 
--- places in the code, each from a later one
-abbrev start : tie.After-ends → tie.Start
-start c = c.before.before.before
-
-abbrev indexed : tie.After-survey → tie.After-fill-ends
-indexed c = let k = c.before.before in k.before.before
-
-abbrev entry : tie.After-survey → tie.Start
-entry c = start (indexed c).before
-
-abbrev surveyed : tie.After-struct-known → tie.After-survey
-surveyed c = c.before.before.before
-
-abbrev sized : tie.After-struct-known2 → tie.After-survey
-sized c = surveyed c.before
-
-abbrev numbers : tie.After-struct-known2 → tie.After-most-variables
-numbers c = c.before.before
-
-abbrev left : tie.After-struct-known5 → tie.Else1
-left c = c.before.before.before
-
-abbrev fitted : tie.After-clauses-into-arg → tie.Else2
-fitted c = c.before.before.before
-
 -- numbers enough are left
-clausable : (c : tie.Else1)
-    → let v = sized c.before in
-    let a = (entry v).args in
-    Clausable a.b.now a.s (indexed v).fill-ends.last.1.1.0 v.survey.last.1.1.1.0 v.survey.result
+clausable : (c : tie.Else-most_variables-s)
+    → let v = c in
+    let a = v.args in
+    Clausable a.b.now a.s v.fill_ends.new.ends v.survey-size.new.names v.survey-size.result
 clausable c =
-    let v = sized c.before in
-    let a = entry v in
-    let i = indexed v in
+    let v = c in
+    let a = v in
+    let i = v in
     record {
-      checked = a.pre;
-      indexed = i.fill-ends.ensures.0;
-      has_entries = omega (arith, (sheet_readable a.pre).few_nodes, v.survey.kept.1.1.1.0);
-      surveyed = v.survey.ensures;
-      enough = enough a.pre v.survey.ensures (omega (arith, c.if1.false, (numbers c.before).most_variables.ensures));
+      checked = a.requires;
+      indexed = i.fill_ends.ensures.0;
+      has_entries = omega (arith, (sheet_readable a.requires).few_nodes, v.survey-size.auto.names);
+      surveyed = v.survey-size.ensures;
+      enough = enough a.requires v.survey-size.ensures (omega (arith, c.if-most_variables-s.false, c.most_variables.ensures));
     }
 
-slice_aggregate_fill_ends : tie.Need-slice-aggregate-fill-ends
-slice_aggregate_fill_ends c = search rules
+slice_bounds-fill_ends-end : tie.Need-slice_bounds-fill_ends-end
+slice_bounds-fill_ends-end c = search rules
 
-fill_ends_requires : tie.Need-fill-ends-requires
-fill_ends_requires c κs = let a = start c in (sheet_readable a.pre, omega (arith, (sheet_readable a.pre).few_nodes))
+fill_ends-requires : tie.Need-fill_ends-requires
+fill_ends-requires c κs = let a = c in (sheet_readable a.requires, omega (arith, (sheet_readable a.requires).few_nodes))
 
-slice_aggregate_survey : tie.Need-slice-aggregate-survey
-slice_aggregate_survey c = search rules
+slice_bounds-survey-end : tie.Need-slice_bounds-survey-end
+slice_bounds-survey-end c = search rules
 
-slice_aggregate_survey_2 : tie.Need-slice-aggregate-survey-2
-slice_aggregate_survey_2 c = search rules
+slice_bounds-survey-end-2 : tie.Need-slice_bounds-survey-end-2
+slice_bounds-survey-end-2 c = search rules
 
-survey_requires : tie.Need-survey-requires
-survey_requires c κs =
-    let k = c.before.before in
-    let i = k.before in
-    (i.fill-ends.ensures.0, omega (arith, (sheet_readable (start i.before).requires).few_nodes))
+survey-size-requires : tie.Need-survey-size-requires
+survey-size-requires c κs =
+    let k = c in
+    let i = k in
+    (i.fill_ends.ensures.0, omega (arith, (sheet_readable i.requires).few_nodes))
 
-most_variables_requires : tie.Need-most-variables-requires
-most_variables_requires c κs = search rules
+most_variables-requires : tie.Need-most_variables-requires
+most_variables-requires c κs = search rules
 
-sub_if1 : tie.Need-overflow-sub-if1
-sub_if1 c = let v = surveyed c in omega (arith, few_variables (entry v).pre v.survey.ensures, c.before.most_variables.ensures)
+overflow_sub-most_variables : tie.Need-overflow_sub-most_variables
+overflow_sub-most_variables c = let v = c in omega (arith, few_variables v.requires v.survey-size.ensures, c.most_variables.ensures)
+
+returns-then-most_variables-s : tie.Need-returns-then-most_variables-s
+returns-then-most_variables-s c =
+    let v = c in
+    let a = v in
+    no_numbers a.requires v.survey-size.ensures a.args.out.now (omega (arith, c.if-most_variables-s.true, c.most_variables.ensures))
+
+overflow_add-s : tie.Need-overflow_add-s
+overflow_add-s c =
+    let e = c in
+    let v = e in
+    omega (arith, e.if-most_variables-s.false, e.most_variables.ensures, (limits v.args.s.format).few_variables, few_variables v.requires v.survey-size.ensures)
+
+overflow_add-size : tie.Need-overflow_add-size
+overflow_add-size c = let v = c in omega (arith, few_lines v.requires v.survey-size.ensures)
+
+fits-requires : tie.Need-fits-requires
+fits-requires c κs =
+    let e = c in
+    let v = e in (
+      omega (arith, e.if-most_variables-s.false, e.most_variables.ensures, (limits v.args.s.format).few_variables, few_variables v.requires v.survey-size.ensures),
+      omega (arith, few_lines v.requires v.survey-size.ensures),
+    )
+
+returns-then-not-fits : tie.Need-returns-then-not-fits
+returns-then-not-fits c =
+    let d = c in
+    let e = d in
+    no_place (clausable e.before.before.before.before.before) e.args.out.now d.fits2.ensures (c.if-not-fits.true)
+
+slice_bounds-clauses_into-end : tie.Need-slice_bounds-clauses_into-end
+slice_bounds-clauses_into-end c = search rules
+
+slice_bounds-clauses_into-end-2 : tie.Need-slice_bounds-clauses_into-end-2
+slice_bounds-clauses_into-end-2 c = search rules
+
+clauses_into-requires : tie.Need-clauses_into-requires
+clauses_into-requires c κs =
+    let g = c in
+    let d = g in
+    let e = d in
+    (clausable e.before.before.before.before.before.before.before.before, has_place (clausable e.before.before.before.before.before.before.before.before) e.args.out.now d.fits2.ensures (g.if-not-fits.false))
+
+shape_of-out : tie.Need-shape_of-out
+shape_of-out c = search rules
 
 returns : tie.Need-returns
 returns c =
-    let v = sized c.before in
-    let a = entry v in
-    no_numbers a.pre v.survey.ensures a.args.out.now (omega (arith, c.if1.true, (numbers c.before).most_variables.ensures))
-
-add_fits : tie.Need-overflow-add-fits
-add_fits c =
-    let e = c.before.before in
-    let v = sized e.before in
-    omega (arith, e.if1.false, (numbers e.before).most_variables.ensures, (limits (entry v).args.s.format).few_variables, few_variables (entry v).pre v.survey.ensures)
-
-add_fits_2 : tie.Need-overflow-add-fits-2
-add_fits_2 c = let v = sized (left c).before in omega (arith, few_lines (entry v).pre v.survey.ensures)
-
-fits_requires : tie.Need-fits-requires
-fits_requires c κs =
-    let e = left c in
-    let v = sized e.before in (
-      omega (arith, e.if1.left, (numbers e.before).most_variables.ensures, (limits (entry v).args.s.format).few_variables, few_variables (entry v).pre v.survey.ensures),
-      omega (arith, few_lines (entry v).pre v.survey.ensures),
-    )
-
-returns_2 : tie.Need-returns-2
-returns_2 c =
-    let d = c.before in
-    let e = left d.before in
-    no_place (clausable e) (entry (sized e.before)).args.out.now d.fits2.ensures (not-true d.fits2.result c.if2.true)
-
-slice_aggregate_clauses_into : tie.Need-slice-aggregate-clauses-into
-slice_aggregate_clauses_into c = search rules
-
-slice_aggregate_clauses_into_2 : tie.Need-slice-aggregate-clauses-into-2
-slice_aggregate_clauses_into_2 c = search rules
-
-clauses_into_requires : tie.Need-clauses-into-requires
-clauses_into_requires c κs =
-    let g = fitted c in
-    let d = g.before in
-    let e = left d.before in
-    (clausable e, has_place (clausable e) (entry (sized e.before)).args.out.now d.fits2.ensures (not-false d.fits2.result g.if2.left))
-
-same_length : tie.Need-same-length
-same_length c = search rules
-
-abbrev wrote : tie.After-slice-known2 → tie.After-clauses-into
-wrote c = c.before.before.before
-
-returns_3 : tie.Need-returns-3
-returns_3 c =
-    let w = wrote c in
-    let g = fitted w.before in
-    let d = g.before in
-    let e = left d.before in
-    written_call (clausable e) (entry (sized e.before)).args.out.now d.fits2.ensures (not-false d.fits2.result g.if2.left) w.clauses-into.ensures.1
-    w.clauses-into.ensures.0
+    let w = c in
+    let g = w in
+    let d = g in
+    let e = d in
+    written_call (clausable e.before.before.before.before.before.before.before.before.before.before.before.before) e.args.out.now d.fits2.ensures (g.if-not-fits.false) w.clauses_into.ensures.1
+    w.clauses_into.ensures.0
 
 pub clauses_checked_spec : {M : Type 1} → statement M
 clauses_checked_spec =
     tie.close
     (tie.spec
-    slice_aggregate_fill_ends
-    fill_ends_requires
-    slice_aggregate_survey
-    slice_aggregate_survey_2
-    survey_requires
-    most_variables_requires
-    sub_if1
-    returns
-    add_fits
-    add_fits_2
-    fits_requires
-    returns_2
-    slice_aggregate_clauses_into
-    slice_aggregate_clauses_into_2
-    clauses_into_requires
-    same_length
-    returns_3)
+    slice_bounds-fill_ends-end
+    fill_ends-requires
+    slice_bounds-survey-end
+    slice_bounds-survey-end-2
+    survey-size-requires
+    most_variables-requires
+    overflow_sub-most_variables
+    returns-then-most_variables-s
+    overflow_add-s
+    overflow_add-size
+    fits-requires
+    returns-then-not-fits
+    slice_bounds-clauses_into-end
+    slice_bounds-clauses_into-end-2
+    clauses_into-requires
+    shape_of-out
+    returns)

@@ -16,61 +16,39 @@ use Rattle.clauses.proofs.Sheets.{ok, numbered_in, literals_fit, enough_left, fe
 use Rattle.clauses.proofs.clauses_into.Statement.{statement}
 use Rattle.clauses.proofs.clauses_into.Tie as tie
 
--- places in the code, each from a later one
-abbrev start : tie.After-most-variables → tie.Start
-start c = let k = c.before.before in k.before.before.before
-
-abbrev entry : tie.After-fill-fresh → tie.Start
-entry c = start c.before.before
-
-abbrev filled : tie.After-name-rows → tie.After-fill-fresh
-filled c = let k = c.before.before in k.before.before
-
-abbrev named : tie.After-struct-known2 → tie.After-name-rows
-named c = let k = c.before.before in k.before.before
-
-abbrev front : tie.After-write-clauses-arg2 → tie.After-write-front
-front c = let k = c.before.before in k.before.before
-
-abbrev known : tie.After-write-front → tie.After-struct-known2
-known c = c.before.before.before
-
-abbrev behind : tie.After-struct-known3 → tie.After-write-clauses
-behind c = let k = c.before.before in k.before.before
-
 -- the layout of the clauses
-abbrev layout : tie.After-name-rows → Layout
+abbrev layout : tie.After-name_rows → Layout
 layout c =
-    let a = (entry (filled c)).args in
+    let a = c.args in
     record { format = a.s.format; variables = a.s.variables + a.size.names; nodes = a.size.rows + 1 }
 
 -- the numbers given out
-given : (c : tie.After-fill-fresh)
-    → let a = (entry c).args in
-    c.fill-fresh.new.1.1.1.1.0 ≡
+given : (c : tie.After-fill_fresh)
+    → let a = c.args in
+    c.fill_fresh.new.fresh ≡
     take a.size.names (unused (prefix_in a.s a.b.now) (format_in a.s).most_variables 1) ++ drop a.size.names (replicate 1025 0)
 given c =
-    let m = c.before.before in
-    let a = (start m).args in
-    c.fill-fresh.ensures ∙
+    let m = c in
+    let a = m.args in
+    c.fill_fresh.ensures ∙
     ap (λ n. take a.size.names (unused (prefix_in a.s a.b.now) n 1) ++ drop a.size.names (replicate 1025 0)) m.most_variables.ensures
 
 -- as many as there are names
-shared : (c : tie.After-fill-fresh)
-    → length (take (entry c).args.size.names c.fill-fresh.new.1.1.1.1.0) ≡ (entry c).args.size.names
-shared c = length-take-le _ _ (omega (arith, few_names (entry c).requires.0, c.fill-fresh.auto.1.1.1.1.0))
+shared : (c : tie.After-fill_fresh)
+    → length (take c.args.size.names c.fill_fresh.new.fresh) ≡ c.args.size.names
+shared c = length-take-le _ _ (omega (arith, few_names c.requires.0, c.fill_fresh.auto.fresh))
 
-most_variables_requires : tie.Need-most-variables-requires
-most_variables_requires c κs = search rules
+most_variables-requires : tie.Need-most_variables-requires
+most_variables-requires c κs = search rules
 
-slice_aggregate_fill_fresh : tie.Need-slice-aggregate-fill-fresh
-slice_aggregate_fill_fresh c = search rules
+slice_bounds-fill_fresh-end : tie.Need-slice_bounds-fill_fresh-end
+slice_bounds-fill_fresh-end c = search rules
 
-fill_fresh_requires : tie.Need-fill-fresh-requires
-fill_fresh_requires c κs =
-    let m = c.before in
-    let a = start m in
-    let h = a.pre.0 in (
+fill_fresh-requires : tie.Need-fill_fresh-requires
+fill_fresh-requires c κs =
+    let m = c in
+    let a = m in
+    let h = a.requires.0 in (
       ok h,
       numbered_in h,
       omega (arith, m.most_variables.ensures, (limits a.args.s.format).few_variables),
@@ -78,116 +56,116 @@ fill_fresh_requires c κs =
       omega (arith, few_names h, length-replicate {A = ℕ} 1025 0),
     )
 
-slice_aggregate_name_rows : tie.Need-slice-aggregate-name-rows
-slice_aggregate_name_rows c = search rules
+slice_bounds-name_rows-end : tie.Need-slice_bounds-name_rows-end
+slice_bounds-name_rows-end c = search rules
 
-name_rows_requires : tie.Need-name-rows-requires
-name_rows_requires c κs = search rules
+name_rows-requires : tie.Need-name_rows-requires
+name_rows-requires c κs = search rules
 
-add_t14 : tie.Need-overflow-add-t14
-add_t14 c = let k = c.before.before in omega (arith, few_names (entry (filled k.before)).requires.0)
+overflow_add-t : tie.Need-overflow_add-t
+overflow_add-t c = let k = c in omega (arith, few_names k.requires.0)
 
-add_seal : tie.Need-overflow-add-seal
-add_seal c = let a = entry (filled (named c)) in omega (arith, few_nodes a.pre.0 (length a.args.out.now) a.pre.1)
+overflow_add-t-2 : tie.Need-overflow_add-t-2
+overflow_add-t-2 c = let a = c in omega (arith, few_nodes a.requires.0 (length a.args.out.now) a.requires.1)
 
-array_share_prefix_fresh : tie.Need-array-share-prefix-fresh
-array_share_prefix_fresh c =
-    let d = filled (named c) in
-    omega (arith, few_names (entry d).pre.0, d.fill-fresh.kept.1.1.1.1.0)
+slice_bounds-fresh-end : tie.Need-slice_bounds-fresh-end
+slice_bounds-fresh-end c =
+    let d = c in
+    omega (arith, few_names d.requires.0, d.fill_fresh.auto.fresh)
 
-slice_aggregate_write_front : tie.Need-slice-aggregate-write-front
-slice_aggregate_write_front c =
-    let d = filled (named c.before) in
-    sym (length-take-le _ _ (omega (arith, few_names (entry d).pre.0, d.fill-fresh.kept.1.1.1.1.0)))
+slice_bounds-write_front-end : tie.Need-slice_bounds-write_front-end
+slice_bounds-write_front-end c =
+    let d = c in
+    sym (length-take-le _ _ (omega (arith, few_names d.requires.0, d.fill_fresh.auto.fresh)))
 
-write_front_requires : tie.Need-write-front-requires
-write_front_requires c κs =
-    let n = named c.before.before in
-    let d = filled n in
-    let a = entry d in
-    let h = a.pre.0 in (
+write_front-at-requires : tie.Need-write_front-at-requires
+write_front-at-requires c κs =
+    let n = c in
+    let d = n in
+    let a = d in
+    let h = a.requires.0 in (
       ok h,
-      record { source = (ok h).room; room = clauses-room h (length a.args.out.now) a.pre.1 {t = layout n} refl refl refl; same_format = refl },
-      omega (arith, length-take-le a.args.size.names d.fill-fresh.last.1.1.1.1.0 (omega (arith, few_names h, d.fill-fresh.kept.1.1.1.1.0))),
-      number_fits a.args.s.format (omega (arith, few_clauses h (length a.args.out.now) a.pre.1)),
+      record { source = (ok h).room; room = clauses-room h (length a.args.out.now) a.requires.1 {t = layout n.before.before.before.before.before.before} refl refl refl; same_format = refl },
+      omega (arith, length-take-le a.args.size.names d.fill_fresh.new.fresh (omega (arith, few_names h, d.fill_fresh.auto.fresh))),
+      number_fits a.args.s.format (omega (arith, few_clauses h (length a.args.out.now) a.requires.1)),
     )
 
-write_clauses_requires : tie.Need-write-clauses-requires
-write_clauses_requires c κs =
-    let w = front c in
-    let n = named (known w) in
-    let a = entry (filled n) in
-    let h = a.pre.0 in
-    let L = n.name-rows.last.1.0 in
-    let at = front_at h (take a.args.size.names (filled n).fill-fresh.last.1.1.1.1.0) (shared (filled n)) w.write-front.ensures in (
+write_clauses-requires : tie.Need-write_clauses-requires
+write_clauses-requires c κs =
+    let w = c in
+    let n = w in
+    let a = n in
+    let h = a.requires.0 in
+    let L = n.name_rows.new.names in
+    let at = front_at h (take a.args.size.names n.fill_fresh.new.fresh) (shared n.before.before.before.before.before.before.before.before.before.before.before.before.before.before) w.write_front-at.ensures in (
       (
         h.indexed,
-        record { readable = ok h; literals_fit = literals_fit h; has_entries = omega (arith, h.has_entries, n.name-rows.kept.1.0) },
+        record { readable = ok h; literals_fit = literals_fit h; has_entries = omega (arith, h.has_entries, n.name_rows.auto.names) },
         record {
           source = (ok h).room;
-          room = room_on (clauses-room h (length a.args.out.now) a.pre.1 {t = layout n} refl refl refl) w.write-front.kept.1.1.1.1.0;
+          room = room_on (clauses-room h (length a.args.out.now) a.requires.1 {t = layout n.before.before.before.before.before.before.before.before.before.before} refl refl refl) w.write_front-at.auto.out;
           same_format = refl;
         },
       ),
-      omega (arith, rows-room h (length a.args.out.now) a.pre.1 {t = layout n} refl refl refl L at),
+      omega (arith, rows-room h (length a.args.out.now) a.requires.1 {t = layout n.before.before.before.before.before.before.before.before.before.before} refl refl refl L at),
     )
 
-add_seal_2 : tie.Need-overflow-add-seal-2
-add_seal_2 c =
-    let a = entry (filled (named (known (front (behind c).before)))) in
-    omega (arith, few_names a.pre.0, few_nodes a.pre.0 (length a.args.out.now) a.pre.1)
+overflow_add-t-3 : tie.Need-overflow_add-t-3
+overflow_add-t-3 c =
+    let a = c in
+    omega (arith, few_names a.requires.0, few_nodes a.requires.0 (length a.args.out.now) a.requires.1)
 
-seal_requires : tie.Need-seal-requires
-seal_requires c κs =
-    let v = behind c in
-    let w = front v.before in
-    let n = named (known w) in
-    let a = entry (filled n) in (
-      room_on (clauses-room a.pre.0 (length a.args.out.now) a.pre.1 {t = layout n} refl refl refl)
-          (v.write-clauses.kept.1.1.1.1.0 ∙ w.write-front.kept.1.1.1.1.0),
+seal-requires : tie.Need-seal-requires
+seal-requires c κs =
+    let v = c in
+    let w = v in
+    let n = w in
+    let a = n in (
+      room_on (clauses-room a.requires.0 (length a.args.out.now) a.requires.1 {t = layout n.before.before.before.before.before.before.before.before.before.before.before.before.before.before.before} refl refl refl)
+          (v.write_clauses.auto.out ∙ w.write_front-at.auto.out),
       omega arith,
       omega arith,
     )
 
-same_length : tie.Need-same-length
-same_length c = search rules
+shape_of-names : tie.Need-shape_of-names
+shape_of-names c = search rules
 
-same_length_2 : tie.Need-same-length-2
-same_length_2 c = search rules
+shape_of-out : tie.Need-shape_of-out
+shape_of-out c = search rules
 
 returns : tie.Need-returns
 returns c =
-    let z = c.before.before in
-    let v = behind z.before in
-    let w = front v.before in
-    let n = named (known w) in
-    let d = filled n in
-    let a = entry d in
-    let h = a.pre.0 in
-    let long = v.write-clauses.kept.1.1.1.1.0 ∙ w.write-front.kept.1.1.1.1.0 in (
+    let z = c in
+    let v = z in
+    let w = v in
+    let n = w in
+    let d = n in
+    let a = d in
+    let h = a.requires.0 in
+    let long = v.write_clauses.auto.out ∙ w.write_front-at.auto.out in (
       z.seal.ensures.0 ∙
-          clauses-sealed h (length a.args.out.now) a.pre.1 {t = layout n} refl refl refl (given d) n.name-rows.ensures w.write-front.ensures v.write-clauses.ensures long refl,
+          clauses-sealed h (length a.args.out.now) a.requires.1 {t = layout n.before.before.before.before.before.before.before.before.before.before.before.before.before.before.before.before.before.before} refl refl refl (given d.before.before.before.before.before.before.before.before.before.before.before.before.before.before.before.before.before.before.before.before.before.before) n.name_rows.ensures w.write_front-at.ensures v.write_clauses.ensures long refl,
       z.seal.ensures.1 ∙
-          clauses-length h (length a.args.out.now) a.pre.1 {t = layout n} refl refl refl (given d) n.name-rows.ensures w.write-front.ensures v.write-clauses.ensures long refl,
+          clauses-length h (length a.args.out.now) a.requires.1 {t = layout n.before.before.before.before.before.before.before.before.before.before.before.before.before.before.before.before.before.before} refl refl refl (given d.before.before.before.before.before.before.before.before.before.before.before.before.before.before.before.before.before.before.before.before.before.before) n.name_rows.ensures w.write_front-at.ensures v.write_clauses.ensures long refl,
     )
 
 pub clauses_into_spec : {M : Type 1} → statement M
 clauses_into_spec =
     tie.close
     (tie.spec
-    most_variables_requires
-    slice_aggregate_fill_fresh
-    fill_fresh_requires
-    slice_aggregate_name_rows
-    name_rows_requires
-    add_t14
-    add_seal
-    array_share_prefix_fresh
-    slice_aggregate_write_front
-    write_front_requires
-    write_clauses_requires
-    add_seal_2
-    seal_requires
-    same_length
-    same_length_2
+    most_variables-requires
+    slice_bounds-fill_fresh-end
+    fill_fresh-requires
+    slice_bounds-name_rows-end
+    name_rows-requires
+    overflow_add-t
+    overflow_add-t-2
+    slice_bounds-fresh-end
+    slice_bounds-write_front-end
+    write_front-at-requires
+    write_clauses-requires
+    overflow_add-t-3
+    seal-requires
+    shape_of-names
+    shape_of-out
     returns)

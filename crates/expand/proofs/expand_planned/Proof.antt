@@ -30,13 +30,13 @@ returns-then-not-fits : tie.Need-returns-then-not-fits
 returns-then-not-fits c =
     let fit = c in
     let a = fit in
-    no_room a.requires a.args.out.now fit.fits2.ensures (c.if-not-fits.true)
+    no_room a.requires a.args.out.now fit.fits.ensures (c.if-not-fits.true)
 
 expand_into-t-requires : tie.Need-expand_into-t-requires
 expand_into-t-requires c κs =
     let fit = c in
     let a = fit in
-    expands a.requires a.args.out.now fit.fits2.ensures (c.if-not-fits.false)
+    expands a.requires a.args.out.now fit.fits.ensures (c.if-not-fits.false)
 
 sheet_length-requires : tie.Need-sheet_length-requires
 sheet_length-requires c κs =
@@ -55,7 +55,7 @@ returns c =
     let fit = some in
     let a = fit in
     let e = wrote.expand_into-t.ensures in
-    expanded-call a.requires a.args.out.now fit.fits2.ensures (some.if-not-fits.false) e.1.0
+    expanded-call a.requires a.args.out.now fit.fits.ensures (some.if-not-fits.false) e.1.0
     c.sheet_length.ensures e.0
 
 pub expand_planned_spec : {M : Type 1} → statement M

@@ -10,56 +10,46 @@ use borrow.Author.Rules.{rules}
 use Rattle.clauses.proofs.names.fill_fresh.Statement.{statement}
 use Rattle.clauses.proofs.names.fill_fresh.Tie as tie
 
--- places in the code, each from a later one
-abbrev start : tie.After-used → tie.Start
-start c = c.before.before.before
-
-abbrev filled : tie.After-fill-unused-arg → tie.After-fill-used
-filled c = c.before.before.before
-
-abbrev written : tie.After-slice-known2 → tie.After-fill-unused
-written c = c.before.before
-
 -- the numbers of the prefix
-used : (c : tie.After-fill-unused-arg) → let a = (start (filled c).before).args in Uses (prefix_in a.s a.b.now) (filled c).fill-used.new.1.1.0
-used c = (filled c).fill-used.ensures
+used : (c : tie.After-fill_unused-arg-1) → let a = c.args in Uses (prefix_in a.s a.b.now) c.fill_used.new.used
+used c = c.fill_used.ensures
 
-slice_aggregate_fill_used : tie.Need-slice-aggregate-fill-used
-slice_aggregate_fill_used c = search rules
+slice_bounds-fill_used-end : tie.Need-slice_bounds-fill_used-end
+slice_bounds-fill_used-end c = search rules
 
-fill_used_requires : tie.Need-fill-used-requires
-fill_used_requires c κs = search rules
+fill_used-requires : tie.Need-fill_used-requires
+fill_used-requires c κs = search rules
 
-slice_aggregate_fill_unused : tie.Need-slice-aggregate-fill-unused
-slice_aggregate_fill_unused c = search rules
+slice_bounds-fill_unused-end : tie.Need-slice_bounds-fill_unused-end
+slice_bounds-fill_unused-end c = search rules
 
-fill_unused_requires : tie.Need-fill-unused-requires
-fill_unused_requires c κs =
+fill_unused-requires : tie.Need-fill_unused-requires
+fill_unused-requires c κs =
     let u = used c in
-    let a = start (filled c).before in (
+    let a = c in (
       u.words,
-      a.pre.2,
-      subst (λ l. a.args.count ≤ length l) (sym (free-unused u a.args.highest 1)) a.pre.3,
-      a.pre.4,
+      a.requires.2,
+      subst (λ l. a.args.count ≤ length l) (sym (free-unused u a.args.highest 1)) a.requires.3,
+      a.requires.4,
     )
 
-same_length : tie.Need-same-length
-same_length c = search rules
+shape_of-fresh : tie.Need-shape_of-fresh
+shape_of-fresh c = search rules
 
 returns : tie.Need-returns
 returns c =
-    let w = written c in
-    let a = start (filled w.before).before in
-    w.fill-unused.ensures ∙
-    ap (λ l. take a.args.count l ++ drop a.args.count a.args.fresh.now) (free-unused (used w.before) a.args.highest 1)
+    let w = c in
+    let a = w in
+    w.fill_unused.ensures ∙
+    ap (λ l. take a.args.count l ++ drop a.args.count a.args.fresh.now) (free-unused (used w.before.before.before) a.args.highest 1)
 
 pub fill_fresh_spec : {M : Type 1} → statement M
 fill_fresh_spec =
     tie.close
     (tie.spec
-    slice_aggregate_fill_used
-    fill_used_requires
-    slice_aggregate_fill_unused
-    fill_unused_requires
-    same_length
+    slice_bounds-fill_used-end
+    fill_used-requires
+    slice_bounds-fill_unused-end
+    fill_unused-requires
+    shape_of-fresh
     returns)

@@ -7,81 +7,77 @@ use Rattle.clauses.proofs.Naming.{Giving, giving_none, given-within, giving-on, 
 use Rattle.clauses.proofs.names.fill_unused.Statement.{statement}
 use Rattle.clauses.proofs.names.fill_unused.Tie as tie
 
-abbrev invariant-loop : tie.invariant-loop
-invariant-loop used highest count fresh₀ from₀ i₀ fresh from i = Giving used highest count fresh₀ fresh from i
+abbrev invariant-loop-i : tie.invariant-loop-i
+invariant-loop-i used highest count fresh₀ from₀ i₀ fresh from i = Giving used highest count fresh₀ fresh from i
 
-abbrev decreases-loop : tie.decreases-loop
-decreases-loop used highest count fresh₀ from₀ i₀ fresh from i = count - i
-
--- places in the code, each from a later one
-abbrev entry : tie.In-loop invariant-loop decreases-loop → tie.Start invariant-loop decreases-loop
-entry c = let l = c.before in l.before.before.before
+abbrev decreases-loop-i : tie.decreases-loop-i
+decreases-loop-i used highest count fresh₀ from₀ i₀ fresh from i = count - i
 
 -- a number is left
-small : (c : tie.After-next-unused invariant-loop decreases-loop) → c.next-unused.result ≤ (entry c.before).args.highest
+small : (c : tie.After-next_unused-n invariant-loop-i decreases-loop-i) → c.next_unused-n.result ≤ c.args.highest
 small c =
-    let t = c.before in
-    let a = entry t in
-    given-within a.args.used.now a.args.highest a.args.count a.args.fresh.now a.pre.3 a.pre.2 t.before.loop.invariant t.loop-test.true
-    c.next-unused.ensures
+    let t = c in
+    let a = t in
+    given-within a.args.used.now a.args.highest a.args.count a.args.fresh.now a.requires.3 a.requires.2 t.loop-i.invariant t.loop-i-test.true
+    c.next_unused-n.ensures
 
-loop_holds : tie.Need-loop-init invariant-loop decreases-loop
-loop_holds c =
-    let a = c.before.before in
+loop-i-init : tie.Need-loop-i-init invariant-loop-i decreases-loop-i
+loop-i-init c =
+    let a = c in
     giving_none a.args.used.now a.args.highest a.args.count a.args.fresh.now a.requires.3
 
-next_unused_requires : tie.Need-next-unused-requires invariant-loop decreases-loop
-next_unused_requires c κs = let a = entry c in (a.pre.0, a.pre.1, c.before.loop.invariant.within)
+next_unused-n-requires : tie.Need-next_unused-n-requires invariant-loop-i decreases-loop-i
+next_unused-n-requires c κs = let a = c in (a.requires.0, a.requires.1, c.loop-i.invariant.within)
 
-cast_fresh : tie.Need-overflow-cast-fresh invariant-loop decreases-loop
-cast_fresh c = omega (arith, small c, (entry c.before).pre.1)
+overflow_cast-fresh : tie.Need-overflow_cast-fresh invariant-loop-i decreases-loop-i
+overflow_cast-fresh c = omega (arith, small c, c.requires.1)
 
-mul_fresh : tie.Need-overflow-mul-fresh invariant-loop decreases-loop
-mul_fresh c = search rules
+offset_bounds-fresh-i : tie.Need-offset_bounds-fresh-i invariant-loop-i decreases-loop-i
+offset_bounds-fresh-i c = search rules
 
-slice_write_fresh : tie.Need-slice-write-fresh invariant-loop decreases-loop
-slice_write_fresh c =
-    let t = c.before in
-    omega (arith, t.loop-test.true, t.before.loop.invariant.same_length, (entry t).requires.3)
+bounds-fresh-i : tie.Need-bounds-fresh-i invariant-loop-i decreases-loop-i
+bounds-fresh-i c =
+    let t = c in
+    omega (arith, t.loop-i-test.true, t.loop-i.invariant.same_length, t.requires.3)
 
-add_from : tie.Need-overflow-add-from invariant-loop decreases-loop
-add_from c = omega (arith, small c, (entry c.before).pre.1)
+overflow_add-from : tie.Need-overflow_add-from invariant-loop-i decreases-loop-i
+overflow_add-from c = omega (arith, small c, c.requires.1)
 
-add_i : tie.Need-overflow-add-i invariant-loop decreases-loop
-add_i c = search rules
+overflow_add-i : tie.Need-overflow_add-i invariant-loop-i decreases-loop-i
+overflow_add-i c = search rules
 
-loop_less : tie.Need-loop-smaller invariant-loop decreases-loop
-loop_less c = omega (arith, c.before.loop-test.true)
+loop-i-smaller : tie.Need-loop-i-smaller invariant-loop-i decreases-loop-i
+loop-i-smaller c = omega (arith, c.loop-i-test.true)
 
-loop_again : tie.Need-loop-preserved invariant-loop decreases-loop
-loop_again c =
-    let t = c.before in
-    let a = entry t in
-    giving-on a.args.used.now a.args.highest a.args.count a.args.fresh.now a.pre.3 a.pre.2 t.before.loop.invariant t.loop-test.true
-    c.next-unused.ensures (add-one c.next-unused.result) (add-one t.before.loop.i)
+loop-i-preserved : tie.Need-loop-i-preserved invariant-loop-i decreases-loop-i
+loop-i-preserved c =
+    let t = c in
+    let a = t in
+    giving-on a.args.used.now a.args.highest a.args.count a.args.fresh.now a.requires.3 a.requires.2 t.loop-i.invariant t.loop-i-test.true
+    c.next_unused-n.ensures (add-one c.next_unused-n.result) (add-one t.loop-i.i)
 
-same_length : tie.Need-same-length invariant-loop decreases-loop
-same_length c = c.before.loop.invariant.same_length
+shape_of-fresh : tie.Need-shape_of-fresh invariant-loop-i decreases-loop-i
+shape_of-fresh c = c.loop-i.invariant.same_length
 
-returns : tie.Need-returns invariant-loop decreases-loop
+returns : tie.Need-returns invariant-loop-i decreases-loop-i
 returns c =
-    let a = let l = c.before.before in l.before.before in
-    giving-all a.args.used.now a.args.highest a.args.count a.args.fresh.now a.pre.3 a.pre.2 c.before.loop.invariant c.loop-test.false
+    let a = let l = c in l.before.before.before.before in
+    giving-all a.args.used.now a.args.highest a.args.count a.args.fresh.now a.requires.3 a.requires.2 c.loop-i.invariant c.loop-i-test.false
 
 pub fill_unused_spec : {M : Type 1} → statement M
 fill_unused_spec =
     tie.close
     (tie.spec
-    invariant-loop
-    decreases-loop
-    loop_holds
-    next_unused_requires
-    cast_fresh
-    mul_fresh
-    slice_write_fresh
-    add_from
-    add_i
-    loop_less
-    loop_again
-    same_length
+    invariant-loop-i
+    decreases-loop-i
+    loop-i-init
+    next_unused-n-requires
+    overflow_cast-fresh
+    offset_bounds-fresh-i
+    bounds-fresh-i
+    overflow_add-from
+    overflow_add-i
+    loop-i-smaller
+    loop-i-preserved
+    shape_of-fresh
     returns)

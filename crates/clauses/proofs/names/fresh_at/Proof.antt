@@ -6,17 +6,21 @@ use borrow.Author.Rules.{rules}
 use Rattle.clauses.proofs.names.fresh_at.Statement.{statement}
 use Rattle.clauses.proofs.names.fresh_at.Tie as tie
 
-mul_result : tie.Need-overflow-mul-result
-mul_result c = search rules
+offset_bounds-fresh-i : tie.Need-offset_bounds-fresh-i
+offset_bounds-fresh-i c = search rules
 
-shared_slice_read_result : tie.Need-shared-slice-read-result
-shared_slice_read_result c = search rules
+bounds-fresh-i : tie.Need-bounds-fresh-i
+bounds-fresh-i c = search rules
+
+returns-then-i-fresh : tie.Need-returns-then-i-fresh
+returns-then-i-fresh c = search rules
 
 returns : tie.Need-returns
-returns c = search rules
-
-returns_2 : tie.Need-returns-2
-returns_2 c = sym (get_or-eq_default c.before.args.fresh.now 0 c.if1.false)
+returns c = sym (get_or-eq_default c.args.fresh.now 0 c.if-i-fresh.false)
 
 pub fresh_at_spec : {M : Type 1} → statement M
-fresh_at_spec = tie.close (tie.spec mul_result shared_slice_read_result returns returns_2)
+fresh_at_spec = tie.close (tie.spec
+    offset_bounds-fresh-i
+    bounds-fresh-i
+    returns-then-i-fresh
+    returns)

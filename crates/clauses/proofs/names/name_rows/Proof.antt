@@ -8,65 +8,65 @@ use Rattle.clauses.proofs.Naming.{Exchanging, exchanging_none, exchanging_on, ex
 use Rattle.clauses.proofs.names.name_rows.Statement.{statement}
 use Rattle.clauses.proofs.names.name_rows.Tie as tie
 
-abbrev invariant-loop : tie.invariant-loop
-invariant-loop fresh names₀ j₀ names j = Exchanging (λ k. get_or fresh k 0) names₀ names j
+abbrev invariant-loop-j : tie.invariant-loop-j
+invariant-loop-j fresh names₀ j₀ names j = Exchanging (λ k. get_or fresh k 0) names₀ names j
 
-abbrev decreases-loop : tie.decreases-loop
-decreases-loop fresh names₀ j₀ names j = length names₀ - j
+abbrev decreases-loop-j : tie.decreases-loop-j
+decreases-loop-j fresh names₀ j₀ names j = length names₀ - j
 
-loop_holds : tie.Need-loop-init invariant-loop decreases-loop
-loop_holds c = exchanging_none _ c.before.before.args.names.now
+loop-j-init : tie.Need-loop-j-init invariant-loop-j decreases-loop-j
+loop-j-init c = exchanging_none _ c.args.names.now
 
-mul_fresh_at : tie.Need-overflow-mul-fresh-at invariant-loop decreases-loop
-mul_fresh_at c = search rules
+offset_bounds-names-j : tie.Need-offset_bounds-names-j invariant-loop-j decreases-loop-j
+offset_bounds-names-j c = search rules
 
-slice_read_fresh_at : tie.Need-slice-read-fresh-at invariant-loop decreases-loop
-slice_read_fresh_at c = c.before.loop-test.true
+bounds-names-j : tie.Need-bounds-names-j invariant-loop-j decreases-loop-j
+bounds-names-j c = c.loop-j-test.true
 
-cast_fresh_at : tie.Need-overflow-cast-fresh-at invariant-loop decreases-loop
-cast_fresh_at c = omega (arith, c.slice-known2.given c.before.before.loop.j)
+overflow_cast-names : tie.Need-overflow_cast-names invariant-loop-j decreases-loop-j
+overflow_cast-names c = omega (arith, c.slice_known-in-loop-j-1.given c.loop-j.j)
 
-fresh_at_requires : tie.Need-fresh-at-requires invariant-loop decreases-loop
-fresh_at_requires c κs = search rules
+fresh_at-requires : tie.Need-fresh_at-requires invariant-loop-j decreases-loop-j
+fresh_at-requires c κs = search rules
 
-mul_names : tie.Need-overflow-mul-names invariant-loop decreases-loop
-mul_names c = search rules
+offset_bounds-names-j-in-loop-j : tie.Need-offset_bounds-names-j-in-loop-j invariant-loop-j decreases-loop-j
+offset_bounds-names-j-in-loop-j c = search rules
 
-slice_write_names : tie.Need-slice-write-names invariant-loop decreases-loop
-slice_write_names c = c.before.before.loop-test.true
+bounds-names-j-in-loop-j : tie.Need-bounds-names-j-in-loop-j invariant-loop-j decreases-loop-j
+bounds-names-j-in-loop-j c = c.loop-j-test.true
 
-add_j : tie.Need-overflow-add-j invariant-loop decreases-loop
-add_j c = search rules
+overflow_add-j : tie.Need-overflow_add-j invariant-loop-j decreases-loop-j
+overflow_add-j c = search rules
 
-loop_less : tie.Need-loop-smaller invariant-loop decreases-loop
-loop_less c = let l = c.before.before in omega (arith, l.loop-test.true, l.before.loop.invariant.same_length)
+loop-j-smaller : tie.Need-loop-j-smaller invariant-loop-j decreases-loop-j
+loop-j-smaller c = let l = c in omega (arith, l.loop-j-test.true, l.loop-j.invariant.same_length)
 
-loop_again : tie.Need-loop-preserved invariant-loop decreases-loop
-loop_again c =
-    let l = c.before.before in
-    exchanging_on _ l.loop-test.true c.fresh_at.ensures (add-one l.before.loop.j) l.before.loop.invariant
+loop-j-preserved : tie.Need-loop-j-preserved invariant-loop-j decreases-loop-j
+loop-j-preserved c =
+    let l = c in
+    exchanging_on _ l.loop-j-test.true c.fresh_at.ensures (add-one l.loop-j.j) l.loop-j.invariant
 
-same_length : tie.Need-same-length invariant-loop decreases-loop
-same_length c = c.before.loop.invariant.same_length
+shape_of-names : tie.Need-shape_of-names invariant-loop-j decreases-loop-j
+shape_of-names c = c.loop-j.invariant.same_length
 
-returns : tie.Need-returns invariant-loop decreases-loop
-returns c = exchanging_all _ c.loop-test.false c.before.loop.invariant
+returns : tie.Need-returns invariant-loop-j decreases-loop-j
+returns c = exchanging_all _ c.loop-j-test.false c.loop-j.invariant
 
 pub name_rows_spec : {M : Type 1} → statement M
 name_rows_spec =
     tie.close
     (tie.spec
-    invariant-loop
-    decreases-loop
-    loop_holds
-    mul_fresh_at
-    slice_read_fresh_at
-    cast_fresh_at
-    fresh_at_requires
-    mul_names
-    slice_write_names
-    add_j
-    loop_less
-    loop_again
-    same_length
+    invariant-loop-j
+    decreases-loop-j
+    loop-j-init
+    offset_bounds-names-j
+    bounds-names-j
+    overflow_cast-names
+    fresh_at-requires
+    offset_bounds-names-j-in-loop-j
+    bounds-names-j-in-loop-j
+    overflow_add-j
+    loop-j-smaller
+    loop-j-preserved
+    shape_of-names
     returns)

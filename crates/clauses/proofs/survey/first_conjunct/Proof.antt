@@ -10,26 +10,25 @@ use Rattle.clauses.proofs.Counting.{first_and, first_other}
 use Rattle.clauses.proofs.survey.first_conjunct.Statement.{statement}
 use Rattle.clauses.proofs.survey.first_conjunct.Tie as tie
 
--- places in the code, each from a later one
-abbrev start : tie.After-kind-at → tie.Start
-start c = c.before.before
+kind_at-requires : tie.Need-kind_at-requires
+kind_at-requires c κs = let a = c in (a.requires, a.requires.some_nodes)
 
-kind_at_requires : tie.Need-kind-at-requires
-kind_at_requires c κs = let a = c.before in (a.requires, a.requires.some_nodes)
+returns-then-kind_at-eq-AND : tie.Need-returns-then-kind_at-eq-AND
+returns-then-kind_at-eq-AND c =
+    let k = c in
+    let a = k in
+    let root = ap (λ (t : Tree). (top t).kind) (subtree_root a.args.b.now a.requires) in
+    (first_and (matrix_in a.args.s a.args.b.now) (k.kind_at.ensures ∙ root) c.if-kind_at-eq-AND.true, omega arith)
 
 returns : tie.Need-returns
 returns c =
-    let k = c.before in
-    let a = start k in
-    let root = ap (λ (t : Tree). (top t).kind) (subtree_root a.args.b.now a.pre) in
-    (first_and (matrix_in a.args.s a.args.b.now) (k.kind_at.ensures ∙ root) c.if1.true, omega arith)
-
-returns_2 : tie.Need-returns-2
-returns_2 c =
-    let k = c.before in
-    let a = start k in
-    let root = ap (λ (t : Tree). (top t).kind) (subtree_root a.args.b.now a.pre) in
-    (first_other (matrix_in a.args.s a.args.b.now) (k.kind_at.ensures ∙ root) c.if1.false, omega arith)
+    let k = c in
+    let a = k in
+    let root = ap (λ (t : Tree). (top t).kind) (subtree_root a.args.b.now a.requires) in
+    (first_other (matrix_in a.args.s a.args.b.now) (k.kind_at.ensures ∙ root) c.if-kind_at-eq-AND.false, omega arith)
 
 pub first_conjunct_spec : {M : Type 1} → statement M
-first_conjunct_spec = tie.close (tie.spec kind_at_requires returns returns_2)
+first_conjunct_spec = tie.close (tie.spec
+    kind_at-requires
+    returns-then-kind_at-eq-AND
+    returns)

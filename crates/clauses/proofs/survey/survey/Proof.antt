@@ -12,126 +12,116 @@ use Rattle.clauses.proofs.Surveying.{Surveying, surveying_first, few-counted, fe
 use Rattle.clauses.proofs.survey.survey.Statement.{statement}
 use Rattle.clauses.proofs.survey.survey.Tie as tie
 
-abbrev invariant-loop : tie.invariant-loop
-invariant-loop b s ends names₀ n count₀ clauses₀ rows₀ j₀ next₀ names count clauses rows j next = Surveying s b names₀ names count clauses rows j next
+abbrev invariant-loop-j : tie.invariant-loop-j
+invariant-loop-j b s ends names₀ n count₀ clauses₀ rows₀ j₀ next₀ names count clauses rows j next = Surveying s b names₀ names count clauses rows j next
 
-abbrev decreases-loop : tie.decreases-loop
-decreases-loop b s ends names₀ n count₀ clauses₀ rows₀ j₀ next₀ names count clauses rows j next = n - j
-
--- places in the code, each from a later one
-abbrev start : tie.After-first-conjunct invariant-loop decreases-loop → tie.Start invariant-loop decreases-loop
-start c = let k = c.before.before in k.before.before
-
-abbrev entry : tie.In-loop invariant-loop decreases-loop → tie.Start invariant-loop decreases-loop
-entry c = start c.before.before
-
-abbrev turn : tie.After-own-rows invariant-loop decreases-loop → tie.In-loop invariant-loop decreases-loop
-turn c = c.before.before.before
+abbrev decreases-loop-j : tie.decreases-loop-j
+decreases-loop-j b s ends names₀ n count₀ clauses₀ rows₀ j₀ next₀ names count clauses rows j next = n - j
 
 -- one row further
-turned : (c : tie.In-loop invariant-loop decreases-loop)
-    → let a = (entry c).args in
-    let l = c.before.loop in
+turned : (c : tie.In-loop-j invariant-loop-j decreases-loop-j)
+    → let a = c.args in
+    let l = c.loop-j in
     Turned a.s a.b.now l.j l.next l.invariant.ts l.invariant.us (eqb l.j l.next) (cond (eqb l.j l.next) (get_or a.ends.now l.j 0) l.next)
 turned c =
-    let a = entry c in
-    let l = c.before.loop in
-    walking_on a.args.b.now a.pre.0.readable c.loop-test.true a.args.ends.now a.pre.0 l.invariant.ts l.invariant.us l.invariant.walking refl refl
+    let a = c in
+    let l = c.loop-j in
+    walking_on a.args.b.now a.requires.0.readable c.loop-j-test.true a.args.ends.now a.requires.0 l.invariant.ts l.invariant.us l.invariant.walking refl refl
 
-inside : (c : tie.In-loop invariant-loop decreases-loop) → c.before.loop.j < length c.before.loop.names
-inside c = let a = entry c in omega (arith, c.loop-test.true, a.pre.1, c.before.loop.invariant.same_length)
+inside : (c : tie.In-loop-j invariant-loop-j decreases-loop-j) → c.loop-j.j < length c.loop-j.names
+inside c = let a = c in omega (arith, c.loop-j-test.true, a.requires.1, c.loop-j.invariant.same_length)
 
-first_conjunct_requires : tie.Need-first-conjunct-requires invariant-loop decreases-loop
-first_conjunct_requires c κs = let k = c.before in k.before.before.requires.0.readable
+first_conjunct-j-requires : tie.Need-first_conjunct-j-requires invariant-loop-j decreases-loop-j
+first_conjunct-j-requires c κs = let k = c in k.requires.0.readable
 
-loop_holds : tie.Need-loop-init invariant-loop decreases-loop
-loop_holds c =
-    let a = start c in
-    surveying_first a.args.b.now a.pre.0.readable a.args.names.now c.first_conjunct.ensures.0
+loop-j-init : tie.Need-loop-j-init invariant-loop-j decreases-loop-j
+loop-j-init c =
+    let a = c in
+    surveying_first a.args.b.now a.requires.0.readable a.args.names.now c.first_conjunct-j.ensures.0
 
-cast_names : tie.Need-overflow-cast-names invariant-loop decreases-loop
-cast_names c = omega (arith, c.before.loop.invariant.few_names, c.loop-test.true, (entry c).requires.0.readable.few_nodes)
+overflow_cast-names : tie.Need-overflow_cast-names invariant-loop-j decreases-loop-j
+overflow_cast-names c = omega (arith, c.loop-j.invariant.few_names, c.loop-j-test.true, c.requires.0.readable.few_nodes)
 
-mul_names : tie.Need-overflow-mul-names invariant-loop decreases-loop
-mul_names c = omega (arith, c.loop-test.true, (entry c).requires.0.readable.few_nodes)
+offset_bounds-names-j : tie.Need-offset_bounds-names-j invariant-loop-j decreases-loop-j
+offset_bounds-names-j c = omega (arith, c.loop-j-test.true, c.requires.0.readable.few_nodes)
 
-slice_write_names : tie.Need-slice-write-names invariant-loop decreases-loop
-slice_write_names c = inside c
+bounds-names-j : tie.Need-bounds-names-j invariant-loop-j decreases-loop-j
+bounds-names-j c = inside c
 
-own_names_requires : tie.Need-own-names-requires invariant-loop decreases-loop
-own_names_requires c κs = ((entry c).requires.0.readable, c.loop-test.true)
+own_names-count-requires : tie.Need-own_names-count-requires invariant-loop-j decreases-loop-j
+own_names-count-requires c κs = (c.requires.0.readable, c.loop-j-test.true)
 
-add_count : tie.Need-overflow-add-count invariant-loop decreases-loop
-add_count c =
-    let t = c.before in
-    omega (arith, t.before.loop.invariant.few_names, t.loop-test.true, (entry t).requires.0.readable.few_nodes, c.own-names.ensures.1)
+overflow_add-count : tie.Need-overflow_add-count invariant-loop-j decreases-loop-j
+overflow_add-count c =
+    let t = c in
+    omega (arith, t.loop-j.invariant.few_names, t.loop-j-test.true, t.requires.0.readable.few_nodes, c.own_names-count.ensures.1)
 
-own_clauses_requires : tie.Need-own-clauses-requires invariant-loop decreases-loop
-own_clauses_requires c κs = let t = c.before in ((entry t).requires.0.readable, t.loop-test.true)
+own_clauses-clauses-requires : tie.Need-own_clauses-clauses-requires invariant-loop-j decreases-loop-j
+own_clauses-clauses-requires c κs = let t = c in (t.requires.0.readable, t.loop-j-test.true)
 
-add_clauses : tie.Need-overflow-add-clauses invariant-loop decreases-loop
-add_clauses c =
-    let t = c.before.before in
-    let a = entry t in
-    omega (arith, few-counted a.args.b.now a.pre.0.readable t.before.loop.invariant (turned t) c.own_clauses.ensures)
+overflow_add-clauses : tie.Need-overflow_add-clauses invariant-loop-j decreases-loop-j
+overflow_add-clauses c =
+    let t = c in
+    let a = t in
+    omega (arith, few-counted a.args.b.now a.requires.0.readable t.loop-j.invariant (turned t.before.before) c.own_clauses-clauses.ensures)
 
-own_rows_requires : tie.Need-own-rows-requires invariant-loop decreases-loop
-own_rows_requires c κs = let t = c.before.before in ((entry t).requires.0.readable, t.loop-test.true)
+own_rows-rows-requires : tie.Need-own_rows-rows-requires invariant-loop-j decreases-loop-j
+own_rows-rows-requires c κs = let t = c in (t.requires.0.readable, t.loop-j-test.true)
 
-add_rows : tie.Need-overflow-add-rows invariant-loop decreases-loop
-add_rows c =
-    let t = turn c in
-    let a = entry t in
-    omega (arith, few_lines a.args.b.now a.pre.0.readable t.before.loop.inv (turned t) c.own_rows.ensures)
+overflow_add-rows : tie.Need-overflow_add-rows invariant-loop-j decreases-loop-j
+overflow_add-rows c =
+    let t = c in
+    let a = t in
+    omega (arith, few_lines a.args.b.now a.requires.0.readable t.loop-j.invariant (turned t.before.before.before) c.own_rows-rows.ensures)
 
-next_conjunct_requires : tie.Need-next-conjunct-requires invariant-loop decreases-loop
-next_conjunct_requires c κs = let t = turn c in omega (arith, t.loop-test.taken, (entry t).pre.0.holds)
+next_conjunct-next-requires : tie.Need-next_conjunct-next-requires invariant-loop-j decreases-loop-j
+next_conjunct-next-requires c κs = let t = c in omega (arith, t.loop-j-test.true, t.requires.0.holds)
 
-add_j : tie.Need-overflow-add-j invariant-loop decreases-loop
-add_j c = let t = turn c.before in omega (arith, t.loop-test.taken, (entry t).pre.0.readable.few_nodes)
+overflow_add-j : tie.Need-overflow_add-j invariant-loop-j decreases-loop-j
+overflow_add-j c = let t = c in omega (arith, t.loop-j-test.true, t.requires.0.readable.few_nodes)
 
-loop_less : tie.Need-loop-smaller invariant-loop decreases-loop
-loop_less c = omega (arith, (turn c.before).loop-test.taken)
+loop-j-smaller : tie.Need-loop-j-smaller invariant-loop-j decreases-loop-j
+loop-j-smaller c = omega (arith, c.loop-j-test.true)
 
-loop_again : tie.Need-loop-preserved invariant-loop decreases-loop
-loop_again c =
-    let d = c.before in
-    let t = turn d in
-    let a = entry t in
-    let l = t.before.loop in
-    let one = walking_on a.args.b.now a.pre.0.readable t.loop-test.taken a.args.ends.now a.pre.0 l.inv.ts l.inv.us l.inv.walking refl
-    c.next-conjunct.ensures in
-    surveying-on a.args.b.now a.pre.0.readable l.inv one (add-one l.j) d.before.before.own-names.ensures.0
-    d.before.before.own-names.ensures.1 d.before.own_clauses.ensures d.own_rows.ensures (inside t)
+loop-j-preserved : tie.Need-loop-j-preserved invariant-loop-j decreases-loop-j
+loop-j-preserved c =
+    let d = c in
+    let t = d in
+    let a = t in
+    let l = t.loop-j in
+    let one = walking_on a.args.b.now a.requires.0.readable t.loop-j-test.true a.args.ends.now a.requires.0 l.invariant.ts l.invariant.us l.invariant.walking refl
+    c.next_conjunct-next.ensures in
+    surveying-on a.args.b.now a.requires.0.readable l.invariant one (add-one l.j) d.own_names-count.ensures.0
+    d.own_names-count.ensures.1 d.own_clauses-clauses.ensures d.own_rows-rows.ensures (inside t.before.before.before.before)
 
-same_length : tie.Need-same-length invariant-loop decreases-loop
-same_length c = c.before.loop.invariant.same_length
+shape_of-names : tie.Need-shape_of-names invariant-loop-j decreases-loop-j
+shape_of-names c = c.loop-j.invariant.same_length
 
-returns : tie.Need-returns invariant-loop decreases-loop
+returns : tie.Need-returns invariant-loop-j decreases-loop-j
 returns c =
-    let a = start c.before.before in
-    surveyed a.args.b.now a.pre.0.readable c.before.loop.invariant c.loop-test.false a.pre.1
+    let a = c in
+    surveyed a.args.b.now a.requires.0.readable c.loop-j.invariant c.loop-j-test.false a.requires.1
 
 pub survey_spec : {M : Type 1} → statement M
 survey_spec =
     tie.close
     (tie.spec
-    invariant-loop
-    decreases-loop
-    first_conjunct_requires
-    loop_holds
-    cast_names
-    mul_names
-    slice_write_names
-    own_names_requires
-    add_count
-    own_clauses_requires
-    add_clauses
-    own_rows_requires
-    add_rows
-    next_conjunct_requires
-    add_j
-    loop_less
-    loop_again
-    same_length
+    invariant-loop-j
+    decreases-loop-j
+    first_conjunct-j-requires
+    loop-j-init
+    overflow_cast-names
+    offset_bounds-names-j
+    bounds-names-j
+    own_names-count-requires
+    overflow_add-count
+    own_clauses-clauses-requires
+    overflow_add-clauses
+    own_rows-rows-requires
+    overflow_add-rows
+    next_conjunct-next-requires
+    overflow_add-j
+    loop-j-smaller
+    loop-j-preserved
+    shape_of-names
     returns)

@@ -12,80 +12,70 @@ use Rattle.clauses.proofs.Writing.{Binding, binding-none, binding_at, binding-on
 use Rattle.clauses.proofs.write.write_bound.Statement.{statement}
 use Rattle.clauses.proofs.write.write_bound.Tie as tie
 
-abbrev invariant-loop : tie.invariant-loop
-invariant-loop fresh out₀ t at₀ i₀ out at i = Binding fresh t out₀ at₀ out at i
+abbrev invariant-loop-i : tie.invariant-loop-i
+invariant-loop-i fresh out₀ t at₀ i₀ out at i = Binding fresh t out₀ at₀ out at i
 
-abbrev decreases-loop : tie.decreases-loop
-decreases-loop fresh out₀ t at₀ i₀ out at i = length fresh - i
+abbrev decreases-loop-i : tie.decreases-loop-i
+decreases-loop-i fresh out₀ t at₀ i₀ out at i = length fresh - i
 
--- places in the code, each from a later one
-abbrev start : tie.At-loop invariant-loop decreases-loop → tie.Start invariant-loop decreases-loop
-start c = let k = c.before.before in k.before.before
-
-abbrev turn : tie.After-shared-slice-known2 invariant-loop decreases-loop → tie.In-loop invariant-loop decreases-loop
-turn c = c.before.before
-
-abbrev wrote : tie.After-slice-known2 invariant-loop decreases-loop → tie.After-write-row invariant-loop decreases-loop
-wrote c = c.before.before
-
-loop_holds : tie.Need-loop-init invariant-loop decreases-loop
-loop_holds c =
-    let k = c.before in
-    let a = k.before.before.args in
+loop-i-init : tie.Need-loop-i-init invariant-loop-i decreases-loop-i
+loop-i-init c =
+    let k = c in
+    let a = k.args in
     binding-none a.fresh.now a.to.layout a.out.now a.to.at
 
-mul_write_row : tie.Need-overflow-mul-write-row invariant-loop decreases-loop
-mul_write_row c = search rules
+offset_bounds-fresh-i : tie.Need-offset_bounds-fresh-i invariant-loop-i decreases-loop-i
+offset_bounds-fresh-i c = search rules
 
-shared_slice_read_write_row : tie.Need-shared-slice-read-write-row invariant-loop decreases-loop
-shared_slice_read_write_row c = (turn c).loop-test.true
+bounds-fresh-i : tie.Need-bounds-fresh-i invariant-loop-i decreases-loop-i
+bounds-fresh-i c = c.loop-i-test.true
 
-cast_write_row : tie.Need-overflow-cast-write-row invariant-loop decreases-loop
-cast_write_row c = omega (arith, c.shared-slice-known2.given (turn c).before.loop.i)
+overflow_cast-fresh : tie.Need-overflow_cast-fresh invariant-loop-i decreases-loop-i
+overflow_cast-fresh c = omega (arith, c.shared_slice_known-in-loop-i-1.given c.loop-i.i)
 
-write_row_requires : tie.Need-write-row-requires invariant-loop decreases-loop
-write_row_requires c κs =
-    let t = turn c in
-    let a = start t.before in (
-      room_on a.pre.0 t.before.loop.inv.same_length,
-      omega (arith, a.pre.1, t.loop-test.taken, binding_at a.args.fresh.now a.args.to.layout a.args.out.now a.args.to.at t.before.loop.inv t.loop-test.taken),
-      number_fits a.args.to.layout.format (omega (arith, c.shared-slice-known2.given t.before.loop.i)),
+write_row-at-requires : tie.Need-write_row-at-requires invariant-loop-i decreases-loop-i
+write_row-at-requires c κs =
+    let t = c in
+    let a = t in (
+      room_on a.requires.0 t.loop-i.invariant.same_length,
+      omega (arith, a.requires.1, t.loop-i-test.true, binding_at a.args.fresh.now a.args.to.layout a.args.out.now a.args.to.at t.loop-i.invariant t.loop-i-test.true),
+      number_fits a.args.to.layout.format (omega (arith, c.shared_slice_known-in-loop-i-1.given t.loop-i.i)),
     )
 
-add_i : tie.Need-overflow-add-i invariant-loop decreases-loop
-add_i c = search rules
+overflow_add-i : tie.Need-overflow_add-i invariant-loop-i decreases-loop-i
+overflow_add-i c = search rules
 
-loop_less : tie.Need-loop-smaller invariant-loop decreases-loop
-loop_less c = omega (arith, (turn (wrote c).before).loop-test.taken)
+loop-i-smaller : tie.Need-loop-i-smaller invariant-loop-i decreases-loop-i
+loop-i-smaller c = omega (arith, c.loop-i-test.true)
 
-loop_again : tie.Need-loop-preserved invariant-loop decreases-loop
-loop_again c =
-    let w = wrote c in
-    let t = turn w.before in
-    let a = (start t.before).args in
-    binding-on a.fresh.now a.to.layout a.out.now a.to.at t.before.loop.inv t.loop-test.taken w.write-row.ensures w.write-row.kept.0
+loop-i-preserved : tie.Need-loop-i-preserved invariant-loop-i decreases-loop-i
+loop-i-preserved c =
+    let w = c in
+    let t = w in
+    let a = t.args in
+    binding-on a.fresh.now a.to.layout a.out.now a.to.at t.loop-i.invariant t.loop-i-test.true w.write_row-at.ensures w.write_row-at.auto.out
 
-same_length : tie.Need-same-length invariant-loop decreases-loop
-same_length c = c.before.loop.invariant.same_length
+shape_of-out : tie.Need-shape_of-out invariant-loop-i decreases-loop-i
+shape_of-out c = c.loop-i.invariant.same_length
 
-returns : tie.Need-returns invariant-loop decreases-loop
+returns : tie.Need-returns invariant-loop-i decreases-loop-i
 returns c =
-    let a = (start c.before).args in
-    binding-all a.fresh.now a.to.layout a.out.now a.to.at c.before.loop.invariant c.loop-test.false
+    let a = c.args in
+    binding-all a.fresh.now a.to.layout a.out.now a.to.at c.loop-i.invariant c.loop-i-test.false
 
 pub write_bound_spec : {M : Type 1} → statement M
 write_bound_spec =
     tie.close
     (tie.spec
-    invariant-loop
-    decreases-loop
-    loop_holds
-    mul_write_row
-    shared_slice_read_write_row
-    cast_write_row
-    write_row_requires
-    add_i
-    loop_less
-    loop_again
-    same_length
+    invariant-loop-i
+    decreases-loop-i
+    loop-i-init
+    offset_bounds-fresh-i
+    bounds-fresh-i
+    overflow_cast-fresh
+    write_row-at-requires
+    overflow_add-i
+    loop-i-smaller
+    loop-i-preserved
+    shape_of-out
     returns)

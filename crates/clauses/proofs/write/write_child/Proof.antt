@@ -7,36 +7,33 @@ use Rattle.clauses.proofs.Writing.{length_implied}
 use Rattle.clauses.proofs.write.write_child.Statement.{statement}
 use Rattle.clauses.proofs.write.write_child.Tie as tie
 
--- places in the code, each from a later one
-abbrev start : tie.After-write-implied-arg → tie.Start
-start c = let k = c.before.before in k.before.before.before
+write_implied-at-requires : tie.Need-write_implied-at-requires
+write_implied-at-requires c κs =
+    let a = c in
+    (omega (arith, a.requires.0.3, a.requires.0.0.has_entries), a.requires.0.1.room, omega (arith, a.requires.1))
 
-abbrev implied : tie.After-write-name-arg → tie.After-write-implied
-implied c = c.before.before.before
-
-write_implied_requires : tie.Need-write-implied-requires
-write_implied_requires c κs =
-    let a = start c in
-    (omega (arith, a.pre.0.3, a.pre.0.0.has_entries), a.pre.0.1.room, omega (arith, a.pre.1))
-
-write_name_requires : tie.Need-write-name-requires
-write_name_requires c κs =
-    let w = implied c in
-    let a = start w.before in (
-      a.pre.0.0,
-      ready_on a.pre.0.1 w.write-implied.kept.1.0,
-      a.pre.0.2,
-      omega (arith, a.pre.1, w.write-implied.ensures.next_row, length_implied a.args.child.each (get_or a.args.names.now a.args.child.operator 0) 0),
+write_name-requires : tie.Need-write_name-requires
+write_name-requires c κs =
+    let w = c in
+    let a = w in (
+      a.requires.0.0,
+      ready_on a.requires.0.1 w.write_implied-at.auto.out,
+      a.requires.0.2,
+      omega (arith, a.requires.1, w.write_implied-at.ensures.next_row, length_implied a.args.child.each (get_or a.args.names.now a.args.child.operator 0) 0),
     )
 
-same_length : tie.Need-same-length
-same_length c = search rules
+shape_of-out : tie.Need-shape_of-out
+shape_of-out c = search rules
 
 returns : tie.Need-returns
 returns c =
-    let n = c.before.before in
-    laid_on (implied n.before).write-implied.ensures n.write-name.ensures
+    let n = c in
+    laid_on n.write_implied-at.ensures n.write_name.ensures
 
 pub write_child_spec : {M : Type 1} → statement M
 write_child_spec =
-    tie.close (tie.spec write_implied_requires write_name_requires same_length returns)
+    tie.close (tie.spec
+    write_implied-at-requires
+    write_name-requires
+    shape_of-out
+    returns)

@@ -15,76 +15,63 @@ use Rattle.clauses.specs.Inner.Writing.{implied_rows}
 use Rattle.clauses.proofs.write.write_implied.Statement.{statement}
 use Rattle.clauses.proofs.write.write_implied.Tie as tie
 
--- places in the code, each from a later one
-abbrev start : tie.After-struct-known → tie.Start
-start c = c.before.before.before
-
-abbrev asked : tie.After-write-row-arg → tie.Else1
-asked c = c.before.before
-
-abbrev first : tie.After-write-row-arg2 → tie.After-write-row
-first c = c.before.before.before
-
-abbrev second : tie.After-slice-known3 → tie.After-write-row2
-second c = c.before.before
-
-returns : tie.Need-returns
-returns c =
-    let a = (start c.before).args in
+returns-then-not-child : tie.Need-returns-then-not-child
+returns-then-not-child c =
+    let a = c.args in
     subst (Laid a.child.layout a.out.now a.out.now a.child.at a.child.at)
-    (sym (ap (λ (m : Bool). implied_rows m (get_or a.names.now a.child.operator 0)) (not-true a.child.each c.if1.true)))
+    (sym (ap (λ (m : Bool). implied_rows m (get_or a.names.now a.child.operator 0)) (not-true a.child.each c.if-not-child.true)))
     (none-laid a.child.layout a.out.now a.child.at)
 
 -- two rows
-two : (c : tie.After-write-row-arg) → length (implied_rows (start (asked c).before).args.child.each 0) ≡ 2
-two c = ap (λ (m : Bool). length (implied_rows m 0)) (not-false (start (asked c).before).args.child.each (asked c).if1.false)
+two : (c : tie.After-write_row-arg-1) → length (implied_rows c.args.child.each 0) ≡ 2
+two c = ap (λ (m : Bool). length (implied_rows m 0)) (not-false c.args.child.each c.if-not-child.false)
 
-write_row_requires : tie.Need-write-row-requires
-write_row_requires c κs =
-    let a = start (asked c).before in
-    (a.pre.1, omega (arith, a.pre.2, two c), number_fits a.args.child.layout.format (omega arith))
+write_row-at-requires : tie.Need-write_row-at-requires
+write_row-at-requires c κs =
+    let a = c in
+    (a.requires.1, omega (arith, a.requires.2, two c), number_fits a.args.child.layout.format (omega arith))
 
-mul_write_row : tie.Need-overflow-mul-write-row
-mul_write_row c = search rules
+offset_bounds-names-operator : tie.Need-offset_bounds-names-operator
+offset_bounds-names-operator c = search rules
 
-shared_slice_read_write_row : tie.Need-shared-slice-read-write-row
-shared_slice_read_write_row c = search rules
+bounds-names-operator : tie.Need-bounds-names-operator
+bounds-names-operator c = search rules
 
-cast_write_row : tie.Need-overflow-cast-write-row
-cast_write_row c =
-    let a = start (asked (first c.before).before).before in
-    omega (arith, c.shared-slice-known2.given a.args.child.operator)
+overflow_cast-names : tie.Need-overflow_cast-names
+overflow_cast-names c =
+    let a = c in
+    omega (arith, c.shared_slice_known-2-1.given a.args.child.operator)
 
-write_row_requires_2 : tie.Need-write-row-requires-2
-write_row_requires_2 c κs =
-    let w = first c.before in
-    let a = start (asked w.before).before in (
-      room_on a.pre.1 w.write-row.kept.0,
-      omega (arith, a.pre.2, two w.before, w.write-row.ensures.next_row),
-      number_fits a.args.child.layout.format (omega (arith, c.shared-slice-known2.given a.args.child.operator)),
+write_row-requires : tie.Need-write_row-requires
+write_row-requires c κs =
+    let w = c in
+    let a = w in (
+      room_on a.requires.1 w.write_row-at.auto.out,
+      omega (arith, a.requires.2, two w.before.before.before.before.before, w.write_row-at.ensures.next_row),
+      number_fits a.args.child.layout.format (omega (arith, c.shared_slice_known-2-1.given a.args.child.operator)),
     )
 
-same_length : tie.Need-same-length
-same_length c = search rules
+shape_of-out : tie.Need-shape_of-out
+shape_of-out c = search rules
 
-returns_2 : tie.Need-returns-2
-returns_2 c =
-    let w = second c in
-    let v = first w.before.before in
-    let a = (start (asked v.before).before).args in
+returns : tie.Need-returns
+returns c =
+    let w = c in
+    let v = w in
+    let a = v.args in
     subst (Laid a.child.layout a.out.now _ a.child.at _)
-    (sym (ap (λ (m : Bool). implied_rows m (get_or a.names.now a.child.operator 0)) (not-false a.child.each (asked v.before).if1.false)))
-    (laid_on {rs = row 6 2 ∷ []} {ss = row 4 (get_or a.names.now a.child.operator 0) ∷ []} v.write-row.ensures w.write-row2.ensures)
+    (sym (ap (λ (m : Bool). implied_rows m (get_or a.names.now a.child.operator 0)) (not-false a.child.each v.if-not-child.false)))
+    (laid_on {rs = row 6 2 ∷ []} {ss = row 4 (get_or a.names.now a.child.operator 0) ∷ []} v.write_row-at.ensures w.write_row.ensures)
 
 pub write_implied_spec : {M : Type 1} → statement M
 write_implied_spec =
     tie.close
     (tie.spec
-    returns
-    write_row_requires
-    mul_write_row
-    shared_slice_read_write_row
-    cast_write_row
-    write_row_requires_2
-    same_length
-    returns_2)
+    returns-then-not-child
+    write_row-at-requires
+    offset_bounds-names-operator
+    bounds-names-operator
+    overflow_cast-names
+    write_row-requires
+    shape_of-out
+    returns)

@@ -15,84 +15,77 @@ use Rattle.clauses.proofs.Writing.{literal-name, operator_name}
 use Rattle.clauses.proofs.write.write_name.Statement.{statement}
 use Rattle.clauses.proofs.write.write_name.Tie as tie
 
--- places in the code, each from a later one
-abbrev start : tie.After-kind-at → tie.Start
-start c = let k = c.before.before in k.before.before
-
 -- the tree at the row
-abbrev here : tie.After-kind-at → Tree
-here c = let a = (start c).args in subtree_in a.s a.b.now a.r
+abbrev here : tie.After-kind_at-kind → Tree
+here c = let a = c.args in subtree_in a.s a.b.now a.r
 
-kind_at_requires : tie.Need-kind-at-requires
-kind_at_requires c κs = search rules
+kind_at-kind-requires : tie.Need-kind_at-kind-requires
+kind_at-kind-requires c κs = search rules
 
-argument_at_requires : tie.Need-argument-at-requires
-argument_at_requires c κs = search rules
+argument_at-literal-requires : tie.Need-argument_at-literal-requires
+argument_at-literal-requires c κs = search rules
 
-write_row_requires : tie.Need-write-row-requires
-write_row_requires c κs =
-    let n = c.before in
-    let a = start n.before.before in
-    let same = ap (λ (f : Format). (format_of f).width) a.pre.1.same_format in (
-      a.pre.1.room,
-      a.pre.3,
-      rw (n.argument-at.ensures.0, same) (a.pre.0.literals_fit a.args.r a.pre.2),
+write_row-requires : tie.Need-write_row-requires
+write_row-requires c κs =
+    let n = c in
+    let a = n in
+    let same = ap (λ (f : Format). (format_of f).width) a.requires.1.same_format in (
+      a.requires.1.room,
+      a.requires.3,
+      rw (n.argument_at-literal.ensures.0, same) (a.requires.0.literals_fit a.args.r a.requires.2),
     )
 
-same_length : tie.Need-same-length
-same_length c = search rules
+shape_of-out-then-kind-le-NEGATIVE : tie.Need-shape_of-out-then-kind-le-NEGATIVE
+shape_of-out-then-kind-le-NEGATIVE c = search rules
+
+returns-then-kind-le-NEGATIVE : tie.Need-returns-then-kind-le-NEGATIVE
+returns-then-kind-le-NEGATIVE c =
+    let w = c in
+    let n = w in
+    let k = n in
+    let a = k.args in
+    subst (Laid a.to.layout a.out.now _ a.to.at _)
+    (literal-name (get_or a.names.now a.r 0) (here k.before.before.before.before.before.before) k.kind_at-kind.ensures n.argument_at-literal.ensures.0 n.if-kind-le-NEGATIVE.true)
+    w.write_row.ensures
+
+offset_bounds-names-r : tie.Need-offset_bounds-names-r
+offset_bounds-names-r c = search rules
+
+bounds-names-r : tie.Need-bounds-names-r
+bounds-names-r c = let a = c in omega (arith, a.requires.2, a.requires.0.has_entries)
+
+overflow_cast-names : tie.Need-overflow_cast-names
+overflow_cast-names c = let a = c in omega (arith, c.shared_slice_known-3-1.given a.args.r)
+
+write_row-requires-2 : tie.Need-write_row-requires-2
+write_row-requires-2 c κs =
+    let a = c in
+    (a.requires.1.room, a.requires.3, number_fits a.args.to.layout.format (omega (arith, c.shared_slice_known-3-1.given a.args.r)))
+
+shape_of-out : tie.Need-shape_of-out
+shape_of-out c = search rules
 
 returns : tie.Need-returns
 returns c =
-    let w = c.before.before in
-    let n = w.before.before in
-    let k = n.before.before in
-    let a = (start k).args in
-    subst (Laid a.to.layout a.out.now _ a.to.at _)
-    (literal-name (get_or a.names.now a.r 0) (here k) k.kind_at.ensures n.argument-at.ensures.0 n.before.if1.true)
-    w.write-row.ensures
-
-mul_write_row : tie.Need-overflow-mul-write-row
-mul_write_row c = search rules
-
-shared_slice_read_write_row : tie.Need-shared-slice-read-write-row
-shared_slice_read_write_row c = let a = start c.before.before.before in omega (arith, a.pre.2, a.pre.0.has_entries)
-
-cast_write_row : tie.Need-overflow-cast-write-row
-cast_write_row c = let a = start c.before.before.before in omega (arith, c.shared-slice-known3.given a.args.r)
-
-write_row_requires_2 : tie.Need-write-row-requires-2
-write_row_requires_2 c κs =
-    let a = start c.before.before.before in
-    (a.pre.1.room, a.pre.3, number_fits a.args.to.layout.format (omega (arith, c.shared-slice-known3.given a.args.r)))
-
-same_length_2 : tie.Need-same-length-2
-same_length_2 c = search rules
-
-abbrev operator : tie.After-write-row2 → tie.Else1
-operator c = c.before.before.before
-
-returns_2 : tie.Need-returns-2
-returns_2 c =
-    let w = c.before.before in
-    let e = operator w in
-    let k = e.before in
-    let a = (start k).args in
-    subst (Laid a.to.layout a.out.now _ a.to.at _) (operator_name (here k) k.kind_at.ensures (omega (arith, e.if1.left)) refl)
-    w.write-row2.ensures
+    let w = c in
+    let e = w in
+    let k = e in
+    let a = k.args in
+    subst (Laid a.to.layout a.out.now _ a.to.at _) (operator_name (here k.before.before.before.before.before.before) k.kind_at-kind.ensures (omega (arith, e.if-kind-le-NEGATIVE.false)) refl)
+    w.write_row-2.ensures
 
 pub write_name_spec : {M : Type 1} → statement M
 write_name_spec =
     tie.close
     (tie.spec
-    kind_at_requires
-    argument_at_requires
-    write_row_requires
-    same_length
-    returns
-    mul_write_row
-    shared_slice_read_write_row
-    cast_write_row
-    write_row_requires_2
-    same_length_2
-    returns_2)
+    kind_at-kind-requires
+    argument_at-literal-requires
+    write_row-requires
+    shape_of-out-then-kind-le-NEGATIVE
+    returns-then-kind-le-NEGATIVE
+    offset_bounds-names-r
+    bounds-names-r
+    overflow_cast-names
+    write_row-requires-2
+    shape_of-out
+    returns)

@@ -15,116 +15,97 @@ use Rattle.clauses.proofs.Writing.{or-conjunct, or-below, few_children}
 use Rattle.clauses.proofs.write.write_or.Statement.{statement}
 use Rattle.clauses.proofs.write.write_or.Tie as tie
 
--- places in the code, each from a later one
-abbrev start : tie.After-t → tie.Start
-start c = let k = c.before.before in k.before.before
-
-abbrev entry : tie.After-children-at → tie.Start
-entry c = start c.before
-
 -- the tree at the row
-abbrev here : tie.After-children-at → Tree
-here c = let a = (entry c).args in subtree_in a.s a.b.now a.place.row
+abbrev here : tie.After-children_at-children → Tree
+here c = let a = c.args in subtree_in a.s a.b.now a.place.row
 
-children_at_requires : tie.Need-children-at-requires
-children_at_requires c κs = search rules
+children_at-children-requires : tie.Need-children_at-children-requires
+children_at-children-requires c κs = search rules
 
-write_row_requires : tie.Need-write-row-requires
-write_row_requires c κs =
-    let k = c.before.before in
-    let a = entry k in
-    let rows = or-conjunct a.args.names.now a.args.place.row (here k) a.pre.0.3 c.before.if1.true k.children-at.ensures.0 in (
-      a.pre.0.1.room,
-      omega (arith, a.pre.1, ap length rows),
-      number_fits a.args.place.layout.format (omega (arith, few_children a.args.b.now a.pre.0.0.readable a.pre.0.2 k.children-at.ensures.0)),
+write_row-requires : tie.Need-write_row-requires
+write_row-requires c κs =
+    let k = c in
+    let a = k in
+    let rows = or-conjunct a.args.names.now a.args.place.row (here k.before.before) a.requires.0.3 c.if-place.true k.children_at-children.ensures.0 in (
+      a.requires.0.1.room,
+      omega (arith, a.requires.1, ap length rows),
+      number_fits a.args.place.layout.format (omega (arith, few_children a.args.b.now a.requires.0.0.readable a.requires.0.2 k.children_at-children.ensures.0)),
     )
 
-same_length : tie.Need-same-length
-same_length c = search rules
+shape_of-out-then-place : tie.Need-shape_of-out-then-place
+shape_of-out-then-place c = search rules
 
-abbrev alone : tie.After-slice-known2 → tie.After-write-row
-alone c = c.before.before
+returns-then-place : tie.Need-returns-then-place
+returns-then-place c =
+    let w = c in
+    let t = w in
+    let k = t in
+    let a = k in
+    subst (Laid a.args.place.layout a.args.out.now _ a.args.place.at _)
+    (or-conjunct a.args.names.now a.args.place.row (here k.before.before.before.before.before) a.requires.0.3 t.if-place.true k.children_at-children.ensures.0) w.write_row.ensures
+
+overflow_add-children : tie.Need-overflow_add-children
+overflow_add-children c = search rules
+
+write_row-at-requires : tie.Need-write_row-at-requires
+write_row-at-requires c κs =
+    let k = c in
+    let a = k in
+    let rows = or-below a.args.names.now a.args.place.row (here k.before.before) a.requires.0.3 c.if-place.false
+    (add-one k.children_at-children.result ∙ ap suc k.children_at-children.ensures.0) refl in (
+      a.requires.0.1.room,
+      omega (arith, a.requires.1, ap length rows),
+      number_fits a.args.place.layout.format (omega (arith, few_children a.args.b.now a.requires.0.0.readable a.requires.0.2 k.children_at-children.ensures.0)),
+    )
+
+offset_bounds-names-r : tie.Need-offset_bounds-names-r
+offset_bounds-names-r c = search rules
+
+bounds-names-r : tie.Need-bounds-names-r
+bounds-names-r c = let a = c in omega (arith, a.requires.0.2, a.requires.0.0.has_entries)
+
+overflow_cast-names : tie.Need-overflow_cast-names
+overflow_cast-names c = let a = c in omega (arith, c.shared_slice_known-3-1.given a.args.place.row)
+
+write_row-requires-2 : tie.Need-write_row-requires-2
+write_row-requires-2 c κs =
+    let w = c in
+    let k = c in
+    let a = k in
+    let rows = or-below a.args.names.now a.args.place.row (here k.before.before.before.before.before.before.before) a.requires.0.3 w.if-place.false
+    (add-one k.children_at-children.result ∙ ap suc k.children_at-children.ensures.0) refl in (
+      room_on a.requires.0.1.room w.write_row-at.auto.out,
+      omega (arith, a.requires.1, ap length rows, w.write_row-at.ensures.next_row),
+      number_fits a.args.place.layout.format (omega (arith, c.shared_slice_known-3-1.given a.args.place.row)),
+    )
+
+shape_of-out : tie.Need-shape_of-out
+shape_of-out c = search rules
 
 returns : tie.Need-returns
 returns c =
-    let w = alone c in
-    let t = w.before.before in
-    let k = t.before in
-    let a = entry k in
+    let v = c in
+    let place = v in
+    let w = place in
+    let k = place in
+    let a = k in
     subst (Laid a.args.place.layout a.args.out.now _ a.args.place.at _)
-    (or-conjunct a.args.names.now a.args.place.row (here k) a.pre.0.3 t.if1.taken k.children-at.ensures.0) w.write-row.ensures
-
-add_write_row : tie.Need-overflow-add-write-row
-add_write_row c = search rules
-
-write_row_requires_2 : tie.Need-write-row-requires-2
-write_row_requires_2 c κs =
-    let k = c.before.before in
-    let a = entry k in
-    let rows = or-below a.args.names.now a.args.place.row (here k) a.pre.0.3 c.before.if1.false
-    (add-one k.children-at.result ∙ ap suc k.children-at.ensures.0) refl in (
-      a.pre.0.1.room,
-      omega (arith, a.pre.1, ap length rows),
-      number_fits a.args.place.layout.format (omega (arith, few_children a.args.b.now a.pre.0.0.readable a.pre.0.2 k.children-at.ensures.0)),
-    )
-
-mul_write_row : tie.Need-overflow-mul-write-row
-mul_write_row c = search rules
-
-abbrev first : tie.After-write-row-arg3 → tie.After-write-row2
-first c = c.before.before.before
-
-abbrev told : tie.After-write-row-arg3 → tie.After-children-at
-told c = (first c).before.before.before
-
-shared_slice_read_write_row : tie.Need-shared-slice-read-write-row
-shared_slice_read_write_row c = let a = entry (told c.before) in omega (arith, a.pre.0.2, a.pre.0.0.has_entries)
-
-cast_write_row : tie.Need-overflow-cast-write-row
-cast_write_row c = let a = entry (told c.before) in omega (arith, c.shared-slice-known3.given a.args.place.row)
-
-write_row_requires_3 : tie.Need-write-row-requires-3
-write_row_requires_3 c κs =
-    let w = first c.before in
-    let k = told c.before in
-    let a = entry k in
-    let rows = or-below a.args.names.now a.args.place.row (here k) a.pre.0.3 w.before.before.if1.left
-    (add-one k.children-at.result ∙ ap suc k.children-at.ensures.0) refl in (
-      room_on a.pre.0.1.room w.write-row2.kept.0,
-      omega (arith, a.pre.1, ap length rows, w.write-row2.ensures.next_row),
-      number_fits a.args.place.layout.format (omega (arith, c.shared-slice-known3.given a.args.place.row)),
-    )
-
-same_length_2 : tie.Need-same-length-2
-same_length_2 c = search rules
-
-abbrev second : tie.After-slice-known4 → tie.After-write-row3
-second c = c.before.before
-
-returns_2 : tie.Need-returns-2
-returns_2 c =
-    let v = second c in
-    let place = v.before.before in
-    let w = first place in
-    let k = told place in
-    let a = entry k in
-    subst (Laid a.args.place.layout a.args.out.now _ a.args.place.at _)
-    (or-below a.args.names.now a.args.place.row (here k) a.pre.0.3 w.before.before.if1.left (add-one k.children-at.result ∙ ap suc k.children-at.ensures.0) refl)
-    (laid_on w.write-row2.ensures v.write-row3.ensures)
+    (or-below a.args.names.now a.args.place.row (here k.before.before.before.before.before.before.before.before.before.before) a.requires.0.3 w.if-place.false (add-one k.children_at-children.result ∙ ap suc k.children_at-children.ensures.0) refl)
+    (laid_on w.write_row-at.ensures v.write_row-2.ensures)
 
 pub write_or_spec : {M : Type 1} → statement M
 write_or_spec =
     tie.close
     (tie.spec
-    children_at_requires
-    write_row_requires
-    same_length
-    returns
-    add_write_row
-    write_row_requires_2
-    mul_write_row
-    shared_slice_read_write_row
-    cast_write_row
-    write_row_requires_3
-    same_length_2
-    returns_2)
+    children_at-children-requires
+    write_row-requires
+    shape_of-out-then-place
+    returns-then-place
+    overflow_add-children
+    write_row-at-requires
+    offset_bounds-names-r
+    bounds-names-r
+    overflow_cast-names
+    write_row-requires-2
+    shape_of-out
+    returns)

@@ -14,60 +14,54 @@ use Rattle.clauses.proofs.Writing.{head-below}
 use Rattle.clauses.proofs.write.write_own.Statement.{statement}
 use Rattle.clauses.proofs.write.write_own.Tie as tie
 
--- places in the code, each from a later one
-abbrev known : tie.After-write-head-arg → tie.After-shared-slice-known3
-known c = c.before.before.before
-
-abbrev start : tie.After-write-head-arg → tie.Start
-start c = (known c).before.before.before
-
-abbrev head : tie.After-write-below-arg → tie.After-write-head
-head c = c.before.before.before
-
 -- the tree at the row
-abbrev here : tie.After-write-head-arg → Tree
-here c = let a = (start c).args in subtree_in a.s a.b.now a.place.row
+abbrev here : tie.After-write_head-arg-1 → Tree
+here c = let a = c.args in subtree_in a.s a.b.now a.place.row
 
 -- the rows of both parts
-both : (c : tie.After-write-head-arg)
-    → let a = (start c).args in
+both : (c : tie.After-write_head-arg-1)
+    → let a = c.args in
     length (head_rows a.names.now a.place.row a.place.conjunct (here c) ++ below_rows a.names.now a.place.row (here c)) ≡
     length (head_rows a.names.now a.place.row a.place.conjunct (here c)) + length (below_rows a.names.now a.place.row (here c))
 both c =
-    let a = (start c).args in
+    let a = c.args in
     length-append (head_rows a.names.now a.place.row a.place.conjunct (here c)) (below_rows a.names.now a.place.row (here c))
 
-write_head_requires : tie.Need-write-head-requires
-write_head_requires c κs =
-    let a = start c in
-    ((a.pre.0.1, a.pre.0.2, a.pre.0.3), omega (arith, a.pre.1, both c, ap length (head-below a.args.names.now a.args.place.row a.args.place.conjunct (here c))))
+write_head-at-requires : tie.Need-write_head-at-requires
+write_head-at-requires c κs =
+    let a = c in
+    ((a.requires.0.1, a.requires.0.2, a.requires.0.3), omega (arith, a.requires.1, both c, ap length (head-below a.args.names.now a.args.place.row a.args.place.conjunct (here c))))
 
-write_below_requires : tie.Need-write-below-requires
-write_below_requires c κs =
-    let w = head c in
-    let a = start w.before in (
-      (a.pre.0.0, a.pre.0.1, ready_on a.pre.0.2 w.write-head.kept.1.1.1.0, a.pre.0.3),
+write_below-requires : tie.Need-write_below-requires
+write_below-requires c κs =
+    let w = c in
+    let a = w in (
+      (a.requires.0.0, a.requires.0.1, ready_on a.requires.0.2 w.write_head-at.auto.out, a.requires.0.3),
       omega (
         arith,
-        a.pre.1,
-        w.write-head.ensures.next_row,
-        both w.before,
-        ap length (head-below a.args.names.now a.args.place.row a.args.place.conjunct (here w.before)),
+        a.requires.1,
+        w.write_head-at.ensures.next_row,
+        both w.before.before.before.before,
+        ap length (head-below a.args.names.now a.args.place.row a.args.place.conjunct (here w.before.before.before.before)),
       ),
     )
 
-same_length : tie.Need-same-length
-same_length c = search rules
+shape_of-out : tie.Need-shape_of-out
+shape_of-out c = search rules
 
 returns : tie.Need-returns
 returns c =
-    let v = c.before.before in
-    let w = head v.before in
-    let a = (start w.before).args in
+    let v = c in
+    let w = v in
+    let a = w.args in
     subst (Laid a.place.layout a.out.now _ a.place.at _)
-    (head-below a.names.now a.place.row a.place.conjunct (here w.before))
-    (laid_on w.write-head.ensures v.write-below.ensures)
+    (head-below a.names.now a.place.row a.place.conjunct (here w.before.before.before.before.before.before.before))
+    (laid_on w.write_head-at.ensures v.write_below.ensures)
 
 pub write_own_spec : {M : Type 1} → statement M
 write_own_spec =
-    tie.close (tie.spec write_head_requires write_below_requires same_length returns)
+    tie.close (tie.spec
+    write_head-at-requires
+    write_below-requires
+    shape_of-out
+    returns)

@@ -66,7 +66,7 @@ returns-then-not-fits : tie.Need-returns-then-not-fits
 returns-then-not-fits c =
     let fit = c in
     let p = fit.requires in
-    (expand-stops p.0 p.1 p.2 fit.choose_expand-c.ensures (sym fit.fits2.ensures ∙ c.if-not-fits.true), refl, refl)
+    (expand-stops p.0 p.1 p.2 fit.choose_expand-c.ensures (sym fit.fits.ensures ∙ c.if-not-fits.true), refl, refl)
 
 slice_bounds-draft-end : tie.Need-slice_bounds-draft-end
 slice_bounds-draft-end c = search rules
@@ -75,7 +75,7 @@ slice_bounds-draft-end c = search rules
 fit : (c : tie.Else-not-fits)
     → let s = c.args.s.sheet in
     fits (format_in s) c.args.room (s.variables - 1) c.choose_expand-c.result.raw ≡ true
-fit c = sym c.fits2.ensures ∙ c.if-not-fits.false
+fit c = sym c.fits.ensures ∙ c.if-not-fits.false
 
 priced : (c : tie.Else-not-fits)
     → let a = c.args in
