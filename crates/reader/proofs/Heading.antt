@@ -2,7 +2,7 @@
 -- Assumes nothing.
 use mathlib.Core.Path.{◌≡◌, refl, sym, ap, ap₂, ◌∙◌, subst}
 use mathlib.Core.Bool.{Bool, true, false, cond}
-use Prim.Native.Nat.{ℕ, suc, ◌+◌, ◌-◌, ◌≤◌, ◌<◌}
+use Prim.Native.Nat.{ℕ, suc, ◌+◌, ◌-◌, ◌≤◌}
 use native.Mathlib.Omega.{arith}
 use lib.Dec.{ltb}
 use lib.ListN.{length, take, drop, length-drop, drop_of_length-le}
@@ -10,7 +10,7 @@ use lib.Seq.{take_all, drop-drop}
 use borrow.Author.Tests.{ltb-true, ltb-false}
 use Rattle.sheet.specs.Format.{Bytes, Format}
 use Rattle.sheet.specs.Operations.{Written}
-use Rattle.sheet.specs.Qdimacs.{line_end, header_of, text_header, words_below, qdimacs_call}
+use Rattle.sheet.specs.Qdimacs.{line_end, header_of, text_header, qdimacs_call}
 use Rattle.sheet.specs.Texts.{separated}
 use Rattle.words.specs.Words.{lead}
 use Rattle.words.proofs.Words.{lead-within}
