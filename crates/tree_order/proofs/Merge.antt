@@ -7,7 +7,7 @@ use native.Mathlib.Nat.{zero-add}
 use native.Mathlib.Omega.{arith}
 use lib.ListN.{length, take, drop}
 use lib.Seq.{length-take-le}
-use Rattle.formula.specs.Tree.{Forest, ∅, rows_all, ◌⧺◌}
+use Rattle.formula.specs.Tree.{Forest, ∅, rows_all}
 use Rattle.sheet.specs.Format.{Bytes}
 use Rattle.sheet.specs.Sheet.{front, behind}
 use Rattle.sheet.proofs.Forests.{front-behind}

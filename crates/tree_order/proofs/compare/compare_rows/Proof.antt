@@ -3,7 +3,6 @@ use mathlib.Core.Path.{refl, sym, ◌∙◌}
 use Prim.Native.Nat.{◌-◌, ◌<◌}
 use native.Mathlib.Omega.{arith}
 use lib.ListN.{length}
-use borrow.Author.Tests.{not-true, not-false}
 use Rattle.sheet.proofs.Every.{every_at}
 use Rattle.tree_order.proofs.Rows.{Locked, locked_differ, locked_on, locked_out}
 use Rattle.tree_order.proofs.compare.compare_rows.Statement.{statement}
