@@ -59,12 +59,17 @@ class Function:
                 while up and self.new[up] in armed and armed[self.new[up]][0] == armed[new][0] and armed[self.new[up]][1] < armed[new][1]:
                     up = self.parent[up]
             self.ups[new] = self.new[up] if up else None
-        last = {}
-        for new, (arm, n) in armed.items():
-            if n >= last.get(arm, (0, ""))[0]:
-                last[arm] = (n, new)
-        # an arm's place with all that its pattern binds
-        self.final = {k: last[armed[new][0]][1] if new in armed else new for k, new in self.new.items()}
+        # an arm's place with all that its pattern binds; an arm for two variants has two such places
+        last, run = {}, []
+        for new in entry["places_by_name"]:
+            if new not in armed or armed[new][1] == 1:
+                run = []
+            if new in armed:
+                run.append(new)
+                for it in run:
+                    last[it] = new
+        self.final = {k: last.get(new, new) for k, new in self.new.items()}
+        self.arms = [(new, armed[new][0] if last[new] == new else field, step, path, to) for new, field, step, path, to in self.arms]
         self.at = {}
         for (nold, nnew), (pold, pnew) in zip(entry["needs"], entry["asked_at"]):
             self.at[nnew] = (key(pold), pnew)

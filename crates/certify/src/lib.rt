@@ -1,5 +1,6 @@
 // Certify: a derivation on words, judged step by step against a sheet.
 #![tactic(auto)]
+
 ghost use Rattle.std.specs.Prelude.{◌≡◌, [], ◌/◌, length};
 ghost use Rattle.formula.specs.Certificates.{valid_steps, ends_empty, certified};
 ghost use Rattle.sheet.specs.Check.{accepted};

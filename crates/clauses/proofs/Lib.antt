@@ -1,4 +1,5 @@
 -- Laws of the clauses row by row.
+mod Tables
 pub mod Named
 pub mod Counting
 pub mod Walking

@@ -40,7 +40,7 @@ use Rattle.rows.proofs.Sealed.{sealed-sheet, sealed-length}
 use Rattle.checking.proofs.CheckedSheets.{sheet_readable, sheet-formula_in}
 use Rattle.substitution.specs.Output.{Laid}
 use Rattle.substitution.proofs.Splice.{laid_on, laid-all}
-use Rattle.rows.proofs.Tables.{replicate-at}
+use Rattle.clauses.proofs.Tables.{replicate_at}
 use Rattle.clauses.specs.declared.survey.Size.{Size}
 use Rattle.clauses.specs.Inner.Named.{clauses_from, marks_conjuncts, first_conjunct}
 use Rattle.clauses.specs.Inner.Survey.{Surveyed, Clausable}
@@ -229,7 +229,7 @@ module _ {b : Bytes} {s : Layout} {ends table : List ℕ} {z : Size} (h : Clausa
         fresh_at : (i : ℕ) → get_or fresh i 0 ≡ G i
         fresh_at i =
             ap (λ l. get_or l i 0) fresh-is ∙
-            behind-zero (fresh_names H f) (drop z.names (replicate 1025 0)) (λ j. get_or-drop z.names (replicate 1025 0) j 0 ∙ replicate-at 0 1025 (z.names + j)) i
+            behind-zero (fresh_names H f) (drop z.names (replicate 1025 0)) (λ j. get_or-drop z.names (replicate 1025 0) j 0 ∙ replicate_at 0 1025 (z.names + j)) i
 
         table_is : L ≡ map G table
         table_is = named ∙ ap (λ (k : ℕ → ℕ). map k table) (fun_ext fresh_at)

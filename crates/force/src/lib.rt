@@ -1,6 +1,7 @@
 // Force (N9): given values for the first variables of the prefix, whose turn is next and with which values its owner forces the outcome
 // wanted. Each of 0 and 1 is judged by a run of Solve on the sheet so reduced, which is written to the first buffer.
 #![tactic(auto)]
+
 ghost use Rattle.std.specs.Prelude.{◌≡◌, ◌<◌};
 ghost use Rattle.std.specs.Bool.{beq};
 ghost use Rattle.formula.specs.Force.{which};

@@ -1,6 +1,7 @@
 // Guards: the children of a root AND that are to blame for its falsity (N10). Each in turn is left out, for good if Solve still says
 // false of the others. A try's rows are written from the sheet into the first work buffer, where the run is entered.
 #![tactic(auto)]
+
 ghost use Rattle.std.specs.Prelude.{◌≡◌, ◌≤◌, length};
 ghost use Rattle.sheet.specs.Trace.{room};
 ghost use Rattle.sheet.specs.Guards.{guards_call};

@@ -1,6 +1,7 @@
 // The function of the variable that Solve takes next: the lowest-numbered one that may be settled, or else the cheapest of the innermost
 // block. It is written as a sheet of its own, before the step is made.
 #![tactic(auto)]
+
 ghost use Rattle.std.specs.Prelude.{◌≤◌, length};
 ghost use Rattle.rows.specs.Tables.{ROWS};
 ghost use Rattle.subtrees.specs.Ends.{Indexed};

@@ -1,5 +1,6 @@
 // Response: the function of a variable, by which its owner can answer what the others are, as a sheet of the prefix without its row.
 #![tactic(auto)]
+
 ghost use Rattle.std.specs.Prelude.{◌≡◌};
 ghost use Rattle.sheet.specs.Strategy.{response_call};
 ghost use Rattle.sheet.specs.Truthful.{TruthfulResponse};

@@ -1,6 +1,7 @@
 // Resume: a stopped run goes on under the wide limits. The sheet reached is widened into the first work buffer, Solve runs there, and the
 // counts given are added to its own.
 #![tactic(auto)]
+
 ghost use Rattle.std.specs.Prelude.{◌≡◌, ◌+◌, eqb};
 ghost use Rattle.sheet.specs.Format.{wide};
 ghost use Rattle.sheet.specs.Resume.{add_to_answer};

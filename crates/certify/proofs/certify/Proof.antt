@@ -11,62 +11,52 @@ use Rattle.certify.proofs.Judging.{certify_refused, judged, steps_answered}
 use Rattle.certify.proofs.certify.Statement.{statement}
 use Rattle.certify.proofs.certify.Tie as tie
 
--- places in the code, each from a later one
-abbrev start : tie.After-check → tie.Start
-start c = let known = c.before.before in known.before.before
+check-checked-requires : tie.Need-check-checked-requires
+check-checked-requires c κs = search rules
 
-abbrev asked : tie.After-checked2 → tie.After-check
-asked c = c.before.before
+enum_known-checked : tie.Need-enum_known-checked
+enum_known-checked c = search rules
 
-abbrev refusing : tie.After-checked → tie.After-check
-refusing c = c.before.before
-
-check_requires : tie.Need-check-requires
-check_requires c κs = search rules
-
-enum_known_checked : tie.Need-enum-known-checked
-enum_known_checked c = search rules
-
-enum_known_checked_2 : tie.Need-enum-known-checked-2
-enum_known_checked_2 c = search rules
+enum_known-checked-in-Accepted-1 : tie.Need-enum_known-checked-in-Accepted-1
+enum_known-checked-in-Accepted-1 c = search rules
 
 -- the sheet that Check accepted
-abbrev layout : tie.After-checked2 → Layout
-layout c = c.checked2.given.0.0
+abbrev layout : tie.In-Accepted → Layout
+layout c = c.in-Accepted.s
 
-accepted : (c : tie.After-checked2) → Sheet (start (asked c)).args.f (start (asked c)).args.sheet.now (layout c)
-accepted c = sheet_checked c.checked2.given.1 (asked c).check.ensures
+accepted : (c : tie.In-Accepted) → Sheet c.args.f c.args.sheet.now (layout c)
+accepted c = sheet_checked c.in-Accepted.is c.check-checked.ensures
 
-judge_requires : tie.Need-judge-requires
-judge_requires c κs = judged (accepted c.before)
+judge-requires : tie.Need-judge-requires
+judge-requires c κs = judged (accepted c)
 
-returns : tie.Need-returns
-returns c =
-    let told = c.before in
-    let a = (start (refusing told)).args in
+returns-in-Refused : tie.Need-returns-in-Refused
+returns-in-Refused c =
+    let told = c in
+    let a = told.args in
     let F = format_of a.f in
     let b = a.sheet.now in
     let o = side_for a.verdict in
-    let e = certify_refused F b o a.heads.now a.codes.now (sheet_refused a.f b told.checked.given.1 (refusing told).check.ensures) in
+    let e = certify_refused F b o a.heads.now a.codes.now (sheet_refused a.f b told.in-Refused.is told.check-checked.ensures) in
     (e, certify_truthful F b o a.heads.now a.codes.now e)
 
-returns_2 : tie.Need-returns-2
-returns_2 c =
-    let told = c.before.before in
-    let a = (start (asked told)).args in
+returns-in-Accepted : tie.Need-returns-in-Accepted
+returns-in-Accepted c =
+    let told = c in
+    let a = told.args in
     let F = format_of a.f in
     let b = a.sheet.now in
     let o = side_for a.verdict in
-    let e = steps_answered (accepted told) o a.heads.now a.codes.now c.judge.ensures in
+    let e = steps_answered (accepted told.before) o a.heads.now a.codes.now c.judge.ensures in
     (e, certify_truthful F b o a.heads.now a.codes.now e)
 
 pub certify_spec : {M : Type 1} → statement M
 certify_spec =
     tie.close
     (tie.spec
-    check_requires
-    enum_known_checked
-    enum_known_checked_2
-    judge_requires
-    returns
-    returns_2)
+    check-checked-requires
+    enum_known-checked
+    enum_known-checked-in-Accepted-1
+    judge-requires
+    returns-in-Refused
+    returns-in-Accepted)

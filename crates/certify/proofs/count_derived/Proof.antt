@@ -8,57 +8,47 @@ use Rattle.certify.proofs.Ranking.{ranks_for}
 use Rattle.certify.proofs.count_derived.Statement.{statement}
 use Rattle.certify.proofs.count_derived.Tie as tie
 
--- places in the code, each from a later one
-abbrev entry : tie.After-own → tie.Start
-entry c = let known = c.before.before in known.before.before
+slice_bounds-fill_ranks-end : tie.Need-slice_bounds-fill_ranks-end
+slice_bounds-fill_ranks-end c = search rules
 
-abbrev first : tie.After-other → tie.After-fill-ranks
-first c = c.before.before
+fill_ranks-requires : tie.Need-fill_ranks-requires
+fill_ranks-requires c κs = let a = c in (a.requires.readable, a.requires.numbered, refl)
 
-abbrev second : tie.After-other3 → tie.After-fill-ranks2
-second c = c.before.before.before
+slice_bounds-fill_ranks-end-2 : tie.Need-slice_bounds-fill_ranks-end-2
+slice_bounds-fill_ranks-end-2 c = search rules
 
-slice_aggregate_fill_ranks : tie.Need-slice-aggregate-fill-ranks
-slice_aggregate_fill_ranks c = search rules
+fill_ranks-requires-2 : tie.Need-fill_ranks-requires-2
+fill_ranks-requires-2 c κs = let a = c in (a.requires.readable, a.requires.numbered, refl)
 
-fill_ranks_requires : tie.Need-fill-ranks-requires
-fill_ranks_requires c κs = let a = entry c in (a.pre.readable, a.pre.numbered, refl)
+slice_bounds-first_underived-end : tie.Need-slice_bounds-first_underived-end
+slice_bounds-first_underived-end c = search rules
 
-slice_aggregate_fill_ranks_2 : tie.Need-slice-aggregate-fill-ranks-2
-slice_aggregate_fill_ranks_2 c = search rules
+slice_bounds-first_underived-end-2 : tie.Need-slice_bounds-first_underived-end-2
+slice_bounds-first_underived-end-2 c = search rules
 
-fill_ranks_requires_2 : tie.Need-fill-ranks-requires-2
-fill_ranks_requires_2 c κs = let a = entry (first c).before in (a.pre.readable, a.pre.numbered, refl)
-
-slice_aggregate_first_underived : tie.Need-slice-aggregate-first-underived
-slice_aggregate_first_underived c = search rules
-
-slice_aggregate_first_underived_2 : tie.Need-slice-aggregate-first-underived-2
-slice_aggregate_first_underived_2 c = search rules
-
-first_underived_requires : tie.Need-first-underived-requires
-first_underived_requires c κs =
-    let two = second c in
-    ((first two.before).fill-ranks.ensures.room, two.fill-ranks2.ensures.room)
+first_underived-requires : tie.Need-first_underived-requires
+first_underived-requires c κs =
+    let two = c in
+    (two.fill_ranks.ensures.room, two.fill_ranks-2.ensures.room)
 
 returns : tie.Need-returns
 returns c =
-    let two = second c.before in
-    let one = first two.before in
-    let a = entry one.before in
+    let two = c in
+    let one = two in
+    let a = one in
     let p = prefix_in a.args.s a.args.sheet.now in
-    c.first-underived.ensures (side_for a.args.verdict) p
-    (ranks_for a.args.verdict p _ _ a.pre.is_distinct one.fill-ranks.ensures two.fill-ranks2.ensures)
+    c.first_underived.ensures (side_for a.args.verdict) p
+    (ranks_for a.args.verdict p _ _ a.requires.is_distinct one.fill_ranks.ensures two.fill_ranks-2.ensures)
 
 pub count_derived_spec : {M : Type 1} → statement M
 count_derived_spec =
     tie.close
     (tie.spec
-    slice_aggregate_fill_ranks
-    fill_ranks_requires
-    slice_aggregate_fill_ranks_2
-    fill_ranks_requires_2
-    slice_aggregate_first_underived
-    slice_aggregate_first_underived_2
-    first_underived_requires
+    slice_bounds-fill_ranks-end
+    fill_ranks-requires
+    slice_bounds-fill_ranks-end-2
+    fill_ranks-requires-2
+    slice_bounds-first_underived-end
+    slice_bounds-first_underived-end-2
+    first_underived-requires
     returns)

@@ -8,43 +8,44 @@ use Rattle.certify.proofs.Steps.{uncertain-short, uncertain-ended, certain-ended
 use Rattle.certify.proofs.judge.Statement.{statement}
 use Rattle.certify.proofs.judge.Tie as tie
 
--- places in the code, each from a later one
-abbrev start : tie.After-count-valid → tie.Start
-start c = let known = c.before.before in known.before.before
+count_valid-n-requires : tie.Need-count_valid-n-requires
+count_valid-n-requires c κs = search rules
 
-count_valid_requires : tie.Need-count-valid-requires
-count_valid_requires c κs = search rules
+returns-then-n-all : tie.Need-returns-then-n-all
+returns-then-n-all c =
+    let n = c.count_valid-n in
+    let a = c.args in
+    ap accepted
+    (uncertain-short a.heads.now a.codes.now a.verdict (formula_in a.s a.sheet.now) n.result n.ensures c.if-n-all.true)
+
+ends_empty-requires : tie.Need-ends_empty-requires
+ends_empty-requires c κs = c.if-n-all.false
+
+returns-then-not-ends_empty : tie.Need-returns-then-not-ends_empty
+returns-then-not-ends_empty c =
+    let last = c in
+    let all = last in
+    let n = all.count_valid-n in
+    let a = all.args in
+    ap accepted
+    (uncertain-ended a.heads.now a.codes.now a.verdict (formula_in a.s a.sheet.now) n.result n.ensures
+    last.ends_empty.result all.if-n-all.false last.ends_empty.ensures (c.if-not-ends_empty.true))
 
 returns : tie.Need-returns
 returns c =
-    let n = c.before.count-valid in
-    let a = (start c.before).args in
-    ap accepted
-    (uncertain-short a.heads.now a.codes.now a.verdict (formula_in a.s a.sheet.now) n.result n.ensures c.if1.true)
-
-ends_empty_requires : tie.Need-ends-empty-requires
-ends_empty_requires c κs = c.if1.false
-
-returns_2 : tie.Need-returns-2
-returns_2 c =
-    let last = c.before in
-    let all = last.before in
-    let n = all.before.count-valid in
-    let a = (start all.before).args in
-    ap accepted
-    (uncertain-ended a.heads.now a.codes.now a.verdict (formula_in a.s a.sheet.now) n.result n.ensures
-    last.ends_empty.result all.if1.false last.ends_empty.ensures (not-true last.ends_empty.result c.if2.true))
-
-returns_3 : tie.Need-returns-3
-returns_3 c =
-    let last = c.before in
-    let all = last.before in
-    let n = all.before.count-valid in
-    let a = (start all.before).args in
+    let last = c in
+    let all = last in
+    let n = all.count_valid-n in
+    let a = all.args in
     ap accepted
     (certain-ended a.heads.now a.codes.now a.verdict (formula_in a.s a.sheet.now) n.result n.ensures
-    last.ends_empty.result all.if1.false last.ends_empty.ensures (not-false last.ends_empty.result c.if2.false))
+    last.ends_empty.result all.if-n-all.false last.ends_empty.ensures (c.if-not-ends_empty.false))
 
 pub judge_spec : {M : Type 1} → statement M
 judge_spec =
-    tie.close (tie.spec count_valid_requires returns ends_empty_requires returns_2 returns_3)
+    tie.close (tie.spec
+    count_valid-n-requires
+    returns-then-n-all
+    ends_empty-requires
+    returns-then-not-ends_empty
+    returns)

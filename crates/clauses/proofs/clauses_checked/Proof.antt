@@ -81,7 +81,7 @@ returns-then-not-fits : tie.Need-returns-then-not-fits
 returns-then-not-fits c =
     let d = c in
     let e = d in
-    no_place (clausable e.before.before.before.before.before) e.args.out.now d.fits2.ensures (c.if-not-fits.true)
+    no_place (clausable e.before.before.before.before.before) e.args.out.now d.fits.ensures (c.if-not-fits.true)
 
 slice_bounds-clauses_into-end : tie.Need-slice_bounds-clauses_into-end
 slice_bounds-clauses_into-end c = search rules
@@ -94,7 +94,7 @@ clauses_into-requires c κs =
     let g = c in
     let d = g in
     let e = d in
-    (clausable e.before.before.before.before.before.before.before.before, has_place (clausable e.before.before.before.before.before.before.before.before) e.args.out.now d.fits2.ensures (g.if-not-fits.false))
+    (clausable e.before.before.before.before.before.before.before.before, has_place (clausable e.before.before.before.before.before.before.before.before) e.args.out.now d.fits.ensures (g.if-not-fits.false))
 
 shape_of-out : tie.Need-shape_of-out
 shape_of-out c = search rules
@@ -105,7 +105,7 @@ returns c =
     let g = w in
     let d = g in
     let e = d in
-    written_call (clausable e.before.before.before.before.before.before.before.before.before.before.before.before) e.args.out.now d.fits2.ensures (g.if-not-fits.false) w.clauses_into.ensures.1
+    written_call (clausable e.before.before.before.before.before.before.before.before.before.before.before.before) e.args.out.now d.fits.ensures (g.if-not-fits.false) w.clauses_into.ensures.1
     w.clauses_into.ensures.0
 
 pub clauses_checked_spec : {M : Type 1} → statement M

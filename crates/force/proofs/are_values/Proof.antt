@@ -8,50 +8,50 @@ use Rattle.force.proofs.Values.{value-next, value_bad, values-all}
 use Rattle.force.proofs.are_values.Statement.{statement}
 use Rattle.force.proofs.are_values.Tie as tie
 
-abbrev invariant-loop : tie.invariant-loop
-invariant-loop values i₀ i = (i ≤ length values) × (are_values (drop i values) ≡ are_values values)
+abbrev invariant-loop-i : tie.invariant-loop-i
+invariant-loop-i values i₀ i = (i ≤ length values) × (are_values (drop i values) ≡ are_values values)
 
-abbrev decreases-loop : tie.decreases-loop
-decreases-loop values i₀ i = length values - i
+abbrev decreases-loop-i : tie.decreases-loop-i
+decreases-loop-i values i₀ i = length values - i
 
-loop_holds : tie.Need-loop-init invariant-loop decreases-loop
-loop_holds c = (omega arith, refl)
+loop-i-init : tie.Need-loop-i-init invariant-loop-i decreases-loop-i
+loop-i-init c = (omega arith, refl)
 
-shared_slice_read_if1 : tie.Need-shared-slice-read-if1 invariant-loop decreases-loop
-shared_slice_read_if1 c = omega arith
+bounds-values-i : tie.Need-bounds-values-i invariant-loop-i decreases-loop-i
+bounds-values-i c = omega arith
 
-returns : tie.Need-returns invariant-loop decreases-loop
+returns-then-values-i-gt1 : tie.Need-returns-then-values-i-gt1 invariant-loop-i decreases-loop-i
+returns-then-values-i-gt1 c =
+    let head = c in
+    value_bad head.args.values.now c.loop-i-test.true head.loop-i.invariant.1 c.if-values-i-gt1.true
+
+overflow_add-i : tie.Need-overflow_add-i invariant-loop-i decreases-loop-i
+overflow_add-i c = omega arith
+
+loop-i-smaller : tie.Need-loop-i-smaller invariant-loop-i decreases-loop-i
+loop-i-smaller c = omega arith
+
+loop-i-preserved : tie.Need-loop-i-preserved invariant-loop-i decreases-loop-i
+loop-i-preserved c =
+    let head = c in
+    let values = head.args.values.now in
+    (omega arith, value-next values c.loop-i-test.true head.loop-i.invariant.1 (omega (arith, c.if-values-i-gt1.false)))
+
+returns : tie.Need-returns invariant-loop-i decreases-loop-i
 returns c =
-    let head = c.before.before.before in
-    value_bad head.before.args.values.now c.before.before.loop-test.true head.loop.invariant.1 c.if1.true
-
-add_i : tie.Need-overflow-add-i invariant-loop decreases-loop
-add_i c = omega arith
-
-loop_less : tie.Need-loop-smaller invariant-loop decreases-loop
-loop_less c = omega arith
-
-loop_again : tie.Need-loop-preserved invariant-loop decreases-loop
-loop_again c =
-    let head = c.before.before.before in
-    let values = head.before.args.values.now in
-    (omega arith, value-next values c.before.before.loop-test.true head.loop.invariant.1 (omega (arith, c.if1.false)))
-
-returns_2 : tie.Need-returns-2 invariant-loop decreases-loop
-returns_2 c =
-    let head = c.before in
-    values-all head.before.args.values.now head.loop.invariant.0 c.loop-test.false head.loop.invariant.1
+    let head = c in
+    values-all head.args.values.now head.loop-i.invariant.0 c.loop-i-test.false head.loop-i.invariant.1
 
 pub are_values_spec : {M : Type 1} → statement M
 are_values_spec =
     tie.close
     (tie.spec
-    invariant-loop
-    decreases-loop
-    loop_holds
-    shared_slice_read_if1
-    returns
-    add_i
-    loop_less
-    loop_again
-    returns_2)
+    invariant-loop-i
+    decreases-loop-i
+    loop-i-init
+    bounds-values-i
+    returns-then-values-i-gt1
+    overflow_add-i
+    loop-i-smaller
+    loop-i-preserved
+    returns)

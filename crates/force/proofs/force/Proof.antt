@@ -10,66 +10,54 @@ use borrow.Author.Rules.{rules}
 use Rattle.force.proofs.force.Statement.{statement}
 use Rattle.force.proofs.force.Tie as tie
 
-abbrev entered : tie.After-check → tie.After-slice-known
-entered c = c.before.before
+accepted : (c : tie.In-Accepted) → let a = c.args in Sheet a.f a.sheet.now c.in-Accepted.s
+accepted c = sheet_checked c.in-Accepted.is c.check-c.ensures
 
-abbrev start : tie.After-check → tie.Start
-start c = (entered c).before.before.before
+check-c-requires : tie.Need-check-c-requires
+check-c-requires c κs = search rules
 
-abbrev after_c2 : tie.After-force-checked-arg2 → tie.After-c2
-after_c2 c = c.before.before.before
+enum_known-c : tie.Need-enum_known-c
+enum_known-c c = search rules
 
-abbrev after_force_checked : tie.After-second → tie.After-force-checked
-after_force_checked c = c.before.before.before
+enum_known-c-in-Accepted-1 : tie.Need-enum_known-c-in-Accepted-1
+enum_known-c-in-Accepted-1 c = search rules
 
-accepted : (c : tie.After-c2) → let a = (start c.before.before).args in Sheet a.f a.sheet.now c.c2.given.0.0
-accepted c = sheet_checked c.c2.given.1 c.before.before.check.ensures
+force_checked-requires : tie.Need-force_checked-requires
+force_checked-requires c κs = sheet_own (accepted c.before.before)
 
-check_requires : tie.Need-check-requires
-check_requires c κs = search rules
-
-enum_known_c : tie.Need-enum-known-c
-enum_known_c c = search rules
-
-enum_known_c_2 : tie.Need-enum-known-c-2
-enum_known_c_2 c = search rules
-
-force_checked_requires : tie.Need-force-checked-requires
-force_checked_requires c κs = sheet_own (accepted (after_c2 c))
-
-returns : tie.Need-returns
-returns c =
-    let told = c.before in
-    let checked = told.before.before in
-    let a = (start checked).args in
+returns-in-Refused : tie.Need-returns-in-Refused
+returns-in-Refused c =
+    let told = c in
+    let checked = told in
+    let a = checked.args in
     let e = unchecked_call (format_of a.f) a.sheet.now a.values.now a.first.now a.second.now
-    (sheet_refused a.f a.sheet.now told.c.given.1 checked.check.ensures) in
+    (sheet_refused a.f a.sheet.now told.in-Refused.is checked.check-c.ensures) in
     (e, force_truthful (format_of a.f) a.sheet.now a.values.now a.first.now a.second.now e)
 
-same_length : tie.Need-same-length
-same_length c = search rules
+shape_of-first : tie.Need-shape_of-first
+shape_of-first c = search rules
 
-same_length_2 : tie.Need-same-length-2
-same_length_2 c = search rules
+shape_of-second : tie.Need-shape_of-second
+shape_of-second c = search rules
 
-returns_2 : tie.Need-returns-2
-returns_2 c =
-    let call = after_force_checked c.before in
-    let told = after_c2 call.before in
-    let a = (start told.before.before).args in
-    let e = call.force-checked.ensures ∙
-    ap (λ g. force_call (format_of g) a.sheet.now a.values.now a.first.now a.second.now) (sheet_format (accepted told)) in
+returns-in-Accepted : tie.Need-returns-in-Accepted
+returns-in-Accepted c =
+    let call = c in
+    let told = call in
+    let a = told.args in
+    let e = call.force_checked.ensures ∙
+    ap (λ g. force_call (format_of g) a.sheet.now a.values.now a.first.now a.second.now) (sheet_format (accepted told.before.before.before.before.before.before.before)) in
     (e, force_truthful (format_of a.f) a.sheet.now a.values.now a.first.now a.second.now e)
 
 pub force_spec : {M : Type 1} → statement M
 force_spec =
     tie.close
     (tie.spec
-    check_requires
-    enum_known_c
-    enum_known_c_2
-    force_checked_requires
-    returns
-    same_length
-    same_length_2
-    returns_2)
+    check-c-requires
+    enum_known-c
+    enum_known-c-in-Accepted-1
+    force_checked-requires
+    returns-in-Refused
+    shape_of-first
+    shape_of-second
+    returns-in-Accepted)

@@ -15,21 +15,25 @@ beq_false : (e : Bool) → not e ≡ beq e false
 beq_false true = refl
 beq_false false = refl
 
-enum_told : tie.Need-enum-told
-enum_told c = search rules
+enum_told-1 : tie.Need-enum_told-1
+enum_told-1 c = search rules
 
-enum_told_2 : tie.Need-enum-told-2
-enum_told_2 c = search rules
+enum_told-in-False : tie.Need-enum_told-in-False
+enum_told-in-False c = search rules
 
-returns : tie.Need-returns
-returns c =
-    let e = c.before.before.args.existential in
-    beq_true e ∙ ap (λ (v : Verdict). beq e (verdict_of v)) (sym c.enum_told.given.1)
+returns-in-True : tie.Need-returns-in-True
+returns-in-True c =
+    let e = c.args.existential in
+    beq_true e ∙ ap (λ (v : Verdict). beq e (verdict_of v)) (sym c.in-True.is)
 
-returns_2 : tie.Need-returns-2
-returns_2 c =
-    let e = c.before.before.args.existential in
-    beq_false e ∙ ap (λ (v : Verdict). beq e (verdict_of v)) (sym c.enum-told2.given.1)
+returns-in-False : tie.Need-returns-in-False
+returns-in-False c =
+    let e = c.args.existential in
+    beq_false e ∙ ap (λ (v : Verdict). beq e (verdict_of v)) (sym c.in-False.is)
 
 pub is_wanted_spec : {M : Type 1} → statement M
-is_wanted_spec = tie.close (tie.spec enum_told enum_told_2 returns returns_2)
+is_wanted_spec = tie.close (tie.spec
+    enum_told-1
+    enum_told-in-False
+    returns-in-True
+    returns-in-False)

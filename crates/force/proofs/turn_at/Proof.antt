@@ -7,18 +7,21 @@ use Rattle.force.proofs.Answering.{is_exists}
 use Rattle.force.proofs.turn_at.Statement.{statement}
 use Rattle.force.proofs.turn_at.Tie as tie
 
-is_existential_requires : tie.Need-is-existential-requires
-is_existential_requires c κs = search rules
+is_existential-requires : tie.Need-is_existential-requires
+is_existential-requires c κs = search rules
+
+returns-then-is_existential : tie.Need-returns-then-is_existential
+returns-then-is_existential c =
+    let a = c.args in
+    is_exists (binding_in a.s a.b.now a.i).quantifier (sym c.is_existential.ensures ∙ c.if-is_existential.true)
 
 returns : tie.Need-returns
 returns c =
-    let a = c.before.before.before.args in
-    is_exists (binding_in a.s a.b.now a.i).quantifier (sym c.before.is-existential.ensures ∙ c.if1.true)
-
-returns_2 : tie.Need-returns-2
-returns_2 c =
-    let a = c.before.before.before.args in
-    is_for_all (binding_in a.s a.b.now a.i).quantifier (sym c.before.is-existential.ensures ∙ c.if1.false)
+    let a = c.args in
+    is_for_all (binding_in a.s a.b.now a.i).quantifier (sym c.is_existential.ensures ∙ c.if-is_existential.false)
 
 pub turn_at_spec : {M : Type 1} → statement M
-turn_at_spec = tie.close (tie.spec is_existential_requires returns returns_2)
+turn_at_spec = tie.close (tie.spec
+    is_existential-requires
+    returns-then-is_existential
+    returns)

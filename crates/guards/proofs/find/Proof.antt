@@ -11,30 +11,6 @@ use borrow.Author.Rules.{rules}
 use Rattle.guards.proofs.find.Statement.{statement}
 use Rattle.guards.proofs.find.Tie as tie
 
-abbrev entered : tie.After-copy-front-arg → tie.After-slice-known2
-entered c = c.before.before
-
-abbrev called : tie.After-copy-front-arg → tie.Start
-called c = (entered c).before.before.before
-
-abbrev after_copy_front : tie.After-run-raw-arg → tie.After-copy-front
-after_copy_front c = c.before.before.before
-
-abbrev after_run_raw : tie.After-second → tie.After-run-raw
-after_run_raw c = c.before.before.before
-
-abbrev after_second : tie.After-after-run-arg2 → tie.After-second
-after_second c = c.before.before.before
-
-abbrev after_after_run : tie.After-first3 → tie.After-after-run
-after_after_run c = c.before.before.before
-
-abbrev start : tie.After-copy-front → tie.Start
-start c = called c.before
-
-abbrev copied : tie.After-run-raw → tie.After-copy-front
-copied c = after_copy_front c.before.before
-
 abbrev most : tie.Start → ℕ
 most a = room a.args.first.now a.args.second.now
 
@@ -42,54 +18,54 @@ most a = room a.args.first.now a.args.second.now
 has_place : (a : tie.Start) → length a.args.sheet.now ≤ most a
 has_place a = omega (arith, sheet-size a.requires.0.sheet, a.requires.0.has_room)
 
-same_room : (c : tie.After-run-raw) → room c.run-raw.new.0 c.run-raw.new.1.0 ≡ most (start (copied c))
-same_room c = ap₂ min (c.run-raw.auto.0 ∙ (copied c).copy-front.auto.1.0) c.run-raw.auto.1.0
+same_room : (c : tie.After-run_raw-answer) → room c.run_raw-answer.new.first c.run_raw-answer.new.second ≡ most c.before.before.before.before.before.before.before.before.before.before.before
+same_room c = ap₂ min (c.run_raw-answer.auto.first ∙ c.copy_front.auto.out) c.run_raw-answer.auto.second
 
-copy_front_requires : tie.Need-copy-front-requires
-copy_front_requires c κs = omega (arith, has_place (called c))
+copy_front-requires : tie.Need-copy_front-requires
+copy_front-requires c κs = omega (arith, has_place c.before.before.before.before.before)
 
-run_raw_requires : tie.Need-run-raw-requires
-run_raw_requires c κs =
-    let front = after_copy_front c.before in
-    let a = start front in
-    raw-ready a.pre.0.sheet a.args.first.now a.args.second.now (has_place a) front.copy-front.ensures
+run_raw-answer-requires : tie.Need-run_raw-answer-requires
+run_raw-answer-requires c κs =
+    let front = c in
+    let a = front in
+    raw-ready a.requires.0.sheet a.args.first.now a.args.second.now (has_place a.before.before.before.before.before.before.before.before.before.before) front.copy_front.ensures
 
-after_run_requires : tie.Need-after-run-requires
-after_run_requires c κs =
-    let ran = after_run_raw (after_second c.before) in
-    let a = start (copied ran) in
+after_run-requires : tie.Need-after_run-requires
+after_run-requires c κs =
+    let ran = c in
+    let a = ran in
     let x = a.args in (
-      subst (Siftable x.s x.sheet.now) (sym (same_room ran)) a.pre.0,
-      a.pre.1,
-      subst (λ (m : ℕ). Said x.s x.sheet.now m ran.run-raw.result) (sym (same_room ran))
-          (copied-said a.pre.0.sheet x.first.now x.second.now (omega (arith, has_place a)) (copied ran).copy-front.ensures
-          ran.run-raw.result ran.run-raw.ensures),
+      subst (Siftable x.s x.sheet.now) (sym (same_room ran.before.before.before.before.before.before.before)) a.requires.0,
+      a.requires.1,
+      subst (λ (m : ℕ). Said x.s x.sheet.now m ran.run_raw-answer.result) (sym (same_room ran.before.before.before.before.before.before.before))
+          (copied-said a.requires.0.sheet x.first.now x.second.now (omega (arith, has_place a.before.before.before.before.before.before.before.before.before.before.before.before.before.before.before.before.before.before)) ran.copy_front.ensures
+          ran.run_raw-answer.result ran.run_raw-answer.ensures),
     )
 
-same_length : tie.Need-same-length
-same_length c = search rules
+shape_of-out : tie.Need-shape_of-out
+shape_of-out c = search rules
 
-same_length_2 : tie.Need-same-length-2
-same_length_2 c = search rules
+shape_of-first : tie.Need-shape_of-first
+shape_of-first c = search rules
 
-same_length_3 : tie.Need-same-length-3
-same_length_3 c = search rules
+shape_of-second : tie.Need-shape_of-second
+shape_of-second c = search rules
 
 returns : tie.Need-returns
 returns c =
-    let done = after_after_run c.before.before.before in
-    let ran = after_run_raw (after_second done.before.before) in
-    let a = (start (copied ran)).args in
-    done.after_run.ensures ∙ ap (found_call a.s a.sheet.now a.out.now) (same_room ran)
+    let done = c in
+    let ran = done in
+    let a = ran.args in
+    done.after_run.ensures ∙ ap (found_call a.s a.sheet.now a.out.now) (same_room ran.before.before.before.before.before.before.before.before.before.before.before.before.before.before)
 
 pub find_spec : {M : Type 1} → statement M
 find_spec =
     tie.close
     (tie.spec
-    copy_front_requires
-    run_raw_requires
-    after_run_requires
-    same_length
-    same_length_2
-    same_length_3
+    copy_front-requires
+    run_raw-answer-requires
+    after_run-requires
+    shape_of-out
+    shape_of-first
+    shape_of-second
     returns)

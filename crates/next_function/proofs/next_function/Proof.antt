@@ -10,107 +10,88 @@ use Rattle.next_function.proofs.Choosing.{settle-named, settle-constant, settle-
 use Rattle.next_function.proofs.next_function.Statement.{statement}
 use Rattle.next_function.proofs.next_function.Tie as tie
 
--- places in the code, each from a later one
-abbrev start : tie.After-slice-known2 → tie.Start
-start c = c.before.before.before
+most_variables-requires : tie.Need-most_variables-requires
+most_variables-requires c κs = search rules
 
-abbrev entry : tie.After-choose-settle → tie.Start
-entry c = start c.before.before
-
-abbrev chosen : tie.After-c → tie.After-choose-settle
-chosen c = c.before.before
-
-abbrev none_chosen : tie.After-enum-told → tie.After-choose-settle
-none_chosen c = c.before.before
-
-abbrev told : tie.After-fill-ends → tie.After-enum-told
-told c = c.before.before
-
-abbrev ends_filled : tie.After-expanded-function-arg → tie.After-fill-ends
-ends_filled c = c.before.before.before
-
-most_variables_requires : tie.Need-most-variables-requires
-most_variables_requires c κs = search rules
-
-choose_settle_requires : tie.Need-choose-settle-requires
-choose_settle_requires c κs =
-    let k = (start c.before).requires.0 in
+choose_settle-c-requires : tie.Need-choose_settle-c-requires
+choose_settle-c-requires c κs =
+    let k = c.requires.0 in
     (k.from.readable, k.bound, rw c.most_variables.ensures k.numbered)
 
-enum_known_c : tie.Need-enum-known-c
-enum_known_c c = search rules
+enum_known-c : tie.Need-enum_known-c
+enum_known-c c = search rules
 
 -- the variable that is settled
-here : (c : tie.After-c)
-    → let a = (entry (chosen c)).args in
-    SettleHere a.s a.b.now (lowest (formula_in a.s a.b.now)) c.c.given.0.0 c.c.given.0.1.0 c.c.given.0.1.1.0
+here : (c : tie.In-Settle)
+    → let a = c.args in
+    SettleHere a.s a.b.now (lowest (formula_in a.s a.b.now)) c.in-Settle.i c.in-Settle.x c.in-Settle.value
 here c =
-    let a = (entry (chosen c)).args in
-    subst (ToSettle a.s a.b.now) c.c.given.1 (chosen c).choose-settle.ensures
+    let a = c.args in
+    subst (ToSettle a.s a.b.now) c.in-Settle.is c.choose_settle-c.ensures
 
-constant_into_requires : tie.Need-constant-into-requires
-constant_into_requires c κs =
-    let p = c.before.before in
-    settle-constant (entry (chosen p)).requires.0 (here p)
+constant_into-sheet-requires : tie.Need-constant_into-sheet-requires
+constant_into-sheet-requires c κs =
+    let p = c in
+    settle-constant p.requires.0 (here p.before)
 
-enum_told : tie.Need-enum-told
-enum_told c = search rules
+enum_told-1 : tie.Need-enum_told-1
+enum_told-1 c = search rules
 
-fill_ends_requires : tie.Need-fill-ends-requires
-fill_ends_requires c κs =
-    let a = entry (none_chosen c.before) in
-    let ok = a.pre.0.from.readable in
-    (ok, omega (arith, ok.few_nodes, a.pre.1))
+fill_ends-requires : tie.Need-fill_ends-requires
+fill_ends-requires c κs =
+    let a = c in
+    let ok = a.requires.0.from.readable in
+    (ok, omega (arith, ok.few_nodes, a.requires.1))
 
-expanded_function_requires : tie.Need-expanded-function-requires
-expanded_function_requires c κs =
-    let filled = ends_filled c.before in
-    let t = told filled in
-    let a = entry (none_chosen t) in (
-      a.pre.0,
-      subst (ToSettle a.args.s a.args.b.now) t.enum_told.given.1 (none_chosen t).choose-settle.ensures,
-      filled.fill-ends.ensures.0,
+expanded_function-requires : tie.Need-expanded_function-requires
+expanded_function-requires c κs =
+    let filled = c in
+    let t = filled in
+    let a = t in (
+      a.requires.0,
+      subst (ToSettle a.args.s a.args.b.now) t.in-Nothing.is t.choose_settle-c.ensures,
+      filled.fill_ends.ensures.0,
     )
 
-same_length : tie.Need-same-length
-same_length c = search rules
+shape_of-out-in-Settle : tie.Need-shape_of-out-in-Settle
+shape_of-out-in-Settle c = search rules
 
-returns : tie.Need-returns
-returns c =
-    let wrote = c.before.before in
-    let p = wrote.before.before.before in
-    let k = (entry (chosen p)).requires.0 in
-    let e = wrote.constant-into.ensures in
+returns-in-Settle : tie.Need-returns-in-Settle
+returns-in-Settle c =
+    let wrote = c in
+    let p = wrote in
+    let k = p.requires.0 in
+    let e = wrote.constant_into-sheet.ensures in
     record {
-      variable_is = settle-move k (here p);
-      named = settle-named k (here p);
+      variable_is = settle-move k (here p.before.before.before.before);
+      named = settle-named k (here p.before.before.before.before);
       bytes_are = e.0;
       layout_is = e.1.0;
       sizes = (e.1.1.0, le_trans e.1.1.1 k.from.readable.some_nodes);
     }
 
-same_length_2 : tie.Need-same-length-2
-same_length_2 c = search rules
+shape_of-ends : tie.Need-shape_of-ends
+shape_of-ends c = search rules
 
-same_length_3 : tie.Need-same-length-3
-same_length_3 c = search rules
+shape_of-out-in-Nothing : tie.Need-shape_of-out-in-Nothing
+shape_of-out-in-Nothing c = search rules
 
-returns_2 : tie.Need-returns-2
-returns_2 c = c.before.before.expanded-function.ensures
+returns-in-Nothing : tie.Need-returns-in-Nothing
+returns-in-Nothing c = c.expanded_function.ensures
 
 pub next_function_spec : {M : Type 1} → statement M
 next_function_spec =
     tie.close
     (tie.spec
-    most_variables_requires
-    choose_settle_requires
-    enum_known_c
-    constant_into_requires
-    enum_told
-    fill_ends_requires
-    expanded_function_requires
-    same_length
-    returns
-    same_length_2
-    same_length_3
-    returns_2)
+    most_variables-requires
+    choose_settle-c-requires
+    enum_known-c
+    constant_into-sheet-requires
+    enum_told-1
+    fill_ends-requires
+    expanded_function-requires
+    shape_of-out-in-Settle
+    returns-in-Settle
+    shape_of-ends
+    shape_of-out-in-Nothing
+    returns-in-Nothing)

@@ -12,13 +12,13 @@ returns-then-not-fits : tie.Need-returns-then-not-fits
 returns-then-not-fits c =
     let fit = c in
     let a = fit in
-    no_room a.requires a.args.out.now fit.fits2.ensures (c.if-not-fits.true)
+    no_room a.requires a.args.out.now fit.fits.ensures (c.if-not-fits.true)
 
 outer_into-end-requires : tie.Need-outer_into-end-requires
 outer_into-end-requires c κs =
     let fit = c in
     let a = fit in
-    fitting a.requires a.args.out.now fit.fits2.ensures (c.if-not-fits.false)
+    fitting a.requires a.args.out.now fit.fits.ensures (c.if-not-fits.false)
 
 shape_of-out : tie.Need-shape_of-out
 shape_of-out c = search rules
@@ -28,7 +28,7 @@ returns c =
     let wrote = c in
     let fit = wrote in
     let a = fit in
-    copied-call a.requires a.args.out.now fit.fits2.ensures (wrote.if-not-fits.false)
+    copied-call a.requires a.args.out.now fit.fits.ensures (wrote.if-not-fits.false)
     wrote.outer_into-end.ensures.1 wrote.outer_into-end.ensures.0
 
 pub outer_planned_spec : {M : Type 1} → statement M

@@ -15,120 +15,101 @@ use Rattle.response.proofs.Deciding.{refused_call, responded_call}
 use Rattle.response.proofs.response.Statement.{statement}
 use Rattle.response.proofs.response.Tie as tie
 
-slice_aggregate_plan_response : tie.Need-slice-aggregate-plan-response
-slice_aggregate_plan_response c = search rules
+slice_bounds-plan_response-end : tie.Need-slice_bounds-plan_response-end
+slice_bounds-plan_response-end c = search rules
 
-plan_response_requires : tie.Need-plan-response-requires
-plan_response_requires c κs = search rules
+plan_response-p-requires : tie.Need-plan_response-p-requires
+plan_response-p-requires c κs = search rules
 
-enum_known_p : tie.Need-enum-known-p
-enum_known_p c = search rules
+enum_known-p : tie.Need-enum_known-p
+enum_known-p c = search rules
 
-enum_known_p_2 : tie.Need-enum-known-p-2
-enum_known_p_2 c = search rules
+enum_known-p-in-Constant-1 : tie.Need-enum_known-p-in-Constant-1
+enum_known-p-in-Constant-1 c = search rules
 
-enum_known_p_3 : tie.Need-enum-known-p-3
-enum_known_p_3 c = search rules
+enum_known-p-in-Copy-1 : tie.Need-enum_known-p-in-Copy-1
+enum_known-p-in-Copy-1 c = search rules
 
-slice_aggregate_function_into : tie.Need-slice-aggregate-function-into
-slice_aggregate_function_into c = search rules
-
--- places in the code, each from a later one
-abbrev known : tie.After-plan-response → tie.After-slice-known
-known c = c.before.before
-
-abbrev start : tie.After-plan-response → tie.Start
-start c = (known c).before.before
-
-abbrev settled : tie.After-p2 → tie.After-plan-response
-settled c = c.before.before.before
-
-abbrev constant_told : tie.After-constant-into → tie.After-p2
-constant_told c = c.before.before.before
-
-abbrev copied : tie.After-p3 → tie.After-plan-response
-copied c = c.before.before.before
-
-abbrev copy_asked : tie.After-function-into-arg → tie.After-p3
-copy_asked c = c.before.before.before
+slice_bounds-function_into-end : tie.Need-slice_bounds-function_into-end
+slice_bounds-function_into-end c = search rules
 
 -- the plan: a constant, or a copy
-by_constant : (c : tie.After-p2)
-    → let a = (start (settled c)).args in
-    ResponsePlans a.f a.sheet.now a.x (length a.out.now) (settled c).plan-response.new.1.1.1.1.0
-    (Constant c.p2.given.0.0 c.p2.given.0.1.0)
+by_constant : (c : tie.In-Constant)
+    → let a = c.args in
+    ResponsePlans a.f a.sheet.now a.x (length a.out.now) c.plan_response-p.new.cuts
+    (Constant c.in-Constant.s c.in-Constant.put)
 by_constant c =
-    let a = (start (settled c)).args in
-    subst (ResponsePlans a.f a.sheet.now a.x (length a.out.now) (settled c).plan-response.new.1.1.1.1.0) c.p2.given.1
-    (settled c).plan-response.ensures
+    let a = c.args in
+    subst (ResponsePlans a.f a.sheet.now a.x (length a.out.now) c.plan_response-p.new.cuts) c.in-Constant.is
+    c.plan_response-p.ensures
 
-by_copy : (c : tie.After-p3)
-    → let a = (start (copied c)).args in
-    ResponsePlans a.f a.sheet.now a.x (length a.out.now) (copied c).plan-response.new.1.1.1.1.0
-    (Copy c.p3.given.0.0 c.p3.given.0.1.0)
+by_copy : (c : tie.In-Copy)
+    → let a = c.args in
+    ResponsePlans a.f a.sheet.now a.x (length a.out.now) c.plan_response-p.new.cuts
+    (Copy c.in-Copy.s c.in-Copy.w)
 by_copy c =
-    let a = (start (copied c)).args in
-    subst (ResponsePlans a.f a.sheet.now a.x (length a.out.now) (copied c).plan-response.new.1.1.1.1.0) c.p3.given.1
-    (copied c).plan-response.ensures
+    let a = c.args in
+    subst (ResponsePlans a.f a.sheet.now a.x (length a.out.now) c.plan_response-p.new.cuts) c.in-Copy.is
+    c.plan_response-p.ensures
 
-constant_into_requires : tie.Need-constant-into-requires
-constant_into_requires c κs = (by_constant c.before.before).3
+constant_into-t-requires : tie.Need-constant_into-t-requires
+constant_into-t-requires c κs = (by_constant c.before).3
 
-sheet_length_requires : tie.Need-sheet-length-requires
-sheet_length_requires c κs =
-    let wrote = c.before.before in
-    let few = (by_constant (constant_told wrote)).3.from.readable in
-    let sizes = wrote.constant-into.ensures.1.1 in
+sheet_length-requires : tie.Need-sheet_length-requires
+sheet_length-requires c κs =
+    let wrote = c in
+    let few = (by_constant wrote.before.before.before.before).3.from.readable in
+    let sizes = wrote.constant_into-t.ensures.1.1 in
     (omega (arith, sizes.0, few.few_variables), omega (arith, sizes.1))
 
-function_into_requires : tie.Need-function-into-requires
-function_into_requires c κs = (by_copy (copy_asked c)).2
+function_into-t-requires : tie.Need-function_into-t-requires
+function_into-t-requires c κs = (by_copy c.before.before).2
 
-sheet_length_requires_2 : tie.Need-sheet-length-requires-2
-sheet_length_requires_2 c κs =
-    let wrote = c.before.before in
-    let k = (by_copy (copy_asked wrote.before)).2 in
-    let sizes = wrote.function-into.ensures.1.1 in
+sheet_length-requires-in-Copy : tie.Need-sheet_length-requires-in-Copy
+sheet_length-requires-in-Copy c κs =
+    let wrote = c in
+    let k = (by_copy wrote.before.before.before.before.before).2 in
+    let sizes = wrote.function_into-t.ensures.1.1 in
     (omega (arith, sizes.0, k.from.readable.few_variables), omega (arith, sizes.1, copy_few k))
 
-returns : tie.Need-returns
-returns c =
-    let told = c.before in
-    let plan = told.before.before.before in
-    let a = (start plan).args in
+returns-in-Refused : tie.Need-returns-in-Refused
+returns-in-Refused c =
+    let told = c in
+    let plan = told in
+    let a = plan.args in
     let e = refused_call (format_of a.f) a.sheet.now a.x a.out.now
-    (subst (ResponsePlans a.f a.sheet.now a.x (length a.out.now) _) told.p.given.1 plan.plan-response.ensures) in
+    (subst (ResponsePlans a.f a.sheet.now a.x (length a.out.now) _) told.in-Refused.is plan.plan_response-p.ensures) in
     (e, response_truthful (format_of a.f) (sound a.f) a.sheet.now a.x a.out.now e)
 
-same_length : tie.Need-same-length
-same_length c = search rules
+shape_of-out-in-Constant : tie.Need-shape_of-out-in-Constant
+shape_of-out-in-Constant c = search rules
 
-returns_2 : tie.Need-returns-2
-returns_2 c =
-    let wrote = c.before.before.before in
-    let told = constant_told wrote in
-    let a = (start (settled told)).args in
-    let is = by_constant told in
-    let done = wrote.constant-into.ensures in
-    let t = wrote.constant-into.result in
-    let passes = subst (λ y. Passes a.sheet.now y (length a.out.now) told.p2.given.0.0) (sym is.1) is.2 in
+returns-in-Constant : tie.Need-returns-in-Constant
+returns-in-Constant c =
+    let wrote = c in
+    let told = wrote in
+    let a = told.args in
+    let is = by_constant told.before.before.before.before.before in
+    let done = wrote.constant_into-t.ensures in
+    let t = wrote.constant_into-t.result in
+    let passes = subst (λ y. Passes a.sheet.now y (length a.out.now) told.in-Constant.s) (sym is.1) is.2 in
     let long = c.sheet_length.ensures ∙ ap (λ f. sheet_length (format_of f) t.variables t.nodes) (sym is.0) in
     let e = responded_call a.out.now passes done.1.0 long done.0 ∙
     ap₂ (λ f y. response_call (format_of f) a.sheet.now y a.out.now) is.0 is.1 in
     (e, response_truthful (format_of a.f) (sound a.f) a.sheet.now a.x a.out.now e)
 
-same_length_2 : tie.Need-same-length-2
-same_length_2 c = search rules
+shape_of-out-in-Copy : tie.Need-shape_of-out-in-Copy
+shape_of-out-in-Copy c = search rules
 
-returns_3 : tie.Need-returns-3
-returns_3 c =
-    let wrote = c.before.before.before in
-    let told = copy_asked wrote.before in
-    let a = (start (copied told)).args in
-    let is = by_copy told in
-    let done = wrote.function-into.ensures in
-    let t = wrote.function-into.result in
-    let long = c.sheet-length2.ensures ∙ ap (λ f. sheet_length (format_of f) t.variables t.nodes) (sym is.0) in
+returns-in-Copy : tie.Need-returns-in-Copy
+returns-in-Copy c =
+    let wrote = c in
+    let told = wrote in
+    let a = told.args in
+    let is = by_copy told.before.before.before.before.before.before in
+    let done = wrote.function_into-t.ensures in
+    let t = wrote.function_into-t.result in
+    let long = c.sheet_length-in-Copy.ensures ∙ ap (λ f. sheet_length (format_of f) t.variables t.nodes) (sym is.0) in
     let e = responded_call a.out.now is.1 done.1.0 long done.0 ∙
     ap (λ f. response_call (format_of f) a.sheet.now a.x a.out.now) is.0 in
     (e, response_truthful (format_of a.f) (sound a.f) a.sheet.now a.x a.out.now e)
@@ -137,18 +118,18 @@ pub response_spec : {M : Type 1} → statement M
 response_spec =
     tie.close
     (tie.spec
-    slice_aggregate_plan_response
-    plan_response_requires
-    enum_known_p
-    enum_known_p_2
-    constant_into_requires
-    sheet_length_requires
-    enum_known_p_3
-    slice_aggregate_function_into
-    function_into_requires
-    sheet_length_requires_2
-    returns
-    same_length
-    returns_2
-    same_length_2
-    returns_3)
+    slice_bounds-plan_response-end
+    plan_response-p-requires
+    enum_known-p
+    enum_known-p-in-Constant-1
+    constant_into-t-requires
+    sheet_length-requires
+    enum_known-p-in-Copy-1
+    slice_bounds-function_into-end
+    function_into-t-requires
+    sheet_length-requires-in-Copy
+    returns-in-Refused
+    shape_of-out-in-Constant
+    returns-in-Constant
+    shape_of-out-in-Copy
+    returns-in-Copy)

@@ -9,71 +9,71 @@ use Rattle.resume.specs.Inner.Going.{Addable}
 use Rattle.resume.proofs.add_counts.Statement.{statement}
 use Rattle.resume.proofs.add_counts.Tie as tie
 
-enum_known_answer : tie.Need-enum-known-answer
-enum_known_answer c = search rules
+enum_known-answer : tie.Need-enum_known-answer
+enum_known-answer c = search rules
 
-enum_known_answer_2 : tie.Need-enum-known-answer-2
-enum_known_answer_2 c = search rules
+enum_known-answer-in-Stopped-1 : tie.Need-enum_known-answer-in-Stopped-1
+enum_known-answer-in-Stopped-1 c = search rules
 
-add_t12 : tie.Need-overflow-add-t12
-add_t12 c =
-    let told = c.before.before in
-    let a = told.before.before in
-    omega (arith, (subst (Addable a.args.c.settled a.args.c.expanded) told.answer2.given.1 a.requires).0)
+overflow_add-result : tie.Need-overflow_add-result
+overflow_add-result c =
+    let told = c in
+    let a = told in
+    omega (arith, (subst (Addable a.args.c.settled a.args.c.expanded) told.in-Stopped.is a.requires).0)
 
-add_t13 : tie.Need-overflow-add-t13
-add_t13 c =
-    let told = c.before.before.before in
-    let a = told.before.before in
-    omega (arith, (subst (Addable a.args.c.settled a.args.c.expanded) told.answer2.given.1 a.requires).1)
+overflow_add-result-in-Stopped : tie.Need-overflow_add-result-in-Stopped
+overflow_add-result-in-Stopped c =
+    let told = c in
+    let a = told in
+    omega (arith, (subst (Addable a.args.c.settled a.args.c.expanded) told.in-Stopped.is a.requires).1)
 
-enum_known_answer_3 : tie.Need-enum-known-answer-3
-enum_known_answer_3 c = search rules
+enum_known-answer-in-Ended-1 : tie.Need-enum_known-answer-in-Ended-1
+enum_known-answer-in-Ended-1 c = search rules
 
-add_t14 : tie.Need-overflow-add-t14
-add_t14 c =
-    let told = c.before.before in
-    let a = told.before.before in
-    omega (arith, (subst (Addable a.args.c.settled a.args.c.expanded) told.answer3.given.1 a.requires).0)
+overflow_add-result-in-Ended : tie.Need-overflow_add-result-in-Ended
+overflow_add-result-in-Ended c =
+    let told = c in
+    let a = told in
+    omega (arith, (subst (Addable a.args.c.settled a.args.c.expanded) told.in-Ended.is a.requires).0)
 
-add_t15 : tie.Need-overflow-add-t15
-add_t15 c =
-    let told = c.before.before.before in
-    let a = told.before.before in
-    omega (arith, (subst (Addable a.args.c.settled a.args.c.expanded) told.answer3.given.1 a.requires).1)
+overflow_add-result-in-Ended-2 : tie.Need-overflow_add-result-in-Ended-2
+overflow_add-result-in-Ended-2 c =
+    let told = c in
+    let a = told in
+    omega (arith, (subst (Addable a.args.c.settled a.args.c.expanded) told.in-Ended.is a.requires).1)
 
-returns : tie.Need-returns
+returns-in-Refused : tie.Need-returns-in-Refused
 unfolding add_to_answer
-returns c =
-    let told = c.before in
-    let a = told.before.before.args in
-    ap (λ (r : Solved). add_to_answer a.c.settled a.c.expanded (solved_answer r)) (sym told.answer.given.1)
+returns-in-Refused c =
+    let told = c in
+    let a = told.args in
+    ap (λ (r : Solved). add_to_answer a.c.settled a.c.expanded (solved_answer r)) (sym told.in-Refused.is)
 
-returns_2 : tie.Need-returns-2
+returns-in-Stopped : tie.Need-returns-in-Stopped
 unfolding add_to_answer
-returns_2 c =
-    let told = c.before.before.before in
-    let a = told.before.before.args in
-    ap (λ (r : Solved). add_to_answer a.c.settled a.c.expanded (solved_answer r)) (sym told.answer2.given.1)
+returns-in-Stopped c =
+    let told = c in
+    let a = told.args in
+    ap (λ (r : Solved). add_to_answer a.c.settled a.c.expanded (solved_answer r)) (sym told.in-Stopped.is)
 
-returns_3 : tie.Need-returns-3
+returns-in-Ended : tie.Need-returns-in-Ended
 unfolding add_to_answer
-returns_3 c =
-    let told = c.before.before.before in
-    let a = told.before.before.args in
-    ap (λ (r : Solved). add_to_answer a.c.settled a.c.expanded (solved_answer r)) (sym told.answer3.given.1)
+returns-in-Ended c =
+    let told = c in
+    let a = told.args in
+    ap (λ (r : Solved). add_to_answer a.c.settled a.c.expanded (solved_answer r)) (sym told.in-Ended.is)
 
 pub add_counts_spec : {M : Type 1} → statement M
 add_counts_spec =
     tie.close
     (tie.spec
-    enum_known_answer
-    enum_known_answer_2
-    add_t12
-    add_t13
-    enum_known_answer_3
-    add_t14
-    add_t15
-    returns
-    returns_2
-    returns_3)
+    enum_known-answer
+    enum_known-answer-in-Stopped-1
+    overflow_add-result
+    overflow_add-result-in-Stopped
+    enum_known-answer-in-Ended-1
+    overflow_add-result-in-Ended
+    overflow_add-result-in-Ended-2
+    returns-in-Refused
+    returns-in-Stopped
+    returns-in-Ended)

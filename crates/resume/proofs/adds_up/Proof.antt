@@ -7,26 +7,29 @@ use Rattle.resume.proofs.Counted.{by_steps}
 use Rattle.resume.proofs.adds_up.Statement.{statement}
 use Rattle.resume.proofs.adds_up.Tie as tie
 
-returns : tie.Need-returns
-returns c =
-    let a = c.before.before.args in
-    let below : a.c.started < a.c.settled = c.if1.true in
+returns-then-c : tie.Need-returns-then-c
+returns-then-c c =
+    let a = c.args in
+    let below : a.c.started < a.c.settled = c.if-c.true in
     sym (ne_eqb (a.c.settled + a.c.expanded + a.left) a.c.started (λ e. omega (arith, below, e)))
 
-returns_2 : tie.Need-returns-2
-returns_2 c =
-    let first = c.before.before.before in
-    let a = first.before.before.args in
-    let enough : a.c.settled ≤ a.c.started = first.if1.false in
-    let below : a.c.started - a.c.settled < a.c.expanded = c.if2.true in
+returns-then-rest-c : tie.Need-returns-then-rest-c
+returns-then-rest-c c =
+    let first = c in
+    let a = first.args in
+    let enough : a.c.settled ≤ a.c.started = first.if-c.false in
+    let below : a.c.started - a.c.settled < a.c.expanded = c.if-rest-c.true in
     sym (ne_eqb (a.c.settled + a.c.expanded + a.left) a.c.started (λ e. omega (arith, enough, below, e)))
 
-returns_3 : tie.Need-returns-3
-returns_3 c =
-    let second = c.before in
-    let first = second.before.before.before in
-    let a = first.before.before.args in
-    by_steps a.c.started a.c.settled a.c.expanded a.left first.if1.false second.if2.false
+returns : tie.Need-returns
+returns c =
+    let second = c in
+    let first = second in
+    let a = first.args in
+    by_steps a.c.started a.c.settled a.c.expanded a.left first.if-c.false second.if-rest-c.false
 
 pub adds_up_spec : {M : Type 1} → statement M
-adds_up_spec = tie.close (tie.spec returns returns_2 returns_3)
+adds_up_spec = tie.close (tie.spec
+    returns-then-c
+    returns-then-rest-c
+    returns)

@@ -13,100 +13,84 @@ use Rattle.resume.proofs.Answered.{uncounted, short, ran}
 use Rattle.resume.proofs.resume_checked.Statement.{statement}
 use Rattle.resume.proofs.resume_checked.Tie as tie
 
--- places in the code, each from a later one
-abbrev entry : tie.After-slice-known2 → tie.Start
-entry c = c.before.before.before
+adds_up-requires : tie.Need-adds_up-requires
+adds_up-requires c κs = search rules
 
-abbrev run_done : tie.After-second → tie.After-run-wide
-run_done c = c.before.before.before
+returns-then-not-adds_up : tie.Need-returns-then-not-adds_up
+returns-then-not-adds_up c =
+    let a = c.args in
+    uncounted a.s a.c a.sheet.now a.first.now a.second.now
+    (sym c.adds_up.ensures ∙ c.if-not-adds_up.true)
 
-adds_up_requires : tie.Need-adds-up-requires
-adds_up_requires c κs = search rules
+-- the counts add up
+counted : (c : tie.Else-not-adds_up)
+    → let a = c.args in
+    eqb (a.c.settled + a.c.expanded + a.s.variables) a.c.started ≡ true
+counted c = sym c.adds_up.ensures ∙ c.if-not-adds_up.false
 
-abbrev start : tie.After-adds-up → tie.Start
-start c = entry c.before
+sheet_length-length-requires : tie.Need-sheet_length-length-requires
+sheet_length-length-requires c κs =
+    let ok = c.requires.readable in
+    (omega (arith, ok.few_variables), omega (arith, ok.few_nodes))
+
+shorter-requires : tie.Need-shorter-requires
+shorter-requires c κs = search rules
+
+-- where room has been measured
+returns-then-shorter-length : tie.Need-returns-then-shorter-length
+returns-then-shorter-length c =
+    let right = c in
+    let a = right.args in
+    short a.s a.c a.sheet.now a.first.now a.second.now (counted right.before.before.before)
+    (omega (arith, c.shorter.ensures, c.sheet_length-length.ensures))
+
+-- the wide sheet has room
+enough : (c : tie.Else-shorter-length)
+    → let a = c.args in
+    sheet_length wide a.s.variables a.s.nodes ≤ room a.first.now a.second.now
+enough c = omega (arith, c.shorter.ensures, c.sheet_length-length.ensures)
+
+run_wide-answer-requires : tie.Need-run_wide-answer-requires
+run_wide-answer-requires c κs =
+    let going = c in
+    record { placed = going.requires; has_room = enough going.before.before }
+
+-- where the run has ended
+add_counts-requires : tie.Need-add_counts-requires
+add_counts-requires c κs =
+    let went = c in
+    let right = went in
+    let a = right in
+    addable a.args.first.now a.args.second.now a.requires went.run_wide-answer.result
+    a.args.c.started a.args.c.settled a.args.c.expanded
+    went.run_wide-answer.ensures (eqb-true _ _ (counted right.before.before.before.before.before.before.before.before.before.before)) (omega (arith, a.well_formed))
+
+shape_of-first : tie.Need-shape_of-first
+shape_of-first c = search rules
+
+shape_of-second : tie.Need-shape_of-second
+shape_of-second c = search rules
 
 returns : tie.Need-returns
 returns c =
-    let a = (start c.before).args in
-    uncounted a.s a.c a.sheet.now a.first.now a.second.now
-    (sym c.before.adds_up.ensures ∙ not-true _ c.if1.true)
-
--- the counts add up
-counted : (c : tie.Else1)
-    → let a = (start c.before).args in
-    eqb (a.c.settled + a.c.expanded + a.s.variables) a.c.started ≡ true
-counted c = sym c.before.adds_up.ensures ∙ not-false _ c.if1.false
-
-sheet_length_requires : tie.Need-sheet-length-requires
-sheet_length_requires c κs =
-    let ok = (start c.before).requires.readable in
-    (omega (arith, ok.few_variables), omega (arith, ok.few_nodes))
-
-shorter_requires : tie.Need-shorter-requires
-shorter_requires c κs = search rules
-
--- where room has been measured
-abbrev measured : tie.After-shorter → tie.Else1
-measured c = c.before.before
-
-returns_2 : tie.Need-returns-2
-returns_2 c =
-    let right = measured c.before in
-    let a = (start right.before).args in
-    short a.s a.c a.sheet.now a.first.now a.second.now (counted right)
-    (omega (arith, c.before.shorter.ensures, c.before.before.sheet_length.ensures))
-
--- the wide sheet has room
-enough : (c : tie.Else2)
-    → let a = (start (measured c.before).before).args in
-    sheet_length wide a.s.variables a.s.nodes ≤ room a.first.now a.second.now
-enough c = omega (arith, c.before.shorter.ensures, c.before.before.sheet_length.ensures)
-
-run_wide_requires : tie.Need-run-wide-requires
-run_wide_requires c κs =
-    let going = c.before.before in
-    record { placed = (start (measured going.before).before).requires; has_room = enough going }
-
--- where the run has ended
-abbrev run : tie.After-run-wide → tie.Else2
-run c = c.before.before.before
-
-add_counts_requires : tie.Need-add-counts-requires
-add_counts_requires c κs =
-    let went = run_done c.before in
-    let right = measured (run went).before in
-    let a = start right.before in
-    addable a.args.first.now a.args.second.now a.pre went.run-wide.result
-    a.args.c.started a.args.c.settled a.args.c.expanded
-    went.run-wide.ensures (eqb-true _ _ (counted right)) (omega (arith, a.good))
-
-same_length : tie.Need-same-length
-same_length c = search rules
-
-same_length_2 : tie.Need-same-length-2
-same_length_2 c = search rules
-
-returns_3 : tie.Need-returns-3
-returns_3 c =
-    let went = run_done c.before.before in
-    let going = run went in
-    let right = measured going.before in
-    let a = (start right.before).args in
-    ran a.s a.c a.sheet.now a.first.now a.second.now (counted right) _ _ (enough going) went.run-wide.ensures
-    c.add-counts.ensures
+    let went = c in
+    let going = went in
+    let right = going in
+    let a = right.args in
+    ran a.s a.c a.sheet.now a.first.now a.second.now (counted right.before.before.before.before.before.before.before.before.before.before.before) _ _ (enough going.before.before.before.before.before.before.before.before) went.run_wide-answer.ensures
+    c.add_counts.ensures
 
 pub resume_checked_spec : {M : Type 1} → statement M
 resume_checked_spec =
     tie.close
     (tie.spec
-    adds_up_requires
-    returns
-    sheet_length_requires
-    shorter_requires
-    returns_2
-    run_wide_requires
-    add_counts_requires
-    same_length
-    same_length_2
-    returns_3)
+    adds_up-requires
+    returns-then-not-adds_up
+    sheet_length-length-requires
+    shorter-requires
+    returns-then-shorter-length
+    run_wide-answer-requires
+    add_counts-requires
+    shape_of-first
+    shape_of-second
+    returns)

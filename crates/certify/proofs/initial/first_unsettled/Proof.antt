@@ -11,97 +11,81 @@ use Rattle.certify.proofs.Settling.{Settled, settled_start, settled_on, settled_
 use Rattle.certify.proofs.initial.first_unsettled.Statement.{statement}
 use Rattle.certify.proofs.initial.first_unsettled.Tie as tie
 
-abbrev invariant-loop : tie.invariant-loop
-invariant-loop sheet q high low heads codes end k₀ k = Settled q.verdict (matrix_in q.layout sheet) heads codes end k
+abbrev invariant-loop-k : tie.invariant-loop-k
+invariant-loop-k sheet q high low heads codes end k₀ k = Settled q.verdict (matrix_in q.layout sheet) heads codes end k
 
-abbrev decreases-loop : tie.decreases-loop
-decreases-loop sheet q high low heads codes end k₀ k = end - k
-
--- places in the code, each from a later one
-abbrev known : tie.After-shared-slice-known5 invariant-loop decreases-loop → tie.After-shared-slice-known2 invariant-loop decreases-loop
-known c = c.before.before.before
-
-abbrev entry : tie.After-shared-slice-known5 invariant-loop decreases-loop → tie.Start invariant-loop decreases-loop
-entry c = (known c).before.before
-
-abbrev start : tie.At-loop invariant-loop decreases-loop → tie.Start invariant-loop decreases-loop
-start c = entry c.before.before
-
-abbrev turn : tie.After-settles invariant-loop decreases-loop → tie.In-loop invariant-loop decreases-loop
-turn c = c.before.before
-
-abbrev head : tie.After-settles invariant-loop decreases-loop → tie.At-loop invariant-loop decreases-loop
-head c = (turn c).before
+abbrev decreases-loop-k : tie.decreases-loop-k
+decreases-loop-k sheet q high low heads codes end k₀ k = end - k
 
 -- the part of step k is its constraint
-constraint_is : (c : tie.After-settles invariant-loop decreases-loop)
-    → let a = (start (head c)).args in
-    constraint_in c.before.part_of.result a.codes.now ≡ step_constraint a.heads.now a.codes.now (head c).loop.k
+constraint_is : (c : tie.After-settles invariant-loop-k decreases-loop-k)
+    → let a = c.args in
+    constraint_in c.part_of-p.result a.codes.now ≡ step_constraint a.heads.now a.codes.now c.loop-k.k
 unfolding step_constraint
-constraint_is c = ap (map literal_of) c.before.part_of.ensures.words_are
+constraint_is c = ap (map literal_of) c.part_of-p.ensures.words_are
 
-next_initial_requires : tie.Need-next-initial-requires invariant-loop decreases-loop
-next_initial_requires c κs = (omega arith, (entry c).requires.1)
+next_initial-k-requires : tie.Need-next_initial-k-requires invariant-loop-k decreases-loop-k
+next_initial-k-requires c κs = (omega arith, c.requires.1)
 
-loop_holds : tie.Need-loop-init invariant-loop decreases-loop
-loop_holds c =
-    let a = (entry c.before).args in
-    settled_start a.q.verdict (matrix_in a.q.layout a.sheet.now) a.heads.now a.codes.now a.q.steps c.next-initial.result
-    c.next-initial.ensures
+loop-k-init : tie.Need-loop-k-init invariant-loop-k decreases-loop-k
+loop-k-init c =
+    let a = c.args in
+    settled_start a.q.verdict (matrix_in a.q.layout a.sheet.now) a.heads.now a.codes.now a.q.steps c.next_initial-k.result
+    c.next_initial-k.ensures
 
-part_of_requires : tie.Need-part-of-requires invariant-loop decreases-loop
-part_of_requires c κs = omega (arith, c.loop-test.true, (start c.before).pre.1)
+part_of-p-requires : tie.Need-part_of-p-requires invariant-loop-k decreases-loop-k
+part_of-p-requires c κs = omega (arith, c.loop-k-test.true, c.requires.1)
 
-settles_requires : tie.Need-settles-requires invariant-loop decreases-loop
-settles_requires c κs = ((start c.before.before).pre.0, c.part_of.ensures.within, c.part_of.ensures.skips)
+settles-requires : tie.Need-settles-requires invariant-loop-k decreases-loop-k
+settles-requires c κs = (c.requires.0, c.part_of-p.ensures.within, c.part_of-p.ensures.skips)
 
-returns : tie.Need-returns invariant-loop decreases-loop
+returns-then-not-settles : tie.Need-returns-then-not-settles invariant-loop-k decreases-loop-k
+returns-then-not-settles c =
+    let told = c in
+    let a = told.args in
+    settled_found a.q.verdict (matrix_in a.q.layout a.sheet.now) a.heads.now a.codes.now a.q.steps told.loop-k.k
+    told.loop-k-test.true told.loop-k.invariant told.settles.result (constraint_in told.part_of-p.result a.codes.now)
+    (constraint_is told.before) told.settles.ensures (c.if-not-settles.true)
+
+overflow_add-k : tie.Need-overflow_add-k invariant-loop-k decreases-loop-k
+overflow_add-k c = omega (arith, c.loop-k-test.true)
+
+next_initial-k-requires-in-loop-k : tie.Need-next_initial-k-requires-in-loop-k invariant-loop-k decreases-loop-k
+next_initial-k-requires-in-loop-k c κs = (omega (arith, c.loop-k-test.true), c.requires.1)
+
+loop-k-smaller : tie.Need-loop-k-smaller invariant-loop-k decreases-loop-k
+loop-k-smaller c =
+    let told = c in
+    omega (arith, told.loop-k-test.true, c.next_initial-k-in-loop-k.ensures.onward)
+
+loop-k-preserved : tie.Need-loop-k-preserved invariant-loop-k decreases-loop-k
+loop-k-preserved c =
+    let told = c in
+    let a = told.args in
+    settled_on a.q.verdict (matrix_in a.q.layout a.sheet.now) a.heads.now a.codes.now a.q.steps told.loop-k.k
+    told.loop-k-test.true told.loop-k.invariant told.settles.result (constraint_in told.part_of-p.result a.codes.now)
+    (constraint_is told.before.before) told.settles.ensures (c.if-not-settles.false) c.next_initial-k-in-loop-k.result
+    c.next_initial-k-in-loop-k.ensures
+
+returns : tie.Need-returns invariant-loop-k decreases-loop-k
 returns c =
-    let told = c.before in
-    let a = (start (head told)).args in
-    settled_found a.q.verdict (matrix_in a.q.layout a.sheet.now) a.heads.now a.codes.now a.q.steps (head told).loop.k
-    (turn told).loop-test.true (head told).loop.invariant told.settles.result (constraint_in told.before.part_of.result a.codes.now)
-    (constraint_is told) told.settles.ensures (not-true told.settles.result c.if1.true)
-
-add_next_initial : tie.Need-overflow-add-next-initial invariant-loop decreases-loop
-add_next_initial c = omega (arith, (turn c.before).loop-test.taken)
-
-next_initial_requires_2 : tie.Need-next-initial-requires-2 invariant-loop decreases-loop
-next_initial_requires_2 c κs = (omega (arith, (turn c.before).loop-test.taken), (start (head c.before)).pre.1)
-
-loop_less : tie.Need-loop-smaller invariant-loop decreases-loop
-loop_less c =
-    let told = c.before.before in
-    omega (arith, (turn told).loop-test.true, c.next-initial2.ensures.onward)
-
-loop_again : tie.Need-loop-preserved invariant-loop decreases-loop
-loop_again c =
-    let told = c.before.before in
-    let a = (start (head told)).args in
-    settled_on a.q.verdict (matrix_in a.q.layout a.sheet.now) a.heads.now a.codes.now a.q.steps (head told).loop.k
-    (turn told).loop-test.true (head told).loop.invariant told.settles.result (constraint_in told.before.part_of.result a.codes.now)
-    (constraint_is told) told.settles.ensures (not-false told.settles.result c.before.if1.false) c.next-initial2.result
-    c.next-initial2.ensures
-
-returns_2 : tie.Need-returns-2 invariant-loop decreases-loop
-returns_2 c =
-    let a = (start c.before).args in
-    settled_all a.q.verdict (matrix_in a.q.layout a.sheet.now) a.heads.now a.codes.now a.q.steps c.before.loop.k
-    c.loop-test.false c.before.loop.invariant
+    let a = c.args in
+    settled_all a.q.verdict (matrix_in a.q.layout a.sheet.now) a.heads.now a.codes.now a.q.steps c.loop-k.k
+    c.loop-k-test.false c.loop-k.invariant
 
 pub first_unsettled_spec : {M : Type 1} → statement M
 first_unsettled_spec =
     tie.close
     (tie.spec
-    invariant-loop
-    decreases-loop
-    next_initial_requires
-    loop_holds
-    part_of_requires
-    settles_requires
-    returns
-    add_next_initial
-    next_initial_requires_2
-    loop_less
-    loop_again
-    returns_2)
+    invariant-loop-k
+    decreases-loop-k
+    next_initial-k-requires
+    loop-k-init
+    part_of-p-requires
+    settles-requires
+    returns-then-not-settles
+    overflow_add-k
+    next_initial-k-requires-in-loop-k
+    loop-k-smaller
+    loop-k-preserved
+    returns)

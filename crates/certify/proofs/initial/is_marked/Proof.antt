@@ -4,53 +4,49 @@ use Rattle.certify.proofs.Settling.{unmarked_beyond, marked_positive, marked-neg
 use Rattle.certify.proofs.initial.is_marked.Statement.{statement}
 use Rattle.certify.proofs.initial.is_marked.Tie as tie
 
--- places in the code, each from a later one
-abbrev start : tie.After-shared-slice-known → tie.Start
-start c = c.before
+returns-then-x-ge2048 : tie.Need-returns-then-x-ge2048
+returns-then-x-ge2048 c =
+    let a = c.args in
+    unmarked_beyond a.marks.now a.positive a.x c.if-x-ge2048.true
+
+overflow_mul-x : tie.Need-overflow_mul-x
+overflow_mul-x c = search rules
+
+holds-requires : tie.Need-holds-requires
+holds-requires c κs = search rules
+
+returns-then-positive : tie.Need-returns-then-positive
+returns-then-positive c =
+    let sign = c in
+    let small = sign in
+    let a = small.args in
+    marked_positive a.marks.now a.positive a.x c.holds.result sign.if-positive.true small.if-x-ge2048.false c.holds.ensures
+
+overflow_mul-x-2 : tie.Need-overflow_mul-x-2
+overflow_mul-x-2 c = search rules
+
+overflow_add-x : tie.Need-overflow_add-x
+overflow_add-x c = search rules
+
+holds-requires-2 : tie.Need-holds-requires-2
+holds-requires-2 c κs = search rules
 
 returns : tie.Need-returns
 returns c =
-    let a = (start c.before).args in
-    unmarked_beyond a.marks.now a.positive a.x c.if1.true
-
-mul_holds : tie.Need-overflow-mul-holds
-mul_holds c = search rules
-
-holds_requires : tie.Need-holds-requires
-holds_requires c κs = search rules
-
-returns_2 : tie.Need-returns-2
-returns_2 c =
-    let sign = c.before in
-    let small = sign.before in
-    let a = (start small.before).args in
-    marked_positive a.marks.now a.positive a.x c.holds.result sign.if2.true small.if1.false c.holds.ensures
-
-mul_holds_2 : tie.Need-overflow-mul-holds-2
-mul_holds_2 c = search rules
-
-add_holds : tie.Need-overflow-add-holds
-add_holds c = search rules
-
-holds_requires_2 : tie.Need-holds-requires-2
-holds_requires_2 c κs = search rules
-
-returns_3 : tie.Need-returns-3
-returns_3 c =
-    let sign = c.before in
-    let small = sign.before in
-    let a = (start small.before).args in
-    marked-negative a.marks.now a.positive a.x c.holds2.result sign.if2.false small.if1.false c.holds2.ensures
+    let sign = c in
+    let small = sign in
+    let a = small.args in
+    marked-negative a.marks.now a.positive a.x c.holds-2.result sign.if-positive.false small.if-x-ge2048.false c.holds-2.ensures
 
 pub is_marked_spec : {M : Type 1} → statement M
 is_marked_spec =
     tie.close
     (tie.spec
-    returns
-    mul_holds
-    holds_requires
-    returns_2
-    mul_holds_2
-    add_holds
-    holds_requires_2
-    returns_3)
+    returns-then-x-ge2048
+    overflow_mul-x
+    holds-requires
+    returns-then-positive
+    overflow_mul-x-2
+    overflow_add-x
+    holds-requires-2
+    returns)

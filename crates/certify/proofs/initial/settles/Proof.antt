@@ -9,36 +9,26 @@ use Rattle.certify.proofs.Settling.{settles-marked}
 use Rattle.certify.proofs.initial.settles.Statement.{statement}
 use Rattle.certify.proofs.initial.settles.Tie as tie
 
--- places in the code, each from a later one
-abbrev known : tie.After-marks → tie.After-shared-slice-known3
-known c = c.before.before
+slice_bounds-mark-end : tie.Need-slice_bounds-mark-end
+slice_bounds-mark-end c = search rules
 
-abbrev start : tie.After-marks → tie.Start
-start c = (known c).before.before.before
+mark-requires : tie.Need-mark-requires
+mark-requires c κs = search rules
 
-abbrev marked : tie.After-evaluate → tie.After-mark
-marked c = c.before.before.before
+slice_bounds-evaluate-end : tie.Need-slice_bounds-evaluate-end
+slice_bounds-evaluate-end c = search rules
 
-slice_aggregate_mark : tie.Need-slice-aggregate-mark
-slice_aggregate_mark c = search rules
-
-mark_requires : tie.Need-mark-requires
-mark_requires c κs = search rules
-
-slice_aggregate_evaluate : tie.Need-slice-aggregate-evaluate
-slice_aggregate_evaluate c = search rules
-
-evaluate_requires : tie.Need-evaluate-requires
-evaluate_requires c κs = search rules
+evaluate-requires : tie.Need-evaluate-requires
+evaluate-requires c κs = search rules
 
 returns : tie.Need-returns
 returns c =
-    let told = c.before in
-    let set = (marked told).mark in
-    let a = start (marked told).before in
+    let told = c in
+    let set = told.mark in
+    let a = told in
     let p = a.args.p in
     let codes = a.args.codes.now in
-    settles-marked set.last.1.1.0 (constraint_in p codes) (whole_marks p codes a.pre.2 _ set.last.1.1.0 (holds-none 64) set.ensures.adds)
+    settles-marked set.new.set (constraint_in p codes) (whole_marks p codes a.requires.2 _ set.new.set (holds-none 64) set.ensures.adds)
     (λ s x h. beyond_codes s x (words_in p codes) h) a.args.q.verdict told.evaluate.result
     (matrix_in a.args.q.layout a.args.sheet.now) told.evaluate.ensures
 
@@ -46,8 +36,8 @@ pub settles_spec : {M : Type 1} → statement M
 settles_spec =
     tie.close
     (tie.spec
-    slice_aggregate_mark
-    mark_requires
-    slice_aggregate_evaluate
-    evaluate_requires
+    slice_bounds-mark-end
+    mark-requires
+    slice_bounds-evaluate-end
+    evaluate-requires
     returns)

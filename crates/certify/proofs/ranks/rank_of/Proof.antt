@@ -4,17 +4,21 @@ use native.Mathlib.Omega.{arith}
 use Rattle.certify.proofs.ranks.rank_of.Statement.{statement}
 use Rattle.certify.proofs.ranks.rank_of.Tie as tie
 
-add_result : tie.Need-overflow-add-result
-add_result c = search rules
+overflow_add-result : tie.Need-overflow_add-result
+overflow_add-result c = search rules
 
-cast_result : tie.Need-overflow-cast-result
-cast_result c = search rules
+overflow_cast-result : tie.Need-overflow_cast-result
+overflow_cast-result c = search rules
+
+returns-then-counts : tie.Need-returns-then-counts
+returns-then-counts c = rw c.if-counts.true (omega arith)
 
 returns : tie.Need-returns
-returns c = rw c.if1.true (omega arith)
-
-returns_2 : tie.Need-returns-2
-returns_2 c = search rules
+returns c = search rules
 
 pub rank_of_spec : {M : Type 1} → statement M
-rank_of_spec = tie.close (tie.spec add_result cast_result returns returns_2)
+rank_of_spec = tie.close (tie.spec
+    overflow_add-result
+    overflow_cast-result
+    returns-then-counts
+    returns)

@@ -80,7 +80,7 @@ write_child-at-requires c κs =
     )
 
 offset_bounds-ends-r : tie.Need-offset_bounds-ends-r invariant-loop-left decreases-loop-left
-offset_bounds-ends-r c = let t = let w = c in w.before.before.before.before in omega (arith, inside t, (entry t.before).requires.0.0.readable.few_nodes)
+offset_bounds-ends-r c = let w = c in omega (arith, inside w.before.before.before.before, w.requires.0.0.readable.few_nodes)
 
 bounds-ends-r : tie.Need-bounds-ends-r invariant-loop-left decreases-loop-left
 bounds-ends-r c = let t = c in omega (arith, inside t.before.before.before.before.before, t.requires.0.0.holds)

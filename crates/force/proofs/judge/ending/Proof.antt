@@ -6,24 +6,30 @@ use Rattle.force.proofs.Judging.{refused_ending, stopped_ending, ended_ending}
 use Rattle.force.proofs.judge.ending.Statement.{statement}
 use Rattle.force.proofs.judge.ending.Tie as tie
 
-enum_known_r : tie.Need-enum-known-r
-enum_known_r c = search rules
+enum_known-r : tie.Need-enum_known-r
+enum_known-r c = search rules
 
-enum_known_r_2 : tie.Need-enum-known-r-2
-enum_known_r_2 c = search rules
+enum_known-r-in-Stopped-1 : tie.Need-enum_known-r-in-Stopped-1
+enum_known-r-in-Stopped-1 c = search rules
 
-enum_known_r_3 : tie.Need-enum-known-r-3
-enum_known_r_3 c = search rules
+enum_known-r-in-Ended-1 : tie.Need-enum_known-r-in-Ended-1
+enum_known-r-in-Ended-1 c = search rules
 
-returns : tie.Need-returns
-returns c e s h = ended_ending e s (sym (ap solved_answer c.before.r3.given.1) ∙ h)
+returns-in-Ended : tie.Need-returns-in-Ended
+returns-in-Ended c e s h = ended_ending e s (sym (ap solved_answer c.in-Ended.is) ∙ h)
 
-returns_2 : tie.Need-returns-2
-returns_2 c e s h = refused_ending e s (sym (ap solved_answer c.before.r.given.1) ∙ h)
+returns-in-Refused : tie.Need-returns-in-Refused
+returns-in-Refused c e s h = refused_ending e s (sym (ap solved_answer c.in-Refused.r-1-is) ∙ h)
 
-returns_3 : tie.Need-returns-3
-returns_3 c e s h = stopped_ending e s (sym (ap solved_answer c.before.r2.given.1) ∙ h)
+returns-in-Refused-2 : tie.Need-returns-in-Refused-2
+returns-in-Refused-2 c e s h = stopped_ending e s (sym (ap solved_answer c.in-Refused.r-in-Stopped-1-is) ∙ h)
 
 pub ending_spec : {M : Type 1} → statement M
 ending_spec =
-    tie.close (tie.spec enum_known_r enum_known_r_2 enum_known_r_3 returns returns_2 returns_3)
+    tie.close (tie.spec
+    enum_known-r
+    enum_known-r-in-Stopped-1
+    enum_known-r-in-Ended-1
+    returns-in-Ended
+    returns-in-Refused
+    returns-in-Refused-2)

@@ -7,33 +7,32 @@ use Rattle.force.proofs.Rows.{behind-rows}
 use Rattle.force.proofs.moves.write_behind.Statement.{statement}
 use Rattle.force.proofs.moves.write_behind.Tie as tie
 
-abbrev entered : tie.After-write-copy-arg → tie.After-slice-known
-entered c = c.before.before.before
+overflow_sub-t : tie.Need-overflow_sub-t
+overflow_sub-t c = search rules
 
-abbrev start : tie.After-write-copy-arg → tie.Start
-start c = (entered c).before.before.before
+overflow_add-rest : tie.Need-overflow_add-rest
+overflow_add-rest c = search rules
 
-sub_t10 : tie.Need-overflow-sub-t10
-sub_t10 c = search rules
+write_copy-requires : tie.Need-write_copy-requires
+write_copy-requires c κs = search rules
 
-add_t10 : tie.Need-overflow-add-t10
-add_t10 c = search rules
-
-write_copy_requires : tie.Need-write-copy-requires
-write_copy_requires c κs = search rules
-
-same_length : tie.Need-same-length
-same_length c = search rules
+shape_of-out : tie.Need-shape_of-out
+shape_of-out c = search rules
 
 returns : tie.Need-returns
 returns c =
-    let wrote = c.before.before in
-    let a = start wrote.before in
+    let wrote = c in
+    let a = wrote in
     let done = wrote.write_copy.ensures in (
       refl,
-      raw-laid (omega (arith, done.1, a.pre.1)) done.0 (search rules)
-          (behind-rows a.args.s a.args.b.now a.pre.0 a.args.table.now a.args.k a.pre.1),
+      raw-laid (omega (arith, done.1, a.requires.1)) done.0 (search rules)
+          (behind-rows a.args.s a.args.b.now a.requires.0 a.args.table.now a.args.k a.requires.1),
     )
 
 pub write_behind_spec : {M : Type 1} → statement M
-write_behind_spec = tie.close (tie.spec sub_t10 add_t10 write_copy_requires same_length returns)
+write_behind_spec = tie.close (tie.spec
+    overflow_sub-t
+    overflow_add-rest
+    write_copy-requires
+    shape_of-out
+    returns)

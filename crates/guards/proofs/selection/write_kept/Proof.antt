@@ -7,112 +7,100 @@ use Rattle.guards.proofs.Copying.{Written, none_written, all_written, child-ends
 use Rattle.guards.proofs.selection.write_kept.Statement.{statement}
 use Rattle.guards.proofs.selection.write_kept.Tie as tie
 
-abbrev invariant-loop : tie.invariant-loop
-invariant-loop b s ends kept out₀ t v at₀ i₀ out at i = Written s b ends kept t out₀ at₀ out at i
+abbrev invariant-loop-i : tie.invariant-loop-i
+invariant-loop-i b s ends kept out₀ t v at₀ i₀ out at i = Written s b ends kept t out₀ at₀ out at i
 
-abbrev decreases-loop : tie.decreases-loop
-decreases-loop b s ends kept out₀ t v at₀ i₀ out at i = length kept - i
-
-abbrev entered : tie.After-t invariant-loop decreases-loop → tie.After-shared-slice-known3 invariant-loop decreases-loop
-entered c = c.before.before
-
-abbrev called : tie.After-t invariant-loop decreases-loop → tie.Start invariant-loop decreases-loop
-called c = (entered c).before.before.before
-
-abbrev in_loop : tie.After-write-rows-arg invariant-loop decreases-loop → tie.In-loop invariant-loop decreases-loop
-in_loop c = c.before.before.before
-
-abbrev start : tie.At-loop invariant-loop decreases-loop → tie.Start invariant-loop decreases-loop
-start c = called c.before
+abbrev decreases-loop-i : tie.decreases-loop-i
+decreases-loop-i b s ends kept out₀ t v at₀ i₀ out at i = length kept - i
 
 -- the child at hand is one of the sheet's, and all numbers are small
-small : (c : tie.In-loop invariant-loop decreases-loop)
-    → let a = (start c.before).args in
-    let from = get_or a.kept.now c.before.loop.i 0 in
+small : (c : tie.In-loop-i invariant-loop-i decreases-loop-i)
+    → let a = c.args in
+    let from = get_or a.kept.now c.loop-i.i 0 in
     (from < get_or a.ends.now from 0) × (get_or a.ends.now from 0 ≤ a.s.nodes) × (a.s.nodes ≤ length a.ends.now) ×
     (a.s.nodes ≤ 8192) × (a.s.variables ≤ 1024)
 small c =
-    let h = (start c.before).pre in
-    let e = child-ends h.readable h.room c.loop-test.true c.before.loop.invariant in
+    let h = c.requires in
+    let e = child-ends h.readable h.room c.loop-i-test.true c.loop-i.invariant in
     (e.0, e.1, h.holds, h.readable.few_nodes, h.readable.few_variables)
 
-loop_holds : tie.Need-loop-init invariant-loop decreases-loop
-loop_holds c =
-    let h = (called c).requires in
+loop-i-init : tie.Need-loop-i-init invariant-loop-i decreases-loop-i
+loop-i-init c =
+    let h = c.requires in
     none_written h.readable h.placed
 
-mul_row : tie.Need-overflow-mul-row invariant-loop decreases-loop
-mul_row c = omega arith
+offset_bounds-kept-i : tie.Need-offset_bounds-kept-i invariant-loop-i decreases-loop-i
+offset_bounds-kept-i c = omega arith
 
-shared_slice_read_row : tie.Need-shared-slice-read-row invariant-loop decreases-loop
-shared_slice_read_row c = omega arith
+bounds-kept-i : tie.Need-bounds-kept-i invariant-loop-i decreases-loop-i
+bounds-kept-i c = omega arith
 
-cast_row : tie.Need-overflow-cast-row invariant-loop decreases-loop
-cast_row c = omega (arith, small c.before)
+overflow_cast-row : tie.Need-overflow_cast-row invariant-loop-i decreases-loop-i
+overflow_cast-row c = omega (arith, small c.before)
 
-add_t14 : tie.Need-overflow-add-t14 invariant-loop decreases-loop
-add_t14 c = omega (arith, small c.before)
+overflow_add-child : tie.Need-overflow_add-child invariant-loop-i decreases-loop-i
+overflow_add-child c = omega (arith, small c.before)
 
-mul_t18 : tie.Need-overflow-mul-t18 invariant-loop decreases-loop
-mul_t18 c = omega (arith, small c.before)
+offset_bounds-ends-row : tie.Need-offset_bounds-ends-row invariant-loop-i decreases-loop-i
+offset_bounds-ends-row c = omega (arith, small c.before)
 
-shared_slice_read_t17 : tie.Need-shared-slice-read-t17 invariant-loop decreases-loop
-shared_slice_read_t17 c = omega (arith, small c.before.before)
+bounds-ends-row : tie.Need-bounds-ends-row invariant-loop-i decreases-loop-i
+bounds-ends-row c = omega (arith, small c.before.before)
 
-cast_t20 : tie.Need-overflow-cast-t20 invariant-loop decreases-loop
-cast_t20 c = omega (arith, small c.before.before)
+overflow_cast-child : tie.Need-overflow_cast-child invariant-loop-i decreases-loop-i
+overflow_cast-child c = omega (arith, small c.before.before)
 
-add_t21 : tie.Need-overflow-add-t21 invariant-loop decreases-loop
-add_t21 c = omega (arith, small c.before.before)
+overflow_add-child-in-loop-i : tie.Need-overflow_add-child-in-loop-i invariant-loop-i decreases-loop-i
+overflow_add-child-in-loop-i c = omega (arith, small c.before.before)
 
-write_rows_requires : tie.Need-write-rows-requires invariant-loop decreases-loop
-write_rows_requires c κs =
-    let turn = in_loop c in
-    let h = (start turn.before).pre in
-    let w = turn.before.loop.inv in (
+write_rows-at-requires : tie.Need-write_rows-at-requires invariant-loop-i decreases-loop-i
+write_rows-at-requires c κs =
+    let turn = c in
+    let h = turn.requires in
+    let w = turn.loop-i.invariant in (
       ready_on h.ready w.same_length,
-      child-within h.readable h.room turn.loop-test.taken w,
-      child-room h.readable h.room turn.loop-test.taken w,
+      child-within h.readable h.room turn.loop-i-test.true w,
+      child-room h.readable h.room turn.loop-i-test.true w,
     )
 
-add_i : tie.Need-overflow-add-i invariant-loop decreases-loop
-add_i c = omega arith
+overflow_add-i : tie.Need-overflow_add-i invariant-loop-i decreases-loop-i
+overflow_add-i c = omega arith
 
-loop_less : tie.Need-loop-smaller invariant-loop decreases-loop
-loop_less c = omega arith
+loop-i-smaller : tie.Need-loop-i-smaller invariant-loop-i decreases-loop-i
+loop-i-smaller c = omega arith
 
-loop_again : tie.Need-loop-preserved invariant-loop decreases-loop
-loop_again c =
-    let wrote = c.before.before in
-    let turn = in_loop wrote.before in
-    let h = (start turn.before).pre in
-    next-written h.readable h.room turn.loop-test.taken turn.before.loop.inv wrote.write-rows.ensures.0
-    wrote.write-rows.auto.1.1.1.0
+loop-i-preserved : tie.Need-loop-i-preserved invariant-loop-i decreases-loop-i
+loop-i-preserved c =
+    let wrote = c in
+    let turn = wrote in
+    let h = turn.requires in
+    next-written h.readable h.room turn.loop-i-test.true turn.loop-i.invariant wrote.write_rows-at.ensures.0
+    wrote.write_rows-at.auto.out
 
-same_length : tie.Need-same-length invariant-loop decreases-loop
-same_length c = c.before.loop.invariant.same_length
+shape_of-out : tie.Need-shape_of-out invariant-loop-i decreases-loop-i
+shape_of-out c = c.loop-i.invariant.same_length
 
-returns : tie.Need-returns invariant-loop decreases-loop
-returns c = all_written (start c.before).pre.readable c.loop-test.false c.before.loop.invariant
+returns : tie.Need-returns invariant-loop-i decreases-loop-i
+returns c = all_written c.requires.readable c.loop-i-test.false c.loop-i.invariant
 
 pub write_kept_spec : {M : Type 1} → statement M
 write_kept_spec =
     tie.close
     (tie.spec
-    invariant-loop
-    decreases-loop
-    loop_holds
-    mul_row
-    shared_slice_read_row
-    cast_row
-    add_t14
-    mul_t18
-    shared_slice_read_t17
-    cast_t20
-    add_t21
-    write_rows_requires
-    add_i
-    loop_less
-    loop_again
-    same_length
+    invariant-loop-i
+    decreases-loop-i
+    loop-i-init
+    offset_bounds-kept-i
+    bounds-kept-i
+    overflow_cast-row
+    overflow_add-child
+    offset_bounds-ends-row
+    bounds-ends-row
+    overflow_cast-child
+    overflow_add-child-in-loop-i
+    write_rows-at-requires
+    overflow_add-i
+    loop-i-smaller
+    loop-i-preserved
+    shape_of-out
     returns)

@@ -7,72 +7,60 @@ use borrow.Author.Rules.{rules}
 use Rattle.guards.proofs.sift.judge.Statement.{statement}
 use Rattle.guards.proofs.sift.judge.Tie as tie
 
-abbrev start_second : tie.After-enum-told2 → tie.Start
-start_second c = c.before.before
+enum_told-1 : tie.Need-enum_told-1
+enum_told-1 c = search rules
 
-abbrev start_third : tie.After-enum-told3 → tie.Start
-start_third c = c.before.before
+overflow_sub-result : tie.Need-overflow_sub-result
+overflow_sub-result c = search rules
 
-abbrev after_enum_told2 : tie.After-struct-known4 → tie.After-enum-told2
-after_enum_told2 c = c.before.before.before
+enum_told-in-True : tie.Need-enum_told-in-True
+enum_told-in-True c = search rules
 
-abbrev after_enum_told3 : tie.After-struct-known8 → tie.After-enum-told3
-after_enum_told3 c = c.before.before.before
+overflow_sub-result-in-True : tie.Need-overflow_sub-result-in-True
+overflow_sub-result-in-True c = search rules
 
-enum_told : tie.Need-enum-told
-enum_told c = search rules
+overflow_add-result : tie.Need-overflow_add-result
+overflow_add-result c = search rules
 
-sub_t5 : tie.Need-overflow-sub-t5
-sub_t5 c = search rules
+overflow_sub-result-in-True-2 : tie.Need-overflow_sub-result-in-True-2
+overflow_sub-result-in-True-2 c = search rules
 
-enum_told_2 : tie.Need-enum-told-2
-enum_told_2 c = search rules
+overflow_add-result-in-True : tie.Need-overflow_add-result-in-True
+overflow_add-result-in-True c = search rules
 
-sub_t6 : tie.Need-overflow-sub-t6
-sub_t6 c = search rules
+enum_told-in-Stopped : tie.Need-enum_told-in-Stopped
+enum_told-in-Stopped c = search rules
 
-add_t7 : tie.Need-overflow-add-t7
-add_t7 c = search rules
+overflow_sub-result-in-Stopped : tie.Need-overflow_sub-result-in-Stopped
+overflow_sub-result-in-Stopped c = search rules
 
-sub_t8 : tie.Need-overflow-sub-t8
-sub_t8 c = search rules
+overflow_add-result-in-Stopped : tie.Need-overflow_add-result-in-Stopped
+overflow_add-result-in-Stopped c = search rules
 
-add_t9 : tie.Need-overflow-add-t9
-add_t9 c = search rules
+overflow_sub-result-in-Stopped-2 : tie.Need-overflow_sub-result-in-Stopped-2
+overflow_sub-result-in-Stopped-2 c = search rules
 
-enum_told_3 : tie.Need-enum-told-3
-enum_told_3 c = search rules
+overflow_add-result-in-Stopped-2 : tie.Need-overflow_add-result-in-Stopped-2
+overflow_add-result-in-Stopped-2 c = search rules
 
-sub_t10 : tie.Need-overflow-sub-t10
-sub_t10 c = search rules
+overflow_add-result-in-Stopped-3 : tie.Need-overflow_add-result-in-Stopped-3
+overflow_add-result-in-Stopped-3 c = search rules
 
-add_t11 : tie.Need-overflow-add-t11
-add_t11 c = search rules
-
-sub_t12 : tie.Need-overflow-sub-t12
-sub_t12 c = search rules
-
-add_t13 : tie.Need-overflow-add-t13
-add_t13 c = search rules
-
-add_t14 : tie.Need-overflow-add-t14
-add_t14 c = search rules
-
-returns : tie.Need-returns
-returns c =
-    let a = c.before.before.before.args in
+returns-in-False : tie.Need-returns-in-False
+returns-in-False c =
+    let a = c.args in
     let e : a.word ≡ False = search rules in
     ap (λ (w : Word). judged_by a.g w a.end) (sym e)
 
-returns_2 : tie.Need-returns-2
-returns_2 c =
-    let a = (start_second (after_enum_told2 c.before)).args in
+returns-in-True : tie.Need-returns-in-True
+returns-in-True c =
+    let a = c.args in
     let e : a.word ≡ True = search rules in
     ap (λ (w : Word). judged_by a.g w a.end) (sym e)
 
-returns_3 : tie.Need-returns-3
-returns_3 c =
-    let a = (start_third (after_enum_told3 c.before.before)).args in
+returns-in-Stopped : tie.Need-returns-in-Stopped
+returns-in-Stopped c =
+    let a = c.args in
     let e : a.word ≡ Stopped = search rules in
     ap (λ (w : Word). judged_by a.g w a.end) (sym e)
 
@@ -80,19 +68,19 @@ pub judge_spec : {M : Type 1} → statement M
 judge_spec =
     tie.close
     (tie.spec
-    enum_told
-    sub_t5
-    enum_told_2
-    sub_t6
-    add_t7
-    sub_t8
-    add_t9
-    enum_told_3
-    sub_t10
-    add_t11
-    sub_t12
-    add_t13
-    add_t14
-    returns
-    returns_2
-    returns_3)
+    enum_told-1
+    overflow_sub-result
+    enum_told-in-True
+    overflow_sub-result-in-True
+    overflow_add-result
+    overflow_sub-result-in-True-2
+    overflow_add-result-in-True
+    enum_told-in-Stopped
+    overflow_sub-result-in-Stopped
+    overflow_add-result-in-Stopped
+    overflow_sub-result-in-Stopped-2
+    overflow_add-result-in-Stopped-2
+    overflow_add-result-in-Stopped-3
+    returns-in-False
+    returns-in-True
+    returns-in-Stopped)

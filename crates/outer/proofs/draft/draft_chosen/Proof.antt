@@ -24,9 +24,9 @@ part_is c =
     let ok = k.requires.0.readable in
     let l = k.link_chosen-r.ensures in
     ⊎_elim
-    (λ w. w.3 ∙ part-present (L k.before.before.before.before.before) b ok l w.0.taken (w.2.ensures (L k.before.before.before.before.before) (chain-here (L k.before.before.before.before.before) b ok l w.0.taken)))
-    (λ w. w.1 ∙ part_absent (L k.before.before.before.before.before) b ok l w.0.left)
-    c.if-r-s.branch
+    (λ w. w.relevant-is ∙ part-present (L k.before.before.before.before.before) b ok l w.if-r-s.true (w.relevant_subtree.ensures (L k.before.before.before.before.before) (chain-here (L k.before.before.before.before.before) b ok l w.if-r-s.true)))
+    (λ w. w.relevant-is ∙ part_absent (L k.before.before.before.before.before) b ok l w.if-r-s.false)
+    c.if-r-s.branch-raw
 
 link_chosen-r-requires : tie.Need-link_chosen-r-requires
 link_chosen-r-requires c κs = search rules

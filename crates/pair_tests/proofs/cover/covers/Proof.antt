@@ -8,52 +8,42 @@ use Rattle.pair_tests.proofs.Marking.{none-marked, covering_fails, covering_by}
 use Rattle.pair_tests.proofs.cover.covers.Statement.{statement}
 use Rattle.pair_tests.proofs.cover.covers.Tie as tie
 
--- places in the code, each from a later one
-abbrev known : tie.After-seen → tie.After-shared-slice-known2
-known c = c.before.before
+slice_bounds-mark_pairs-end : tie.Need-slice_bounds-mark_pairs-end
+slice_bounds-mark_pairs-end c = search rules
 
-abbrev start : tie.After-seen → tie.Start
-start c = (known c).before.before
+mark_pairs-requires : tie.Need-mark_pairs-requires
+mark_pairs-requires c κs = let a = c in (a.requires.0, a.requires.1, none-marked 1025, refl)
 
-abbrev marked : tie.After-are-marked → tie.After-seen2
-marked c = c.before.before.before
+returns-then-not-mark_pairs : tie.Need-returns-then-not-mark_pairs
+returns-then-not-mark_pairs c =
+    let m = c in
+    let a = m in
+    covering_fails (side a.args.exists) (prefix_in a.args.s a.args.b.now) (pairs_in a.args.s a.args.b.now) m.mark_pairs.ensures.0
+    (c.if-not-mark_pairs.true)
 
-slice_aggregate_mark_pairs : tie.Need-slice-aggregate-mark-pairs
-slice_aggregate_mark_pairs c = search rules
+slice_bounds-are_marked-end : tie.Need-slice_bounds-are_marked-end
+slice_bounds-are_marked-end c = search rules
 
-mark_pairs_requires : tie.Need-mark-pairs-requires
-mark_pairs_requires c κs = let a = start c in (a.pre.0, a.pre.1, none-marked 1025, refl)
+are_marked-requires : tie.Need-are_marked-requires
+are_marked-requires c κs =
+    let m = c in
+    let a = m in
+    (a.requires.0.numbered, search rules, m.mark_pairs.ensures.1 (c.if-not-mark_pairs.false))
 
 returns : tie.Need-returns
 returns c =
-    let m = c.before.before in
-    let a = start m.before in
-    covering_fails (side a.args.exists) (prefix_in a.args.s a.args.b.now) (pairs_in a.args.s a.args.b.now) m.mark-pairs.ensures.0
-    (not-true _ c.if1.true)
-
-slice_aggregate_are_marked : tie.Need-slice-aggregate-are-marked
-slice_aggregate_are_marked c = search rules
-
-are_marked_requires : tie.Need-are-marked-requires
-are_marked_requires c κs =
-    let m = c.before.before.before in
-    let a = start m.before in
-    (a.pre.0.numbered, search rules, m.mark-pairs.ensures.1 (not-false _ c.before.if1.false))
-
-returns_2 : tie.Need-returns-2
-returns_2 c =
-    let m = (marked c).before in
-    let a = start m.before in
-    covering_by (side a.args.exists) (prefix_in a.args.s a.args.b.now) (pairs_in a.args.s a.args.b.now) m.mark-pairs.ensures.0
-    (not-false _ c.before.before.if1.false) c.are-marked.ensures
+    let m = c in
+    let a = m in
+    covering_by (side a.args.exists) (prefix_in a.args.s a.args.b.now) (pairs_in a.args.s a.args.b.now) m.mark_pairs.ensures.0
+    (c.if-not-mark_pairs.false) c.are_marked.ensures
 
 pub covers_spec : {M : Type 1} → statement M
 covers_spec =
     tie.close
     (tie.spec
-    slice_aggregate_mark_pairs
-    mark_pairs_requires
-    returns
-    slice_aggregate_are_marked
-    are_marked_requires
-    returns_2)
+    slice_bounds-mark_pairs-end
+    mark_pairs-requires
+    returns-then-not-mark_pairs
+    slice_bounds-are_marked-end
+    are_marked-requires
+    returns)

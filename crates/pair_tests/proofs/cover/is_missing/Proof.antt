@@ -12,33 +12,35 @@ use Rattle.pair_tests.proofs.Marking.{missing_other, missing_own, few_here}
 use Rattle.pair_tests.proofs.cover.is_missing.Statement.{statement}
 use Rattle.pair_tests.proofs.cover.is_missing.Tie as tie
 
-abbrev start : tie.After-is-existential → tie.Start
-start c = c.before.before.before
+is_existential-requires : tie.Need-is_existential-requires
+is_existential-requires c κs = search rules
 
-is_existential_requires : tie.Need-is-existential-requires
-is_existential_requires c κs = search rules
+returns-then-is_existential-exists : tie.Need-returns-then-is_existential-exists
+returns-then-is_existential-exists c = missing_other _ _ _ _ c.is_existential.ensures (not-true _ c.if-is_existential-exists.true)
+
+bound_at-requires : tie.Need-bound_at-requires
+bound_at-requires c κs = search rules
+
+bounds-seen-bound_at : tie.Need-bounds-seen-bound_at
+bounds-seen-bound_at c =
+    let a = c in
+    omega (arith, few_here a.args.b.now a.requires.0 a.args.i a.requires.2 c.bound_at.ensures.0, a.requires.1)
 
 returns : tie.Need-returns
-returns c = missing_other _ _ _ _ c.before.is-existential.ensures (not-true _ c.if1.true)
-
-bound_at_requires : tie.Need-bound-at-requires
-bound_at_requires c κs = search rules
-
-shared_slice_read_result : tie.Need-shared-slice-read-result
-shared_slice_read_result c =
-    let a = start c.before.before.before in
-    omega (arith, few_here a.args.b.now a.pre.0 a.args.i a.pre.2 c.before.bound_at.ensures.0, a.pre.1)
-
-returns_2 : tie.Need-returns-2
-returns_2 c =
-    let d = c.before in
-    let e = d.before.before in
-    let a = start e in
-    missing_own _ _ _ _ e.is-existential.ensures (not-false _ d.before.if1.false) ∙
+returns c =
+    let d = c in
+    let e = d in
+    let a = e in
+    missing_own _ _ _ _ e.is_existential.ensures (not-false _ d.if-is_existential-exists.false) ∙
     ap (λ y. not (same_op (side a.args.exists) (binding_in a.args.s a.args.b.now a.args.i).quantifier) || get_or a.args.seen.now y false)
     d.bound_at.ensures.0
 
 pub is_missing_spec : {M : Type 1} → statement M
 is_missing_spec =
     tie.close
-    (tie.spec is_existential_requires returns bound_at_requires shared_slice_read_result returns_2)
+    (tie.spec
+    is_existential-requires
+    returns-then-is_existential-exists
+    bound_at-requires
+    bounds-seen-bound_at
+    returns)

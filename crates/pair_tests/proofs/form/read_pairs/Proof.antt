@@ -12,157 +12,141 @@ use Rattle.pair_tests.proofs.Children.{Reading, no_or, reading_none, cut_inside,
 use Rattle.pair_tests.proofs.form.read_pairs.Statement.{statement}
 use Rattle.pair_tests.proofs.form.read_pairs.Tie as tie
 
-abbrev invariant-loop : tie.invariant-loop
-invariant-loop b s ends cuts₀ n at₀ j₀ cuts at j = Reading s b n cuts at j × (length cuts ≡ length cuts₀)
+abbrev invariant-loop-j : tie.invariant-loop-j
+invariant-loop-j b s ends cuts₀ n at₀ j₀ cuts at j = Reading s b n cuts at j × (length cuts ≡ length cuts₀)
 
-abbrev decreases-loop : tie.decreases-loop
-decreases-loop b s ends cuts₀ n at₀ j₀ cuts at j = n - j
+abbrev decreases-loop-j : tie.decreases-loop-j
+decreases-loop-j b s ends cuts₀ n at₀ j₀ cuts at j = n - j
 
--- places in the code, each from a later one
-abbrev known : tie.After-kind-at invariant-loop decreases-loop → tie.After-shared-slice-known2 invariant-loop decreases-loop
-known c = c.before.before
-
-abbrev start : tie.After-kind-at invariant-loop decreases-loop → tie.Start invariant-loop decreases-loop
-start c = (known c).before.before
-
-abbrev entry : tie.After-children-at invariant-loop decreases-loop → tie.Start invariant-loop decreases-loop
-entry c = start c.before.before
-
-abbrev begun : tie.In-loop invariant-loop decreases-loop → tie.Start invariant-loop decreases-loop
-begun c = entry c.before.before
-
-abbrev turn : tie.Else2 invariant-loop decreases-loop → tie.In-loop invariant-loop decreases-loop
-turn c = c.before.before
-
-kind_at_requires : tie.Need-kind-at-requires invariant-loop decreases-loop
-kind_at_requires c κs =
-    let a = c.before.before.before in
+kind_at-requires : tie.Need-kind_at-requires invariant-loop-j decreases-loop-j
+kind_at-requires c κs =
+    let a = c in
     (a.requires.0.readable, a.requires.0.readable.some_nodes)
 
-returns : tie.Need-returns invariant-loop decreases-loop
-returns c =
-    let a = start c.before in
-    let none = no_or _ (λ e. c.if1.true (c.before.kind_at.ensures ∙ ap (λ (t : Tree). (top t).kind) (subtree_root a.args.b.now a.pre.0.readable) ∙ e)) in
+returns-then-kind_at-ne-OR : tie.Need-returns-then-kind_at-ne-OR invariant-loop-j decreases-loop-j
+returns-then-kind_at-ne-OR c =
+    let a = c in
+    let none = no_or _ (λ e. c.if-kind_at-ne-OR.true (c.kind_at.ensures ∙ ap (λ (t : Tree). (top t).kind) (subtree_root a.args.b.now a.requires.0.readable) ∙ e)) in
     (none, λ e. absurd (false≢true e))
 
-children_at_requires : tie.Need-children-at-requires invariant-loop decreases-loop
-children_at_requires c κs =
-    let a = start c.before in
-    (a.pre.0.readable, a.pre.0.readable.some_nodes)
+children_at-n-requires : tie.Need-children_at-n-requires invariant-loop-j decreases-loop-j
+children_at-n-requires c κs =
+    let a = c in
+    (a.requires.0.readable, a.requires.0.readable.some_nodes)
 
-loop_holds : tie.Need-loop-init invariant-loop decreases-loop
-loop_holds c =
-    let a = entry c in
-    (reading_none a.args.b.now a.pre.0 (sym c.before.before.kind_at.ensures ∙ c.before.if1.false) c.children-at.ensures.0 a.pre.1, refl)
+loop-j-init : tie.Need-loop-j-init invariant-loop-j decreases-loop-j
+loop-j-init c =
+    let a = c in
+    (reading_none a.args.b.now a.requires.0 (sym c.kind_at.ensures ∙ c.if-kind_at-ne-OR.false) c.children_at-n.ensures.0 a.requires.1, refl)
 
-is_pair_requires : tie.Need-is-pair-requires invariant-loop decreases-loop
-is_pair_requires c κs =
-    let a = begun c in
-    (a.pre.0.readable, here-inside a.args.b.now a.pre.0 c.before.loop.invariant.0 c.loop-test.true)
+is_pair-requires : tie.Need-is_pair-requires invariant-loop-j decreases-loop-j
+is_pair-requires c κs =
+    let a = c in
+    (a.requires.0.readable, here-inside a.args.b.now a.requires.0 c.loop-j.invariant.0 c.loop-j-test.true)
 
-same_length : tie.Need-same-length invariant-loop decreases-loop
-same_length c = c.before.before.before.loop.invariant.1
+shape_of-cuts-then-not-is_pair : tie.Need-shape_of-cuts-then-not-is_pair invariant-loop-j decreases-loop-j
+shape_of-cuts-then-not-is_pair c = c.loop-j.invariant.1
 
-returns_2 : tie.Need-returns-2 invariant-loop decreases-loop
-returns_2 c =
-    let t = c.before.before in
-    let a = begun t in (
-      reading-stops a.args.b.now a.pre.0 t.before.loop.invariant.0 t.loop-test.true c.before.is-pair.ensures (not-true _ c.if2.true),
+returns-then-not-is_pair : tie.Need-returns-then-not-is_pair invariant-loop-j decreases-loop-j
+returns-then-not-is_pair c =
+    let t = c in
+    let a = t in (
+      reading-stops a.args.b.now a.requires.0 t.loop-j.invariant.0 t.loop-j-test.true c.is_pair.ensures (c.if-not-is_pair.true),
       λ e. absurd (false≢true e),
     )
 
 -- where a pair stands
-inside : (c : tie.Else2 invariant-loop decreases-loop) → c.before.before.before.loop.at < (begun (turn c)).args.s.nodes
+inside : (c : tie.Else-not-is_pair invariant-loop-j decreases-loop-j) → c.loop-j.at < c.args.s.nodes
 inside c =
-    let t = turn c in
-    let a = begun t in
-    here-inside a.args.b.now a.pre.0 t.before.loop.inv.0 t.loop-test.taken
+    let t = c in
+    let a = t in
+    here-inside a.args.b.now a.requires.0 t.loop-j.invariant.0 t.loop-j-test.true
 
-cast_cuts : tie.Need-overflow-cast-cuts invariant-loop decreases-loop
-cast_cuts c = omega (arith, inside c, (begun (turn c)).pre.0.readable.few_nodes)
+overflow_cast-cuts : tie.Need-overflow_cast-cuts invariant-loop-j decreases-loop-j
+overflow_cast-cuts c = omega (arith, inside c, c.requires.0.readable.few_nodes)
 
-mul_cuts : tie.Need-overflow-mul-cuts invariant-loop decreases-loop
-mul_cuts c = omega arith
+offset_bounds-cuts-j : tie.Need-offset_bounds-cuts-j invariant-loop-j decreases-loop-j
+offset_bounds-cuts-j c = omega arith
 
-slice_write_cuts : tie.Need-slice-write-cuts invariant-loop decreases-loop
-slice_write_cuts c =
-    let t = turn c in
-    let a = begun t in
-    cut_inside a.args.b.now a.pre.0 t.before.loop.inv.0
+bounds-cuts-j : tie.Need-bounds-cuts-j invariant-loop-j decreases-loop-j
+bounds-cuts-j c =
+    let t = c in
+    let a = t in
+    cut_inside a.args.b.now a.requires.0 t.loop-j.invariant.0
 
-mul_at : tie.Need-overflow-mul-at invariant-loop decreases-loop
-mul_at c = omega arith
+offset_bounds-ends-at : tie.Need-offset_bounds-ends-at invariant-loop-j decreases-loop-j
+offset_bounds-ends-at c = omega arith
 
-shared_slice_read_at : tie.Need-shared-slice-read-at invariant-loop decreases-loop
-shared_slice_read_at c = omega (arith, inside c.before, (begun (turn c.before)).pre.0.holds)
+bounds-ends-at : tie.Need-bounds-ends-at invariant-loop-j decreases-loop-j
+bounds-ends-at c = omega (arith, inside c.before, c.requires.0.holds)
 
-cast_at : tie.Need-overflow-cast-at invariant-loop decreases-loop
-cast_at c = omega (arith, c.shared-slice-known3.given (turn c.before).before.loop.at)
+overflow_cast-at : tie.Need-overflow_cast-at invariant-loop-j decreases-loop-j
+overflow_cast-at c = omega (arith, c.shared_slice_known-in-loop-j-1.given c.loop-j.at)
 
-add_j : tie.Need-overflow-add-j invariant-loop decreases-loop
-add_j c =
-    let t = turn c.before in
-    omega (arith, t.before.loop.inv.0.ahead, t.before.loop.inv.0.inside, (begun t).pre.0.readable.few_nodes)
+overflow_add-j : tie.Need-overflow_add-j invariant-loop-j decreases-loop-j
+overflow_add-j c =
+    let t = c in
+    omega (arith, t.loop-j.invariant.0.ahead, t.loop-j.invariant.0.inside, t.requires.0.readable.few_nodes)
 
-loop_less : tie.Need-loop-smaller invariant-loop decreases-loop
-loop_less c = omega (arith, (turn c.before).loop-test.taken)
+loop-j-smaller : tie.Need-loop-j-smaller invariant-loop-j decreases-loop-j
+loop-j-smaller c = omega (arith, c.loop-j-test.true)
 
-loop_again : tie.Need-loop-preserved invariant-loop decreases-loop
-loop_again c =
-    let d = c.before in
-    let t = turn d in
-    let a = begun t in (
-      reading-on a.args.b.now a.pre.0 t.before.loop.inv.0 t.loop-test.taken d.before.is-pair.ensures (not-false _ d.if2.false) (omega arith),
-      simp length-set t.before.loop.inv.1,
+loop-j-preserved : tie.Need-loop-j-preserved invariant-loop-j decreases-loop-j
+loop-j-preserved c =
+    let d = c in
+    let t = d in
+    let a = t in (
+      reading-on a.args.b.now a.requires.0 t.loop-j.invariant.0 t.loop-j-test.true d.is_pair.ensures (d.if-not-is_pair.false) (omega arith),
+      simp length-set t.loop-j.invariant.1,
     )
 
-cast_cuts_2 : tie.Need-overflow-cast-cuts-2 invariant-loop decreases-loop
-cast_cuts_2 c =
-    let a = entry c.before.before in
-    omega (arith, c.before.loop.invariant.0.inside, a.pre.0.readable.few_nodes)
+overflow_cast-cuts-2 : tie.Need-overflow_cast-cuts-2 invariant-loop-j decreases-loop-j
+overflow_cast-cuts-2 c =
+    let a = c in
+    omega (arith, c.loop-j.invariant.0.inside, a.requires.0.readable.few_nodes)
 
-mul_cuts_2 : tie.Need-overflow-mul-cuts-2 invariant-loop decreases-loop
-mul_cuts_2 c = omega arith
+offset_bounds-cuts-j-2 : tie.Need-offset_bounds-cuts-j-2 invariant-loop-j decreases-loop-j
+offset_bounds-cuts-j-2 c = omega arith
 
-slice_write_cuts_2 : tie.Need-slice-write-cuts-2 invariant-loop decreases-loop
-slice_write_cuts_2 c =
-    let a = entry c.before.before in
-    cut_inside a.args.b.now a.pre.0 c.before.loop.invariant.0
+bounds-cuts-j-2 : tie.Need-bounds-cuts-j-2 invariant-loop-j decreases-loop-j
+bounds-cuts-j-2 c =
+    let a = c in
+    cut_inside a.args.b.now a.requires.0 c.loop-j.invariant.0
 
-same_length_2 : tie.Need-same-length-2 invariant-loop decreases-loop
-same_length_2 c = simp length-set c.before.loop.invariant.1
+shape_of-cuts : tie.Need-shape_of-cuts invariant-loop-j decreases-loop-j
+shape_of-cuts c = simp length-set c.loop-j.invariant.1
 
-returns_3 : tie.Need-returns-3 invariant-loop decreases-loop
-returns_3 c =
-    let a = entry c.before.before in (
-      reading-all a.args.b.now a.pre.0 c.before.loop.invariant.0 c.loop-test.false,
-      λ e. cuts-read a.args.b.now a.pre.0 c.before.loop.invariant.0 c.loop-test.false,
+returns : tie.Need-returns invariant-loop-j decreases-loop-j
+returns c =
+    let a = c in (
+      reading-all a.args.b.now a.requires.0 c.loop-j.invariant.0 c.loop-j-test.false,
+      λ e. cuts-read a.args.b.now a.requires.0 c.loop-j.invariant.0 c.loop-j-test.false,
     )
 
 pub read_pairs_spec : {M : Type 1} → statement M
 read_pairs_spec =
     tie.close
     (tie.spec
-    invariant-loop
-    decreases-loop
-    kind_at_requires
-    returns
-    children_at_requires
-    loop_holds
-    is_pair_requires
-    same_length
-    returns_2
-    cast_cuts
-    mul_cuts
-    slice_write_cuts
-    mul_at
-    shared_slice_read_at
-    cast_at
-    add_j
-    loop_less
-    loop_again
-    cast_cuts_2
-    mul_cuts_2
-    slice_write_cuts_2
-    same_length_2
-    returns_3)
+    invariant-loop-j
+    decreases-loop-j
+    kind_at-requires
+    returns-then-kind_at-ne-OR
+    children_at-n-requires
+    loop-j-init
+    is_pair-requires
+    shape_of-cuts-then-not-is_pair
+    returns-then-not-is_pair
+    overflow_cast-cuts
+    offset_bounds-cuts-j
+    bounds-cuts-j
+    offset_bounds-ends-at
+    bounds-ends-at
+    overflow_cast-at
+    overflow_add-j
+    loop-j-smaller
+    loop-j-preserved
+    overflow_cast-cuts-2
+    offset_bounds-cuts-j-2
+    bounds-cuts-j-2
+    shape_of-cuts
+    returns)

@@ -9,64 +9,57 @@ use Rattle.pair_tests.proofs.Deepest.{Deepening, deepening_none, deepening_on, d
 use Rattle.pair_tests.proofs.levels.deepest_in.Statement.{statement}
 use Rattle.pair_tests.proofs.levels.deepest_in.Tie as tie
 
-abbrev invariant-loop : tie.invariant-loop
-invariant-loop b s exists places levels from deepest₀ r₀ deepest r =
+abbrev invariant-loop-r : tie.invariant-loop-r
+invariant-loop-r b s exists places levels from deepest₀ r₀ deepest r =
     Deepening (level_by (side exists) (prefix_in s b) levels) (rows_in s b) from r₀ deepest r
 
-abbrev decreases-loop : tie.decreases-loop
-decreases-loop b s exists places levels from deepest₀ r₀ deepest r = r
+abbrev decreases-loop-r : tie.decreases-loop-r
+decreases-loop-r b s exists places levels from deepest₀ r₀ deepest r = r
 
--- places in the code, each from a later one
-abbrev start : tie.After-shared-slice-known3 invariant-loop decreases-loop → tie.Start invariant-loop decreases-loop
-start c = c.before.before.before
-
-abbrev entry : tie.In-loop invariant-loop decreases-loop → tie.Start invariant-loop decreases-loop
-entry c = start c.before.before
-
-loop_holds : tie.Need-loop-init invariant-loop decreases-loop
-loop_holds c =
-    let a = start c in
+loop-r-init : tie.Need-loop-r-init invariant-loop-r decreases-loop-r
+loop-r-init c =
+    let a = c in
     deepening_none (level_by (side a.args.exists) (prefix_in a.args.s a.args.b.now) a.args.levels.now) a.args.b.now
-    a.pre.0.numbered.readable.room a.pre.1.ordered a.pre.1.inside
+    a.requires.0.numbered.readable.room a.requires.1.ordered a.requires.1.inside
 
-sub_r : tie.Need-overflow-sub-r invariant-loop decreases-loop
-sub_r c = omega arith
+overflow_sub-r : tie.Need-overflow_sub-r invariant-loop-r decreases-loop-r
+overflow_sub-r c = omega arith
 
-row_level_requires : tie.Need-row-level-requires invariant-loop decreases-loop
-row_level_requires c κs =
-    let a = entry c in
-    (a.pre.0, a.pre.1.rows_stand (c.before.loop.r - 1) (omega (arith, c.loop-test.true)) (omega (arith, c.loop-test.true, c.before.loop.invariant.within)), a.pre.2)
+row_level-requires : tie.Need-row_level-requires invariant-loop-r decreases-loop-r
+row_level-requires c κs =
+    let a = c in
+    (a.requires.0, a.requires.1.rows_stand (c.loop-r.r - 1) (omega (arith, c.loop-r-test.true)) (omega (arith, c.loop-r-test.true, c.loop-r.invariant.within)), a.requires.2)
 
-larger_requires : tie.Need-larger-requires invariant-loop decreases-loop
-larger_requires c κs = tt
+larger-deepest-requires : tie.Need-larger-deepest-requires invariant-loop-r decreases-loop-r
+larger-deepest-requires c κs = tt
 
-loop_less : tie.Need-loop-smaller invariant-loop decreases-loop
-loop_less c = omega (arith, c.before.before.loop-test.true)
+loop-r-smaller : tie.Need-loop-r-smaller invariant-loop-r decreases-loop-r
+loop-r-smaller c = omega (arith, c.loop-r-test.true)
 
-loop_again : tie.Need-loop-preserved invariant-loop decreases-loop
-loop_again c =
-    let t = c.before.before in
-    let a = entry t in
+loop-r-preserved : tie.Need-loop-r-preserved invariant-loop-r decreases-loop-r
+loop-r-preserved c =
+    let t = c in
+    let a = t in
     deepening_on (level_by (side a.args.exists) (prefix_in a.args.s a.args.b.now) a.args.levels.now) a.args.b.now
-    a.pre.0.numbered.readable.room a.pre.1.ordered a.pre.1.inside (omega (arith, t.loop-test.true)) t.loop-test.true t.before.loop.invariant
-    c.before.row_level.ensures c.larger.ensures
+    a.requires.0.numbered.readable.room a.requires.1.ordered a.requires.1.inside (omega (arith, t.loop-r-test.true)) t.loop-r-test.true t.loop-r.invariant
+    c.row_level.ensures c.larger-deepest.ensures
 
-returns : tie.Need-returns invariant-loop decreases-loop
+returns : tie.Need-returns invariant-loop-r decreases-loop-r
 returns c =
-    let a = start c.before.before in
+    let a = c in
     deepening_all (level_by (side a.args.exists) (prefix_in a.args.s a.args.b.now) a.args.levels.now) a.args.b.now
-    a.pre.0.numbered.readable.room a.pre.1.ordered a.pre.1.inside c.loop-test.false c.before.loop.invariant
+    a.requires.0.numbered.readable.room a.requires.1.ordered a.requires.1.inside c.loop-r-test.false c.loop-r.invariant
 
 pub deepest_in_spec : {M : Type 1} → statement M
 deepest_in_spec =
     tie.close
     (tie.spec
-    invariant-loop
-    decreases-loop
-    loop_holds
-    sub_r
-    row_level_requires
-    larger_requires
-    loop_less
-    loop_again
+    invariant-loop-r
+    decreases-loop-r
+    loop-r-init
+    overflow_sub-r
+    row_level-requires
+    larger-deepest-requires
+    loop-r-smaller
+    loop-r-preserved
     returns)

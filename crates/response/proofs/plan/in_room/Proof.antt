@@ -7,24 +7,25 @@ use Rattle.response.specs.declared.plan.ResponsePlan.TheVariants.{Refused}
 use Rattle.response.proofs.plan.in_room.Statement.{statement}
 use Rattle.response.proofs.plan.in_room.Tie as tie
 
-sub_fits : tie.Need-overflow-sub-fits
-sub_fits c = search rules
+overflow_sub-s : tie.Need-overflow_sub-s
+overflow_sub-s c = search rules
 
-fits_requires : tie.Need-fits-requires
-fits_requires c κs = search rules
+fits-requires : tie.Need-fits-requires
+fits-requires c κs = search rules
 
-abbrev plan_of : tie.After-fits2 → tie.Start
-plan_of c = c.before.before
+returns-then-not-fits : tie.Need-returns-then-not-fits
+returns-then-not-fits c =
+    let fit = c in
+    sym (ap (λ m. cond m fit.args.p (Refused 13 0)) (sym fit.fits.ensures ∙ c.if-not-fits.true))
 
 returns : tie.Need-returns
 returns c =
-    let fit = c.before in
-    sym (ap (λ m. cond m (plan_of fit).args.p (Refused 13 0)) (sym fit.fits2.ensures ∙ not-true fit.fits2.result c.if1.true))
-
-returns_2 : tie.Need-returns-2
-returns_2 c =
-    let fit = c.before in
-    sym (ap (λ m. cond m (plan_of fit).args.p (Refused 13 0)) (sym fit.fits2.ensures ∙ not-false fit.fits2.result c.if1.false))
+    let fit = c in
+    sym (ap (λ m. cond m fit.args.p (Refused 13 0)) (sym fit.fits.ensures ∙ c.if-not-fits.false))
 
 pub in_room_spec : {M : Type 1} → statement M
-in_room_spec = tie.close (tie.spec sub_fits fits_requires returns returns_2)
+in_room_spec = tie.close (tie.spec
+    overflow_sub-s
+    fits-requires
+    returns-then-not-fits
+    returns)

@@ -14,80 +14,67 @@ use Rattle.response.proofs.Deciding.{refused_quote, planned_few, copy_planned}
 use Rattle.response.proofs.plan.plan_unsettled.Statement.{statement}
 use Rattle.response.proofs.plan.plan_unsettled.Tie as tie
 
-plan_admitted_requires : tie.Need-plan-admitted-requires
-plan_admitted_requires c κs = search rules
+plan_admitted-p-requires : tie.Need-plan_admitted-p-requires
+plan_admitted-p-requires c κs = search rules
 
-enum_known_p : tie.Need-enum-known-p
-enum_known_p c = search rules
+enum_known-p : tie.Need-enum_known-p
+enum_known-p c = search rules
 
-enum_known_p_2 : tie.Need-enum-known-p-2
-enum_known_p_2 c = search rules
-
--- places in the code, each from a later one
-abbrev known : tie.After-plan-admitted → tie.After-slice-known
-known c = c.before.before
-
-abbrev start : tie.After-plan-admitted → tie.Start
-start c = (known c).before.before.before
-
-abbrev planned : tie.After-slice-known2 → tie.After-plan-admitted
-planned c = c.before.before
-
-abbrev told : tie.After-p2 → tie.After-plan-admitted
-told c = planned c.before.before
+enum_known-p-in-Expands-1 : tie.Need-enum_known-p-in-Expands-1
+enum_known-p-in-Expands-1 c = search rules
 
 -- it is in the innermost block
-inside : (c : tie.After-p2)
-    → let a = (start (told c)).args in
-    ExpandPlans a.s.format a.sheet.now a.z.variable (told c).plan-admitted.new.1.1.1.1.0 (Expands c.p2.given.0.0 c.p2.given.0.1.0)
+inside : (c : tie.In-Expands)
+    → let a = c.args in
+    ExpandPlans a.s.format a.sheet.now a.z.variable c.plan_admitted-p.new.cuts (Expands c.in-Expands.t c.in-Expands.w)
 inside c =
-    let a = (start (told c)).args in
-    subst (ExpandPlans a.s.format a.sheet.now a.z.variable (told c).plan-admitted.new.1.1.1.1.0) c.p2.given.1
-    (told c).plan-admitted.ensures
+    let a = c.args in
+    subst (ExpandPlans a.s.format a.sheet.now a.z.variable c.plan_admitted-p.new.cuts) c.in-Expands.is
+    c.plan_admitted-p.ensures
 
-unsettled : (c : tie.After-p2)
-    → let a = (start (told c)).args in may_settle a.z.variable (formula (format_in c.p2.given.0.0) a.sheet.now) ≡ none
+unsettled : (c : tie.In-Expands)
+    → let a = c.args in may_settle a.z.variable (formula (format_in c.in-Expands.t) a.sheet.now) ≡ none
 unsettled c =
-    let a = start (told c) in
-    subst (λ f. may_settle a.args.z.variable (formula (format_of f) a.args.sheet.now) ≡ none) (sym (inside c).0) a.pre.1
+    let a = c in
+    subst (λ f. may_settle a.args.z.variable (formula (format_of f) a.args.sheet.now) ≡ none) (sym (inside c).0) a.requires.1
 
-in_room_requires : tie.Need-in-room-requires
-in_room_requires c κs =
-    let p = c.before in
+in_room-requires : tie.Need-in_room-requires
+in_room-requires c κs =
+    let p = c in
     let d = (inside p).1 in
-    (omega (arith, d.named.inside), d.from.readable.few_variables, planned_few d (start (told p)).args.room (unsettled p))
+    (omega (arith, d.named.inside), d.from.readable.few_variables, planned_few d p.args.room (unsettled p))
 
-same_length : tie.Need-same-length
-same_length c = search rules
+shape_of-cuts-in-Refused : tie.Need-shape_of-cuts-in-Refused
+shape_of-cuts-in-Refused c = search rules
 
-returns : tie.Need-returns
-returns c =
-    let p = c.before in
-    let plan = planned p.before.before in
-    let a = start plan in
-    refused_quote (format_in a.args.s) a.args.sheet.now a.args.z.variable a.args.room a.pre.1
-    (subst (ExpandPlans a.args.s.format a.args.sheet.now a.args.z.variable _) p.p.given.1 plan.plan-admitted.ensures)
+returns-in-Refused : tie.Need-returns-in-Refused
+returns-in-Refused c =
+    let p = c in
+    let plan = p in
+    let a = plan in
+    refused_quote (format_in a.args.s) a.args.sheet.now a.args.z.variable a.args.room a.requires.1
+    (subst (ExpandPlans a.args.s.format a.args.sheet.now a.args.z.variable _) p.in-Refused.is plan.plan_admitted-p.ensures)
 
-same_length_2 : tie.Need-same-length-2
-same_length_2 c = search rules
+shape_of-cuts-in-Expands : tie.Need-shape_of-cuts-in-Expands
+shape_of-cuts-in-Expands c = search rules
 
-returns_2 : tie.Need-returns-2
-returns_2 c =
-    let p = c.before.before in
-    let a = (start (told p)).args in
-    let is = inside p in
-    subst₂ (λ f r. ResponsePlans f a.sheet.now a.z.variable a.room (told p).plan-admitted.new.1.1.1.1.0 r) is.0 (sym c.in_room.ensures)
-    (copy_planned is.1 a.room (unsettled p))
+returns-in-Expands : tie.Need-returns-in-Expands
+returns-in-Expands c =
+    let p = c in
+    let a = p.args in
+    let is = inside p.before in
+    subst₂ (λ f r. ResponsePlans f a.sheet.now a.z.variable a.room p.plan_admitted-p.new.cuts r) is.0 (sym c.in_room.ensures)
+    (copy_planned is.1 a.room (unsettled p.before))
 
 pub plan_unsettled_spec : {M : Type 1} → statement M
 plan_unsettled_spec =
     tie.close
     (tie.spec
-    plan_admitted_requires
-    enum_known_p
-    enum_known_p_2
-    in_room_requires
-    same_length
-    returns
-    same_length_2
-    returns_2)
+    plan_admitted-p-requires
+    enum_known-p
+    enum_known-p-in-Expands-1
+    in_room-requires
+    shape_of-cuts-in-Refused
+    returns-in-Refused
+    shape_of-cuts-in-Expands
+    returns-in-Expands)

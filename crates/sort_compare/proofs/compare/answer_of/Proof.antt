@@ -7,23 +7,29 @@ use borrow.Author.Rules.{rules}
 use Rattle.sort_compare.proofs.compare.answer_of.Statement.{statement}
 use Rattle.sort_compare.proofs.compare.answer_of.Tie as tie
 
-enum_told : tie.Need-enum-told
-enum_told c = search rules
+enum_told-1 : tie.Need-enum_told-1
+enum_told-1 c = search rules
 
-enum_told_2 : tie.Need-enum-told-2
-enum_told_2 c = search rules
+enum_told-in-Same : tie.Need-enum_told-in-Same
+enum_told-in-Same c = search rules
 
-enum_told_3 : tie.Need-enum-told-3
-enum_told_3 c = search rules
+enum_told-in-After : tie.Need-enum_told-in-After
+enum_told-in-After c = search rules
 
-returns : tie.Need-returns
-returns c = ap (λ (o : Order). is_ordered (ordering o)) (sym c.enum_told.given.1)
+returns-in-Before : tie.Need-returns-in-Before
+returns-in-Before c = ap (λ (o : Order). is_ordered (ordering o)) (sym c.in-Before.is)
 
-returns_2 : tie.Need-returns-2
-returns_2 c = ap (λ (o : Order). is_ordered (ordering o)) (sym c.enum-told2.given.1)
+returns-in-Same : tie.Need-returns-in-Same
+returns-in-Same c = ap (λ (o : Order). is_ordered (ordering o)) (sym c.in-Same.is)
 
-returns_3 : tie.Need-returns-3
-returns_3 c = ap (λ (o : Order). is_ordered (ordering o)) (sym c.enum-told3.given.1)
+returns-in-After : tie.Need-returns-in-After
+returns-in-After c = ap (λ (o : Order). is_ordered (ordering o)) (sym c.in-After.is)
 
 pub answer_of_spec : {M : Type 1} → statement M
-answer_of_spec = tie.close (tie.spec enum_told enum_told_2 enum_told_3 returns returns_2 returns_3)
+answer_of_spec = tie.close (tie.spec
+    enum_told-1
+    enum_told-in-Same
+    enum_told-in-After
+    returns-in-Before
+    returns-in-Same
+    returns-in-After)

@@ -5,32 +5,33 @@ use borrow.Author.Rules.{rules}
 use Rattle.sort_compare.proofs.compare.compare_checked.Statement.{statement}
 use Rattle.sort_compare.proofs.compare.compare_checked.Tie as tie
 
--- places in the code, each from a later one
-abbrev start : tie.After-shared-slice-known3 → tie.Start
-start c = c.before.before.before
+returns-then-first-a : tie.Need-returns-then-first-a
+returns-then-first-a c =
+    let a = c.args in
+    short_first a.s a.t a.a.now a.b.now a.first.now a.second.now c.if-first-a.true
+
+returns-then-second-b : tie.Need-returns-then-second-b
+returns-then-second-b c =
+    let a = c.args in
+    short-second a.s a.t a.a.now a.b.now a.first.now a.second.now c.if-first-a.false c.if-second-b.true
+
+compare_sheets-requires : tie.Need-compare_sheets-requires
+compare_sheets-requires c κs = search rules
+
+answer_of-requires : tie.Need-answer_of-requires
+answer_of-requires c κs = search rules
 
 returns : tie.Need-returns
 returns c =
-    let a = (start c.before.before).args in
-    short_first a.s a.t a.a.now a.b.now a.first.now a.second.now c.if1.true
-
-returns_2 : tie.Need-returns-2
-returns_2 c =
-    let a = (start c.before.before.before).args in
-    short-second a.s a.t a.a.now a.b.now a.first.now a.second.now c.before.if1.false c.if2.true
-
-compare_sheets_requires : tie.Need-compare-sheets-requires
-compare_sheets_requires c κs = search rules
-
-answer_of_requires : tie.Need-answer-of-requires
-answer_of_requires c κs = search rules
-
-returns_3 : tie.Need-returns-3
-returns_3 c =
-    let d = c.before.before in
-    let a = (start d.before.before.before).args in
-    c.answer_of.ensures ∙ both-fit a.s a.t a.a.now a.b.now a.first.now a.second.now d.before.if1.false d.if2.false c.before.compare-sheets.ensures
+    let d = c in
+    let a = d.args in
+    c.answer_of.ensures ∙ both-fit a.s a.t a.a.now a.b.now a.first.now a.second.now d.if-first-a.false d.if-second-b.false c.compare_sheets.ensures
 
 pub compare_checked_spec : {M : Type 1} → statement M
 compare_checked_spec =
-    tie.close (tie.spec returns returns_2 compare_sheets_requires answer_of_requires returns_3)
+    tie.close (tie.spec
+    returns-then-first-a
+    returns-then-second-b
+    compare_sheets-requires
+    answer_of-requires
+    returns)

@@ -9,83 +9,70 @@ use borrow.Author.Rules.{rules}
 use Rattle.sort_compare.proofs.compare.judge.Statement.{statement}
 use Rattle.sort_compare.proofs.compare.judge.Tie as tie
 
--- places in the code, each from a later one
-abbrev begun : tie.After-shared-slice-known3 → tie.Start
-begun c = c.before.before.before
+check-c-requires : tie.Need-check-c-requires
+check-c-requires c κs = search rules
 
-check_requires : tie.Need-check-requires
-check_requires c κs = search rules
+enum_known-c : tie.Need-enum_known-c
+enum_known-c c = search rules
 
-enum_known_c : tie.Need-enum-known-c
-enum_known_c c = search rules
+enum_known-c-in-Accepted-1 : tie.Need-enum_known-c-in-Accepted-1
+enum_known-c-in-Accepted-1 c = search rules
 
-enum_known_c_2 : tie.Need-enum-known-c-2
-enum_known_c_2 c = search rules
+check-d-requires : tie.Need-check-d-requires
+check-d-requires c κs = search rules
 
-check_requires_2 : tie.Need-check-requires-2
-check_requires_2 c κs = search rules
+enum_known-d : tie.Need-enum_known-d
+enum_known-d c = search rules
 
-enum_known_d : tie.Need-enum-known-d
-enum_known_d c = search rules
-
-enum_known_d_2 : tie.Need-enum-known-d-2
-enum_known_d_2 c = search rules
-
-abbrev start : tie.After-check → tie.Start
-start c = begun c.before.before
+enum_known-d-in-Accepted-d : tie.Need-enum_known-d-in-Accepted-d
+enum_known-d-in-Accepted-d c = search rules
 
 -- Check has accepted the first sheet, and the second
-first_of : (c : tie.After-c2) → Sheet (start c.before.before).args.f (start c.before.before).args.a.now c.c2.given.0.0
-first_of c = sheet_checked c.c2.given.1 c.before.before.check.ensures
+first_of : (c : tie.In-Accepted) → Sheet c.args.f c.args.a.now c.in-Accepted.s
+first_of c = sheet_checked c.in-Accepted.is c.check-c.ensures
 
-abbrev checked : tie.After-check2 → tie.After-c2
-checked c = c.before.before
+second_of : (c : tie.In-Accepted-d) → Sheet c.args.f c.args.b.now c.in-Accepted-d.t
+second_of c = sheet_checked c.in-Accepted-d.is c.check-d.ensures
 
-abbrev entry : tie.After-check2 → tie.Start
-entry c = start (checked c).before.before
+compare_checked-requires : tie.Need-compare_checked-requires
+compare_checked-requires c κs =
+    let told = c in
+    (sheet_readable (first_of told.before.before), sheet_readable (second_of told))
 
-second_of : (c : tie.After-d2) → Sheet (entry c.before.before).args.f (entry c.before.before).args.b.now c.d2.given.0.0
-second_of c = sheet_checked c.d2.given.1 c.before.before.check2.ensures
-
-compare_checked_requires : tie.Need-compare-checked-requires
-compare_checked_requires c κs =
-    let told = c.before in
-    (sheet_readable (first_of (checked told.before.before)), sheet_readable (second_of told))
-
-returns : tie.Need-returns
-returns c =
-    let told = c.before in
-    let call = told.before.before in
-    let a = (start call).args in
+returns-in-Refused : tie.Need-returns-in-Refused
+returns-in-Refused c =
+    let told = c in
+    let call = told in
+    let a = call.args in
     sym (first_refused (format_of a.f) a.a.now a.b.now a.first.now a.second.now _ _
-    (sym (sheet_refused a.f a.a.now told.c.given.1 call.check.ensures)))
+    (sym (sheet_refused a.f a.a.now told.in-Refused.is call.check-c.ensures)))
 
-returns_2 : tie.Need-returns-2
-returns_2 c =
-    let told = c.before in
-    let call = told.before.before in
-    let a = (entry call).args in
-    sym (second_refused (format_of a.f) a.a.now a.b.now a.first.now a.second.now _ _ (first_of (checked call)).tests_pass
-    (sym (sheet_refused a.f a.b.now told.d.given.1 call.check2.ensures)))
+returns-in-Refused-d : tie.Need-returns-in-Refused-d
+returns-in-Refused-d c =
+    let told = c in
+    let call = told in
+    let a = call.args in
+    sym (second_refused (format_of a.f) a.a.now a.b.now a.first.now a.second.now _ _ (first_of call.before.before).tests_pass
+    (sym (sheet_refused a.f a.b.now told.in-Refused-d.is call.check-d.ensures)))
 
-returns_3 : tie.Need-returns-3
-returns_3 c =
-    let told = c.before.before in
-    let call = told.before.before in
-    let a = (entry call).args in
-    c.compare-checked.ensures ∙ both_checked (first_of (checked call)) (second_of told) a.first.now a.second.now
+returns-in-Accepted-d : tie.Need-returns-in-Accepted-d
+returns-in-Accepted-d c =
+    let told = c in
+    let call = told in
+    let a = call.args in
+    c.compare_checked.ensures ∙ both_checked (first_of call.before.before.before) (second_of told.before) a.first.now a.second.now
 
 pub judge_spec : {M : Type 1} → statement M
 judge_spec =
     tie.close
     (tie.spec
-    check_requires
-    enum_known_c
-    enum_known_c_2
-    check_requires_2
-    enum_known_d
-    enum_known_d_2
-    compare_checked_requires
-    returns
-    returns_2
-    returns_3)
+    check-c-requires
+    enum_known-c
+    enum_known-c-in-Accepted-1
+    check-d-requires
+    enum_known-d
+    enum_known-d-in-Accepted-d
+    compare_checked-requires
+    returns-in-Refused
+    returns-in-Refused-d
+    returns-in-Accepted-d)

@@ -11,51 +11,48 @@ use borrow.Author.Rules.{rules}
 use Rattle.sort_compare.proofs.sort.sort.Statement.{statement}
 use Rattle.sort_compare.proofs.sort.sort.Tie as tie
 
-check_requires : tie.Need-check-requires
-check_requires c κs = search rules
+check-c-requires : tie.Need-check-c-requires
+check-c-requires c κs = search rules
 
-enum_known_c : tie.Need-enum-known-c
-enum_known_c c = search rules
+enum_known-c : tie.Need-enum_known-c
+enum_known-c c = search rules
 
-abbrev start : tie.After-check → tie.Start
-start c = c.before.before.before
+accepted : (c : tie.In-Accepted) → Sheet c.args.f c.args.sheet.now c.in-Accepted.s
+accepted c = sheet_checked c.in-Accepted.is c.check-c.ensures
 
-accepted : (c : tie.After-c) → Sheet (start c.before.before).args.f (start c.before.before).args.sheet.now c.c.given.0.0
-accepted c = sheet_checked c.c.given.1 c.before.before.check.ensures
+sort_checked-requires : tie.Need-sort_checked-requires
+sort_checked-requires c κs = sheet_own (accepted c.before)
 
-sort_checked_requires : tie.Need-sort-checked-requires
-sort_checked_requires c κs = sheet_own (accepted c.before.before)
+enum_known-c-in-Refused-1 : tie.Need-enum_known-c-in-Refused-1
+enum_known-c-in-Refused-1 c = search rules
 
-enum_known_c_2 : tie.Need-enum-known-c-2
-enum_known_c_2 c = search rules
+shape_of-out : tie.Need-shape_of-out
+shape_of-out c = search rules
 
-same_length : tie.Need-same-length
-same_length c = search rules
-
-returns : tie.Need-returns
-returns c =
-    let call = c.before.before in
-    let told = call.before.before.before in
-    let a = (start told.before.before).args in
-    let e = call.sort-checked.ensures ∙ ap (λ g. sort_call (format_of g) a.sheet.now a.out.now) (sheet_format (accepted told)) in
+returns-in-Accepted : tie.Need-returns-in-Accepted
+returns-in-Accepted c =
+    let call = c in
+    let told = call in
+    let a = told.args in
+    let e = call.sort_checked.ensures ∙ ap (λ g. sort_call (format_of g) a.sheet.now a.out.now) (sheet_format (accepted told.before.before.before.before)) in
     (e, sort_truthful (format_of a.f) (sound a.f) a.sheet.now a.out.now e)
 
-returns_2 : tie.Need-returns-2
-returns_2 c =
-    let told = c.before in
-    let checked = told.before.before in
-    let a = (start checked).args in
-    let e = unchecked_sort (format_of a.f) a.sheet.now a.out.now (sheet_refused a.f a.sheet.now told.c2.given.1 checked.check.ensures) in
+returns-in-Refused : tie.Need-returns-in-Refused
+returns-in-Refused c =
+    let told = c in
+    let checked = told in
+    let a = checked.args in
+    let e = unchecked_sort (format_of a.f) a.sheet.now a.out.now (sheet_refused a.f a.sheet.now told.in-Refused.is checked.check-c.ensures) in
     (e, sort_truthful (format_of a.f) (sound a.f) a.sheet.now a.out.now e)
 
 pub sort_spec : {M : Type 1} → statement M
 sort_spec =
     tie.close
     (tie.spec
-    check_requires
-    enum_known_c
-    sort_checked_requires
-    enum_known_c_2
-    same_length
-    returns
-    returns_2)
+    check-c-requires
+    enum_known-c
+    sort_checked-requires
+    enum_known-c-in-Refused-1
+    shape_of-out
+    returns-in-Accepted
+    returns-in-Refused)

@@ -5,24 +5,28 @@ use borrow.Author.Rules.{rules}
 use Rattle.sort_compare.proofs.sort.sort_checked.Statement.{statement}
 use Rattle.sort_compare.proofs.sort.sort_checked.Tie as tie
 
+returns-then-out-sheet : tie.Need-returns-then-out-sheet
+returns-then-out-sheet c =
+    let a = c in
+    short_sort (format_in a.args.s) a.args.sheet.now a.args.out.now a.requires.tests_pass c.if-out-sheet.true
+
+sort_into-length-requires : tie.Need-sort_into-length-requires
+sort_into-length-requires c κs = search rules
+
+shape_of-out : tie.Need-shape_of-out
+shape_of-out c = search rules
+
 returns : tie.Need-returns
 returns c =
-    let a = c.before.before.before in
-    short_sort (format_in a.args.s) a.args.sheet.now a.args.out.now a.requires.tests_pass c.if1.true
-
-sort_into_requires : tie.Need-sort-into-requires
-sort_into_requires c κs = search rules
-
-same_length : tie.Need-same-length
-same_length c = search rules
-
-returns_2 : tie.Need-returns-2
-returns_2 c =
-    let wrote = c.before.before in
-    let test = wrote.before.before in
-    let a = test.before.before.before in
-    long_sort (format_in a.args.s) a.args.sheet.now a.args.out.now a.requires.tests_pass test.if1.false
-    wrote.sort-into.ensures.1 wrote.sort-into.ensures.0
+    let wrote = c in
+    let test = wrote in
+    let a = test in
+    long_sort (format_in a.args.s) a.args.sheet.now a.args.out.now a.requires.tests_pass test.if-out-sheet.false
+    wrote.sort_into-length.ensures.1 wrote.sort_into-length.ensures.0
 
 pub sort_checked_spec : {M : Type 1} → statement M
-sort_checked_spec = tie.close (tie.spec returns sort_into_requires same_length returns_2)
+sort_checked_spec = tie.close (tie.spec
+    returns-then-out-sheet
+    sort_into-length-requires
+    shape_of-out
+    returns)

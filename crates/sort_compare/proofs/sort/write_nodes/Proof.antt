@@ -6,124 +6,108 @@ use Rattle.sort_compare.proofs.Written.{Wrote, wrote_none, number-within, room-k
 use Rattle.sort_compare.proofs.sort.write_nodes.Statement.{statement}
 use Rattle.sort_compare.proofs.sort.write_nodes.Tie as tie
 
-abbrev invariant-loop : tie.invariant-loop
-invariant-loop source s at out₀ r₀ out r = Wrote source s at out₀ out r
+abbrev invariant-loop-r : tie.invariant-loop-r
+invariant-loop-r source s at out₀ r₀ out r = Wrote source s at out₀ out r
 
-abbrev decreases-loop : tie.decreases-loop
-decreases-loop source s at out₀ r₀ out r = length at - r
-
--- places in the code, each from a later one
-abbrev entry : tie.After-slice-known invariant-loop decreases-loop → tie.Start invariant-loop decreases-loop
-entry c = c.before.before.before
-
-abbrev entered : tie.After-shared-slice-known3 invariant-loop decreases-loop → tie.After-slice-known invariant-loop decreases-loop
-entered c = c.before.before.before
-
-abbrev row_found : tie.After-argument-at invariant-loop decreases-loop → tie.After-struct-known invariant-loop decreases-loop
-row_found c = c.before.before.before
-
-abbrev kind_read : tie.After-set-row-arg invariant-loop decreases-loop → tie.After-kind-at invariant-loop decreases-loop
-kind_read c = c.before.before.before
-
-abbrev start : tie.After-struct-known invariant-loop decreases-loop → tie.Start invariant-loop decreases-loop
-start c = entry (entered c.before)
+abbrev decreases-loop-r : tie.decreases-loop-r
+decreases-loop-r source s at out₀ r₀ out r = length at - r
 
 -- the number that the table holds
-number : (c : tie.After-struct-known invariant-loop decreases-loop) → get_or (start c).args.at.now c.before.before.before.loop.r 0 < (start c).args.s.nodes
+number : (c : tie.After-struct_known-1 invariant-loop-r decreases-loop-r) → get_or c.args.at.now c.loop-r.r 0 < c.args.s.nodes
 number c =
-    let a = start c in
-    number-within a.args.at.now a.pre.0 a.pre.1 a.pre.2 a.args.out.now a.pre.3 c.before.before.loop-test.true
+    let a = c in
+    number-within a.args.at.now a.requires.0 a.requires.1 a.requires.2 a.args.out.now a.requires.3 c.loop-r-test.true
 
-a_bytes : (c : tie.After-struct-known invariant-loop decreases-loop) (i : ℕ) → get_or (start c).args.source.now i 0 < 256
-a_bytes c i = ((entered c.before).before.before.shared-slice-known.given i).fits
+a_bytes : (c : tie.After-struct_known-1 invariant-loop-r decreases-loop-r) (i : ℕ) → get_or c.args.source.now i 0 < 256
+a_bytes c i = (c.shared_slice_known-1.given i).fits
 
-loop_holds : tie.Need-loop-init invariant-loop decreases-loop
-loop_holds c =
-    let a = c.before.before.before in
+loop-r-init : tie.Need-loop-r-init invariant-loop-r decreases-loop-r
+loop-r-init c =
+    let a = c in
     wrote_none a.args.at.now a.requires.0 a.requires.1 a.requires.2 a.args.out.now a.requires.3
 
-mul_i : tie.Need-overflow-mul-i invariant-loop decreases-loop
-mul_i c = omega arith
+offset_bounds-at-r : tie.Need-offset_bounds-at-r invariant-loop-r decreases-loop-r
+offset_bounds-at-r c = omega arith
 
-shared_slice_read_i : tie.Need-shared-slice-read-i invariant-loop decreases-loop
-shared_slice_read_i c = omega arith
+bounds-at-r : tie.Need-bounds-at-r invariant-loop-r decreases-loop-r
+bounds-at-r c = omega arith
 
-cast_i : tie.Need-overflow-cast-i invariant-loop decreases-loop
-cast_i c = omega (arith, c.shared-slice-known3.given c.before.before.loop.r)
+overflow_cast-i : tie.Need-overflow_cast-i invariant-loop-r decreases-loop-r
+overflow_cast-i c = omega (arith, c.shared_slice_known-in-loop-r-1.given c.loop-r.r)
 
-add_kind_at : tie.Need-overflow-add-kind-at invariant-loop decreases-loop
-add_kind_at c = omega (arith, number c, (start c).requires.0.few_variables, (start c).requires.0.few_nodes)
+overflow_add-s : tie.Need-overflow_add-s invariant-loop-r decreases-loop-r
+overflow_add-s c = omega (arith, number c, c.requires.0.few_variables, c.requires.0.few_nodes)
 
-kind_at_requires : tie.Need-kind-at-requires invariant-loop decreases-loop
-kind_at_requires c κs = ((start c).requires.0.room, omega (arith, number c))
+kind_at-kind-requires : tie.Need-kind_at-kind-requires invariant-loop-r decreases-loop-r
+kind_at-kind-requires c κs = (c.requires.0.room, omega (arith, number c))
 
-add_argument_at : tie.Need-overflow-add-argument-at invariant-loop decreases-loop
-add_argument_at c =
-    let k = c.before.before in
-    omega (arith, number k, (start k).requires.0.few_variables, (start k).requires.0.few_nodes)
+overflow_add-s-in-loop-r : tie.Need-overflow_add-s-in-loop-r invariant-loop-r decreases-loop-r
+overflow_add-s-in-loop-r c =
+    let k = c in
+    omega (arith, number k.before.before, k.requires.0.few_variables, k.requires.0.few_nodes)
 
-argument_at_requires : tie.Need-argument-at-requires invariant-loop decreases-loop
-argument_at_requires c κs =
-    let k = c.before.before in
-    ((start k).requires.0.room, omega (arith, number k))
+argument_at-argument-requires : tie.Need-argument_at-argument-requires invariant-loop-r decreases-loop-r
+argument_at-argument-requires c κs =
+    let k = c in
+    (k.requires.0.room, omega (arith, number k.before.before))
 
-add_set_row : tie.Need-overflow-add-set-row invariant-loop decreases-loop
-add_set_row c =
-    let k = row_found c.before.before in
-    omega (arith, k.before.before.before.loop.inv.within, (start k).pre.2, (start k).pre.0.few_variables, (start k).pre.0.few_nodes)
+overflow_add-s-in-loop-r-2 : tie.Need-overflow_add-s-in-loop-r-2 invariant-loop-r decreases-loop-r
+overflow_add-s-in-loop-r-2 c =
+    let k = c in
+    omega (arith, k.loop-r.invariant.within, k.requires.2, k.requires.0.few_variables, k.requires.0.few_nodes)
 
-set_row_requires : tie.Need-set-row-requires invariant-loop decreases-loop
-set_row_requires c κs =
-    let k = row_found c.before.before in
-    let head = k.before.before.before in
-    let a = start k in (
-      room-kept a.args.at.now a.pre.0 a.pre.1 a.pre.2 a.args.out.now a.pre.3 head.loop.inv,
-      omega (arith, k.before.before.loop-test.taken, a.pre.2),
-      argument_fits a.args.at.now a.pre.0 a.pre.1 a.pre.2 a.args.out.now a.pre.3 (λ i. (a_bytes k i))
-          k.before.before.loop-test.taken c.before.before.argument-at.ensures.0,
+set_row-requires : tie.Need-set_row-requires invariant-loop-r decreases-loop-r
+set_row-requires c κs =
+    let k = c in
+    let head = k in
+    let a = k in (
+      room-kept a.args.at.now a.requires.0 a.requires.1 a.requires.2 a.args.out.now a.requires.3 head.loop-r.invariant,
+      omega (arith, k.loop-r-test.true, a.requires.2),
+      argument_fits a.args.at.now a.requires.0 a.requires.1 a.requires.2 a.args.out.now a.requires.3 (λ i. (a_bytes k.before.before.before.before.before i))
+          k.loop-r-test.true c.argument_at-argument.ensures.0,
     )
 
-add_r : tie.Need-overflow-add-r invariant-loop decreases-loop
-add_r c = omega arith
+overflow_add-r : tie.Need-overflow_add-r invariant-loop-r decreases-loop-r
+overflow_add-r c = omega arith
 
-loop_less : tie.Need-loop-smaller invariant-loop decreases-loop
-loop_less c = omega arith
+loop-r-smaller : tie.Need-loop-r-smaller invariant-loop-r decreases-loop-r
+loop-r-smaller c = omega arith
 
-loop_again : tie.Need-loop-preserved invariant-loop decreases-loop
-loop_again c =
-    let d = c.before.before in
-    let k = row_found d.before.before.before in
-    let head = k.before.before.before in
-    let a = start k in
-    wrote_row a.args.at.now a.pre.0 a.pre.1 a.pre.2 a.args.out.now a.pre.3 k.before.before.loop-test.taken head.loop.inv
-    (kind_read d.before.before).kind_at.ensures d.before.before.before.argument-at.ensures.0 d.set-row.ensures.0 d.set-row.auto.0
+loop-r-preserved : tie.Need-loop-r-preserved invariant-loop-r decreases-loop-r
+loop-r-preserved c =
+    let d = c in
+    let k = d in
+    let head = k in
+    let a = k in
+    wrote_row a.args.at.now a.requires.0 a.requires.1 a.requires.2 a.args.out.now a.requires.3 k.loop-r-test.true head.loop-r.invariant
+    d.kind_at-kind.ensures d.argument_at-argument.ensures.0 d.set_row.ensures.0 d.set_row.auto.b
 
-same_length : tie.Need-same-length invariant-loop decreases-loop
-same_length c = c.before.loop.invariant.same_length
+shape_of-out : tie.Need-shape_of-out invariant-loop-r decreases-loop-r
+shape_of-out c = c.loop-r.invariant.same_length
 
-returns : tie.Need-returns invariant-loop decreases-loop
+returns : tie.Need-returns invariant-loop-r decreases-loop-r
 returns c =
-    let a = entry c.before.before in
-    wrote_all a.args.at.now a.pre.0 a.pre.1 a.pre.2 a.args.out.now a.pre.3 c.loop-test.false c.before.loop.invariant
+    let a = c in
+    wrote_all a.args.at.now a.requires.0 a.requires.1 a.requires.2 a.args.out.now a.requires.3 c.loop-r-test.false c.loop-r.invariant
 
 pub write_nodes_spec : {M : Type 1} → statement M
 write_nodes_spec =
     tie.close
     (tie.spec
-    invariant-loop
-    decreases-loop
-    loop_holds
-    mul_i
-    shared_slice_read_i
-    cast_i
-    add_kind_at
-    kind_at_requires
-    add_argument_at
-    argument_at_requires
-    add_set_row
-    set_row_requires
-    add_r
-    loop_less
-    loop_again
-    same_length
+    invariant-loop-r
+    decreases-loop-r
+    loop-r-init
+    offset_bounds-at-r
+    bounds-at-r
+    overflow_cast-i
+    overflow_add-s
+    kind_at-kind-requires
+    overflow_add-s-in-loop-r
+    argument_at-argument-requires
+    overflow_add-s-in-loop-r-2
+    set_row-requires
+    overflow_add-r
+    loop-r-smaller
+    loop-r-preserved
+    shape_of-out
     returns)
