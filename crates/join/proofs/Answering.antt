@@ -1,18 +1,17 @@
 -- What Join answers, from Check's answer, its tests and the answers joined.
 -- Assumes nothing.
-use mathlib.Core.Path.{◌≡◌, refl, sym, ap, ap₂, ◌∙◌}
-use mathlib.Core.Bool.{Bool, true, false, not, true≢false}
+use mathlib.Core.Path.{◌≡◌, sym, ap, ◌∙◌}
+use mathlib.Core.Bool.{Bool, true, false, not}
 use Prim.Native.Nat.{ℕ, ◌-◌, ◌^◌, ◌≤◌, ◌<◌}
 use native.Mathlib.Omega.{arith}
 use lib.Dec.{eqb}
-use lib.ListN.{length, take, drop}
+use lib.ListN.{length, take}
 use borrow.Author.Tests.{not-true, not-false, eqb-true, eqb-false}
 use Rattle.formula.specs.Tree.{Formula}
 use Rattle.formula.specs.Join.{Answer as Known, joined, join_answers}
 use Rattle.sheet.specs.Format as sheet
 use Rattle.sheet.specs.Format.{Bytes, variables}
-use Rattle.sheet.specs.Sheet.{formula}
-use Rattle.sheet.specs.Check.{Answer, refused, accepted, check_tests, check}
+use Rattle.sheet.specs.Check.{refused, accepted, check_tests, check}
 use Rattle.sheet.specs.Join.{known_of, answers_of, are_answers, join_tests, join_call}
 use Rattle.sheet.proofs.Tests.{refused_first}
 use Rattle.sheet.proofs.Join.{join_22, join-28, join-29, join-accepted}

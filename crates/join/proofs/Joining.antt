@@ -1,8 +1,8 @@
 -- Answers weighed, and those for a row's two values joined.
 -- Assumes nothing.
 use mathlib.Core.Path.{◌≡◌, refl, sym, ap, ap₂, ◌∙◌, subst}
-use mathlib.Core.Bool.{Bool, true, false, not, ◌&&◌, cond, true≢false}
-use mathlib.Core.List.{List, [], ◌∷◌, ◌++◌, map}
+use mathlib.Core.Bool.{Bool, true, false, ◌&&◌, cond, true≢false}
+use mathlib.Core.List.{List, [], ◌∷◌}
 use mathlib.Core.Option.{none, some}
 use Prim.Native.Nat.{ℕ, zero, suc, ◌+◌, ◌*◌, ◌-◌, ◌/◌, ◌%◌, ◌^◌, ◌≤◌, ◌<◌}
 use native.Mathlib.Numerals.{add-one}
@@ -10,15 +10,14 @@ use native.Mathlib.Omega.{arith}
 use lib.Dec.{eqb, leb}
 use lib.ListN.{length, get_or, take, drop, length-take, length-drop}
 use lib.Seq.{drop-cons, drop-length, take_all}
-use borrow.Author.Tests.{eqb-true, eqb-false, eq-eqb, ne_eqb, leb-true, le-leb, lt-leb, not-false}
-use Rattle.formula.specs.Tree.{Quantifier, and, or, same_op, exists, Binding, Prefix}
-use Rattle.formula.specs.Trial.{stops_at}
+use borrow.Author.Tests.{eqb-true, eqb-false, eq-eqb, ne_eqb, leb-true, le-leb, lt-leb}
+use Rattle.formula.specs.Tree.{Quantifier, and, or, same_op, exists, Prefix}
 use Rattle.formula.specs.Join.{Answer, if_stops, weigh, joined}
 use Rattle.formula.proofs.Booleans.{and_parts}
 use Rattle.sheet.specs.Format.{Bytes, row}
 use Rattle.sheet.specs.Sheet.{binding}
 use Rattle.sheet.specs.Join.{known_of, answers_of, are_answers}
-use Rattle.rows.specs.Formulas.{Readable, prefix_in}
+use Rattle.rows.specs.Formulas.{prefix_in}
 use Rattle.rows.specs.declared.Layout.{Layout}
 use Rattle.rows.proofs.Formulas.{length_prefix}
 use Rattle.prefixes.specs.Places.{binding_at, binding_in}

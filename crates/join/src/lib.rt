@@ -1,5 +1,6 @@
 // Join: the verdict of 2 to the k answers, one for every list of values of the first k variables, by their quantifiers.
 #![tactic(auto)]
+
 ghost use Rattle.std.specs.Prelude.{◌≡◌, cond, suc, ◌^◌, ◌≤◌, eqb};
 ghost use Rattle.formula.specs.Tree.{and, or};
 ghost use Rattle.formula.specs.Join.{weigh};

@@ -1,5 +1,6 @@
 // Trial: decides a formula by trying values, 0 first, along its semantic tree.
 #![tactic(auto)]
+
 ghost use Rattle.std.specs.Prelude.{◌≡◌, ◌+◌, ◌^◌, ◌≤◌, ◌<◌, length, get_or};
 ghost use Rattle.std.specs.Bool.{beq};
 ghost use Rattle.formula.specs.Truth.{eval};

@@ -7,37 +7,45 @@ use Rattle.join.proofs.Joining.{power_odd, power_half, power_none}
 use Rattle.join.proofs.is_power.Statement.{statement}
 use Rattle.join.proofs.is_power.Tie as tie
 
-abbrev invariant-loop : tie.invariant-loop
-invariant-loop n k left₀ i₀ left i = eqb left (2 ^ i) ≡ eqb n (2 ^ k)
+abbrev invariant-loop-i : tie.invariant-loop-i
+invariant-loop-i n k left₀ i₀ left i = eqb left (2 ^ i) ≡ eqb n (2 ^ k)
 
-abbrev decreases-loop : tie.decreases-loop
-decreases-loop n k left₀ i₀ left i = i
+abbrev decreases-loop-i : tie.decreases-loop-i
+decreases-loop-i n k left₀ i₀ left i = i
 
-loop_holds : tie.Need-loop-init invariant-loop decreases-loop
-loop_holds c = refl
+loop-i-init : tie.Need-loop-i-init invariant-loop-i decreases-loop-i
+loop-i-init c = refl
 
-returns : tie.Need-returns invariant-loop decreases-loop
+returns-then-left-eq1 : tie.Need-returns-then-left-eq1 invariant-loop-i decreases-loop-i
+returns-then-left-eq1 c =
+    let inside = c in
+    let head = inside in
+    sym (power_odd head.loop-i.left head.loop-i.i inside.loop-i-test.true c.if-left-eq1.true) ∙ head.loop-i.invariant
+
+overflow_sub-i : tie.Need-overflow_sub-i invariant-loop-i decreases-loop-i
+overflow_sub-i c = omega arith
+
+loop-i-smaller : tie.Need-loop-i-smaller invariant-loop-i decreases-loop-i
+loop-i-smaller c = omega arith
+
+loop-i-preserved : tie.Need-loop-i-preserved invariant-loop-i decreases-loop-i
+loop-i-preserved c =
+    let inside = c in
+    let head = inside in
+    power_half head.loop-i.left head.loop-i.i inside.loop-i-test.true (λ e. omega (arith, e, c.if-left-eq1.false)) ∙ head.loop-i.invariant
+
+returns : tie.Need-returns invariant-loop-i decreases-loop-i
 returns c =
-    let inside = c.before in
-    let head = inside.before in
-    sym (power_odd head.loop.left head.loop.i inside.loop-test.true c.if1.true) ∙ head.loop.invariant
-
-sub_i : tie.Need-overflow-sub-i invariant-loop decreases-loop
-sub_i c = omega arith
-
-loop_less : tie.Need-loop-smaller invariant-loop decreases-loop
-loop_less c = omega arith
-
-loop_again : tie.Need-loop-preserved invariant-loop decreases-loop
-loop_again c =
-    let inside = c.before in
-    let head = inside.before in
-    power_half head.loop.left head.loop.i inside.loop-test.true (λ e. omega (arith, e, c.if1.false)) ∙ head.loop.invariant
-
-returns_2 : tie.Need-returns-2 invariant-loop decreases-loop
-returns_2 c =
-    let head = c.before in
-    power_none head.loop.left (omega (arith, c.loop-test.false)) ∙ head.loop.invariant
+    let head = c in
+    power_none head.loop-i.left (omega (arith, c.loop-i-test.false)) ∙ head.loop-i.invariant
 
 pub is_power_spec : {M : Type 1} → statement M
-is_power_spec = tie.close (tie.spec invariant-loop decreases-loop loop_holds returns sub_i loop_less loop_again returns_2)
+is_power_spec = tie.close (tie.spec
+    invariant-loop-i
+    decreases-loop-i
+    loop-i-init
+    returns-then-left-eq1
+    overflow_sub-i
+    loop-i-smaller
+    loop-i-preserved
+    returns)

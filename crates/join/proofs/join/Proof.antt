@@ -10,39 +10,42 @@ use Rattle.join.proofs.Answering.{unchecked_call}
 use Rattle.join.proofs.join.Statement.{statement}
 use Rattle.join.proofs.join.Tie as tie
 
-abbrev start : tie.After-check → tie.Start
-start c = c.before.before.before
+checked : (c : tie.In-Accepted) → let a = c.args in Sheet a.f a.sheet.now c.in-Accepted.s
+checked c = sheet_checked c.in-Accepted.is c.check-c.ensures
 
-checked : (c : tie.After-c2) → let a = (start c.before.before).args in Sheet a.f a.sheet.now c.c2.given.0.0
-checked c = sheet_checked c.c2.given.1 c.before.before.check.ensures
+check-c-requires : tie.Need-check-c-requires
+check-c-requires c κs = search rules
 
-check_requires : tie.Need-check-requires
-check_requires c κs = search rules
+enum_known-c : tie.Need-enum_known-c
+enum_known-c c = search rules
 
-enum_known_c : tie.Need-enum-known-c
-enum_known_c c = search rules
+enum_known-c-in-Accepted-1 : tie.Need-enum_known-c-in-Accepted-1
+enum_known-c-in-Accepted-1 c = search rules
 
-enum_known_c_2 : tie.Need-enum-known-c-2
-enum_known_c_2 c = search rules
+join_checked-requires : tie.Need-join_checked-requires
+join_checked-requires c κs = sheet_own (checked c)
 
-join_checked_requires : tie.Need-join-checked-requires
-join_checked_requires c κs = sheet_own (checked c.before)
-
-returns : tie.Need-returns
-returns c =
-    let told = c.before in
-    let check = told.before.before in
-    let a = (start check).args in
+returns-in-Refused : tie.Need-returns-in-Refused
+returns-in-Refused c =
+    let told = c in
+    let check = told in
+    let a = check.args in
     let e = unchecked_call (format_of a.f) a.sheet.now a.k a.answers.now
-    (sheet_refused a.f a.sheet.now told.c.given.1 check.check.ensures) in
+    (sheet_refused a.f a.sheet.now told.in-Refused.is check.check-c.ensures) in
     (e, join_truthful (format_of a.f) a.sheet.now a.k a.answers.now e)
 
-returns_2 : tie.Need-returns-2
-returns_2 c =
-    let told = c.before.before in
-    let a = (start told.before.before).args in
-    let e = c.join-checked.ensures ∙ ap (λ f. join_call (format_of f) a.sheet.now a.k a.answers.now) (sheet_format (checked told)) in
+returns-in-Accepted : tie.Need-returns-in-Accepted
+returns-in-Accepted c =
+    let told = c in
+    let a = told.args in
+    let e = c.join_checked.ensures ∙ ap (λ f. join_call (format_of f) a.sheet.now a.k a.answers.now) (sheet_format (checked told.before)) in
     (e, join_truthful (format_of a.f) a.sheet.now a.k a.answers.now e)
 
 pub join_spec : {M : Type 1} → statement M
-join_spec = tie.close (tie.spec check_requires enum_known_c enum_known_c_2 join_checked_requires returns returns_2)
+join_spec = tie.close (tie.spec
+    check-c-requires
+    enum_known-c
+    enum_known-c-in-Accepted-1
+    join_checked-requires
+    returns-in-Refused
+    returns-in-Accepted)

@@ -1,4 +1,6 @@
 -- `join::join_checked` meets its contract. Assumes nothing.
+use mathlib.Core.Bool.{not}
+use mathlib.Core.Path.{ap}
 use Prim.Native.Nat.{◌≤◌}
 use native.Mathlib.Omega.{arith}
 use borrow.Author.Rules.{rules}
@@ -6,69 +8,60 @@ use Rattle.join.proofs.Answering.{many_call, count-call, bad_call, joinable, joi
 use Rattle.join.proofs.join_checked.Statement.{statement}
 use Rattle.join.proofs.join_checked.Tie as tie
 
-abbrev start : tie.After-struct-known → tie.Start
-start c = c.before.before.before
+few : (c : tie.After-is_power) → c.args.k ≤ c.args.s.variables
+few c = omega (arith, c.if-s-k.false)
 
-abbrev begun : tie.After-is-power → tie.Start
-begun c = start c.before.before
+returns-then-s-k : tie.Need-returns-then-s-k
+returns-then-s-k c =
+    let a = c in
+    many_call a.requires a.args.k a.args.answers.now (omega (arith, c.if-s-k.true))
 
-abbrev counted : tie.After-are-answers → tie.After-is-power
-counted c = c.before.before
+is_power-requires : tie.Need-is_power-requires
+is_power-requires c κs = search rules
 
-few : (c : tie.After-is-power) → (begun c).args.k ≤ (begun c).args.s.variables
-few c = omega (arith, c.before.if1.false)
+returns-then-not-is_power : tie.Need-returns-then-not-is_power
+returns-then-not-is_power c =
+    let a = c in
+    count-call a.requires a.args.k a.args.answers.now (few c.before) c.is_power.ensures (ap not c.if-not-is_power.true)
+
+are_answers-requires : tie.Need-are_answers-requires
+are_answers-requires c κs = search rules
+
+returns-then-not-are_answers : tie.Need-returns-then-not-are_answers
+returns-then-not-are_answers c =
+    let power = c in
+    let a = power in
+    bad_call a.requires a.args.k a.args.answers.now (few power.before.before.before) power.is_power.ensures (ap not c.if-not-is_power.false)
+    c.are_answers.ensures (ap not c.if-not-are_answers.true)
+
+gather-requires : tie.Need-gather-requires
+gather-requires c κs =
+    let power = c in
+    let a = power in
+    joinable a.requires a.args.k a.args.answers.now (few power.before.before.before) power.is_power.ensures (ap not c.if-not-is_power.false)
+    c.are_answers.ensures (ap not c.if-not-are_answers.false)
+
+known_from-requires : tie.Need-known_from-requires
+known_from-requires c κs = search rules
 
 returns : tie.Need-returns
 returns c =
-    let a = start c.before in
-    many_call a.pre a.args.k a.args.answers.now (omega (arith, c.if1.true))
-
-is_power_requires : tie.Need-is-power-requires
-is_power_requires c κs = search rules
-
-returns_2 : tie.Need-returns-2
-returns_2 c =
-    let a = begun c.before in
-    count-call a.pre a.args.k a.args.answers.now (few c.before) c.before.is-power.ensures c.if2.true
-
-are_answers_requires : tie.Need-are-answers-requires
-are_answers_requires c κs = search rules
-
-returns_3 : tie.Need-returns-3
-returns_3 c =
-    let power = counted c.before in
-    let a = begun power in
-    bad_call a.pre a.args.k a.args.answers.now (few power) power.is-power.ensures c.before.before.if2.false
-    c.before.are_answers.ensures c.if3.true
-
-gather_requires : tie.Need-gather-requires
-gather_requires c κs =
-    let power = counted c.before in
-    let a = begun power in
-    joinable a.pre a.args.k a.args.answers.now (few power) power.is-power.ensures c.before.before.if2.false
-    c.before.are_answers.ensures c.if3.false
-
-known_from_requires : tie.Need-known-from-requires
-known_from_requires c κs = search rules
-
-returns_4 : tie.Need-returns-4
-returns_4 c =
-    let found = c.before in
-    let good = found.before in
-    let power = counted good.before in
-    let a = begun power in
-    joined-call a.pre a.args.k a.args.answers.now (few power) power.is-power.ensures good.before.before.if2.false
-    good.before.are_answers.ensures good.if3.false found.gather.result found.gather.ensures.1 c.Known-from.ensures
+    let found = c in
+    let good = found in
+    let power = good in
+    let a = power in
+    joined-call a.requires a.args.k a.args.answers.now (few power.before.before.before.before.before) power.is_power.ensures (ap not good.if-not-is_power.false)
+    good.are_answers.ensures (ap not good.if-not-are_answers.false) found.gather.result found.gather.ensures.1 c.known_from.ensures
 
 pub join_checked_spec : {M : Type 1} → statement M
 join_checked_spec =
     tie.close
     (tie.spec
-    returns
-    is_power_requires
-    returns_2
-    are_answers_requires
-    returns_3
-    gather_requires
-    known_from_requires
-    returns_4)
+    returns-then-s-k
+    is_power-requires
+    returns-then-not-is_power
+    are_answers-requires
+    returns-then-not-are_answers
+    gather-requires
+    known_from-requires
+    returns)

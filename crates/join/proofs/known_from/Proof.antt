@@ -5,18 +5,21 @@ use Rattle.join.proofs.Joining.{byte_unknown, byte_known}
 use Rattle.join.proofs.known_from.Statement.{statement}
 use Rattle.join.proofs.known_from.Tie as tie
 
+returns-then-a-eq2 : tie.Need-returns-then-a-eq2
+returns-then-a-eq2 c = byte_unknown c.if-a-eq2.true
+
+returns-then-a-eq1 : tie.Need-returns-then-a-eq1
+returns-then-a-eq1 c =
+    let a = c.args.a in
+    byte_known {a = a} (λ e. omega (arith, e, c.if-a-eq2.false)) (eq-eqb a 1 c.if-a-eq1.true)
+
 returns : tie.Need-returns
-returns c = byte_unknown c.if1.true
-
-returns_2 : tie.Need-returns-2
-returns_2 c =
-    let a = c.before.before.args.a in
-    byte_known {a = a} (λ e. omega (arith, e, c.before.if1.false)) (eq-eqb a 1 c.if2.true)
-
-returns_3 : tie.Need-returns-3
-returns_3 c =
-    let a = c.before.before.args.a in
-    byte_known {a = a} (λ e. omega (arith, e, c.before.if1.false)) (ne_eqb a 1 (λ e. omega (arith, e, c.if2.false)))
+returns c =
+    let a = c.args.a in
+    byte_known {a = a} (λ e. omega (arith, e, c.if-a-eq2.false)) (ne_eqb a 1 (λ e. omega (arith, e, c.if-a-eq1.false)))
 
 pub known_from_spec : {M : Type 1} → statement M
-known_from_spec = tie.close (tie.spec returns returns_2 returns_3)
+known_from_spec = tie.close (tie.spec
+    returns-then-a-eq2
+    returns-then-a-eq1
+    returns)

@@ -20,62 +20,56 @@ use Rattle.trial.proofs.evaluate.Tie as tie
 abbrev Going : List Row → List ℕ → List ℕ → Assignment → ℕ → Type 0
 Going R high low ρ i = Decides (length R) (next R high low (signed ρ)) (value_by (root (trees R)) (signed ρ)) i
 
-abbrev invariant-loop : tie.invariant-loop
-invariant-loop sheet s high low assignment n r₀ i =
+abbrev invariant-loop-i : tie.invariant-loop-i
+invariant-loop-i sheet s high low assignment n r₀ i =
     (i ≤ n + 1) × Going (node_rows_in s sheet) high low (values assignment) i
 
-abbrev decreases-loop : tie.decreases-loop
-decreases-loop sheet s high low assignment n r₀ i = n + 2 - i
+abbrev decreases-loop-i : tie.decreases-loop-i
+decreases-loop-i sheet s high low assignment n r₀ i = n + 2 - i
 
--- places in the code, each from a later one
-abbrev known : tie.After-shared-slice-known4 invariant-loop decreases-loop → tie.After-shared-slice-known invariant-loop decreases-loop
-known c = c.before.before.before
+loop-i-init : tie.Need-loop-i-init invariant-loop-i decreases-loop-i
+loop-i-init c =
+    let a = c in
+    (omega arith, a.requires.1.decides (signed (values a.args.assignment.now)))
 
-abbrev entry : tie.After-shared-slice-known4 invariant-loop decreases-loop → tie.Start invariant-loop decreases-loop
-entry c = (known c).before
+next-i-requires : tie.Need-next-i-requires invariant-loop-i decreases-loop-i
+next-i-requires c κs =
+    let a = c in
+    (a.requires.0, c.loop-i-test.true, a.requires.2)
 
-abbrev head : tie.After-next invariant-loop decreases-loop → tie.At-loop invariant-loop decreases-loop
-head c = c.before.before
-
-abbrev start : tie.After-next invariant-loop decreases-loop → tie.Start invariant-loop decreases-loop
-start c = entry (head c).before
-
-loop_holds : tie.Need-loop-init invariant-loop decreases-loop
-loop_holds c =
-    let a = entry c in
-    (omega arith, a.pre.1.decides (signed (values a.args.assignment.now)))
-
-next_requires : tie.Need-next-requires invariant-loop decreases-loop
-next_requires c κs =
-    let a = entry c.before.before in
-    (a.pre.0, c.loop-test.true, a.pre.2)
-
-on : (c : tie.After-next invariant-loop decreases-loop)
-    → let a = (start c).args in
-    ((head c).loop.i < c.next.result) × (c.next.result ≤ a.s.nodes + 1) ×
-    Going (node_rows_in a.s a.sheet.now) a.high.now a.low.now (values a.assignment.now) c.next.result
+on : (c : tie.After-next-i invariant-loop-i decreases-loop-i)
+    → let a = c.args in
+    (c.loop-i.i < c.next-i.result) × (c.next-i.result ≤ a.s.nodes + 1) ×
+    Going (node_rows_in a.s a.sheet.now) a.high.now a.low.now (values a.assignment.now) c.next-i.result
 on c =
-    let a = start c in
+    let a = c in
     let R = node_rows_in a.args.s a.args.sheet.now in
     let ρ = values a.args.assignment.now in
-    let all = length-nodes a.args.sheet.now a.pre.0 in
+    let all = length-nodes a.args.sheet.now a.requires.0 in
     next_on R a.args.s.nodes all a.args.high.now a.args.low.now (signed ρ) (value_by (root (trees R)) (signed ρ))
-    (head c).loop.i c.next.result a.pre.1 c.before.loop-test.true (head c).loop.invariant.1 c.next.ensures
+    c.loop-i.i c.next-i.result a.requires.1 c.loop-i-test.true c.loop-i.invariant.1 c.next-i.ensures
 
-loop_less : tie.Need-loop-smaller invariant-loop decreases-loop
-loop_less c = omega (arith, (on c).0, (head c).loop.invariant.0)
+loop-i-smaller : tie.Need-loop-i-smaller invariant-loop-i decreases-loop-i
+loop-i-smaller c = omega (arith, (on c).0, c.loop-i.invariant.0)
 
-loop_again : tie.Need-loop-preserved invariant-loop decreases-loop
-loop_again c = ((on c).1, (on c).2)
+loop-i-preserved : tie.Need-loop-i-preserved invariant-loop-i decreases-loop-i
+loop-i-preserved c = ((on c).1, (on c).2)
 
-returns : tie.Need-returns invariant-loop decreases-loop
+returns : tie.Need-returns invariant-loop-i decreases-loop-i
 unfolding matrix_in
 returns c =
-    let a = entry c.before.before in
-    let all = length-nodes a.args.sheet.now a.pre.0 in
-    verdict_at _ a.args.s.nodes _ _ c.before.loop.i all c.loop-test.false c.before.loop.invariant.1 ∙
+    let a = c in
+    let all = length-nodes a.args.sheet.now a.requires.0 in
+    verdict_at _ a.args.s.nodes _ _ c.loop-i.i all c.loop-i-test.false c.loop-i.invariant.1 ∙
     value-eval (root (trees (node_rows_in a.args.s a.args.sheet.now))) (values a.args.assignment.now)
 
 pub evaluate_spec : {M : Type 1} → statement M
 evaluate_spec =
-    tie.close (tie.spec invariant-loop decreases-loop loop_holds next_requires loop_less loop_again returns)
+    tie.close (tie.spec
+    invariant-loop-i
+    decreases-loop-i
+    loop-i-init
+    next-i-requires
+    loop-i-smaller
+    loop-i-preserved
+    returns)

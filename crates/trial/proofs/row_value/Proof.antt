@@ -14,37 +14,38 @@ use borrow.Author.Rules.{rules}
 use Rattle.trial.proofs.row_value.Statement.{statement}
 use Rattle.trial.proofs.row_value.Tie as tie
 
--- places in the code, each from a later one
-abbrev start : tie.After-kind-at → tie.Start
-start c = c.before.before.before
+kind_at-kind-requires : tie.Need-kind_at-kind-requires
+kind_at-kind-requires c κs = search rules
 
-kind_at_requires : tie.Need-kind-at-requires
-kind_at_requires c κs = search rules
+argument_at-requires : tie.Need-argument_at-requires
+argument_at-requires c κs = search rules
 
-argument_at_requires : tie.Need-argument-at-requires
-argument_at_requires c κs = search rules
+value_of-value-requires : tie.Need-value_of-value-requires
+value_of-value-requires c κs = search rules
 
-value_of_requires : tie.Need-value-of-requires
-value_of_requires c κs = search rules
+returns-then-kind-le-NEGATIVE : tie.Need-returns-then-kind-le-NEGATIVE
+returns-then-kind-le-NEGATIVE c =
+    let at = c in
+    let a = at in
+    let x = get_or (node_rows_in a.args.s a.args.sheet.now) a.args.i (row 0 0) in
+    let positive = eqb at.kind_at-kind.result 3 in
+    value-literal x (signed (values a.args.assignment.now)) at.kind_at-kind.result c.argument_at.result
+    (beq positive c.value_of-value.result) (kind_row a.args.sheet.now a.requires.0 a.args.i a.requires.1 at.kind_at-kind.ensures)
+    (argument_row a.args.sheet.now a.requires.0 a.args.i a.requires.1 c.argument_at.ensures.0)
+    (ap (beq positive) c.value_of-value.ensures) c.if-kind-le-NEGATIVE.true
 
 returns : tie.Need-returns
 returns c =
-    let at = c.before.before.before in
-    let a = start at in
+    let a = c in
     let x = get_or (node_rows_in a.args.s a.args.sheet.now) a.args.i (row 0 0) in
-    let positive = eqb at.kind_at.result 3 in
-    value-literal x (signed (values a.args.assignment.now)) at.kind_at.result c.before.argument-at.result
-    (beq positive c.value_of.result) (kind_row a.args.sheet.now a.pre.0 a.args.i a.pre.1 at.kind_at.ensures)
-    (argument_row a.args.sheet.now a.pre.0 a.args.i a.pre.1 c.before.argument-at.ensures.0)
-    (ap (beq positive) c.value_of.ensures) c.before.before.if1.true
-
-returns_2 : tie.Need-returns-2
-returns_2 c =
-    let a = start c.before in
-    let x = get_or (node_rows_in a.args.s a.args.sheet.now) a.args.i (row 0 0) in
-    value_operator x (signed (values a.args.assignment.now)) _ (kind_row a.args.sheet.now a.pre.0 a.args.i a.pre.1 c.before.kind_at.ensures) c.if1.false
+    value_operator x (signed (values a.args.assignment.now)) _ (kind_row a.args.sheet.now a.requires.0 a.args.i a.requires.1 c.kind_at-kind.ensures) c.if-kind-le-NEGATIVE.false
 
 pub row_value_spec : {M : Type 1} → statement M
 row_value_spec =
     tie.close
-    (tie.spec kind_at_requires argument_at_requires value_of_requires returns returns_2)
+    (tie.spec
+    kind_at-kind-requires
+    argument_at-requires
+    value_of-value-requires
+    returns-then-kind-le-NEGATIVE
+    returns)

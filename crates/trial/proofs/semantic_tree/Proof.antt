@@ -6,48 +6,38 @@ use borrow.Author.Rules.{rules}
 use Rattle.trial.proofs.semantic_tree.Statement.{statement}
 use Rattle.trial.proofs.semantic_tree.Tie as tie
 
--- places in the code, each from a later one
-abbrev start : tie.After-low → tie.Start
-start c = c.before.before.before
+slice_bounds-build-end : tie.Need-slice_bounds-build-end
+slice_bounds-build-end c = search rules
 
-abbrev built : tie.After-low2 → tie.After-build
-built c = c.before.before
+slice_bounds-build-end-2 : tie.Need-slice_bounds-build-end-2
+slice_bounds-build-end-2 c = search rules
 
-abbrev opened : tie.After-assignment → tie.After-low2
-opened c = c.before.before.before
-
-slice_aggregate_build : tie.Need-slice-aggregate-build
-slice_aggregate_build c = search rules
-
-slice_aggregate_build_2 : tie.Need-slice-aggregate-build-2
-slice_aggregate_build_2 c = search rules
-
-build_requires : tie.Need-build-requires
-build_requires c κs =
-    let p = (start c).requires in
+build-requires : tie.Need-build-requires
+build-requires c κs =
+    let p = c.requires in
     let room = p.readable.few_nodes in
     (p.readable, record { high_room = omega (arith, room); low_room = omega (arith, room) })
 
-slice_aggregate_existential : tie.Need-slice-aggregate-existential
-slice_aggregate_existential c = search rules
+slice_bounds-existential-end : tie.Need-slice_bounds-existential-end
+slice_bounds-existential-end c = search rules
 
-slice_aggregate_existential_2 : tie.Need-slice-aggregate-existential-2
-slice_aggregate_existential_2 c = search rules
+slice_bounds-existential-end-2 : tie.Need-slice_bounds-existential-end-2
+slice_bounds-existential-end-2 c = search rules
 
-slice_aggregate_existential_3 : tie.Need-slice-aggregate-existential-3
-slice_aggregate_existential_3 c = search rules
+slice_bounds-existential-end-3 : tie.Need-slice_bounds-existential-end-3
+slice_bounds-existential-end-3 c = search rules
 
-existential_requires : tie.Need-existential-requires
-existential_requires c κs =
-    let tables = built (opened c) in
-    let p = (start tables.before).requires in (
+existential-requires : tie.Need-existential-requires
+existential-requires c κs =
+    let tables = c in
+    let p = tables.requires in (
       record {
         playable = p;
         jumps = tables.build.ensures;
         rooms =
             record {
-              high_room = omega (arith, p.readable.few_nodes, tables.build.kept.1.1.0);
-              low_room = omega (arith, p.readable.few_nodes, tables.build.kept.1.1.1.0);
+              high_room = omega (arith, p.readable.few_nodes, tables.build.auto.high);
+              low_room = omega (arith, p.readable.few_nodes, tables.build.auto.low);
             };
       },
       omega arith,
@@ -55,18 +45,18 @@ existential_requires c κs =
 
 returns : tie.Need-returns
 returns c =
-    let a = (start (built (opened c.before.before)).before).args in
-    turns_first a.s a.sheet.now 1025 c.before.existential.result c.before.existential.ensures.outcome
+    let a = c.args in
+    turns_first a.s a.sheet.now 1025 c.existential.result c.existential.ensures.outcome
 
 pub semantic_tree_spec : {M : Type 1} → statement M
 semantic_tree_spec =
     tie.close
     (tie.spec
-    slice_aggregate_build
-    slice_aggregate_build_2
-    build_requires
-    slice_aggregate_existential
-    slice_aggregate_existential_2
-    slice_aggregate_existential_3
-    existential_requires
+    slice_bounds-build-end
+    slice_bounds-build-end-2
+    build-requires
+    slice_bounds-existential-end
+    slice_bounds-existential-end-2
+    slice_bounds-existential-end-3
+    existential-requires
     returns)

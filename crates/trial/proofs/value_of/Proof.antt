@@ -7,14 +7,17 @@ use borrow.Author.Rules.{rules}
 use Rattle.trial.proofs.value_of.Statement.{statement}
 use Rattle.trial.proofs.value_of.Tie as tie
 
-shared_slice_read_result : tie.Need-shared-slice-read-result
-shared_slice_read_result c = search rules
+bounds-assignment-x : tie.Need-bounds-assignment-x
+bounds-assignment-x c = search rules
+
+returns-then-x-assignment : tie.Need-returns-then-x-assignment
+returns-then-x-assignment c = search rules
 
 returns : tie.Need-returns
-returns c = search rules
-
-returns_2 : tie.Need-returns-2
-returns_2 c = sym (get_or-eq_default c.before.args.assignment.now false c.if1.false)
+returns c = sym (get_or-eq_default c.args.assignment.now false c.if-x-assignment.false)
 
 pub value_of_spec : {M : Type 1} → statement M
-value_of_spec = tie.close (tie.spec shared_slice_read_result returns returns_2)
+value_of_spec = tie.close (tie.spec
+    bounds-assignment-x
+    returns-then-x-assignment
+    returns)
