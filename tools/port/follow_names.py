@@ -35,7 +35,7 @@ class Function:
         self.callee = {}
         self.clauses = {}
         self.nots = ["?"]
-        self.loops = {n for (o, n), _ in entry["loops"]}
+        self.loops = {n: names for (o, n), names in entry["loops"]}
         self.arms = []  # (today's place, arm's field, old step, old path, new field)
         self.ups = {}  # today's place, the one in front of it
         for i, ((old, parent, (fold, fnew), callee, *more), new) in enumerate(zip(entry["places"], entry["places_by_name"])):
@@ -208,8 +208,8 @@ class Turner:
         else:
             if k == "fits2" and k not in f.fields:
                 k = "fits"
-            if k not in f.fields and k[0].isupper() and k[0].lower() + k[1:] in f.fields:
-                k = k[0].lower() + k[1:]
+            if k not in f.fields and k.lower() in f.fields:
+                k = k.lower()
             if k in f.callee and rest[:1] in (["kept"], ["auto"], ["last"], ["new"]):
                 i, n = 1, 0
                 while i < len(rest) and rest[i] == "1":
@@ -223,6 +223,8 @@ class Turner:
             if rest and k in f.fields:
                 loop = first in f.loops
                 tells = ("inv",) if loop else ("taken", "left") if first.startswith(("if-", "in")) or first.endswith("-test") else ("last", "kept", "good")
+                if loop and rest[0] == "auto" and "kept" in f.loops[first]:
+                    rest = ["kept"] + rest[1:]
                 if rest[0] in tells:
                     rest = [RENAMED[rest[0]]] + rest[1:]
             segs = [first] + rest
@@ -297,6 +299,13 @@ class Turner:
                     self.aside.pop(b[1], None)
                     if not got and stop:
                         self.remember(b[1], text[at + b.end() : stop].strip())
+                        front = self.aside.get(b[1])
+                        if front and any(step == key(front[1][0]) and front[1][1:] == p[: len(front[1]) - 1] != p for _, _, step, p, _ in self.f.arms):
+                            # a part of what an arm tells: its uses name the whole
+                            at = stop + 2
+                            while text[at].isspace():
+                                at += 1
+                            continue
                     if got:
                         self.env[b[1]] = (got[1], self.env[got[0]][1])
                         out.append(f"let {b[1]} = {got[0]} ")

@@ -1,6 +1,7 @@
 // Claim (Strategy 1): the claim that a strategy of any origin wins, written as a sheet of one quantifier. It has the truth that the side
 // wants exactly if the strategy wins.
 #![tactic(auto)]
+
 ghost use Rattle.std.specs.Prelude.{◌≡◌};
 ghost use Rattle.sheet.specs.Strategy.{claim_call};
 ghost use Rattle.sheet.specs.Truthful.{TruthfulClaim};

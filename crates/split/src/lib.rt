@@ -1,5 +1,6 @@
 // Split: the sheet for one list of values of the first variables. Their rows go, and their literals become constants, as Force has it.
 #![tactic(auto)]
+
 ghost use Rattle.std.specs.Prelude.{◌≡◌, ◌≤◌, length};
 ghost use Rattle.sheet.specs.Sheet.{formula, sheet};
 ghost use Rattle.sheet.specs.Operations.{padded};

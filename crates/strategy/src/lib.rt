@@ -1,6 +1,7 @@
 // Strategy (Strategy 1): Solve's run, and the functions with which the side that it lets win does win, as a sheet. Only the winner's
 // functions are wanted, and the winner is known at the end: so Solve runs first, and its steps are made once more to write them.
 #![tactic(auto)]
+
 ghost use Rattle.std.specs.Prelude.{◌≡◌, length, replicate};
 ghost use Rattle.sheet.specs.Strategy.{strategy_call};
 ghost use Rattle.sheet.specs.Trace.{room};

@@ -11,84 +11,71 @@ use Rattle.claim.proofs.Answering.{plan_refused, plan_claims, cuts_enough, fitti
 use Rattle.claim.proofs.claim_checked.Statement.{statement}
 use Rattle.claim.proofs.claim_checked.Tie as tie
 
--- places in the code, each from a later one
-abbrev known : tie.After-cuts → tie.After-shared-slice-known2
-known c = c.before.before
-
-abbrev start : tie.After-cuts → tie.Start
-start c = (known c).before.before
-
-abbrev entry : tie.After-plan-claim → tie.Start
-entry c = start c.before
-
-abbrev decided : tie.After-p2 → tie.After-plan-claim
-decided c = c.before.before.before
-
 -- what was planned
-planned : (c : tie.After-p2)
-    → let a = entry (decided c) in
-    ClaimPlanned a.args.s.format a.args.b.now a.args.exists a.args.d.now a.args.t (decided c).plan-claim.new.1.1.1.1.1.0 c.p2.given.0.0
-planned c = plan_claims c.p2.given.1 (decided c).plan-claim.ensures
+planned : (c : tie.In-Claims)
+    → let a = c in
+    ClaimPlanned a.args.s.format a.args.b.now a.args.exists a.args.d.now a.args.t c.plan_claim-p.new.cuts c.in-Claims.n
+planned c = plan_claims c.in-Claims.is c.plan_claim-p.ensures
 
-long : (c : tie.After-p2) → length (decided c).plan-claim.new.1.1.1.1.1.0 ≡ 8192
-long c = (decided c).plan-claim.auto.1.1.1.1.1.0
+long : (c : tie.In-Claims) → length c.plan_claim-p.new.cuts ≡ 8192
+long c = c.plan_claim-p.auto.cuts
 
-enough : (c : tie.After-p2) → c.p2.given.0.0 + 1 ≤ 8192
-enough c = let a = entry (decided c) in omega (arith, cuts_enough a.pre.0 a.pre.1 (planned c), long c)
+enough : (c : tie.In-Claims) → c.in-Claims.n + 1 ≤ 8192
+enough c = let a = c in omega (arith, cuts_enough a.requires.0 a.requires.1 (planned c), long c)
 
-slice_aggregate_plan_claim : tie.Need-slice-aggregate-plan-claim
-slice_aggregate_plan_claim c = search rules
+slice_bounds-plan_claim-end : tie.Need-slice_bounds-plan_claim-end
+slice_bounds-plan_claim-end c = search rules
 
-plan_claim_requires : tie.Need-plan-claim-requires
-plan_claim_requires c κs = let a = start c in (a.pre.0, a.pre.1, refl)
+plan_claim-p-requires : tie.Need-plan_claim-p-requires
+plan_claim-p-requires c κs = let a = c in (a.requires.0, a.requires.1, refl)
 
-enum_known_p : tie.Need-enum-known-p
-enum_known_p c = search rules
+enum_known-p : tie.Need-enum_known-p
+enum_known-p c = search rules
 
-enum_known_p_2 : tie.Need-enum-known-p-2
-enum_known_p_2 c = search rules
+enum_known-p-in-Claims-1 : tie.Need-enum_known-p-in-Claims-1
+enum_known-p-in-Claims-1 c = search rules
 
-add_cuts : tie.Need-overflow-add-cuts
-add_cuts c = omega (arith, enough c.before)
+overflow_add-cuts : tie.Need-overflow_add-cuts
+overflow_add-cuts c = omega (arith, enough c)
 
-array_share_prefix_cuts : tie.Need-array-share-prefix-cuts
-array_share_prefix_cuts c = omega (arith, enough c.before)
+slice_bounds-cuts-end : tie.Need-slice_bounds-cuts-end
+slice_bounds-cuts-end c = omega (arith, enough c)
 
-slice_aggregate_claim_planned : tie.Need-slice-aggregate-claim-planned
-slice_aggregate_claim_planned c = let p = c.before.before in sym (length-take-le _ _ (omega (arith, enough p, long p)))
+slice_bounds-claim_planned-end : tie.Need-slice_bounds-claim_planned-end
+slice_bounds-claim_planned-end c = let p = c in sym (length-take-le _ _ (omega (arith, enough p.before, long p.before)))
 
-claim_planned_requires : tie.Need-claim-planned-requires
-claim_planned_requires c κs =
-    let p = c.before.before.before in
-    let a = entry (decided p) in
-    fitting a.pre.0 a.pre.1 (planned p) (ap (λ n. take n (decided p).plan-claim.new.1.1.1.1.1.0) (add-one p.p2.given.0.0))
+claim_planned-requires : tie.Need-claim_planned-requires
+claim_planned-requires c κs =
+    let p = c in
+    let a = p in
+    fitting a.requires.0 a.requires.1 (planned p.before.before) (ap (λ n. take n p.plan_claim-p.new.cuts) (add-one p.in-Claims.n))
 
-returns : tie.Need-returns
-returns c =
-    let p = c.before in
-    let d = p.before.before.before in
-    let a = entry d in
-    plan_refused a.args.s.format a.args.b.now a.args.exists a.args.d.now a.args.t d.plan-claim.new.1.1.1.1.1.0
-    p.p.given.1 d.plan-claim.ensures a.args.out.now
+returns-in-Refused : tie.Need-returns-in-Refused
+returns-in-Refused c =
+    let p = c in
+    let d = p in
+    let a = d in
+    plan_refused a.args.s.format a.args.b.now a.args.exists a.args.d.now a.args.t d.plan_claim-p.new.cuts
+    p.in-Refused.is d.plan_claim-p.ensures a.args.out.now
 
-same_length : tie.Need-same-length
-same_length c = search rules
+shape_of-out : tie.Need-shape_of-out
+shape_of-out c = search rules
 
-returns_2 : tie.Need-returns-2
-returns_2 c = c.before.before.claim-planned.ensures
+returns-in-Claims : tie.Need-returns-in-Claims
+returns-in-Claims c = c.claim_planned.ensures
 
 pub claim_checked_spec : {M : Type 1} → statement M
 claim_checked_spec =
     tie.close
     (tie.spec
-    slice_aggregate_plan_claim
-    plan_claim_requires
-    enum_known_p
-    enum_known_p_2
-    add_cuts
-    array_share_prefix_cuts
-    slice_aggregate_claim_planned
-    claim_planned_requires
-    returns
-    same_length
-    returns_2)
+    slice_bounds-plan_claim-end
+    plan_claim-p-requires
+    enum_known-p
+    enum_known-p-in-Claims-1
+    overflow_add-cuts
+    slice_bounds-cuts-end
+    slice_bounds-claim_planned-end
+    claim_planned-requires
+    returns-in-Refused
+    shape_of-out
+    returns-in-Claims)

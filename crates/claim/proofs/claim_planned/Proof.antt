@@ -7,68 +7,55 @@ use Rattle.claim.proofs.Answering.{no_place, claimable, written_call}
 use Rattle.claim.proofs.claim_planned.Statement.{statement}
 use Rattle.claim.proofs.claim_planned.Tie as tie
 
--- places in the code, each from a later one
-abbrev known : tie.After-t → tie.After-shared-slice-known2
-known c = c.before.before.before
+overflow_mul-t : tie.Need-overflow_mul-t
+overflow_mul-t c = omega (arith, (sheet_readable c.requires.second).few_nodes)
 
-abbrev start : tie.After-t → tie.Start
-start c = (known c).before.before
+overflow_add-s : tie.Need-overflow_add-s
+overflow_add-s c =
+    let a = c in
+    omega (arith, (sheet_readable a.requires.second).few_nodes, (sheet_readable a.requires.first).few_nodes)
 
-abbrev entry : tie.After-struct-known2 → tie.Start
-entry c = start c.before.before
+overflow_sub-s : tie.Need-overflow_sub-s
+overflow_sub-s c = omega (arith, (sheet_readable c.requires.first).some_nodes)
 
-abbrev fitted : tie.After-claim-into → tie.After-fits2
-fitted c = c.before.before.before
+fits-requires : tie.Need-fits-requires
+fits-requires c κs =
+    let a = c in
+    let one = sheet_readable a.requires.first in
+    (omega (arith, one.few_variables), omega (arith, one.few_nodes, (sheet_readable a.requires.second).few_nodes))
 
-mul_fits : tie.Need-overflow-mul-fits
-mul_fits c = omega (arith, (sheet_readable (start c.before).requires.second).few_nodes)
+returns-then-not-fits : tie.Need-returns-then-not-fits
+returns-then-not-fits c =
+    let d = c in
+    let a = d in
+    no_place a.requires a.args.out.now d.fits.ensures (c.if-not-fits.true)
 
-add_fits : tie.Need-overflow-add-fits
-add_fits c =
-    let a = entry c in
-    omega (arith, (sheet_readable a.pre.second).few_nodes, (sheet_readable a.pre.first).few_nodes)
+claim_into-requires : tie.Need-claim_into-requires
+claim_into-requires c κs =
+    let e = c in
+    let d = e in
+    let a = d in
+    claimable a.requires a.args.out.now d.fits.ensures (e.if-not-fits.false)
 
-sub_fits : tie.Need-overflow-sub-fits
-sub_fits c = omega (arith, (sheet_readable (entry c).requires.first).some_nodes)
-
-fits_requires : tie.Need-fits-requires
-fits_requires c κs =
-    let a = entry c in
-    let one = sheet_readable a.pre.first in
-    (omega (arith, one.few_variables), omega (arith, one.few_nodes, (sheet_readable a.pre.second).few_nodes))
+shape_of-out : tie.Need-shape_of-out
+shape_of-out c = search rules
 
 returns : tie.Need-returns
 returns c =
-    let d = c.before in
-    let a = entry d.before in
-    no_place a.pre a.args.out.now d.fits2.ensures (not-true _ c.if1.true)
-
-claim_into_requires : tie.Need-claim-into-requires
-claim_into_requires c κs =
-    let e = c.before in
-    let d = e.before in
-    let a = entry d.before in
-    claimable a.pre a.args.out.now d.fits2.ensures (not-false _ e.if1.false)
-
-same_length : tie.Need-same-length
-same_length c = search rules
-
-returns_2 : tie.Need-returns-2
-returns_2 c =
-    let w = c.before.before in
-    let d = fitted w in
-    let a = entry d.before in
-    written_call a.pre a.args.out.now d.fits2.ensures (not-false _ w.before.before.if1.false) w.claim-into.ensures.0 w.claim-into.ensures.1
+    let w = c in
+    let d = w in
+    let a = d in
+    written_call a.requires a.args.out.now d.fits.ensures (w.if-not-fits.false) w.claim_into.ensures.0 w.claim_into.ensures.1
 
 pub claim_planned_spec : {M : Type 1} → statement M
 claim_planned_spec =
     tie.close
     (tie.spec
-    mul_fits
-    add_fits
-    sub_fits
-    fits_requires
-    returns
-    claim_into_requires
-    same_length
-    returns_2)
+    overflow_mul-t
+    overflow_add-s
+    overflow_sub-s
+    fits-requires
+    returns-then-not-fits
+    claim_into-requires
+    shape_of-out
+    returns)

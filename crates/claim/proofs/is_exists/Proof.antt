@@ -5,17 +5,21 @@ use Rattle.claim.specs.Answers.{side_of}
 use Rattle.claim.proofs.is_exists.Statement.{statement}
 use Rattle.claim.proofs.is_exists.Tie as tie
 
-enum_told : tie.Need-enum-told
-enum_told c = search rules
+enum_told-1 : tie.Need-enum_told-1
+enum_told-1 c = search rules
 
-enum_told_2 : tie.Need-enum-told-2
-enum_told_2 c = search rules
+enum_told-in-ForAll : tie.Need-enum_told-in-ForAll
+enum_told-in-ForAll c = search rules
 
-returns : tie.Need-returns
-returns c = ap side_of (sym c.enum_told.given.1)
+returns-in-Exists : tie.Need-returns-in-Exists
+returns-in-Exists c = ap side_of (sym c.in-Exists.is)
 
-returns_2 : tie.Need-returns-2
-returns_2 c = ap side_of (sym c.enum-told2.given.1)
+returns-in-ForAll : tie.Need-returns-in-ForAll
+returns-in-ForAll c = ap side_of (sym c.in-ForAll.is)
 
 pub is_exists_spec : {M : Type 1} → statement M
-is_exists_spec = tie.close (tie.spec enum_told enum_told_2 returns returns_2)
+is_exists_spec = tie.close (tie.spec
+    enum_told-1
+    enum_told-in-ForAll
+    returns-in-Exists
+    returns-in-ForAll)

@@ -26,7 +26,6 @@ first_run a = initial a.args.s a.args.sheet.now (most a)
 ended_with : (c : tie.In-Ended) (v : Verdict) → c.in-Ended.verdict ≡ v
     → is_ended (verdict_of v) c.in-Ended.settled c.in-Ended.expanded ≡ answered (first_run c.before.before.before.before.before)
 ended_with c v e =
-    let told = c.answer-in-Ended-1.given in
     ap (λ (w : Verdict). is_ended (verdict_of w) c.in-Ended.settled c.in-Ended.expanded) (sym e) ∙ sym (ap solved_answer c.in-Ended.is) ∙ c.requires.2
 
 enum_known-answer : tie.Need-enum_known-answer
@@ -66,7 +65,6 @@ returns-in-Stopped c =
     let cleared = c in
     let named = cleared in
     let a = named in
-    let told = named.answer-in-Stopped-1.given in
     stopped_told a.args.s a.args.sheet.now (most a.before.before.before.before.before.before.before.before.before) named.in-Stopped.x named.in-Stopped.settled named.in-Stopped.expanded a.args.out.now
     (sym (ap solved_answer named.in-Stopped.is) ∙ a.requires.2) (cleared.clear.ensures ∙ all_zeros a.args.out.now refl)
 
@@ -78,7 +76,6 @@ returns-in-True c =
     let cleared = c in
     let named = cleared in
     let a = named in
-    let told = named.answer-in-Ended-1.given in
     let e : named.in-Ended.verdict ≡ True = search rules in
     true_told a.args.s a.args.sheet.now (most a.before.before.before.before.before.before.before.before.before.before) named.in-Ended.settled named.in-Ended.expanded a.args.out.now (ended_with named.before.before.before.before.before True e)
     (cleared.clear-in-True.ensures ∙ all_zeros a.args.out.now refl)
@@ -97,7 +94,6 @@ returns-in-False c =
     let kept = c in
     let named = kept in
     let a = named in
-    let told = named.answer-in-Ended-1.given in
     let e : named.in-Ended.verdict ≡ False = search rules in
     kept.keep.ensures ∙
     ap (telling a.args.s a.args.out.now)

@@ -11,60 +11,50 @@ use Rattle.split.proofs.Splitting.{unchecked_call}
 use Rattle.split.proofs.split.Statement.{statement}
 use Rattle.split.proofs.split.Tie as tie
 
--- places in the code, each from a later one
-abbrev entered : tie.After-slice-known → tie.Start
-entered c = c.before.before.before
+accepted : (c : tie.In-Accepted) → let a = c.args in Sheet a.f a.sheet.now c.in-Accepted.s
+accepted c = sheet_checked c.in-Accepted.is c.check-c.ensures
 
-abbrev start : tie.After-check → tie.Start
-start c = entered c.before
+check-c-requires : tie.Need-check-c-requires
+check-c-requires c κs = search rules
 
-abbrev told_sheet : tie.After-split-checked-arg → tie.After-c2
-told_sheet c = c.before.before
+enum_known-c : tie.Need-enum_known-c
+enum_known-c c = search rules
 
-accepted : (c : tie.After-c2) → let a = (start c.before.before).args in Sheet a.f a.sheet.now c.c2.given.0.0
-accepted c = sheet_checked c.c2.given.1 c.before.before.check.ensures
+enum_known-c-in-Accepted-1 : tie.Need-enum_known-c-in-Accepted-1
+enum_known-c-in-Accepted-1 c = search rules
 
-check_requires : tie.Need-check-requires
-check_requires c κs = search rules
+split_checked-requires : tie.Need-split_checked-requires
+split_checked-requires c κs = sheet_own (accepted c.before)
 
-enum_known_c : tie.Need-enum-known-c
-enum_known_c c = search rules
-
-enum_known_c_2 : tie.Need-enum-known-c-2
-enum_known_c_2 c = search rules
-
-split_checked_requires : tie.Need-split-checked-requires
-split_checked_requires c κs = sheet_own (accepted (told_sheet c))
-
-returns : tie.Need-returns
-returns c =
-    let told = c.before in
-    let checked = told.before.before in
-    let a = (start checked).args in
+returns-in-Refused : tie.Need-returns-in-Refused
+returns-in-Refused c =
+    let told = c in
+    let checked = told in
+    let a = checked.args in
     let e = unchecked_call (format_of a.f) a.sheet.now a.values.now a.out.now
-    (sheet_refused a.f a.sheet.now told.c.given.1 checked.check.ensures) in
+    (sheet_refused a.f a.sheet.now told.in-Refused.is checked.check-c.ensures) in
     (e, split_truthful (format_of a.f) (sound a.f) a.sheet.now a.values.now a.out.now e)
 
-same_length : tie.Need-same-length
-same_length c = search rules
+shape_of-out : tie.Need-shape_of-out
+shape_of-out c = search rules
 
-returns_2 : tie.Need-returns-2
-returns_2 c =
-    let call = c.before.before in
-    let told = told_sheet call.before in
-    let a = (start told.before.before).args in
-    let e = call.split-checked.ensures ∙
-    ap (λ g. split_call (format_of g) a.sheet.now a.values.now a.out.now) (sheet_format (accepted told)) in
+returns-in-Accepted : tie.Need-returns-in-Accepted
+returns-in-Accepted c =
+    let call = c in
+    let told = call in
+    let a = told.args in
+    let e = call.split_checked.ensures ∙
+    ap (λ g. split_call (format_of g) a.sheet.now a.values.now a.out.now) (sheet_format (accepted told.before.before.before.before)) in
     (e, split_truthful (format_of a.f) (sound a.f) a.sheet.now a.values.now a.out.now e)
 
 pub split_spec : {M : Type 1} → statement M
 split_spec =
     tie.close
     (tie.spec
-    check_requires
-    enum_known_c
-    enum_known_c_2
-    split_checked_requires
-    returns
-    same_length
-    returns_2)
+    check-c-requires
+    enum_known-c
+    enum_known-c-in-Accepted-1
+    split_checked-requires
+    returns-in-Refused
+    shape_of-out
+    returns-in-Accepted)

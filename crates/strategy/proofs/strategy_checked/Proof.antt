@@ -13,194 +13,160 @@ use Rattle.strategy.proofs.Ending.{refused_strategy, stopped_strategy, ended_rea
 use Rattle.strategy.proofs.strategy_checked.Statement.{statement}
 use Rattle.strategy.proofs.strategy_checked.Tie as tie
 
--- places in the code, each from a later one
-abbrev known : tie.After-slice-known3 → tie.After-shared-slice-known
-known c = c.before.before.before
+solve_checked-r-requires : tie.Need-solve_checked-r-requires
+solve_checked-r-requires c κs = search rules
 
-abbrev start : tie.After-solve-checked → tie.Start
-start c = (known c.before.before.before).before
+enum_known-r : tie.Need-enum_known-r
+enum_known-r c = search rules
 
-abbrev first_back : tie.After-slice-known4 → tie.After-solve-checked
-first_back c = c.before.before
+enum_known-r-in-Stopped-1 : tie.Need-enum_known-r-in-Stopped-1
+enum_known-r-in-Stopped-1 c = search rules
 
-abbrev solved : tie.After-slice-known5 → tie.After-solve-checked
-solved c = first_back c.before.before
+clear-requires : tie.Need-clear-requires
+clear-requires c κs = search rules
 
-abbrev cleared : tie.After-slice-known6 → tie.After-clear
-cleared c = c.before.before
+enum_known-r-in-Ended-1 : tie.Need-enum_known-r-in-Ended-1
+enum_known-r-in-Ended-1 c = search rules
 
-abbrev lent : tie.After-write-strategy-arg3 → tie.After-exists-wins
-lent c = c.before.before.before
-
-abbrev ended : tie.After-exists-wins → tie.After-r3
-ended c = c.before.before
-
-abbrev run_ended : tie.After-exists-wins → tie.After-solve-checked
-run_ended c = solved (ended c).before.before
-
-abbrev first_back_again : tie.After-slice-known7 → tie.After-write-strategy
-first_back_again c = c.before.before
-
-abbrev second_back_again : tie.After-slice-known8 → tie.After-write-strategy
-second_back_again c = first_back_again c.before.before
-
-abbrev written : tie.After-slice-known9 → tie.After-write-strategy
-written c = second_back_again c.before.before
-
-solve_checked_requires : tie.Need-solve-checked-requires
-solve_checked_requires c κs = search rules
-
-enum_known_r : tie.Need-enum-known-r
-enum_known_r c = search rules
-
-enum_known_r_2 : tie.Need-enum-known-r-2
-enum_known_r_2 c = search rules
-
-clear_requires : tie.Need-clear-requires
-clear_requires c κs = search rules
-
-enum_known_r_3 : tie.Need-enum-known-r-3
-enum_known_r_3 c = search rules
-
-exists_wins_requires : tie.Need-exists-wins-requires
-exists_wins_requires c κs = search rules
+exists_wins-requires : tie.Need-exists_wins-requires
+exists_wins-requires c κs = search rules
 
 -- Solve's answer, once it is known
-told : (c : tie.After-solve-checked) (r : Solved) → c.solve-checked.result ≡ r →
-    let a = (start c).args in
-    solving.leaves r c.solve-checked.new.1.1.0 c.solve-checked.new.1.1.1.0 ≡
+told : (c : tie.After-solve_checked-r) (r : Solved) → c.solve_checked-r.result ≡ r →
+    let a = c.args in
+    solving.leaves r c.solve_checked-r.new.first c.solve_checked-r.new.second ≡
     solve_call (format_in a.s) a.sheet.now a.first.now a.second.now
 told c r e =
-    ap (λ r. solving.leaves r c.solve-checked.new.1.1.0 c.solve-checked.new.1.1.1.0) (sym e) ∙ c.solve-checked.ensures
+    ap (λ r. solving.leaves r c.solve_checked-r.new.first c.solve_checked-r.new.second) (sym e) ∙ c.solve_checked-r.ensures
 
-write_strategy_requires : tie.Need-write-strategy-requires
-write_strategy_requires c κs =
-    let w = lent c in
-    let r = run_ended w in
-    let e = told r _ (ended w).r3.given.1 in
-    let a = (start r).args in
-    ended_ready a.s a.sheet.now a.first.now a.second.now e r.solve-checked.kept.1.1.0 r.solve-checked.kept.1.1.1.0 (start r).pre w.exists-wins.ensures
+write_strategy-o-requires : tie.Need-write_strategy-o-requires
+write_strategy-o-requires c κs =
+    let w = c in
+    let r = w in
+    let e = told r.before.before.before.before.before.before.before.before.before _ w.in-Ended.is in
+    let a = r.args in
+    ended_ready a.s a.sheet.now a.first.now a.second.now e r.solve_checked-r.auto.first r.solve_checked-r.auto.second r.requires w.exists_wins.ensures
 
-enum_known_o : tie.Need-enum-known-o
-enum_known_o c = search rules
+enum_known-o : tie.Need-enum_known-o
+enum_known-o c = search rules
 
-enum_known_o_2 : tie.Need-enum-known-o-2
-enum_known_o_2 c = search rules
+enum_known-o-in-TooLong-1 : tie.Need-enum_known-o-in-TooLong-1
+enum_known-o-in-TooLong-1 c = search rules
 
-same_length : tie.Need-same-length
-same_length c = search rules
+shape_of-first-in-Refused : tie.Need-shape_of-first-in-Refused
+shape_of-first-in-Refused c = search rules
 
-same_length_2 : tie.Need-same-length-2
-same_length_2 c = search rules
+shape_of-second-in-Refused : tie.Need-shape_of-second-in-Refused
+shape_of-second-in-Refused c = search rules
 
-returns : tie.Need-returns
-returns c =
-    let said = c.before in
-    let r = solved said.before.before in
-    let a = (start r).args in
-    refused_strategy (format_in a.s) a.sheet.now a.first.now a.second.now a.out.now (told r _ said.r.given.1)
+returns-in-Refused : tie.Need-returns-in-Refused
+returns-in-Refused c =
+    let said = c in
+    let r = said in
+    let a = r.args in
+    refused_strategy (format_in a.s) a.sheet.now a.first.now a.second.now a.out.now (told r.before.before.before.before.before _ said.in-Refused.is)
 
-same_length_3 : tie.Need-same-length-3
-same_length_3 c = search rules
+shape_of-first-in-Stopped : tie.Need-shape_of-first-in-Stopped
+shape_of-first-in-Stopped c = search rules
 
-same_length_4 : tie.Need-same-length-4
-same_length_4 c = search rules
+shape_of-second-in-Stopped : tie.Need-shape_of-second-in-Stopped
+shape_of-second-in-Stopped c = search rules
 
-same_length_5 : tie.Need-same-length-5
-same_length_5 c = search rules
+shape_of-out-in-Stopped : tie.Need-shape_of-out-in-Stopped
+shape_of-out-in-Stopped c = search rules
 
-returns_2 : tie.Need-returns-2
-returns_2 c =
-    let z = cleared c in
-    let said = z.before.before.before in
-    let r = solved said.before.before in
-    let a = (start r).args in
-    stopped_strategy (format_in a.s) a.sheet.now a.first.now a.second.now a.out.now (told r _ said.r2.given.1)
+returns-in-Stopped : tie.Need-returns-in-Stopped
+returns-in-Stopped c =
+    let z = c in
+    let said = z in
+    let r = said in
+    let a = r.args in
+    stopped_strategy (format_in a.s) a.sheet.now a.first.now a.second.now a.out.now (told r.before.before.before.before.before.before.before.before.before _ said.in-Stopped.is)
     (z.clear.ensures ∙ all_zeros a.out.now refl)
 
-same_length_6 : tie.Need-same-length-6
-same_length_6 c = search rules
+shape_of-first-in-Written : tie.Need-shape_of-first-in-Written
+shape_of-first-in-Written c = search rules
 
-same_length_7 : tie.Need-same-length-7
-same_length_7 c = search rules
+shape_of-second-in-Written : tie.Need-shape_of-second-in-Written
+shape_of-second-in-Written c = search rules
 
-same_length_8 : tie.Need-same-length-8
-same_length_8 c = search rules
+shape_of-out-in-Written : tie.Need-shape_of-out-in-Written
+shape_of-out-in-Written c = search rules
 
 -- the strategy's outcome, once it is known
-outcome : (c : tie.After-write-strategy) (o : Outcome) → c.write-strategy.result ≡ o →
-    let w = lent c.before in
-    let r = run_ended w in
-    let a = (start r).args in
-    StrategyEnded a.s a.sheet.now (room r.solve-checked.last.1.1.0 r.solve-checked.last.1.1.1.0) w.exists-wins.result a.out.now
-    c.write-strategy.new.1.1.1.1.1.0 o
+outcome : (c : tie.After-write_strategy-o) (o : Outcome) → c.write_strategy-o.result ≡ o →
+    let w = c in
+    let r = w in
+    let a = r.args in
+    StrategyEnded a.s a.sheet.now (room r.solve_checked-r.new.first r.solve_checked-r.new.second) w.exists_wins.result a.out.now
+    c.write_strategy-o.new.out o
 outcome c o e =
-    let w = lent c.before in
-    let r = run_ended w in
-    let a = (start r).args in
+    let w = c in
+    let r = w in
+    let a = r.args in
     subst
-    (StrategyEnded a.s a.sheet.now (room r.solve-checked.last.1.1.0 r.solve-checked.last.1.1.1.0) w.exists-wins.result a.out.now
-    c.write-strategy.new.1.1.1.1.1.0)
-    e c.write-strategy.ensures.0
+    (StrategyEnded a.s a.sheet.now (room r.solve_checked-r.new.first r.solve_checked-r.new.second) w.exists_wins.result a.out.now
+    c.write_strategy-o.new.out)
+    e c.write_strategy-o.ensures.0
 
-returns_3 : tie.Need-returns-3
-returns_3 c =
-    let said = c.before in
-    let p = written said.before.before in
-    let w = lent p.before in
-    let r = run_ended w in
-    let e = p.write-strategy.ensures in
-    let a = (start r).args in
-    ended_strategy a.s a.sheet.now a.first.now a.second.now (told r _ (ended w).r3.given.1) r.solve-checked.kept.1.1.0
-    r.solve-checked.kept.1.1.1.0 a.out.now
-    w.exists-wins.ensures (outcome p _ said.o.given.1) e.1.0 e.1.1
+returns-in-Written : tie.Need-returns-in-Written
+returns-in-Written c =
+    let said = c in
+    let p = said in
+    let w = p in
+    let r = w in
+    let e = p.write_strategy-o.ensures in
+    let a = r.args in
+    ended_strategy a.s a.sheet.now a.first.now a.second.now (told r.before.before.before.before.before.before.before.before.before.before.before.before.before.before.before.before.before _ w.in-Ended.is) r.solve_checked-r.auto.first
+    r.solve_checked-r.auto.second a.out.now
+    w.exists_wins.ensures (outcome p.before.before.before.before.before.before.before _ said.in-Written.is) e.1.0 e.1.1
 
-same_length_9 : tie.Need-same-length-9
-same_length_9 c = search rules
+shape_of-first-in-TooLong : tie.Need-shape_of-first-in-TooLong
+shape_of-first-in-TooLong c = search rules
 
-same_length_10 : tie.Need-same-length-10
-same_length_10 c = search rules
+shape_of-second-in-TooLong : tie.Need-shape_of-second-in-TooLong
+shape_of-second-in-TooLong c = search rules
 
-same_length_11 : tie.Need-same-length-11
-same_length_11 c = search rules
+shape_of-out-in-TooLong : tie.Need-shape_of-out-in-TooLong
+shape_of-out-in-TooLong c = search rules
 
-returns_4 : tie.Need-returns-4
-returns_4 c =
-    let said = c.before in
-    let p = written said.before.before in
-    let w = lent p.before in
-    let r = run_ended w in
-    let e = p.write-strategy.ensures in
-    let a = (start r).args in
-    ended_strategy a.s a.sheet.now a.first.now a.second.now (told r _ (ended w).r3.given.1) r.solve-checked.kept.1.1.0
-    r.solve-checked.kept.1.1.1.0 a.out.now
-    w.exists-wins.ensures (outcome p _ said.o2.given.1) e.1.0 e.1.1
+returns-in-TooLong : tie.Need-returns-in-TooLong
+returns-in-TooLong c =
+    let said = c in
+    let p = said in
+    let w = p in
+    let r = w in
+    let e = p.write_strategy-o.ensures in
+    let a = r.args in
+    ended_strategy a.s a.sheet.now a.first.now a.second.now (told r.before.before.before.before.before.before.before.before.before.before.before.before.before.before.before.before.before _ w.in-Ended.is) r.solve_checked-r.auto.first
+    r.solve_checked-r.auto.second a.out.now
+    w.exists_wins.ensures (outcome p.before.before.before.before.before.before.before _ said.in-TooLong.is) e.1.0 e.1.1
 
 pub strategy_checked_spec : {M : Type 1} → statement M
 strategy_checked_spec =
     tie.close
     (tie.spec
-    solve_checked_requires
-    enum_known_r
-    enum_known_r_2
-    clear_requires
-    enum_known_r_3
-    exists_wins_requires
-    write_strategy_requires
-    enum_known_o
-    enum_known_o_2
-    same_length
-    same_length_2
-    returns
-    same_length_3
-    same_length_4
-    same_length_5
-    returns_2
-    same_length_6
-    same_length_7
-    same_length_8
-    returns_3
-    same_length_9
-    same_length_10
-    same_length_11
-    returns_4)
+    solve_checked-r-requires
+    enum_known-r
+    enum_known-r-in-Stopped-1
+    clear-requires
+    enum_known-r-in-Ended-1
+    exists_wins-requires
+    write_strategy-o-requires
+    enum_known-o
+    enum_known-o-in-TooLong-1
+    shape_of-first-in-Refused
+    shape_of-second-in-Refused
+    returns-in-Refused
+    shape_of-first-in-Stopped
+    shape_of-second-in-Stopped
+    shape_of-out-in-Stopped
+    returns-in-Stopped
+    shape_of-first-in-Written
+    shape_of-second-in-Written
+    shape_of-out-in-Written
+    returns-in-Written
+    shape_of-first-in-TooLong
+    shape_of-second-in-TooLong
+    shape_of-out-in-TooLong
+    returns-in-TooLong)

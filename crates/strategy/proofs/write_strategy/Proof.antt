@@ -7,105 +7,77 @@ use Rattle.strategy.proofs.Ending.{behind, too_long, inside, has_room, written}
 use Rattle.strategy.proofs.write_strategy.Statement.{statement}
 use Rattle.strategy.proofs.write_strategy.Tie as tie
 
--- places in the code, each from a later one
-abbrev known : tie.After-slice-known3 → tie.After-shared-slice-known
-known c = c.before.before.before
+draft_strategy-to-requires : tie.Need-draft_strategy-to-requires
+draft_strategy-to-requires c κs = search rules
 
-abbrev lent : tie.After-draft-strategy-arg3 → tie.After-slice-known3
-lent c = c.before.before.before
+overflow_sub-nodes : tie.Need-overflow_sub-nodes
+overflow_sub-nodes c =
+    let d = c in
+    omega (arith, behind d.requires d.draft_strategy-to.ensures.0)
 
-abbrev start : tie.After-draft-strategy → tie.Start
-start c = (known (lent c.before)).before
+clear-requires : tie.Need-clear-requires
+clear-requires c κs = search rules
 
-abbrev first_back : tie.After-slice-known4 → tie.After-draft-strategy
-first_back c = c.before.before
+shape_of-first-then-t-nodes : tie.Need-shape_of-first-then-t-nodes
+shape_of-first-then-t-nodes c = search rules
 
-abbrev second_back : tie.After-slice-known5 → tie.After-draft-strategy
-second_back c = first_back c.before.before
+shape_of-second-then-t-nodes : tie.Need-shape_of-second-then-t-nodes
+shape_of-second-then-t-nodes c = search rules
 
-abbrev out_back : tie.After-slice-known6 → tie.After-draft-strategy
-out_back c = second_back c.before.before
+shape_of-out-then-t-nodes : tie.Need-shape_of-out-then-t-nodes
+shape_of-out-then-t-nodes c = search rules
 
-abbrev drafted : tie.After-struct-known2 → tie.After-draft-strategy
-drafted c = out_back c.before.before.before
+returns-then-t-nodes : tie.Need-returns-then-t-nodes
+returns-then-t-nodes c =
+    let z = c in
+    let test = z in
+    let d = test in
+    let e = d.draft_strategy-to.ensures in
+    let zeros = z.clear.ensures ∙ all_zeros d.draft_strategy-to.new.out d.draft_strategy-to.auto.out in
+    (too_long d.requires e.0 test.if-t-nodes.true zeros, e.1)
 
-abbrev cleared : tie.After-slice-known7 → tie.After-clear
-cleared c = c.before.before
-
-abbrev sealed_out : tie.After-slice-known8 → tie.After-seal
-sealed_out c = c.before.before
-
-draft_strategy_requires : tie.Need-draft-strategy-requires
-draft_strategy_requires c κs = search rules
-
-sub_nodes : tie.Need-overflow-sub-nodes
-sub_nodes c =
-    let d = drafted c in
-    omega (arith, behind (start d).pre d.draft-strategy.ensures.0)
-
-clear_requires : tie.Need-clear-requires
-clear_requires c κs = search rules
-
-same_length : tie.Need-same-length
-same_length c = search rules
-
-same_length_2 : tie.Need-same-length-2
-same_length_2 c = search rules
-
-same_length_3 : tie.Need-same-length-3
-same_length_3 c = search rules
-
-returns : tie.Need-returns
-returns c =
-    let z = cleared c in
-    let test = z.before.before in
-    let d = drafted test.before.before in
-    let e = d.draft-strategy.ensures in
-    let zeros = z.clear.ensures ∙ all_zeros d.draft-strategy.last.1.1.1.1.1.0 d.draft-strategy.kept.1.1.1.1.1.0 in
-    (too_long (start d).pre e.0 test.if1.taken zeros, e.1)
-
-seal_requires : tie.Need-seal-requires
-seal_requires c κs =
-    let test = c.before in
-    let d = drafted test.before.before in
-    let r = (start d).pre in
-    let e = d.draft-strategy.ensures.0 in (
-      record { holds = omega (arith, (has_room r e test.if1.false).holds, d.draft-strategy.kept.1.1.1.1.1.0) },
-      inside r e test.if1.false,
+seal-requires : tie.Need-seal-requires
+seal-requires c κs =
+    let test = c in
+    let d = test in
+    let r = d.requires in
+    let e = d.draft_strategy-to.ensures.0 in (
+      record { holds = omega (arith, (has_room r e test.if-t-nodes.false).holds, d.draft_strategy-to.auto.out) },
+      inside r e test.if-t-nodes.false,
       omega (arith, behind r e),
     )
 
-same_length_4 : tie.Need-same-length-4
-same_length_4 c = search rules
+shape_of-first : tie.Need-shape_of-first
+shape_of-first c = search rules
 
-same_length_5 : tie.Need-same-length-5
-same_length_5 c = search rules
+shape_of-second : tie.Need-shape_of-second
+shape_of-second c = search rules
 
-same_length_6 : tie.Need-same-length-6
-same_length_6 c = search rules
+shape_of-out : tie.Need-shape_of-out
+shape_of-out c = search rules
 
-returns_2 : tie.Need-returns-2
-returns_2 c =
-    let z = sealed_out c in
-    let test = z.before.before in
-    let d = drafted test.before.before in
-    let e = d.draft-strategy.ensures in
-    let kept = d.draft-strategy.kept.1.1.1.1.1.0 in
-    (written (start d).pre e.0 test.if1.left kept z.seal.ensures.0 z.seal.ensures.1, e.1)
+returns : tie.Need-returns
+returns c =
+    let z = c in
+    let test = z in
+    let d = test in
+    let e = d.draft_strategy-to.ensures in
+    let kept = d.draft_strategy-to.auto.out in
+    (written d.requires e.0 test.if-t-nodes.false kept z.seal.ensures.0 z.seal.ensures.1, e.1)
 
 pub write_strategy_spec : {M : Type 1} → statement M
 write_strategy_spec =
     tie.close
     (tie.spec
-    draft_strategy_requires
-    sub_nodes
-    clear_requires
-    same_length
-    same_length_2
-    same_length_3
-    returns
-    seal_requires
-    same_length_4
-    same_length_5
-    same_length_6
-    returns_2)
+    draft_strategy-to-requires
+    overflow_sub-nodes
+    clear-requires
+    shape_of-first-then-t-nodes
+    shape_of-second-then-t-nodes
+    shape_of-out-then-t-nodes
+    returns-then-t-nodes
+    seal-requires
+    shape_of-first
+    shape_of-second
+    shape_of-out
+    returns)

@@ -13,116 +13,100 @@ use Rattle.claim.proofs.Deciding.{root_pairs, sheet-numbered, plan_other, plan-f
 use Rattle.claim.proofs.plan.plan_claim.Statement.{statement}
 use Rattle.claim.proofs.plan.plan_claim.Tie as tie
 
--- places in the code, each from a later one
-abbrev known : tie.After-is-same-prefix → tie.After-shared-slice-known2
-known c = c.before.before
-
-abbrev start : tie.After-is-same-prefix → tie.Start
-start c = (known c).before.before
-
-abbrev compared : tie.After-read-form → tie.After-is-same-prefix
-compared c = c.before.before.before
-
-abbrev read : tie.Else2 → tie.After-read-form
-read c = c.before.before.before
-
-abbrev entry : tie.Else2 → tie.Start
-entry c = start (compared (read c))
-
-is_same_prefix_requires : tie.Need-is-same-prefix-requires
-is_same_prefix_requires c κs =
-    let a = c.before.before.before in
+is_same_prefix-requires : tie.Need-is_same_prefix-requires
+is_same_prefix-requires c κs =
+    let a = c in
     (sheet_readable a.requires.0, sheet_readable a.requires.1)
+
+returns-then-not-is_same_prefix : tie.Need-returns-then-not-is_same_prefix
+returns-then-not-is_same_prefix c =
+    let a = c in
+    plan_other a.requires.0 a.requires.1 a.args.exists c.is_same_prefix.ensures (c.if-not-is_same_prefix.true)
+
+read_form-requires : tie.Need-read_form-requires
+read_form-requires c κs = let a = c in (sheet_readable a.requires.1, a.requires.2)
+
+shape_of-cuts-then-not-read_form : tie.Need-shape_of-cuts-then-not-read_form
+shape_of-cuts-then-not-read_form c = search rules
+
+returns-then-not-read_form : tie.Need-returns-then-not-read_form
+returns-then-not-read_form c =
+    let r = c in
+    let w = r in
+    let a = w in
+    plan-form a.requires.0 a.requires.1 a.args.exists w.is_same_prefix.ensures (r.if-not-is_same_prefix.false) r.read_form.ensures.0
+    (c.if-not-read_form.true)
+
+children_at-n-requires : tie.Need-children_at-n-requires
+children_at-n-requires c κs = let ok = sheet_readable c.requires.1 in (ok, ok.some_nodes)
+
+-- how many pairs there are
+pairs_are : (c : tie.After-children_at-n)
+    → let a = c in
+    (c.children_at-n.result ≡ length (pairs_in a.args.t a.args.d.now)) × (c.children_at-n.result + 1 ≤ 8192)
+pairs_are c =
+    let e = c in
+    let a = e in
+    root_pairs a.args.d.now (sheet_readable a.requires.1) e.read_form.ensures.0 (e.if-not-read_form.false) c.children_at-n.ensures.0
+
+overflow_add-n : tie.Need-overflow_add-n
+overflow_add-n c = omega (arith, (pairs_are c).1)
+
+long : (c : tie.After-children_at-n) → length c.read_form.new.cuts ≡ 8192
+long c = c.read_form.auto.cuts ∙ c.requires.2
+
+slice_bounds-plan_pairs-end : tie.Need-slice_bounds-plan_pairs-end
+slice_bounds-plan_pairs-end c = omega (arith, (pairs_are c).1, long c)
+
+slice_bounds-plan_pairs-end-2 : tie.Need-slice_bounds-plan_pairs-end-2
+slice_bounds-plan_pairs-end-2 c = sym (length-take-le _ _ (omega (arith, (pairs_are c).1, long c)))
+
+-- the rows of the pairs
+cuts_are : (c : tie.After-children_at-n)
+    → let a = c in
+    take (suc c.children_at-n.result) c.read_form.new.cuts ≡ pair_cuts 1 (pairs_in a.args.t a.args.d.now)
+cuts_are c =
+    let e = c in
+    ap (λ n. take (suc n) e.read_form.new.cuts) (pairs_are c).0 ∙ e.read_form.ensures.1 (e.if-not-read_form.false)
+
+plan_pairs-requires : tie.Need-plan_pairs-requires
+plan_pairs-requires c κs =
+    let k = c in
+    let e = k in
+    let r = e in
+    let w = r in
+    let a = w in (
+      sheet-numbered a.requires.1,
+      plan-paired a.requires.0 a.requires.1 a.args.exists w.is_same_prefix.ensures (r.if-not-is_same_prefix.false) r.read_form.ensures.0
+          (e.if-not-read_form.false) (ap (λ n. take n r.read_form.new.cuts) (add-one k.children_at-n.result) ∙ cuts_are k),
+    )
+
+shape_of-cuts : tie.Need-shape_of-cuts
+shape_of-cuts c = search rules
 
 returns : tie.Need-returns
 returns c =
-    let a = start c.before in
-    plan_other a.pre.0 a.pre.1 a.args.exists c.before.is-same-prefix.ensures (not-true _ c.if1.true)
-
-read_form_requires : tie.Need-read-form-requires
-read_form_requires c κs = let a = start c.before.before in (sheet_readable a.pre.1, a.pre.2)
-
-same_length : tie.Need-same-length
-same_length c = search rules
-
-returns_2 : tie.Need-returns-2
-returns_2 c =
-    let r = c.before.before.before in
-    let w = compared r in
-    let a = start w in
-    plan-form a.pre.0 a.pre.1 a.args.exists w.is-same-prefix.ensures (not-false _ r.before.before.if1.false) r.read-form.ensures.0
-    (not-true _ c.if2.true)
-
-children_at_requires : tie.Need-children-at-requires
-children_at_requires c κs = let ok = sheet_readable (entry c).requires.1 in (ok, ok.some_nodes)
-
--- how many pairs there are
-pairs_are : (c : tie.After-children-at)
-    → let a = entry c.before in
-    (c.children-at.result ≡ length (pairs_in a.args.t a.args.d.now)) × (c.children-at.result + 1 ≤ 8192)
-pairs_are c =
-    let e = c.before in
-    let a = entry e in
-    root_pairs a.args.d.now (sheet_readable a.pre.1) (read e).read-form.ensures.0 (not-false _ e.if2.false) c.children-at.ensures.0
-
-add_plan_pairs : tie.Need-overflow-add-plan-pairs
-add_plan_pairs c = omega (arith, (pairs_are c).1)
-
-long : (c : tie.After-children-at) → length (read c.before).read-form.new.1.1.0 ≡ 8192
-long c = (read c.before).read-form.auto.1.1.0 ∙ (entry c.before).requires.2
-
-slice_reshare_prefix_plan_pairs : tie.Need-slice-reshare-prefix-plan-pairs
-slice_reshare_prefix_plan_pairs c = omega (arith, (pairs_are c).1, long c)
-
-slice_aggregate_plan_pairs : tie.Need-slice-aggregate-plan-pairs
-slice_aggregate_plan_pairs c = sym (length-take-le _ _ (omega (arith, (pairs_are c.before).1, long c.before)))
-
--- the rows of the pairs
-cuts_are : (c : tie.After-children-at)
-    → let a = entry c.before in
-    take (suc c.children-at.result) (read c.before).read-form.new.1.1.0 ≡ pair_cuts 1 (pairs_in a.args.t a.args.d.now)
-cuts_are c =
-    let e = c.before in
-    ap (λ n. take (suc n) (read e).read-form.new.1.1.0) (pairs_are c).0 ∙ (read e).read-form.ensures.1 (not-false _ e.if2.false)
-
-plan_pairs_requires : tie.Need-plan-pairs-requires
-plan_pairs_requires c κs =
-    let k = c.before in
-    let e = k.before in
-    let r = read e in
-    let w = compared r in
-    let a = start w in (
-      sheet-numbered a.pre.1,
-      plan-paired a.pre.0 a.pre.1 a.args.exists w.is-same-prefix.ensures (not-false _ r.before.before.if1.left) r.read-form.ensures.0
-          (not-false _ e.if2.false) (ap (λ n. take n r.read-form.last.1.1.0) (add-one k.children-at.result) ∙ cuts_are k),
-    )
-
-same_length_2 : tie.Need-same-length-2
-same_length_2 c = search rules
-
-returns_3 : tie.Need-returns-3
-returns_3 c =
-    let k = c.before.before in
-    let e = k.before in
-    let r = read e in
-    let w = compared r in
-    let a = start w in
-    plan-pairs a.pre.0 a.pre.1 a.args.exists w.is-same-prefix.ensures (not-false _ r.before.before.if1.left) r.read-form.ensures.0
-    (not-false _ e.if2.false) c.plan-pairs.result r.read-form.last.1.1.0 k.children-at.result (pairs_are k).0 (cuts_are k) c.plan-pairs.ensures
+    let k = c in
+    let e = k in
+    let r = e in
+    let w = r in
+    let a = w in
+    plan-pairs a.requires.0 a.requires.1 a.args.exists w.is_same_prefix.ensures (r.if-not-is_same_prefix.false) r.read_form.ensures.0
+    (e.if-not-read_form.false) c.plan_pairs.result r.read_form.new.cuts k.children_at-n.result (pairs_are k.before).0 (cuts_are k.before) c.plan_pairs.ensures
 
 pub plan_claim_spec : {M : Type 1} → statement M
 plan_claim_spec =
     tie.close
     (tie.spec
-    is_same_prefix_requires
-    returns
-    read_form_requires
-    same_length
-    returns_2
-    children_at_requires
-    add_plan_pairs
-    slice_reshare_prefix_plan_pairs
-    slice_aggregate_plan_pairs
-    plan_pairs_requires
-    same_length_2
-    returns_3)
+    is_same_prefix-requires
+    returns-then-not-is_same_prefix
+    read_form-requires
+    shape_of-cuts-then-not-read_form
+    returns-then-not-read_form
+    children_at-n-requires
+    overflow_add-n
+    slice_bounds-plan_pairs-end
+    slice_bounds-plan_pairs-end-2
+    plan_pairs-requires
+    shape_of-cuts
+    returns)

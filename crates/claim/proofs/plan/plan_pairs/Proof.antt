@@ -12,89 +12,76 @@ use Rattle.claim.proofs.Deciding.{fault_few, pairs_uncovered, pairs_fault, pairs
 use Rattle.claim.proofs.plan.plan_pairs.Statement.{statement}
 use Rattle.claim.proofs.plan.plan_pairs.Tie as tie
 
--- places in the code, each from a later one
-abbrev start : tie.After-places → tie.Start
-start c = c.before.before.before
+slice_bounds-fill_places-end : tie.Need-slice_bounds-fill_places-end
+slice_bounds-fill_places-end c = search rules
 
-abbrev filled : tie.After-covers → tie.After-fill-places
-filled c = c.before.before.before
+fill_places-requires : tie.Need-fill_places-requires
+fill_places-requires c κs = (c.requires.0, refl)
 
-abbrev entry : tie.After-covers → tie.Start
-entry c = start (filled c).before
+slice_bounds-covers-end : tie.Need-slice_bounds-covers-end
+slice_bounds-covers-end c = search rules
 
-abbrev covered : tie.After-find-fault → tie.After-covers
-covered c = c.before.before.before
+covers-requires : tie.Need-covers-requires
+covers-requires c κs = let w = c in (w.fill_places.ensures, w.requires.1)
 
-slice_aggregate_fill_places : tie.Need-slice-aggregate-fill-places
-slice_aggregate_fill_places c = search rules
+returns-then-not-covers : tie.Need-returns-then-not-covers
+returns-then-not-covers c =
+    let a = c in
+    pairs_uncovered a.args.s a.args.b.now a.args.exists c.covers.ensures (c.if-not-covers.true)
 
-fill_places_requires : tie.Need-fill-places-requires
-fill_places_requires c κs = ((start c).requires.0, refl)
+slice_bounds-find_fault-end : tie.Need-slice_bounds-find_fault-end
+slice_bounds-find_fault-end c = search rules
 
-slice_aggregate_covers : tie.Need-slice-aggregate-covers
-slice_aggregate_covers c = search rules
+find_fault-fault-requires : tie.Need-find_fault-fault-requires
+find_fault-fault-requires c κs =
+    let w = c in
+    (w.fill_places.ensures, w.requires.1)
 
-covers_requires : tie.Need-covers-requires
-covers_requires c κs = let w = c.before.before in (w.fill-places.ensures, (start w.before).requires.1)
-
-returns : tie.Need-returns
-returns c =
-    let a = entry c.before in
-    pairs_uncovered a.args.s a.args.b.now a.args.exists c.before.covers.ensures (not-true _ c.if1.true)
-
-slice_aggregate_find_fault : tie.Need-slice-aggregate-find-fault
-slice_aggregate_find_fault c = search rules
-
-find_fault_requires : tie.Need-find-fault-requires
-find_fault_requires c κs =
-    let w = c.before.before in
-    ((filled w).fill-places.ensures, (entry w).requires.1)
-
-add_t17 : tie.Need-overflow-add-t17
-add_t17 c =
-    let d = c.before in
-    let a = entry (covered d) in
-    let k = a.pre.1 in
+overflow_add-result : tie.Need-overflow_add-result
+overflow_add-result c =
+    let d = c in
+    let a = d in
+    let k = a.requires.1 in
     omega (
       arith,
-      fault_few (side a.args.exists) (prefix_in a.args.s a.args.b.now) (pairs_in a.args.s a.args.b.now) d.find-fault.ensures,
+      fault_few (side a.args.exists) (prefix_in a.args.s a.args.b.now) (pairs_in a.args.s a.args.b.now) d.find_fault-fault.ensures,
       ap rows k.is_matrix,
       rows-nodes a.args.b.now k.readable,
       k.readable.few_nodes,
       k.readable.few_variables,
     )
 
-returns_2 : tie.Need-returns-2
-returns_2 c =
-    let d = c.before in
-    let w = covered d in
-    let a = entry w in
-    pairs_fault a.args.s a.args.b.now a.args.exists w.covers.ensures (not-false _ d.before.before.if1.false) d.find-fault.ensures c.if2.true refl
+returns-then-fault-gt0 : tie.Need-returns-then-fault-gt0
+returns-then-fault-gt0 c =
+    let d = c in
+    let w = d in
+    let a = w in
+    pairs_fault a.args.s a.args.b.now a.args.exists w.covers.ensures (d.if-not-covers.false) d.find_fault-fault.ensures c.if-fault-gt0.true refl
 
-sub_t19 : tie.Need-overflow-sub-t19
-sub_t19 c =
-    let a = entry (covered c.before) in
-    omega (arith, counted a.args.b.now a.pre.1)
+overflow_sub-result : tie.Need-overflow_sub-result
+overflow_sub-result c =
+    let a = c in
+    omega (arith, counted a.args.b.now a.requires.1)
 
-returns_3 : tie.Need-returns-3
-returns_3 c =
-    let d = c.before in
-    let w = covered d in
-    let a = entry w in
-    pairs_pass a.args.s a.args.b.now a.args.exists a.pre.1 w.covers.ensures (not-false _ d.before.before.if1.false) d.find-fault.ensures c.if2.false refl
+returns : tie.Need-returns
+returns c =
+    let d = c in
+    let w = d in
+    let a = w in
+    pairs_pass a.args.s a.args.b.now a.args.exists a.requires.1 w.covers.ensures (d.if-not-covers.false) d.find_fault-fault.ensures c.if-fault-gt0.false refl
 
 pub plan_pairs_spec : {M : Type 1} → statement M
 plan_pairs_spec =
     tie.close
     (tie.spec
-    slice_aggregate_fill_places
-    fill_places_requires
-    slice_aggregate_covers
-    covers_requires
-    returns
-    slice_aggregate_find_fault
-    find_fault_requires
-    add_t17
-    returns_2
-    sub_t19
-    returns_3)
+    slice_bounds-fill_places-end
+    fill_places-requires
+    slice_bounds-covers-end
+    covers-requires
+    returns-then-not-covers
+    slice_bounds-find_fault-end
+    find_fault-fault-requires
+    overflow_add-result
+    returns-then-fault-gt0
+    overflow_sub-result
+    returns)

@@ -4,41 +4,34 @@ use borrow.Author.Rules.{rules}
 use Rattle.claim.proofs.plan.read_form.Statement.{statement}
 use Rattle.claim.proofs.plan.read_form.Tie as tie
 
--- places in the code, each from a later one
-abbrev start : tie.After-ends → tie.Start
-start c = c.before.before.before
+slice_bounds-fill_ends-end : tie.Need-slice_bounds-fill_ends-end
+slice_bounds-fill_ends-end c = search rules
 
-abbrev filled : tie.After-read-pairs-arg → tie.After-fill-ends
-filled c = c.before.before.before
+fill_ends-requires : tie.Need-fill_ends-requires
+fill_ends-requires c κs = let a = c in (a.requires.0, omega (arith, a.requires.0.few_nodes))
 
-slice_aggregate_fill_ends : tie.Need-slice-aggregate-fill-ends
-slice_aggregate_fill_ends c = search rules
+slice_bounds-read_pairs-end : tie.Need-slice_bounds-read_pairs-end
+slice_bounds-read_pairs-end c = search rules
 
-fill_ends_requires : tie.Need-fill-ends-requires
-fill_ends_requires c κs = let a = start c in (a.pre.0, omega (arith, a.pre.0.few_nodes))
+read_pairs-requires : tie.Need-read_pairs-requires
+read_pairs-requires c κs =
+    let w = c in
+    let a = w in
+    (w.fill_ends.ensures.0, omega (arith, a.requires.0.few_nodes, a.requires.1))
 
-slice_aggregate_read_pairs : tie.Need-slice-aggregate-read-pairs
-slice_aggregate_read_pairs c = search rules
-
-read_pairs_requires : tie.Need-read-pairs-requires
-read_pairs_requires c κs =
-    let w = filled c in
-    let a = start w.before in
-    (w.fill-ends.ensures.0, omega (arith, a.pre.0.few_nodes, a.pre.1))
-
-same_length : tie.Need-same-length
-same_length c = search rules
+shape_of-cuts : tie.Need-shape_of-cuts
+shape_of-cuts c = search rules
 
 returns : tie.Need-returns
-returns c = c.before.before.read_pairs.ensures
+returns c = c.read_pairs.ensures
 
 pub read_form_spec : {M : Type 1} → statement M
 read_form_spec =
     tie.close
     (tie.spec
-    slice_aggregate_fill_ends
-    fill_ends_requires
-    slice_aggregate_read_pairs
-    read_pairs_requires
-    same_length
+    slice_bounds-fill_ends-end
+    fill_ends-requires
+    slice_bounds-read_pairs-end
+    read_pairs-requires
+    shape_of-cuts
     returns)

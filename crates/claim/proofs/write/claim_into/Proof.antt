@@ -15,133 +15,111 @@ use Rattle.claim.proofs.Claims.{operator_of_other, root-children, claim-room, fr
 use Rattle.claim.proofs.write.claim_into.Statement.{statement}
 use Rattle.claim.proofs.write.claim_into.Tie as tie
 
--- places in the code, each from a later one
-abbrev known : tie.After-r → tie.After-shared-slice-known2
-known c = c.before.before.before
-
-abbrev start : tie.After-r → tie.Start
-start c = (known c).before.before
-
-abbrev entry : tie.After-write-front-arg → tie.Start
-entry c = start c.before.before.before
-
-abbrev in_front : tie.After-operator-for → tie.After-write-front
-in_front c = c.before.before.before
-
-abbrev front : tie.After-write-pairs-arg → tie.After-write-front
-front c = in_front c.before
-
-abbrev written : tie.After-seal-arg → tie.After-write-pairs
-written c = c.before.before.before
-
-abbrev pairs : tie.After-struct-known4 → tie.After-write-pairs
-pairs c = written c.before.before
-
 -- the claim's layout
-abbrev layout : tie.After-write-front-arg → Layout
+abbrev layout : tie.After-write_front-arg-1 → Layout
 layout c =
-    let a = entry c in
+    let a = c in
     record { format = a.args.s.format; variables = a.args.s.variables; nodes = a.args.s.nodes + 2 * a.args.strategy.layout.nodes - 1 }
 
-mul_write_front : tie.Need-overflow-mul-write-front
-mul_write_front c = omega (arith, (start c.before).requires.second.readable.few_nodes)
+overflow_mul-t : tie.Need-overflow_mul-t
+overflow_mul-t c = omega (arith, c.requires.second.readable.few_nodes)
 
-add_write_front : tie.Need-overflow-add-write-front
-add_write_front c =
-    let a = start c.before.before in
-    omega (arith, a.pre.second.readable.few_nodes, a.pre.first.readable.few_nodes)
+overflow_add-t : tie.Need-overflow_add-t
+overflow_add-t c =
+    let a = c in
+    omega (arith, a.requires.second.readable.few_nodes, a.requires.first.readable.few_nodes)
 
-sub_write_front : tie.Need-overflow-sub-write-front
-sub_write_front c = omega (arith, (start c.before.before).requires.first.readable.some_nodes)
+overflow_sub-t : tie.Need-overflow_sub-t
+overflow_sub-t c = omega (arith, c.requires.first.readable.some_nodes)
 
-mul_write_front_2 : tie.Need-overflow-mul-write-front-2
-mul_write_front_2 c =
-    let a = start c.before.before in
-    omega (arith, (root-children a.pre refl).1, counted a.args.d.now a.pre.paired)
+overflow_mul-cuts : tie.Need-overflow_mul-cuts
+overflow_mul-cuts c =
+    let a = c in
+    omega (arith, (root-children a.requires refl).1, counted a.args.d.now a.requires.paired)
 
-sub_write_front_2 : tie.Need-overflow-sub-write-front-2
-sub_write_front_2 c =
-    let a = start c.before.before in
-    omega (arith, counted a.args.d.now a.pre.paired)
+overflow_sub-cuts : tie.Need-overflow_sub-cuts
+overflow_sub-cuts c =
+    let a = c in
+    omega (arith, counted a.args.d.now a.requires.paired)
 
-write_front_requires : tie.Need-write-front-requires
-write_front_requires c κs =
-    let a = entry c in
-    let p = a.pre in (
+write_front-front-requires : tie.Need-write_front-front-requires
+write_front-front-requires c κs =
+    let a = c in
+    let p = a.requires in (
       p.first,
       record { source = p.first.readable.room; room = claim-room p (layout c) refl refl refl; same_format = refl },
       front-room p (layout c) refl refl refl,
       number_fits a.args.s.format (omega (arith, (root-children p refl).1)),
     )
 
-operator_for_requires : tie.Need-operator-for-requires
-operator_for_requires c κs = search rules
+operator_for-requires : tie.Need-operator_for-requires
+operator_for-requires c κs = search rules
 
 -- the operator above the children of a pair
-kind_is : (c : tie.After-write-pairs-arg) → c.before.operator-for.result ≡ operator_kind (dual (side (entry (front c).before).args.strategy.exists))
-kind_is c = c.before.operator-for.ensures ∙ operator_of_other (entry (front c).before).args.strategy.exists
+kind_is : (c : tie.After-write_pairs-arg-1) → c.operator_for.result ≡ operator_kind (dual (side c.args.strategy.exists))
+kind_is c = c.operator_for.ensures ∙ operator_of_other c.args.strategy.exists
 
-write_pairs_requires : tie.Need-write-pairs-requires
-write_pairs_requires c κs =
-    let w = front c in
-    let p = (entry w.before).requires in (
+write_pairs-requires : tie.Need-write_pairs-requires
+write_pairs-requires c κs =
+    let w = c in
+    let p = w.requires in (
       p.second,
       p.paired,
       record {
         source = p.second.readable.room;
-        room = room_on (claim-room p (layout w.before) refl refl refl) w.write-front.kept.1.1.1.1.0;
+        room = room_on (claim-room p (layout w.before.before.before.before.before) refl refl refl) w.write_front-front.auto.out;
         same_format = p.same_format;
       },
-      omega (arith, pairs-room p (layout w.before) refl refl refl (kind_is c) w.write-front.ensures.1),
+      omega (arith, pairs-room p (layout w.before.before.before.before.before) refl refl refl (kind_is c) w.write_front-front.ensures.1),
     )
 
 -- as long as at first
-long : (c : tie.After-struct-known4)
-    → length (pairs c).write-pairs.new.1.1.1.1.0 ≡ length (entry (front (pairs c).before).before).args.out.now
-long c = (pairs c).write-pairs.auto.1.1.1.1.0 ∙ (front (pairs c).before).write-front.auto.1.1.1.1.0
+long : (c : tie.After-struct_known-4-1)
+    → length c.write_pairs.new.out ≡ length c.args.out.now
+long c = c.write_pairs.auto.out ∙ c.write_front-front.auto.out
 
-add_seal : tie.Need-overflow-add-seal
-add_seal c =
-    let p = (entry (front (pairs c).before).before).requires in
+overflow_add-s : tie.Need-overflow_add-s
+overflow_add-s c =
+    let p = c.requires in
     omega (arith, p.first.readable.few_variables, p.first.readable.few_nodes, p.second.readable.few_nodes)
 
-seal_requires : tie.Need-seal-requires
-seal_requires c κs =
-    let w = front (pairs c).before in
-    let p = (entry w.before).requires in
-    (room_on (claim-room p (layout w.before) refl refl refl) (long c), omega arith, omega arith)
+seal-requires : tie.Need-seal-requires
+seal-requires c κs =
+    let w = c in
+    let p = w.requires in
+    (room_on (claim-room p (layout w.before.before.before.before.before.before.before.before.before.before.before) refl refl refl) (long c), omega arith, omega arith)
 
-same_length : tie.Need-same-length
-same_length c = search rules
+shape_of-out : tie.Need-shape_of-out
+shape_of-out c = search rules
 
 returns : tie.Need-returns
 returns c =
-    let z = c.before.before in
-    let w = pairs z.before in
-    let f = front w.before in
-    let p = (entry f.before).requires in
-    let t = layout f.before in (
+    let z = c in
+    let w = z in
+    let f = w in
+    let p = f.requires in
+    let t = layout f.before.before.before.before.before.before.before.before.before.before.before.before.before.before in (
       z.seal.ensures.0 ∙
-          claim-sealed p t refl refl refl (root-children p refl).0 (kind_is w.before) f.write-front.ensures.0 w.write-pairs.ensures f.write-front.ensures.1
-          (long z.before) refl,
+          claim-sealed p t refl refl refl (root-children p refl).0 (kind_is w.before.before.before.before.before.before.before.before.before) f.write_front-front.ensures.0 w.write_pairs.ensures f.write_front-front.ensures.1
+          (long z.before.before.before) refl,
       z.seal.ensures.1 ∙
-          claim-length p t refl refl refl (root-children p refl).0 (kind_is w.before) f.write-front.ensures.0 w.write-pairs.ensures f.write-front.ensures.1
-          (long z.before) refl,
+          claim-length p t refl refl refl (root-children p refl).0 (kind_is w.before.before.before.before.before.before.before.before.before) f.write_front-front.ensures.0 w.write_pairs.ensures f.write_front-front.ensures.1
+          (long z.before.before.before) refl,
     )
 
 pub claim_into_spec : {M : Type 1} → statement M
 claim_into_spec =
     tie.close
     (tie.spec
-    mul_write_front
-    add_write_front
-    sub_write_front
-    mul_write_front_2
-    sub_write_front_2
-    write_front_requires
-    operator_for_requires
-    write_pairs_requires
-    add_seal
-    seal_requires
-    same_length
+    overflow_mul-t
+    overflow_add-t
+    overflow_sub-t
+    overflow_mul-cuts
+    overflow_sub-cuts
+    write_front-front-requires
+    operator_for-requires
+    write_pairs-requires
+    overflow_add-s
+    seal-requires
+    shape_of-out
     returns)

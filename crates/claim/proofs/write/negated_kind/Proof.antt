@@ -3,17 +3,21 @@ use Rattle.claim.proofs.Negation.{negated_three, negated_four, negated_five, neg
 use Rattle.claim.proofs.write.negated_kind.Statement.{statement}
 use Rattle.claim.proofs.write.negated_kind.Tie as tie
 
+returns-then-kind-eq-POSITIVE : tie.Need-returns-then-kind-eq-POSITIVE
+returns-then-kind-eq-POSITIVE c = negated_three c.args.kind c.if-kind-eq-POSITIVE.true
+
+returns-then-kind-eq-NEGATIVE : tie.Need-returns-then-kind-eq-NEGATIVE
+returns-then-kind-eq-NEGATIVE c = negated_four c.args.kind c.if-kind-eq-NEGATIVE.true
+
+returns-then-kind-eq-AND : tie.Need-returns-then-kind-eq-AND
+returns-then-kind-eq-AND c = negated_five c.args.kind c.if-kind-eq-AND.true
+
 returns : tie.Need-returns
-returns c = negated_three c.before.args.kind c.if1.true
-
-returns_2 : tie.Need-returns-2
-returns_2 c = negated_four c.before.before.args.kind c.if2.true
-
-returns_3 : tie.Need-returns-3
-returns_3 c = negated_five c.before.before.before.args.kind c.if3.true
-
-returns_4 : tie.Need-returns-4
-returns_4 c = let d = c.before in negated_others d.before.before.args.kind d.before.if1.false d.if2.false c.if3.false
+returns c = let d = c in negated_others d.args.kind d.if-kind-eq-POSITIVE.false d.if-kind-eq-NEGATIVE.false c.if-kind-eq-AND.false
 
 pub negated_kind_spec : {M : Type 1} → statement M
-negated_kind_spec = tie.close (tie.spec returns returns_2 returns_3 returns_4)
+negated_kind_spec = tie.close (tie.spec
+    returns-then-kind-eq-POSITIVE
+    returns-then-kind-eq-NEGATIVE
+    returns-then-kind-eq-AND
+    returns)

@@ -13,81 +13,68 @@ use Rattle.claim.proofs.Claims.{front-laid}
 use Rattle.claim.proofs.write.write_front.Statement.{statement}
 use Rattle.claim.proofs.write.write_front.Tie as tie
 
--- places in the code, each from a later one
-abbrev start : tie.After-struct-known → tie.Start
-start c = c.before.before.before
-
-abbrev entry : tie.After-write-quantifiers → tie.Start
-entry c = start c.before.before.before
-
-abbrev prefix : tie.After-write-row-arg → tie.After-write-quantifiers
-prefix c = c.before.before.before
-
-abbrev root : tie.After-write-rows-arg → tie.After-write-row
-root c = c.before.before.before
-
 -- the row behind the prefix
-top_is : (c : tie.After-write-quantifiers) → c.write-quantifiers.result ≡ (entry c).args.s.variables
+top_is : (c : tie.After-write_quantifiers-top) → c.write_quantifiers-top.result ≡ c.args.s.variables
 top_is c =
-    let a = entry c in
+    let a = c in
     omega (
       arith,
-      c.write-quantifiers.ensures.next_row,
-      length-map (prefix_in a.args.s a.args.b.now) (of_kind c.before.before.quantifier_for.result),
-      length_prefix a.args.b.now a.pre.0.readable,
+      c.write_quantifiers-top.ensures.next_row,
+      length-map (prefix_in a.args.s a.args.b.now) (of_kind c.quantifier_for.result),
+      length_prefix a.args.b.now a.requires.0.readable,
     )
 
-add_t12 : tie.Need-overflow-add-t12
-add_t12 c = let a = start c in omega (arith, a.pre.0.readable.few_variables, a.pre.0.readable.few_nodes)
+overflow_add-matrix : tie.Need-overflow_add-matrix
+overflow_add-matrix c = let a = c in omega (arith, a.requires.0.readable.few_variables, a.requires.0.readable.few_nodes)
 
-quantifier_for_requires : tie.Need-quantifier-for-requires
-quantifier_for_requires c κs = search rules
+quantifier_for-requires : tie.Need-quantifier_for-requires
+quantifier_for-requires c κs = search rules
 
-write_quantifiers_requires : tie.Need-write-quantifiers-requires
-write_quantifiers_requires c κs = let a = start c.before.before in (a.pre.0, a.pre.1, omega (arith, a.pre.2))
+write_quantifiers-top-requires : tie.Need-write_quantifiers-top-requires
+write_quantifiers-top-requires c κs = let a = c in (a.requires.0, a.requires.1, omega (arith, a.requires.2))
 
-operator_for_requires : tie.Need-operator-for-requires
-operator_for_requires c κs = search rules
+operator_for-requires : tie.Need-operator_for-requires
+operator_for-requires c κs = search rules
 
-write_row_requires : tie.Need-write-row-requires
-write_row_requires c κs =
-    let p = prefix c.before in
-    let a = entry p in
-    (room_on a.pre.1.room p.write-quantifiers.kept.1.1.1.0, omega (arith, top_is p, a.pre.2), a.pre.3)
+write_row-at-requires : tie.Need-write_row-at-requires
+write_row-at-requires c κs =
+    let p = c in
+    let a = p in
+    (room_on a.requires.1.room p.write_quantifiers-top.auto.out, omega (arith, top_is p.before.before.before.before, a.requires.2), a.requires.3)
 
-write_rows_requires : tie.Need-write-rows-requires
-write_rows_requires c κs =
-    let w = root c in
-    let p = prefix w.before.before in
-    let a = entry p in (
-      ready_on a.pre.1 (w.write-row.kept.0 ∙ p.write-quantifiers.kept.1.1.1.0),
+write_rows-requires : tie.Need-write_rows-requires
+write_rows-requires c κs =
+    let w = c in
+    let p = w in
+    let a = p in (
+      ready_on a.requires.1 (w.write_row-at.auto.out ∙ p.write_quantifiers-top.auto.out),
       record { ordered = omega arith; inside = omega arith },
-      omega (arith, w.write-row.ensures.next_row, top_is p, a.pre.2),
+      omega (arith, w.write_row-at.ensures.next_row, top_is p.before.before.before.before.before.before.before.before, a.requires.2),
     )
 
-same_length : tie.Need-same-length
-same_length c = search rules
+shape_of-out : tie.Need-shape_of-out
+shape_of-out c = search rules
 
 returns : tie.Need-returns
 returns c =
-    let w = c.before.before in
-    let r = root w.before in
-    let p = prefix r.before.before in
-    let a = entry p in (
-      front-laid (side a.args.exists) a.args.b.now a.pre.0.readable p.before.before.quantifier_for.ensures r.before.operator-for.ensures
-          p.write-quantifiers.ensures r.write-row.ensures w.write-rows.ensures.0,
-      omega (arith, w.write-rows.ensures.1, r.write-row.ensures.next_row, top_is p),
+    let w = c in
+    let r = w in
+    let p = r in
+    let a = p in (
+      front-laid (side a.args.exists) a.args.b.now a.requires.0.readable p.quantifier_for.ensures r.operator_for.ensures
+          p.write_quantifiers-top.ensures r.write_row-at.ensures w.write_rows.ensures.0,
+      omega (arith, w.write_rows.ensures.1, r.write_row-at.ensures.next_row, top_is p.before.before.before.before.before.before.before.before.before.before.before),
     )
 
 pub write_front_spec : {M : Type 1} → statement M
 write_front_spec =
     tie.close
     (tie.spec
-    add_t12
-    quantifier_for_requires
-    write_quantifiers_requires
-    operator_for_requires
-    write_row_requires
-    write_rows_requires
-    same_length
+    overflow_add-matrix
+    quantifier_for-requires
+    write_quantifiers-top-requires
+    operator_for-requires
+    write_row-at-requires
+    write_rows-requires
+    shape_of-out
     returns)

@@ -7,31 +7,28 @@ use Rattle.claim.proofs.Turns.{room_on}
 use Rattle.claim.proofs.write.write_head.Statement.{statement}
 use Rattle.claim.proofs.write.write_head.Tie as tie
 
--- places in the code, each from a later one
-abbrev start : tie.After-write-row-arg → tie.Start
-start c = c.before.before.before
+write_row-at-requires : tie.Need-write_row-at-requires
+write_row-at-requires c κs =
+    let a = c in
+    (a.requires.0, omega (arith, a.requires.1), number_fits a.args.to.layout.format (omega arith))
 
-abbrev first : tie.After-write-row-arg2 → tie.After-write-row
-first c = c.before.before.before
+write_row-requires : tie.Need-write_row-requires
+write_row-requires c κs =
+    let w = c in
+    let a = w in
+    (room_on a.requires.0 w.write_row-at.auto.out, omega (arith, w.write_row-at.ensures.next_row, a.requires.1), a.requires.2)
 
-write_row_requires : tie.Need-write-row-requires
-write_row_requires c κs =
-    let a = start c in
-    (a.pre.0, omega (arith, a.pre.1), number_fits a.args.to.layout.format (omega arith))
-
-write_row_requires_2 : tie.Need-write-row-requires-2
-write_row_requires_2 c κs =
-    let w = first c in
-    let a = start w.before in
-    (room_on a.pre.0 w.write-row.kept.0, omega (arith, w.write-row.ensures.next_row, a.pre.1), a.pre.2)
-
-same_length : tie.Need-same-length
-same_length c = search rules
+shape_of-out : tie.Need-shape_of-out
+shape_of-out c = search rules
 
 returns : tie.Need-returns
 returns c =
-    let w = c.before.before in
-    laid_on (first w.before).write-row.ensures w.write-row2.ensures
+    let w = c in
+    laid_on w.write_row-at.ensures w.write_row.ensures
 
 pub write_head_spec : {M : Type 1} → statement M
-write_head_spec = tie.close (tie.spec write_row_requires write_row_requires_2 same_length returns)
+write_head_spec = tie.close (tie.spec
+    write_row-at-requires
+    write_row-requires
+    shape_of-out
+    returns)

@@ -8,103 +8,90 @@ use Rattle.claim.proofs.Turns.{Negating, negating_none, row-place, negating-on, 
 use Rattle.claim.proofs.write.write_negated.Statement.{statement}
 use Rattle.claim.proofs.write.write_negated.Tie as tie
 
-abbrev invariant-loop : tie.invariant-loop
-invariant-loop b s out₀ t end at₀ r₀ out at r = Negating s b t out₀ at₀ r₀ end out at r
+abbrev invariant-loop-r : tie.invariant-loop-r
+invariant-loop-r b s out₀ t end at₀ r₀ out at r = Negating s b t out₀ at₀ r₀ end out at r
 
-abbrev decreases-loop : tie.decreases-loop
-decreases-loop b s out₀ t end at₀ r₀ out at r = end - r
+abbrev decreases-loop-r : tie.decreases-loop-r
+decreases-loop-r b s out₀ t end at₀ r₀ out at r = end - r
 
--- places in the code, each from a later one
-abbrev start : tie.After-t invariant-loop decreases-loop → tie.Start invariant-loop decreases-loop
-start c = c.before.before.before
+loop-r-init : tie.Need-loop-r-init invariant-loop-r decreases-loop-r
+loop-r-init c =
+    let a = c in
+    negating_none a.args.b.now a.requires.0.readable.room a.args.to.layout a.args.out.now a.args.to.at a.args.span.from a.args.span.to
+    a.requires.2.inside a.requires.2.ordered
 
-abbrev entry : tie.In-loop invariant-loop decreases-loop → tie.Start invariant-loop decreases-loop
-entry c = start c.before.before
+kind_at-requires : tie.Need-kind_at-requires invariant-loop-r decreases-loop-r
+kind_at-requires c κs = let a = c in (a.requires.0.readable.room, omega (arith, c.loop-r-test.true, a.requires.2.inside))
 
-abbrev turn : tie.After-argument-at invariant-loop decreases-loop → tie.In-loop invariant-loop decreases-loop
-turn c = c.before.before.before
+negated_kind-kind-requires : tie.Need-negated_kind-kind-requires invariant-loop-r decreases-loop-r
+negated_kind-kind-requires c κs = tt
 
-abbrev read : tie.After-write-row invariant-loop decreases-loop → tie.After-argument-at invariant-loop decreases-loop
-read c = c.before.before
+argument_at-argument-requires : tie.Need-argument_at-argument-requires invariant-loop-r decreases-loop-r
+argument_at-argument-requires c κs =
+    let t = c in
+    let a = t in
+    (a.requires.0.readable.room, omega (arith, t.loop-r-test.true, a.requires.2.inside))
 
-loop_holds : tie.Need-loop-init invariant-loop decreases-loop
-loop_holds c =
-    let a = start c in
-    negating_none a.args.b.now a.pre.0.readable.room a.args.to.layout a.args.out.now a.args.to.at a.args.span.from a.args.span.to
-    a.pre.2.inside a.pre.2.ordered
-
-kind_at_requires : tie.Need-kind-at-requires invariant-loop decreases-loop
-kind_at_requires c κs = let a = entry c in (a.pre.0.readable.room, omega (arith, c.loop-test.true, a.pre.2.inside))
-
-negated_kind_requires : tie.Need-negated-kind-requires invariant-loop decreases-loop
-negated_kind_requires c κs = tt
-
-argument_at_requires : tie.Need-argument-at-requires invariant-loop decreases-loop
-argument_at_requires c κs =
-    let t = c.before.before in
-    let a = entry t in
-    (a.pre.0.readable.room, omega (arith, t.loop-test.true, a.pre.2.inside))
-
-write_row_requires : tie.Need-write-row-requires invariant-loop decreases-loop
-write_row_requires c κs =
-    let d = c.before in
-    let t = turn d in
-    let a = entry t in (
-      room_on a.pre.1.room t.before.loop.inv.same_length,
+write_row-at-requires : tie.Need-write_row-at-requires invariant-loop-r decreases-loop-r
+write_row-at-requires c κs =
+    let d = c in
+    let t = d in
+    let a = t in (
+      room_on a.requires.1.room t.loop-r.invariant.same_length,
       omega (
         arith,
-        row-place a.args.b.now a.pre.0.readable.room a.args.to.layout a.args.out.now a.args.to.at a.args.span.from a.args.span.to
-            a.pre.2.inside t.before.loop.inv,
-        t.loop-test.taken,
-        t.before.loop.inv.begun,
-        a.pre.3,
+        row-place a.args.b.now a.requires.0.readable.room a.args.to.layout a.args.out.now a.args.to.at a.args.span.from a.args.span.to
+            a.requires.2.inside t.loop-r.invariant,
+        t.loop-r-test.true,
+        t.loop-r.invariant.begun,
+        a.requires.3,
       ),
-      fits-row a.args.to.layout a.args.b.now a.pre.0 a.pre.1.same_format t.before.loop.r (omega (arith, t.loop-test.taken, a.pre.2.inside))
-          d.argument-at.ensures.0,
+      fits-row a.args.to.layout a.args.b.now a.requires.0 a.requires.1.same_format t.loop-r.r (omega (arith, t.loop-r-test.true, a.requires.2.inside))
+          d.argument_at-argument.ensures.0,
     )
 
-add_r : tie.Need-overflow-add-r invariant-loop decreases-loop
-add_r c =
-    let t = turn (read c.before.before) in
-    omega (arith, t.loop-test.taken, (entry t).pre.2.inside, (entry t).pre.0.readable.few_variables, (entry t).pre.0.readable.few_nodes)
+overflow_add-r : tie.Need-overflow_add-r invariant-loop-r decreases-loop-r
+overflow_add-r c =
+    let t = c in
+    omega (arith, t.loop-r-test.true, t.requires.2.inside, t.requires.0.readable.few_variables, t.requires.0.readable.few_nodes)
 
-loop_less : tie.Need-loop-smaller invariant-loop decreases-loop
-loop_less c = omega (arith, (turn (read c.before.before)).loop-test.taken)
+loop-r-smaller : tie.Need-loop-r-smaller invariant-loop-r decreases-loop-r
+loop-r-smaller c = omega (arith, c.loop-r-test.true)
 
-loop_again : tie.Need-loop-preserved invariant-loop decreases-loop
-loop_again c =
-    let w = c.before.before in
-    let d = read w in
-    let t = turn d in
-    let a = entry t in
-    let x = row_of a.args.s a.args.b.now t.before.loop.r in
-    negating-on a.args.b.now a.pre.0.readable.room a.args.to.layout a.args.out.now a.args.to.at a.args.span.from a.args.span.to
-    a.pre.2.inside t.before.loop.inv t.loop-test.taken (omega arith)
-    (negated_as x (d.before.negated_kind.ensures ∙ ap negated_kind d.before.before.kind_at.ensures) d.argument-at.ensures.0) w.write-row.ensures
-    w.write-row.auto.0
+loop-r-preserved : tie.Need-loop-r-preserved invariant-loop-r decreases-loop-r
+loop-r-preserved c =
+    let w = c in
+    let d = w in
+    let t = d in
+    let a = t in
+    let x = row_of a.args.s a.args.b.now t.loop-r.r in
+    negating-on a.args.b.now a.requires.0.readable.room a.args.to.layout a.args.out.now a.args.to.at a.args.span.from a.args.span.to
+    a.requires.2.inside t.loop-r.invariant t.loop-r-test.true (omega arith)
+    (negated_as x (d.negated_kind-kind.ensures ∙ ap negated_kind d.kind_at.ensures) d.argument_at-argument.ensures.0) w.write_row-at.ensures
+    w.write_row-at.auto.out
 
-same_length : tie.Need-same-length invariant-loop decreases-loop
-same_length c = c.before.loop.invariant.same_length
+shape_of-out : tie.Need-shape_of-out invariant-loop-r decreases-loop-r
+shape_of-out c = c.loop-r.invariant.same_length
 
-returns : tie.Need-returns invariant-loop decreases-loop
+returns : tie.Need-returns invariant-loop-r decreases-loop-r
 returns c =
-    let a = start c.before.before in
-    negating-all a.args.b.now a.pre.0.readable.room a.args.to.layout a.args.out.now a.args.to.at a.args.span.from a.args.span.to
-    a.pre.2.inside c.before.loop.invariant c.loop-test.false
+    let a = c in
+    negating-all a.args.b.now a.requires.0.readable.room a.args.to.layout a.args.out.now a.args.to.at a.args.span.from a.args.span.to
+    a.requires.2.inside c.loop-r.invariant c.loop-r-test.false
 
 pub write_negated_spec : {M : Type 1} → statement M
 write_negated_spec =
     tie.close
     (tie.spec
-    invariant-loop
-    decreases-loop
-    loop_holds
-    kind_at_requires
-    negated_kind_requires
-    argument_at_requires
-    write_row_requires
-    add_r
-    loop_less
-    loop_again
-    same_length
+    invariant-loop-r
+    decreases-loop-r
+    loop-r-init
+    kind_at-requires
+    negated_kind-kind-requires
+    argument_at-argument-requires
+    write_row-at-requires
+    overflow_add-r
+    loop-r-smaller
+    loop-r-preserved
+    shape_of-out
     returns)

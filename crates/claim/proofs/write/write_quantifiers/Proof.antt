@@ -5,70 +5,57 @@ use Rattle.claim.proofs.Turns.{Quantified, quantified-none, quantified-on, quant
 use Rattle.claim.proofs.write.write_quantifiers.Statement.{statement}
 use Rattle.claim.proofs.write.write_quantifiers.Tie as tie
 
-abbrev invariant-loop : tie.invariant-loop
-invariant-loop b s kind out₀ t v i₀ out i = Quantified s b kind t out₀ out i
+abbrev invariant-loop-i : tie.invariant-loop-i
+invariant-loop-i b s kind out₀ t v i₀ out i = Quantified s b kind t out₀ out i
 
-abbrev decreases-loop : tie.decreases-loop
-decreases-loop b s kind out₀ t v i₀ out i = v - i
+abbrev decreases-loop-i : tie.decreases-loop-i
+decreases-loop-i b s kind out₀ t v i₀ out i = v - i
 
--- places in the code, each from a later one
-abbrev start : tie.After-slice-known invariant-loop decreases-loop → tie.Start invariant-loop decreases-loop
-start c = c.before.before
+loop-i-init : tie.Need-loop-i-init invariant-loop-i decreases-loop-i
+loop-i-init c = let a = c in quantified-none a.args.b.now a.requires.0.readable a.args.kind a.args.t a.args.out.now
 
-abbrev entry : tie.In-loop invariant-loop decreases-loop → tie.Start invariant-loop decreases-loop
-entry c = start c.before.before
+bound_at-requires : tie.Need-bound_at-requires invariant-loop-i decreases-loop-i
+bound_at-requires c κs = let t = c in (t.requires.0.readable, t.loop-i-test.true)
 
-abbrev told : tie.After-slice-known2 invariant-loop decreases-loop → tie.After-bound-at invariant-loop decreases-loop
-told c = c.before.before.before
-
-abbrev turn : tie.After-bound-at invariant-loop decreases-loop → tie.In-loop invariant-loop decreases-loop
-turn c = c.before.before
-
-loop_holds : tie.Need-loop-init invariant-loop decreases-loop
-loop_holds c = let a = start c in quantified-none a.args.b.now a.pre.0.readable a.args.kind a.args.t a.args.out.now
-
-bound_at_requires : tie.Need-bound-at-requires invariant-loop decreases-loop
-bound_at_requires c κs = let t = c.before in ((entry t).requires.0.readable, t.loop-test.true)
-
-write_row_requires : tie.Need-write-row-requires invariant-loop decreases-loop
-write_row_requires c κs =
-    let t = turn c in
-    let a = entry t in (
-      room_on a.pre.1.room t.before.loop.inv.same_length,
-      omega (arith, t.loop-test.taken, a.pre.2),
-      fits_bound a.args.t a.args.b.now a.pre.0 a.pre.1.same_format t.before.loop.i t.loop-test.taken c.bound_at.ensures.0,
+write_row-i-requires : tie.Need-write_row-i-requires invariant-loop-i decreases-loop-i
+write_row-i-requires c κs =
+    let t = c in
+    let a = t in (
+      room_on a.requires.1.room t.loop-i.invariant.same_length,
+      omega (arith, t.loop-i-test.true, a.requires.2),
+      fits_bound a.args.t a.args.b.now a.requires.0 a.requires.1.same_format t.loop-i.i t.loop-i-test.true c.bound_at.ensures.0,
     )
 
-loop_less : tie.Need-loop-smaller invariant-loop decreases-loop
-loop_less c = omega (arith, c.before.before.write-row.ensures.next_row, (turn (told c)).loop-test.taken)
+loop-i-smaller : tie.Need-loop-i-smaller invariant-loop-i decreases-loop-i
+loop-i-smaller c = omega (arith, c.write_row-i.ensures.next_row, c.loop-i-test.true)
 
-loop_again : tie.Need-loop-preserved invariant-loop decreases-loop
-loop_again c =
-    let w = c.before.before in
-    let d = w.before in
-    let t = turn d in
-    let a = entry t in
-    quantified-on a.args.b.now a.pre.0.readable a.args.kind a.args.t a.args.out.now t.before.loop.inv t.loop-test.taken
-    d.bound_at.ensures.0 w.write-row.ensures w.write-row.auto.0
+loop-i-preserved : tie.Need-loop-i-preserved invariant-loop-i decreases-loop-i
+loop-i-preserved c =
+    let w = c in
+    let d = w in
+    let t = d in
+    let a = t in
+    quantified-on a.args.b.now a.requires.0.readable a.args.kind a.args.t a.args.out.now t.loop-i.invariant t.loop-i-test.true
+    d.bound_at.ensures.0 w.write_row-i.ensures w.write_row-i.auto.out
 
-same_length : tie.Need-same-length invariant-loop decreases-loop
-same_length c = c.before.loop.invariant.same_length
+shape_of-out : tie.Need-shape_of-out invariant-loop-i decreases-loop-i
+shape_of-out c = c.loop-i.invariant.same_length
 
-returns : tie.Need-returns invariant-loop decreases-loop
+returns : tie.Need-returns invariant-loop-i decreases-loop-i
 returns c =
-    let a = start c.before.before in
-    quantified-all a.args.b.now a.pre.0.readable a.args.kind a.args.t a.args.out.now c.before.loop.invariant c.loop-test.false
+    let a = c in
+    quantified-all a.args.b.now a.requires.0.readable a.args.kind a.args.t a.args.out.now c.loop-i.invariant c.loop-i-test.false
 
 pub write_quantifiers_spec : {M : Type 1} → statement M
 write_quantifiers_spec =
     tie.close
     (tie.spec
-    invariant-loop
-    decreases-loop
-    loop_holds
-    bound_at_requires
-    write_row_requires
-    loop_less
-    loop_again
-    same_length
+    invariant-loop-i
+    decreases-loop-i
+    loop-i-init
+    bound_at-requires
+    write_row-i-requires
+    loop-i-smaller
+    loop-i-preserved
+    shape_of-out
     returns)

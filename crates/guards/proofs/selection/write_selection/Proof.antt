@@ -17,8 +17,8 @@ same_1 c = c.write_rows-top.auto.out
 same_2 : (c : tie.After-write_row-below) → length c.write_row-below.new.out ≡ length c.args.out.now
 same_2 c = c.write_row-below.auto.out ∙ same_1 c.before.before.before.before
 
-same_3 : (c : tie.After-write_kept-next) → length c.write-Kept.new.1.1.1.1.0 ≡ length c.args.out.now
-same_3 c = c.write-Kept.auto.1.1.1.1.0 ∙ same_2 c.before.before.before.before
+same_3 : (c : tie.After-write_kept-next) → length c.write_kept-next.new.out ≡ length c.args.out.now
+same_3 c = c.write_kept-next.auto.out ∙ same_2 c.before.before.before.before
 
 overflow_add-t : tie.Need-overflow_add-t
 overflow_add-t c = search rules
@@ -65,7 +65,7 @@ write_rows-requires c κs =
     let top = wrote.write_rows-top.ensures.1 in (
       ready_on (part_ready h a.args.out.now a.requires.1) (same_3 wrote.before.before.before.before.before.before),
       record { ordered = omega (arith, h.rest_within); inside = omega arith },
-      omega (arith, h.rest_within, top, wrote.write_row-below.ensures.next_row, wrote.write-Kept.ensures.next_row, both_long h),
+      omega (arith, h.rest_within, top, wrote.write_row-below.ensures.next_row, wrote.write_kept-next.ensures.next_row, both_long h),
     )
 
 shape_of-out : tie.Need-shape_of-out
@@ -79,7 +79,7 @@ returns c =
     let first = kept.write_rows-top.ensures in (
       refl,
       part_written h.0 (part_room h.0 (room_on h.1 (last.write_rows.auto.out ∙ same_3 kept.before.before.before.before.before.before.before.before.before)))
-          (omega (arith, first.1)) first.0 kept.write_row-below.ensures kept.write-Kept.ensures last.write_rows.ensures.0,
+          (omega (arith, first.1)) first.0 kept.write_row-below.ensures kept.write_kept-next.ensures last.write_rows.ensures.0,
     )
 
 pub write_selection_spec : {M : Type 1} → statement M

@@ -52,7 +52,7 @@ small : (c : tie.In-loop-g invariant-loop-g decreases-loop-g)
     → let a = c.args in
     let g = c.loop-g.g in
     (g.at < length a.ends.now) × (g.at ≤ end c.before.before) × (end c.before.before ≤ a.s.nodes) × (a.s.nodes ≤ 8192) × (g.guards < a.s.nodes) ×
-    (g.rows < g.at) × (g.stops ≤ g.guards) × (g.left ≤ a.s.nodes + 1) × (length c.loop-g.auto ≡ length a.kept.now) ×
+    (g.rows < g.at) × (g.stops ≤ g.guards) × (g.left ≤ a.s.nodes + 1) × (length c.loop-g.kept ≡ length a.kept.now) ×
     (8192 ≤ length a.kept.now) × (0 < g.left)
 small c =
     let a = c in
@@ -83,7 +83,7 @@ others c =
 
 without : (c : tie.In-loop-g invariant-loop-g decreases-loop-g)
     → let a = c.args in
-    Tried a.s a.b.now a.ends.now (starts c.loop-g.auto c.loop-g.g) (others c.before.before)
+    Tried a.s a.b.now a.ends.now (starts c.loop-g.kept c.loop-g.g) (others c.before.before)
     (room c.loop-g.first c.loop-g.second)
 without c =
     let a = c in

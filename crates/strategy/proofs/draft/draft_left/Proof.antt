@@ -13,78 +13,65 @@ use Rattle.strategy.proofs.Drafting.{only_counted, laid_drafted, length-left-row
 use Rattle.strategy.proofs.draft.draft_left.Statement.{statement}
 use Rattle.strategy.proofs.draft.draft_left.Tie as tie
 
--- places in the code, each from a later one
-abbrev entry : tie.After-t → tie.Start
-entry c = c.before.before.before
-
-abbrev start : tie.After-count-left → tie.Start
-start c = entry c.before
-
-abbrev count : tie.After-struct-known2 → tie.After-count-left
-count c = c.before.before
-
-abbrev written : tie.After-slice-known2 → tie.After-write-left
-written c = c.before.before
-
-count_left_requires : tie.Need-count-left-requires
-count_left_requires c κs = search rules
+count_left-requires : tie.Need-count_left-requires
+count_left-requires c κs = search rules
 
 -- no more rows are left than there are
-few : (c : tie.After-count-left) → c.count_left.result ≤ 1024
+few : (c : tie.After-count_left) → c.count_left.result ≤ 1024
 few c =
-    let a = start c in
+    let a = c in
     let p = prefix_in a.args.s a.args.b.now in
-    omega (arith, c.count_left.ensures, few_left (winner a.args.exists) p, length_prefix a.args.b.now a.pre.0, a.pre.0.few_variables)
+    omega (arith, c.count_left.ensures, few_left (winner a.args.exists) p, length_prefix a.args.b.now a.requires.0, a.requires.0.few_variables)
 
 -- each has three rows
-counted : (c : tie.After-count-left) → let a = (start c).args in
+counted : (c : tie.After-count_left) → let a = c.args in
     3 * c.count_left.result ≡ length (pair_rows (left (winner a.exists) (prefix_in a.s a.b.now)))
 counted c =
-    let a = (start c).args in
+    let a = c.args in
     ap (λ k. 3 * k) c.count_left.ensures ∙ sym (length-left-rows (winner a.exists) (prefix_in a.s a.b.now))
 
-mul_next : tie.Need-overflow-mul-next
-mul_next c = omega (arith, few c)
+overflow_mul-next : tie.Need-overflow_mul-next
+overflow_mul-next c = omega (arith, few c)
 
-add_next : tie.Need-overflow-add-next
-add_next c = omega (arith, few c.before, (start c.before).requires.2.few)
+overflow_add-next : tie.Need-overflow_add-next
+overflow_add-next c = omega (arith, few c.before, c.requires.2.few)
 
-add_if1 : tie.Need-overflow-add-if1
-add_if1 c = search rules
+overflow_add-t : tie.Need-overflow_add-t
+overflow_add-t c = search rules
 
-returns : tie.Need-returns
-returns c =
-    let n = count c.before in
-    only_counted (ap (λ k. (start n).args.to.at + k) (counted n)) c.if1.true
+returns-then-t-next : tie.Need-returns-then-t-next
+returns-then-t-next c =
+    let n = c in
+    only_counted (ap (λ k. n.args.to.at + k) (counted n.before.before.before)) c.if-t-next.true
 
-write_left_requires : tie.Need-write-left-requires
-write_left_requires c κs =
-    let short = c.before in
-    let n = count short.before in
-    let p = (start n).pre in (
+write_left-requires : tie.Need-write_left-requires
+write_left-requires c κs =
+    let short = c in
+    let n = short in
+    let p = n.requires in (
       p.0,
       record {
-        has_room = p.2.draftable.room (omega (arith, short.if1.false, p.2.behind));
-        fits = λ i l. number_fits (start n).args.to.layout.format (omega (arith, p.1.few_numbers i l));
-        room = omega (arith, short.if1.false, counted n);
+        has_room = p.2.draftable.room (omega (arith, short.if-t-next.false, p.2.behind));
+        fits = λ i l. number_fits n.args.to.layout.format (omega (arith, p.1.few_numbers i l));
+        room = omega (arith, short.if-t-next.false, counted n.before.before.before.before);
       },
     )
 
-same_length : tie.Need-same-length
-same_length c = search rules
+shape_of-out : tie.Need-shape_of-out
+shape_of-out c = search rules
 
-returns_2 : tie.Need-returns-2
-returns_2 c = laid_drafted (written c).write-left.ensures
+returns : tie.Need-returns
+returns c = laid_drafted c.write_left.ensures
 
 pub draft_left_spec : {M : Type 1} → statement M
 draft_left_spec =
     tie.close
     (tie.spec
-    count_left_requires
-    mul_next
-    add_next
-    add_if1
-    returns
-    write_left_requires
-    same_length
-    returns_2)
+    count_left-requires
+    overflow_mul-next
+    overflow_add-next
+    overflow_add-t
+    returns-then-t-next
+    write_left-requires
+    shape_of-out
+    returns)

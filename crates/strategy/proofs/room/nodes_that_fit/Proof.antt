@@ -9,32 +9,37 @@ use Rattle.strategy.proofs.Fitting.{none-fits, most_fit}
 use Rattle.strategy.proofs.room.nodes_that_fit.Statement.{statement}
 use Rattle.strategy.proofs.room.nodes_that_fit.Tie as tie
 
-rows_that_fit_requires : tie.Need-rows-that-fit-requires
-rows_that_fit_requires c κs = search rules
+rows_that_fit-rows-requires : tie.Need-rows_that_fit-rows-requires
+rows_that_fit-rows-requires c κs = search rules
+
+returns-then-rows-v : tie.Need-returns-then-rows-v
+returns-then-rows-v c =
+    let rows = c in
+    let a = rows.args in
+    (none-fits (format_of a.f) rows.rows_that_fit-rows.ensures a.v c.if-rows-v.true, omega arith)
+
+most_nodes-requires : tie.Need-most_nodes-requires
+most_nodes-requires c κs = search rules
+
+shorter-requires : tie.Need-shorter-requires
+shorter-requires c κs = search rules
 
 returns : tie.Need-returns
 returns c =
-    let rows = c.before in
-    let a = rows.before.args in
-    (none-fits (format_of a.f) rows.rows-that-fit.ensures a.v c.if1.true, omega arith)
-
-most_nodes_requires : tie.Need-most-nodes-requires
-most_nodes_requires c κs = search rules
-
-shorter_requires : tie.Need-shorter-requires
-shorter_requires c κs = search rules
-
-returns_2 : tie.Need-returns-2
-returns_2 c =
-    let most = c.before in
-    let rows = most.before.before in
-    let a = rows.before.args in
-    let e = c.shorter.ensures ∙ ap (λ n. min n (rows.rows-that-fit.result - a.v)) most.most_nodes.ensures in (
-      most_fit (format_of a.f) rows.rows-that-fit.ensures a.v most.before.if1.false e,
+    let most = c in
+    let rows = most in
+    let a = rows.args in
+    let e = c.shorter.ensures ∙ ap (λ n. min n (rows.rows_that_fit-rows.result - a.v)) most.most_nodes.ensures in (
+      most_fit (format_of a.f) rows.rows_that_fit-rows.ensures a.v most.if-rows-v.false e,
       omega (arith, e, (limits a.f).few_nodes),
     )
 
 pub nodes_that_fit_spec : {M : Type 1} → statement M
 nodes_that_fit_spec =
     tie.close
-    (tie.spec rows_that_fit_requires returns most_nodes_requires shorter_requires returns_2)
+    (tie.spec
+    rows_that_fit-rows-requires
+    returns-then-rows-v
+    most_nodes-requires
+    shorter-requires
+    returns)

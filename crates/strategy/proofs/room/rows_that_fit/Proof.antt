@@ -4,33 +4,41 @@ use Rattle.strategy.proofs.Fitting.{places}
 use Rattle.strategy.proofs.room.rows_that_fit.Statement.{statement}
 use Rattle.strategy.proofs.room.rows_that_fit.Tie as tie
 
-width_requires : tie.Need-width-requires
-width_requires c κs = search rules
+width-w-requires : tie.Need-width-w-requires
+width-w-requires c κs = search rules
 
-mul_if1 : tie.Need-overflow-mul-if1
-mul_if1 c = search rules
+overflow_mul-w : tie.Need-overflow_mul-w
+overflow_mul-w c = search rules
+
+returns-then-bytes-w : tie.Need-returns-then-bytes-w
+returns-then-bytes-w c = search rules
+
+overflow_mul-result : tie.Need-overflow_mul-result
+overflow_mul-result c = search rules
+
+overflow_sub-result : tie.Need-overflow_sub-result
+overflow_sub-result c = search rules
+
+overflow_add-result : tie.Need-overflow_add-result
+overflow_add-result c = search rules
+
+nonzero_div-result : tie.Need-nonzero_div-result
+nonzero_div-result c = search rules
 
 returns : tie.Need-returns
-returns c = search rules
-
-mul_result : tie.Need-overflow-mul-result
-mul_result c = search rules
-
-sub_result : tie.Need-overflow-sub-result
-sub_result c = search rules
-
-add_result : tie.Need-overflow-add-result
-add_result c = search rules
-
-div_result : tie.Need-nonzero-div-result
-div_result c = search rules
-
-returns_2 : tie.Need-returns-2
-returns_2 c =
-    let w = c.before in
-    rw (← w.width.ensures.0) (places w.width.result w.before.args.bytes c.if1.false)
+returns c =
+    let w = c in
+    rw (← w.width-w.ensures.0) (places w.width-w.result w.args.bytes c.if-bytes-w.false)
 
 pub rows_that_fit_spec : {M : Type 1} → statement M
 rows_that_fit_spec =
     tie.close
-    (tie.spec width_requires mul_if1 returns mul_result sub_result add_result div_result returns_2)
+    (tie.spec
+    width-w-requires
+    overflow_mul-w
+    returns-then-bytes-w
+    overflow_mul-result
+    overflow_sub-result
+    overflow_add-result
+    nonzero_div-result
+    returns)

@@ -16,214 +16,171 @@ use Rattle.strategy.proofs.Walking.{never_ended}
 use Rattle.strategy.proofs.walk.open_turn.Statement.{statement}
 use Rattle.strategy.proofs.walk.open_turn.Tie as tie
 
--- places in the code, each from a later one
-abbrev known : tie.After-slice-known4 → tie.After-slice-known
-known c = c.before.before.before
-
-abbrev entry : tie.After-t → tie.Start
-entry c = (known c.before).before
-
-abbrev start : tie.After-sheet-length → tie.Start
-start c = entry c.before
-
-abbrev need_known : tie.After-draft-next-arg2 → tie.After-sheet-length
-need_known c = c.before.before
-
-abbrev need : tie.After-draft-next-arg4 → tie.After-sheet-length
-need c = need_known c.before.before
-
-abbrev ends_back : tie.After-slice-known5 → tie.After-draft-next
-ends_back c = c.before.before
-
-abbrev second_back : tie.After-slice-known6 → tie.After-draft-next
-second_back c = ends_back c.before.before
-
-abbrev drafted : tie.After-slice-known7 → tie.After-draft-next
-drafted c = second_back c.before.before
-
-abbrev room_known : tie.After-take-step-arg3 → tie.After-shorter
-room_known c = c.before.before.before
-
-abbrev first_back : tie.After-slice-known8 → tie.After-take-step
-first_back c = c.before.before
-
-abbrev second_back_again : tie.After-slice-known9 → tie.After-take-step
-second_back_again c = first_back c.before.before
-
-abbrev step_taken : tie.After-slice-known10 → tie.After-take-step
-step_taken c = second_back_again c.before.before
-
-sheet_length_requires : tie.Need-sheet-length-requires
-sheet_length_requires c κs = few_rows (entry c).requires.0.run
+sheet_length-need-requires : tie.Need-sheet_length-need-requires
+sheet_length-need-requires c κs = few_rows c.requires.0.run
 
 -- the sheet's length is known, and the second buffer has room for it
-enough : (c : tie.After-sheet-length) → c.sheet_length.result ≤ length (start c).args.second.now
-enough c = let r = (start c).requires.0.run in omega (arith, c.sheet_length.ensures, sheet-room r, r.second_room)
+enough : (c : tie.After-sheet_length-need) → c.sheet_length-need.result ≤ length c.args.second.now
+enough c = let r = c.requires.0.run in omega (arith, c.sheet_length-need.ensures, sheet-room r, r.second_room)
 
-part_length : (c : tie.After-sheet-length) → length (take c.sheet_length.result (start c).args.second.now) ≡ c.sheet_length.result
-part_length c = length-take-le c.sheet_length.result (start c).args.second.now (enough c)
+part_length : (c : tie.After-sheet_length-need) → length (take c.sheet_length-need.result c.args.second.now) ≡ c.sheet_length-need.result
+part_length c = length-take-le c.sheet_length-need.result c.args.second.now (enough c)
 
-slice_relend_prefix_draft_next : tie.Need-slice-relend-prefix-draft-next
-slice_relend_prefix_draft_next c = enough (need_known c)
+slice_bounds-draft_next-end : tie.Need-slice_bounds-draft_next-end
+slice_bounds-draft_next-end c = enough c.before
 
-slice_aggregate_draft_next : tie.Need-slice-aggregate-draft-next
-slice_aggregate_draft_next c = sym (part_length (need_known c.before))
+slice_bounds-draft_next-end-2 : tie.Need-slice_bounds-draft_next-end-2
+slice_bounds-draft_next-end-2 c = sym (part_length c.before.before)
 
-draft_next_requires : tie.Need-draft-next-requires
-draft_next_requires c κs =
-    let n = need c in
-    let p = (start n).pre in (
+draft_next-at-requires : tie.Need-draft_next-at-requires
+draft_next-at-requires c κs =
+    let n = c in
+    let p = n.requires in (
       record {
-        most = room (start n).args.first.now (start n).args.second.now;
+        most = room n.args.first.now n.args.second.now;
         held = p.0.run.held;
         some_left = some_left p.0.run p.1;
-        part_room = omega (arith, n.sheet_length.ensures, part_length n);
+        part_room = omega (arith, n.sheet_length-need.ensures, part_length n.before.before.before);
         draft = p.0.draft;
       },
       p.2,
     )
 
-shorter_requires : tie.Need-shorter-requires
-shorter_requires c κs = search rules
+shorter-room-requires : tie.Need-shorter-room-requires
+shorter-room-requires c κs = search rules
 
 -- the second buffer with the function in its front part
-abbrev second_now : tie.After-shorter → Bytes
+abbrev second_now : tie.After-shorter-room → Bytes
 second_now c =
-    let d = drafted c.before in
-    let n = need d.before in
-    d.draft-next.last.1.1.1.0 ++ drop n.sheet_length.result (start n).args.second.now
+    let d = c in
+    let n = d in
+    d.draft_next-at.new.part ++ drop n.sheet_length-need.result n.args.second.now
 
 -- it is as long as before, so there is as much room
-same_room : (c : tie.After-shorter) → let a = (start (need (drafted c.before).before)).args in
-    c.shorter.result ≡ room a.first.now a.second.now
+same_room : (c : tie.After-shorter-room) → let a = c.args in
+    c.shorter-room.result ≡ room a.first.now a.second.now
 same_room c =
-    let d = drafted c.before in
-    let n = need d.before in
-    let a = (start n).args in
-    let part = d.draft-next.last.1.1.1.0 in
-    let behind = drop n.sheet_length.result a.second.now in
-    c.shorter.ensures ∙
+    let d = c in
+    let n = d in
+    let a = n.args in
+    let part = d.draft_next-at.new.part in
+    let behind = drop n.sheet_length-need.result a.second.now in
+    c.shorter-room.ensures ∙
     ap (min (length a.first.now))
-    (length-append part behind ∙ omega (arith, d.draft-next.kept.1.1.1.0, part_length n, enough n, length-drop n.sheet_length.result a.second.now))
+    (length-append part behind ∙ omega (arith, d.draft_next-at.auto.part, part_length n.before.before.before.before.before.before.before.before.before.before.before, enough n.before.before.before.before.before.before.before.before.before.before.before, length-drop n.sheet_length-need.result a.second.now))
 
-take_step_requires : tie.Need-take-step-requires
-take_step_requires c κs =
-    let k = room_known c in
-    let d = drafted k.before in
-    let p = (start (need d.before)).requires in
+take_step-k-requires : tie.Need-take_step-k-requires
+take_step-k-requires c κs =
+    let k = c in
+    let d = k in
+    let p = d.requires in
     let r = p.0.run in
-    let e = same_room k in (
+    let e = same_room k.before.before.before in (
       record {
         held = rw e r.held;
-        first_room = omega (arith, k.shorter.ensures);
-        second_room = omega (arith, k.shorter.ensures);
+        first_room = omega (arith, k.shorter-room.ensures);
+        second_room = omega (arith, k.shorter-room.ensures);
         few = r.few;
       },
-      omega (arith, p.2, d.draft-next.kept.1.1.0),
+      omega (arith, p.2, d.draft_next-at.auto.ends),
     )
 
-enum_known_k : tie.Need-enum-known-k
-enum_known_k c = search rules
+enum_known-k : tie.Need-enum_known-k
+enum_known-k c = search rules
 
-enum_known_k_2 : tie.Need-enum-known-k-2
-enum_known_k_2 c = search rules
+enum_known-k-in-Ended-1 : tie.Need-enum_known-k-in-Ended-1
+enum_known-k-in-Ended-1 c = search rules
 
-enum_known_k_3 : tie.Need-enum-known-k-3
-enum_known_k_3 c = search rules
-
-abbrev before_step : tie.After-take-step → tie.After-shorter
-before_step c = room_known c.before
-
-abbrev begun : tie.After-take-step → tie.Start
-begun c = start (need (drafted (before_step c).before).before)
+enum_known-k-in-Stopped-1 : tie.Need-enum_known-k-in-Stopped-1
+enum_known-k-in-Stopped-1 c = search rules
 
 -- the step, once it is known
-stepped : (c : tie.After-take-step) (r : Step) → c.take_step.result ≡ r →
-    let a = (begun c).args in
-    Stepped (room a.first.now a.second.now) a.s a.first.now (second_now (before_step c)) c.take_step.new.0 c.take_step.new.1.0 r
+stepped : (c : tie.After-take_step-k) (r : Step) → c.take_step-k.result ≡ r →
+    let a = c.args in
+    Stepped (room a.first.now a.second.now) a.s a.first.now (second_now c.before.before.before.before) c.take_step-k.new.first c.take_step-k.new.second r
 stepped c r e =
-    let a = (begun c).args in
-    subst₂ (λ m r. Stepped m a.s a.first.now (second_now (before_step c)) c.take_step.new.0 c.take_step.new.1.0 r) (same_room (before_step c)) e c.take_step.ensures
+    let a = c.args in
+    subst₂ (λ m r. Stepped m a.s a.first.now (second_now c.before.before.before.before) c.take_step-k.new.first c.take_step-k.new.second r) (same_room c.before.before.before.before) e c.take_step-k.ensures
 
-same_length : tie.Need-same-length
-same_length c = search rules
+shape_of-first-in-Next : tie.Need-shape_of-first-in-Next
+shape_of-first-in-Next c = search rules
 
-same_length_2 : tie.Need-same-length-2
-same_length_2 c = search rules
+shape_of-second-in-Next : tie.Need-shape_of-second-in-Next
+shape_of-second-in-Next c = search rules
 
-same_length_3 : tie.Need-same-length-3
-same_length_3 c = search rules
+shape_of-ends-in-Next : tie.Need-shape_of-ends-in-Next
+shape_of-ends-in-Next c = search rules
 
-same_length_4 : tie.Need-same-length-4
-same_length_4 c = search rules
+shape_of-out-in-Next : tie.Need-shape_of-out-in-Next
+shape_of-out-in-Next c = search rules
 
-returns : tie.Need-returns
-returns c =
-    let t = step_taken c.before.before.before in
-    let d = drafted (before_step t).before in
-    (stepped t _ c.before.k.given.1, d.draft-next.ensures.0, d.draft-next.ensures.1)
+returns-in-Next : tie.Need-returns-in-Next
+returns-in-Next c =
+    let t = c in
+    let d = t in
+    (stepped t.before.before.before.before.before.before.before _ c.in-Next.is, d.draft_next-at.ensures.0, d.draft_next-at.ensures.1)
 
-same_length_5 : tie.Need-same-length-5
-same_length_5 c = search rules
+shape_of-first-in-Ended : tie.Need-shape_of-first-in-Ended
+shape_of-first-in-Ended c = search rules
 
-same_length_6 : tie.Need-same-length-6
-same_length_6 c = search rules
+shape_of-second-in-Ended : tie.Need-shape_of-second-in-Ended
+shape_of-second-in-Ended c = search rules
 
-same_length_7 : tie.Need-same-length-7
-same_length_7 c = search rules
+shape_of-ends-in-Ended : tie.Need-shape_of-ends-in-Ended
+shape_of-ends-in-Ended c = search rules
 
-same_length_8 : tie.Need-same-length-8
-same_length_8 c = search rules
+shape_of-out-in-Ended : tie.Need-shape_of-out-in-Ended
+shape_of-out-in-Ended c = search rules
 
-returns_2 : tie.Need-returns-2
-returns_2 c =
-    let t = step_taken c.before.before.before in
-    let a = begun t in
+returns-in-Ended : tie.Need-returns-in-Ended
+returns-in-Ended c =
+    let t = c in
+    let a = t in
     absurd
-    (never_ended a.args.s a.pre.0.run.held a.pre.1 (verdict_of c.before.k2.given.0.0) (stepped t _ c.before.k2.given.1).0)
+    (never_ended a.args.s a.requires.0.run.held a.requires.1 (verdict_of c.in-Ended.verdict) (stepped t.before.before.before.before.before.before.before _ c.in-Ended.is).0)
 
-same_length_9 : tie.Need-same-length-9
-same_length_9 c = search rules
+shape_of-first-in-Stopped : tie.Need-shape_of-first-in-Stopped
+shape_of-first-in-Stopped c = search rules
 
-same_length_10 : tie.Need-same-length-10
-same_length_10 c = search rules
+shape_of-second-in-Stopped : tie.Need-shape_of-second-in-Stopped
+shape_of-second-in-Stopped c = search rules
 
-same_length_11 : tie.Need-same-length-11
-same_length_11 c = search rules
+shape_of-ends-in-Stopped : tie.Need-shape_of-ends-in-Stopped
+shape_of-ends-in-Stopped c = search rules
 
-same_length_12 : tie.Need-same-length-12
-same_length_12 c = search rules
+shape_of-out-in-Stopped : tie.Need-shape_of-out-in-Stopped
+shape_of-out-in-Stopped c = search rules
 
-returns_3 : tie.Need-returns-3
-returns_3 c =
-    let t = step_taken c.before.before.before in
-    absurd ((begun t).pre.0.never_stops c.before.k3.given.0.0 (stepped t _ c.before.k3.given.1).0)
+returns-in-Stopped : tie.Need-returns-in-Stopped
+returns-in-Stopped c =
+    let t = c in
+    absurd (t.requires.0.never_stops c.in-Stopped.x (stepped t.before.before.before.before.before.before.before _ c.in-Stopped.is).0)
 
 pub open_turn_spec : {M : Type 1} → statement M
 open_turn_spec =
     tie.close
     (tie.spec
-    sheet_length_requires
-    slice_relend_prefix_draft_next
-    slice_aggregate_draft_next
-    draft_next_requires
-    shorter_requires
-    take_step_requires
-    enum_known_k
-    enum_known_k_2
-    enum_known_k_3
-    same_length
-    same_length_2
-    same_length_3
-    same_length_4
-    returns
-    same_length_5
-    same_length_6
-    same_length_7
-    same_length_8
-    returns_2
-    same_length_9
-    same_length_10
-    same_length_11
-    same_length_12
-    returns_3)
+    sheet_length-need-requires
+    slice_bounds-draft_next-end
+    slice_bounds-draft_next-end-2
+    draft_next-at-requires
+    shorter-room-requires
+    take_step-k-requires
+    enum_known-k
+    enum_known-k-in-Ended-1
+    enum_known-k-in-Stopped-1
+    shape_of-first-in-Next
+    shape_of-second-in-Next
+    shape_of-ends-in-Next
+    shape_of-out-in-Next
+    returns-in-Next
+    shape_of-first-in-Ended
+    shape_of-second-in-Ended
+    shape_of-ends-in-Ended
+    shape_of-out-in-Ended
+    returns-in-Ended
+    shape_of-first-in-Stopped
+    shape_of-second-in-Stopped
+    shape_of-ends-in-Stopped
+    shape_of-out-in-Stopped
+    returns-in-Stopped)

@@ -19,84 +19,53 @@ use Rattle.strategy.proofs.Walking.{Walking, ends_decided, walking_first, walkin
 use Rattle.strategy.proofs.walk.walk.Statement.{statement}
 use Rattle.strategy.proofs.walk.walk.Tie as tie
 
-abbrev invariant-loop : tie.invariant-loop
-invariant-loop first₀ second₀ out₀ exists t s₀ at₀ ends₀ first second out s at ends =
+abbrev invariant-loop-first : tie.invariant-loop-first
+invariant-loop-first first₀ second₀ out₀ exists t s₀ at₀ ends₀ first second out s at ends =
     Walking (room first₀ second₀) (winner exists) t s₀ s first₀ first out₀ out at₀ at × (length second ≡ length second₀) ×
     (length out ≡ length out₀) × (length ends ≡ 8192)
 
-abbrev decreases-loop : tie.decreases-loop
-decreases-loop first₀ second₀ out₀ exists t s₀ at₀ ends₀ first second out s at ends = s.sheet.variables
-
--- places in the code, each from a later one
-abbrev known : tie.After-slice-known3 invariant-loop decreases-loop → tie.After-slice-known invariant-loop decreases-loop
-known c = c.before.before
-
-abbrev entry : tie.After-t invariant-loop decreases-loop → tie.Start invariant-loop decreases-loop
-entry c = (known c.before.before).before
-
-abbrev start : tie.At-loop invariant-loop decreases-loop → tie.Start invariant-loop decreases-loop
-start c = entry c.before
-
-abbrev at_loop : tie.After-ends invariant-loop decreases-loop → tie.At-loop invariant-loop decreases-loop
-at_loop c = c.before.before.before
-
-abbrev turn : tie.After-take-turn invariant-loop decreases-loop → tie.At-loop invariant-loop decreases-loop
-turn c = at_loop c.before.before
-
-abbrev first_back : tie.After-slice-known4 invariant-loop decreases-loop → tie.After-take-turn invariant-loop decreases-loop
-first_back c = c.before.before
-
-abbrev second_back : tie.After-slice-known5 invariant-loop decreases-loop → tie.After-take-turn invariant-loop decreases-loop
-second_back c = first_back c.before.before
-
-abbrev taken : tie.After-slice-known6 invariant-loop decreases-loop → tie.After-take-turn invariant-loop decreases-loop
-taken c = second_back c.before.before.before
-
-abbrev decided_known : tie.After-draft-left-arg2 invariant-loop decreases-loop → tie.After-enum-told invariant-loop decreases-loop
-decided_known c = c.before.before
-
-abbrev left_drafted : tie.After-slice-known7 invariant-loop decreases-loop → tie.After-draft-left invariant-loop decreases-loop
-left_drafted c = c.before.before
+abbrev decreases-loop-first : tie.decreases-loop-first
+decreases-loop-first first₀ second₀ out₀ exists t s₀ at₀ ends₀ first second out s at ends = s.sheet.variables
 
 -- the row that is written next, at each turn
-abbrev here : tie.At-loop invariant-loop decreases-loop → Draft
-here c = let d = (start c).args.d in record { exists = d.exists; to = record { layout = d.to.layout; at = c.loop.at } }
+abbrev here : tie.At-loop-first invariant-loop-first decreases-loop-first → Draft
+here c = let d = c.args.d in record { exists = d.exists; to = record { layout = d.to.layout; at = c.loop-first.at } }
 
 -- the room is that of the start
-same_room : (c : tie.At-loop invariant-loop decreases-loop) → let a = (start c).args in
-    room a.first.now a.second.now ≡ room c.loop.first c.loop.second
-same_room c = let u = c.loop.invariant in ap₂ min (sym u.0.turn.same_length) (sym u.1)
+same_room : (c : tie.At-loop-first invariant-loop-first decreases-loop-first) → let a = c.args in
+    room a.first.now a.second.now ≡ room c.loop-first.first c.loop-first.second
+same_room c = let u = c.loop-first.invariant in ap₂ min (sym u.0.turn.same_length) (sym u.1)
 
 -- where the next rows go
-draft : (c : tie.At-loop invariant-loop decreases-loop) → let a = (start c).args in
-    DraftReady c.loop.s.sheet a.d.to.layout (length c.loop.out) c.loop.at
+draft : (c : tie.At-loop-first invariant-loop-first decreases-loop-first) → let a = c.args in
+    DraftReady c.loop-first.s.sheet a.d.to.layout (length c.loop-first.out) c.loop-first.at
 draft c =
-    let a = start c in
-    let u = c.loop.invariant in
-    let d = a.pre.draft in
+    let a = c in
+    let u = c.loop-first.invariant in
+    let d = a.requires.draft in
     record {
       same_format = d.same_format ∙ sym u.0.turn.same_format;
       draftable = subst (Draftable a.args.d.to.layout) (sym u.2) d.draftable;
       behind = omega (arith, d.behind, u.0.drafted.next_row);
-      few = omega (arith, u.0.few_rows, a.pre.few);
+      few = omega (arith, u.0.few_rows, a.requires.few);
     }
 
-loop_holds : tie.Need-loop-init invariant-loop decreases-loop
-loop_holds c =
-    let a = entry c in
-    let r = a.pre.run in
+loop-first-init : tie.Need-loop-first-init invariant-loop-first decreases-loop-first
+loop-first-init c =
+    let a = c in
+    let r = a.requires.run in
     (walking_first (winner a.args.d.exists) a.args.d.to.layout a.args.out.now a.args.d.to.at r.held r.few, refl, refl, refl)
 
-slice_aggregate_take_turn : tie.Need-slice-aggregate-take-turn invariant-loop decreases-loop
-slice_aggregate_take_turn c = sym (at_loop c).loop.invariant.3
+slice_bounds-take_turn-end : tie.Need-slice_bounds-take_turn-end invariant-loop-first decreases-loop-first
+slice_bounds-take_turn-end c = sym c.loop-first.invariant.3
 
-take_turn_requires : tie.Need-take-turn-requires invariant-loop decreases-loop
-take_turn_requires c κs =
-    let l = at_loop c.before in
-    let a = start l in
-    let u = l.loop.inv in
-    let r = a.pre.run in (
-      subst (λ m. TurnReady m l.loop.s (here l) l.loop.first l.loop.second l.loop.out) (same_room l)
+take_turn-k-requires : tie.Need-take_turn-k-requires invariant-loop-first decreases-loop-first
+take_turn-k-requires c κs =
+    let l = c in
+    let a = l in
+    let u = l.loop-first.invariant in
+    let r = a.requires.run in (
+      subst (λ m. TurnReady m l.loop-first.s (here l.before.before.before.before) l.loop-first.first l.loop-first.second l.loop-first.out) (same_room l.before.before.before.before)
           (record {
             run =
                 record {
@@ -105,117 +74,117 @@ take_turn_requires c κs =
                   second_room = omega (arith, u.1, r.second_room);
                   few = u.0.turn.few;
                 };
-            never_stops = walking_on u.0 a.pre.ends;
-            draft = draft l;
+            never_stops = walking_on u.0 a.requires.ends;
+            draft = draft l.before.before.before.before;
           }),
       omega (arith, u.3),
     )
 
-enum_told : tie.Need-enum-told invariant-loop decreases-loop
-enum_told c = search rules
+enum_told-1 : tie.Need-enum_told-1 invariant-loop-first decreases-loop-first
+enum_told-1 c = search rules
 
 -- the turn, once it is known
-turned : (c : tie.After-take-turn invariant-loop decreases-loop) (r : Turn) → c.take-turn.result ≡ r →
-    let l = turn c in
-    let a = (start l).args in
-    Turned (room a.first.now a.second.now) l.loop.s (here l) l.loop.first c.take-turn.new.0 l.loop.out c.take-turn.new.1.1.1.1.0 r
+turned : (c : tie.After-take_turn-k invariant-loop-first decreases-loop-first) (r : Turn) → c.take_turn-k.result ≡ r →
+    let l = c in
+    let a = l.args in
+    Turned (room a.first.now a.second.now) l.loop-first.s (here l.before.before.before.before.before) l.loop-first.first c.take_turn-k.new.first l.loop-first.out c.take_turn-k.new.out r
 turned c r e =
-    let l = turn c in
-    let a = (start l).args in
+    let l = c in
+    let a = l.args in
     subst₂
-    (λ m r. Turned m l.loop.s (here l) l.loop.first c.take-turn.new.0 l.loop.out c.take-turn.new.1.1.1.1.0 r)
-    (sym (same_room l)) e c.take-turn.ensures
+    (λ m r. Turned m l.loop-first.s (here l.before.before.before.before.before) l.loop-first.first c.take_turn-k.new.first l.loop-first.out c.take_turn-k.new.out r)
+    (sym (same_room l.before.before.before.before.before)) e c.take_turn-k.ensures
 
 -- the sheet is decided, and the buffers are as they were
-still : (c : tie.After-enum-told invariant-loop decreases-loop) →
-    let t = taken c.before.before in
-    let l = turn t in
-    let a = (start l).args in
-    Walking (room a.first.now a.second.now) (winner a.d.exists) a.d.to.layout a.start l.loop.s a.first.now
-    t.take-turn.last.0 a.out.now t.take-turn.last.1.1.1.1.0 a.d.to.at l.loop.at
+still : (c : tie.In-Decided invariant-loop-first decreases-loop-first) →
+    let t = c in
+    let l = t in
+    let a = l.args in
+    Walking (room a.first.now a.second.now) (winner a.d.exists) a.d.to.layout a.start l.loop-first.s a.first.now
+    t.take_turn-k.new.first a.out.now t.take_turn-k.new.out a.d.to.at l.loop-first.at
 still c =
-    let t = taken c.before.before in
-    let l = turn t in
-    let a = (start l).args in
-    let k = turned t Decided c.enum_told.given.1 in
+    let t = c in
+    let l = t in
+    let a = l.args in
+    let k = turned t.before.before.before.before.before.before.before.before Decided c.in-Decided.is in
     subst₂
-    (λ b out. Walking (room a.first.now a.second.now) (winner a.d.exists) a.d.to.layout a.start l.loop.s a.first.now b
-    a.out.now out a.d.to.at l.loop.at)
-    (sym k.1) (sym k.2) l.loop.inv.0
+    (λ b out. Walking (room a.first.now a.second.now) (winner a.d.exists) a.d.to.layout a.start l.loop-first.s a.first.now b
+    a.out.now out a.d.to.at l.loop-first.at)
+    (sym k.1) (sym k.2) l.loop-first.invariant.0
 
-draft_left_requires : tie.Need-draft-left-requires invariant-loop decreases-loop
-draft_left_requires c κs =
-    let told = decided_known c in
-    let t = taken told.before.before in
-    let l = turn t in
-    let a = (start l).args in
-    let h = (still told).turn.held in (
+draft_left-requires : tie.Need-draft_left-requires invariant-loop-first decreases-loop-first
+draft_left-requires c κs =
+    let told = c in
+    let t = told in
+    let l = t in
+    let a = l.args in
+    let h = (still told.before.before).turn.held in (
       readable h,
       (bound h).numbered,
-      subst (λ n. DraftReady l.loop.s.sheet a.d.to.layout n l.loop.at) (sym t.take-turn.kept.1.1.1.1.0) (draft l),
+      subst (λ n. DraftReady l.loop-first.s.sheet a.d.to.layout n l.loop-first.at) (sym t.take_turn-k.auto.out) (draft l.before.before.before.before.before.before.before.before.before.before.before.before.before.before.before),
     )
 
-same_length : tie.Need-same-length invariant-loop decreases-loop
-same_length c =
-    let t = taken (decided_known (left_drafted c).before).before.before in
-    t.take-turn.kept.0 ∙ (turn t).loop.inv.0.turn.same_length
+shape_of-first-in-Decided : tie.Need-shape_of-first-in-Decided invariant-loop-first decreases-loop-first
+shape_of-first-in-Decided c =
+    let t = c in
+    t.take_turn-k.auto.first ∙ t.loop-first.invariant.0.turn.same_length
 
-same_length_2 : tie.Need-same-length-2 invariant-loop decreases-loop
-same_length_2 c =
-    let t = taken (decided_known (left_drafted c).before).before.before in
-    t.take-turn.kept.1.0 ∙ (turn t).loop.inv.1
+shape_of-second-in-Decided : tie.Need-shape_of-second-in-Decided invariant-loop-first decreases-loop-first
+shape_of-second-in-Decided c =
+    let t = c in
+    t.take_turn-k.auto.second ∙ t.loop-first.invariant.1
 
-same_length_3 : tie.Need-same-length-3 invariant-loop decreases-loop
-same_length_3 c =
-    let t = taken (decided_known (left_drafted c).before).before.before in
-    (left_drafted c).draft-left.auto.1.1.1.0 ∙ t.take-turn.kept.1.1.1.1.0 ∙ (turn t).loop.inv.2
+shape_of-out-in-Decided : tie.Need-shape_of-out-in-Decided invariant-loop-first decreases-loop-first
+shape_of-out-in-Decided c =
+    let t = c in
+    c.draft_left.auto.out ∙ t.take_turn-k.auto.out ∙ t.loop-first.invariant.2
 
-returns : tie.Need-returns invariant-loop decreases-loop
-returns c =
-    let d = left_drafted c in
-    let told = decided_known d.before in
-    let t = taken told.before.before in
-    let l = turn t in
-    let a = (start l).args in
-    let k = turned t Decided told.enum_told.given.1 in
-    let e = ends_decided (room a.first.now a.second.now) l.loop.s t.take-turn.last.0
-    (subst (λ b. verdict (matrix_in l.loop.s.sheet b) ≡ some k.0.0) (sym k.1) k.0.1) in
-    record { drafted = walking-last (still told) e d.draft-left.ensures; shows = walking-shows (still told) e }
+returns-in-Decided : tie.Need-returns-in-Decided invariant-loop-first decreases-loop-first
+returns-in-Decided c =
+    let d = c in
+    let told = d in
+    let t = told in
+    let l = t in
+    let a = l.args in
+    let k = turned t.before.before.before.before.before.before.before.before.before.before.before.before.before Decided told.in-Decided.is in
+    let e = ends_decided (room a.first.now a.second.now) l.loop-first.s t.take_turn-k.new.first
+    (subst (λ b. verdict (matrix_in l.loop-first.s.sheet b) ≡ some k.0.0) (sym k.1) k.0.1) in
+    record { drafted = walking-last (still told.before.before.before.before.before) e d.draft_left.ensures; shows = walking-shows (still told.before.before.before.before.before) e }
 
-enum_known_k : tie.Need-enum-known-k invariant-loop decreases-loop
-enum_known_k c = search rules
+enum_known-k : tie.Need-enum_known-k invariant-loop-first decreases-loop-first
+enum_known-k c = search rules
 
-loop_less : tie.Need-loop-smaller invariant-loop decreases-loop
-loop_less c =
-    let t = taken c.before.before.before in
-    omega (arith, (turned t _ c.before.k.given.1).0.2)
+loop-first-smaller : tie.Need-loop-first-smaller invariant-loop-first decreases-loop-first
+loop-first-smaller c =
+    let t = c in
+    omega (arith, (turned t.before.before.before.before.before.before.before.before _ c.in-Next.is).0.2)
 
-loop_again : tie.Need-loop-preserved invariant-loop decreases-loop
-loop_again c =
-    let t = taken c.before.before.before in
-    let u = (turn t).loop.inv in
-    let k = turned t _ c.before.k.given.1 in (
-      walking_next u.0 k.0 t.take-turn.kept.0 k.1 k.2,
-      t.take-turn.kept.1.0 ∙ u.1,
-      t.take-turn.kept.1.1.1.1.0 ∙ u.2,
-      t.take-turn.kept.1.1.1.0 ∙ u.3,
+loop-first-preserved : tie.Need-loop-first-preserved invariant-loop-first decreases-loop-first
+loop-first-preserved c =
+    let t = c in
+    let u = t.loop-first.invariant in
+    let k = turned t.before.before.before.before.before.before.before.before _ c.in-Next.is in (
+      walking_next u.0 k.0 t.take_turn-k.auto.first k.1 k.2,
+      t.take_turn-k.auto.second ∙ u.1,
+      t.take_turn-k.auto.out ∙ u.2,
+      t.take_turn-k.auto.ends ∙ u.3,
     )
 
 pub walk_spec : {M : Type 1} → statement M
 walk_spec =
     tie.close
     (tie.spec
-    invariant-loop
-    decreases-loop
-    loop_holds
-    slice_aggregate_take_turn
-    take_turn_requires
-    enum_told
-    draft_left_requires
-    same_length
-    same_length_2
-    same_length_3
-    returns
-    enum_known_k
-    loop_less
-    loop_again)
+    invariant-loop-first
+    decreases-loop-first
+    loop-first-init
+    slice_bounds-take_turn-end
+    take_turn-k-requires
+    enum_told-1
+    draft_left-requires
+    shape_of-first-in-Decided
+    shape_of-second-in-Decided
+    shape_of-out-in-Decided
+    returns-in-Decided
+    enum_known-k
+    loop-first-smaller
+    loop-first-preserved)
