@@ -1,5 +1,6 @@
 // Answers as numbers, for callers in C and Rust: each answer of an operation in one number. include/plumanchor.h describes its parts.
 #![tactic(auto)]
+
 ghost use Rattle.std.specs.Prelude.{◌≡◌};
 ghost use Rattle.checking.specs.Answers.{checked_answer, written_answer};
 ghost use Rattle.trial.specs.Answers.{tried_answer};

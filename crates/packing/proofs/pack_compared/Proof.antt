@@ -8,59 +8,59 @@ use borrow.Author.Rules.{rules}
 use Rattle.packing.proofs.pack_compared.Statement.{statement}
 use Rattle.packing.proofs.pack_compared.Tie as tie
 
-enum_known_answer : tie.Need-enum-known-answer
-enum_known_answer c = search rules
+enum_known-answer : tie.Need-enum_known-answer
+enum_known-answer c = search rules
 
-pack_requires : tie.Need-pack-requires
-pack_requires c κs = search rules
+pack-requires : tie.Need-pack-requires
+pack-requires c κs = search rules
 
-enum_told : tie.Need-enum-told
-enum_told c = search rules
+enum_told-1 : tie.Need-enum_told-1
+enum_told-1 c = search rules
 
-pack_requires_2 : tie.Need-pack-requires-2
-pack_requires_2 c κs = search rules
+pack-requires-in-Before : tie.Need-pack-requires-in-Before
+pack-requires-in-Before c κs = search rules
 
-enum_told_2 : tie.Need-enum-told-2
-enum_told_2 c = search rules
+enum_told-in-Equal : tie.Need-enum_told-in-Equal
+enum_told-in-Equal c = search rules
 
-pack_requires_3 : tie.Need-pack-requires-3
-pack_requires_3 c κs = search rules
+pack-requires-in-Equal : tie.Need-pack-requires-in-Equal
+pack-requires-in-Equal c κs = search rules
 
-enum_told_3 : tie.Need-enum-told-3
-enum_told_3 c = search rules
+enum_told-in-After : tie.Need-enum_told-in-After
+enum_told-in-After c = search rules
 
-pack_requires_4 : tie.Need-pack-requires-4
-pack_requires_4 c κs = search rules
+pack-requires-in-After : tie.Need-pack-requires-in-After
+pack-requires-in-After c κs = search rules
 
-returns : tie.Need-returns
+returns-in-Refused : tie.Need-returns-in-Refused
 unfolding packed_compared
-returns c = c.pack.ensures ∙ ap (λ (a : Compared). packed_compared (compared_answer a)) (sym c.before.before.answer.given.1)
+returns-in-Refused c = c.pack.ensures ∙ ap (λ (a : Compared). packed_compared (compared_answer a)) (sym c.in-Refused.is)
 
-returns_2 : tie.Need-returns-2
+returns-in-Before : tie.Need-returns-in-Before
 unfolding packed_compared
-returns_2 c = c.pack2.ensures ∙ ap (λ (a : Compared). packed_compared (compared_answer a)) (sym c.before.enum_told.given.1)
+returns-in-Before c = c.pack-in-Before.ensures ∙ ap (λ (a : Compared). packed_compared (compared_answer a)) (sym c.in-Before.is)
 
-returns_3 : tie.Need-returns-3
+returns-in-Equal : tie.Need-returns-in-Equal
 unfolding packed_compared
-returns_3 c = c.pack3.ensures ∙ ap (λ (a : Compared). packed_compared (compared_answer a)) (sym c.before.enum-told2.given.1)
+returns-in-Equal c = c.pack-in-Equal.ensures ∙ ap (λ (a : Compared). packed_compared (compared_answer a)) (sym c.in-Equal.is)
 
-returns_4 : tie.Need-returns-4
+returns-in-After : tie.Need-returns-in-After
 unfolding packed_compared
-returns_4 c = c.pack4.ensures ∙ ap (λ (a : Compared). packed_compared (compared_answer a)) (sym c.before.enum-told3.given.1)
+returns-in-After c = c.pack-in-After.ensures ∙ ap (λ (a : Compared). packed_compared (compared_answer a)) (sym c.in-After.is)
 
 pub pack_compared_spec : {M : Type 1} → statement M
 pack_compared_spec =
     tie.close
     (tie.spec
-    enum_known_answer
-    pack_requires
-    enum_told
-    pack_requires_2
-    enum_told_2
-    pack_requires_3
-    enum_told_3
-    pack_requires_4
-    returns
-    returns_2
-    returns_3
-    returns_4)
+    enum_known-answer
+    pack-requires
+    enum_told-1
+    pack-requires-in-Before
+    enum_told-in-Equal
+    pack-requires-in-Equal
+    enum_told-in-After
+    pack-requires-in-After
+    returns-in-Refused
+    returns-in-Before
+    returns-in-Equal
+    returns-in-After)

@@ -8,67 +8,67 @@ use borrow.Author.Rules.{rules}
 use Rattle.packing.proofs.pack_guarded.Statement.{statement}
 use Rattle.packing.proofs.pack_guarded.Tie as tie
 
-enum_known_answer : tie.Need-enum-known-answer
-enum_known_answer c = search rules
+enum_known-answer : tie.Need-enum_known-answer
+enum_known-answer c = search rules
 
-pack_requires : tie.Need-pack-requires
-pack_requires c κs = search rules
+pack-requires : tie.Need-pack-requires
+pack-requires c κs = search rules
 
-enum_known_answer_2 : tie.Need-enum-known-answer-2
-enum_known_answer_2 c = search rules
+enum_known-answer-in-Stopped-1 : tie.Need-enum_known-answer-in-Stopped-1
+enum_known-answer-in-Stopped-1 c = search rules
 
-mul_pack : tie.Need-overflow-mul-pack
-mul_pack c = search rules
+overflow_mul-variable : tie.Need-overflow_mul-variable
+overflow_mul-variable c = search rules
 
-add_pack : tie.Need-overflow-add-pack
-add_pack c = search rules
+overflow_add-expanded : tie.Need-overflow_add-expanded
+overflow_add-expanded c = search rules
 
-pack_requires_2 : tie.Need-pack-requires-2
-pack_requires_2 c κs = search rules
+pack-requires-in-Stopped : tie.Need-pack-requires-in-Stopped
+pack-requires-in-Stopped c κs = search rules
 
-enum_known_answer_3 : tie.Need-enum-known-answer-3
-enum_known_answer_3 c = search rules
+enum_known-answer-in-True-1 : tie.Need-enum_known-answer-in-True-1
+enum_known-answer-in-True-1 c = search rules
 
-pack_requires_3 : tie.Need-pack-requires-3
-pack_requires_3 c κs = search rules
+pack-requires-in-True : tie.Need-pack-requires-in-True
+pack-requires-in-True c κs = search rules
 
-enum_known_answer_4 : tie.Need-enum-known-answer-4
-enum_known_answer_4 c = search rules
+enum_known-answer-in-Kept-1 : tie.Need-enum_known-answer-in-Kept-1
+enum_known-answer-in-Kept-1 c = search rules
 
-pack_requires_4 : tie.Need-pack-requires-4
-pack_requires_4 c κs = search rules
+pack-requires-in-Kept : tie.Need-pack-requires-in-Kept
+pack-requires-in-Kept c κs = search rules
 
-returns : tie.Need-returns
+returns-in-Refused : tie.Need-returns-in-Refused
 unfolding packed_guards
-returns c = c.pack.ensures ∙ ap (λ (a : Guarded). packed_guards (guarded_answer a)) (sym c.before.before.answer.given.1)
+returns-in-Refused c = c.pack.ensures ∙ ap (λ (a : Guarded). packed_guards (guarded_answer a)) (sym c.in-Refused.is)
 
-returns_2 : tie.Need-returns-2
+returns-in-Stopped : tie.Need-returns-in-Stopped
 unfolding packed_guards
-returns_2 c = c.pack2.ensures ∙ ap (λ (a : Guarded). packed_guards (guarded_answer a)) (sym c.before.before.answer2.given.1)
+returns-in-Stopped c = c.pack-in-Stopped.ensures ∙ ap (λ (a : Guarded). packed_guards (guarded_answer a)) (sym c.in-Stopped.is)
 
-returns_3 : tie.Need-returns-3
+returns-in-True : tie.Need-returns-in-True
 unfolding packed_guards
-returns_3 c = c.pack3.ensures ∙ ap (λ (a : Guarded). packed_guards (guarded_answer a)) (sym c.before.before.answer3.given.1)
+returns-in-True c = c.pack-in-True.ensures ∙ ap (λ (a : Guarded). packed_guards (guarded_answer a)) (sym c.in-True.is)
 
-returns_4 : tie.Need-returns-4
+returns-in-Kept : tie.Need-returns-in-Kept
 unfolding packed_guards
-returns_4 c = c.pack4.ensures ∙ ap (λ (a : Guarded). packed_guards (guarded_answer a)) (sym c.before.before.answer4.given.1)
+returns-in-Kept c = c.pack-in-Kept.ensures ∙ ap (λ (a : Guarded). packed_guards (guarded_answer a)) (sym c.in-Kept.is)
 
 pub pack_guarded_spec : {M : Type 1} → statement M
 pack_guarded_spec =
     tie.close
     (tie.spec
-    enum_known_answer
-    pack_requires
-    enum_known_answer_2
-    mul_pack
-    add_pack
-    pack_requires_2
-    enum_known_answer_3
-    pack_requires_3
-    enum_known_answer_4
-    pack_requires_4
-    returns
-    returns_2
-    returns_3
-    returns_4)
+    enum_known-answer
+    pack-requires
+    enum_known-answer-in-Stopped-1
+    overflow_mul-variable
+    overflow_add-expanded
+    pack-requires-in-Stopped
+    enum_known-answer-in-True-1
+    pack-requires-in-True
+    enum_known-answer-in-Kept-1
+    pack-requires-in-Kept
+    returns-in-Refused
+    returns-in-Stopped
+    returns-in-True
+    returns-in-Kept)

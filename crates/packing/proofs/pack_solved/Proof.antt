@@ -9,62 +9,62 @@ use borrow.Author.Rules.{rules}
 use Rattle.packing.proofs.pack_solved.Statement.{statement}
 use Rattle.packing.proofs.pack_solved.Tie as tie
 
-enum_known_answer : tie.Need-enum-known-answer
-enum_known_answer c = search rules
+enum_known-answer : tie.Need-enum_known-answer
+enum_known-answer c = search rules
 
-pack_requires : tie.Need-pack-requires
-pack_requires c κs = search rules
+pack-requires : tie.Need-pack-requires
+pack-requires c κs = search rules
 
-enum_known_answer_2 : tie.Need-enum-known-answer-2
-enum_known_answer_2 c = search rules
+enum_known-answer-in-Stopped-1 : tie.Need-enum_known-answer-in-Stopped-1
+enum_known-answer-in-Stopped-1 c = search rules
 
-mul_pack : tie.Need-overflow-mul-pack
-mul_pack c = search rules
+overflow_mul-x : tie.Need-overflow_mul-x
+overflow_mul-x c = search rules
 
-add_pack : tie.Need-overflow-add-pack
-add_pack c = search rules
+overflow_add-expanded : tie.Need-overflow_add-expanded
+overflow_add-expanded c = search rules
 
-pack_requires_2 : tie.Need-pack-requires-2
-pack_requires_2 c κs = search rules
+pack-requires-in-Stopped : tie.Need-pack-requires-in-Stopped
+pack-requires-in-Stopped c κs = search rules
 
-enum_known_answer_3 : tie.Need-enum-known-answer-3
-enum_known_answer_3 c = search rules
+enum_known-answer-in-Ended-1 : tie.Need-enum_known-answer-in-Ended-1
+enum_known-answer-in-Ended-1 c = search rules
 
-word_for_requires : tie.Need-word-for-requires
-word_for_requires c κs = search rules
+word_for-requires : tie.Need-word_for-requires
+word_for-requires c κs = search rules
 
-pack_requires_3 : tie.Need-pack-requires-3
-pack_requires_3 c κs = search rules
+pack-requires-in-Ended : tie.Need-pack-requires-in-Ended
+pack-requires-in-Ended c κs = search rules
 
-returns : tie.Need-returns
+returns-in-Refused : tie.Need-returns-in-Refused
 unfolding packed_solved
-returns c = c.pack.ensures ∙ ap (λ (a : Solved). packed_solved (solved_answer a)) (sym c.before.before.answer.given.1)
+returns-in-Refused c = c.pack.ensures ∙ ap (λ (a : Solved). packed_solved (solved_answer a)) (sym c.in-Refused.is)
 
-returns_2 : tie.Need-returns-2
+returns-in-Stopped : tie.Need-returns-in-Stopped
 unfolding packed_solved
-returns_2 c = c.pack2.ensures ∙ ap (λ (a : Solved). packed_solved (solved_answer a)) (sym c.before.before.answer2.given.1)
+returns-in-Stopped c = c.pack-in-Stopped.ensures ∙ ap (λ (a : Solved). packed_solved (solved_answer a)) (sym c.in-Stopped.is)
 
-returns_3 : tie.Need-returns-3
+returns-in-Ended : tie.Need-returns-in-Ended
 unfolding packed_solved
-returns_3 c =
-    let told = c.before.before.before in
-    c.pack3.ensures ∙
-    ap (λ w. packed 0 w told.answer3.given.0.1.0 (told.answer3.given.0.1.1.0 % 65536)) c.before.word_for.ensures ∙
-    ap (λ (a : Solved). packed_solved (solved_answer a)) (sym told.answer3.given.1)
+returns-in-Ended c =
+    let told = c in
+    c.pack-in-Ended.ensures ∙
+    ap (λ w. packed 0 w told.in-Ended.settled (told.in-Ended.expanded % 65536)) c.word_for.ensures ∙
+    ap (λ (a : Solved). packed_solved (solved_answer a)) (sym told.in-Ended.is)
 
 pub pack_solved_spec : {M : Type 1} → statement M
 pack_solved_spec =
     tie.close
     (tie.spec
-    enum_known_answer
-    pack_requires
-    enum_known_answer_2
-    mul_pack
-    add_pack
-    pack_requires_2
-    enum_known_answer_3
-    word_for_requires
-    pack_requires_3
-    returns
-    returns_2
-    returns_3)
+    enum_known-answer
+    pack-requires
+    enum_known-answer-in-Stopped-1
+    overflow_mul-x
+    overflow_add-expanded
+    pack-requires-in-Stopped
+    enum_known-answer-in-Ended-1
+    word_for-requires
+    pack-requires-in-Ended
+    returns-in-Refused
+    returns-in-Stopped
+    returns-in-Ended)

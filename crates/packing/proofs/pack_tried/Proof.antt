@@ -7,37 +7,37 @@ use borrow.Author.Rules.{rules}
 use Rattle.packing.proofs.pack_tried.Statement.{statement}
 use Rattle.packing.proofs.pack_tried.Tie as tie
 
-enum_known_answer : tie.Need-enum-known-answer
-enum_known_answer c = search rules
+enum_known-answer : tie.Need-enum_known-answer
+enum_known-answer c = search rules
 
-cast_pack : tie.Need-overflow-cast-pack
-cast_pack c = search rules
+overflow_cast-verdict : tie.Need-overflow_cast-verdict
+overflow_cast-verdict c = search rules
 
-pack_requires : tie.Need-pack-requires
-pack_requires c κs = search rules
+pack-requires : tie.Need-pack-requires
+pack-requires c κs = search rules
 
-enum_known_answer_2 : tie.Need-enum-known-answer-2
-enum_known_answer_2 c = search rules
+enum_known-answer-in-Refused-1 : tie.Need-enum_known-answer-in-Refused-1
+enum_known-answer-in-Refused-1 c = search rules
 
-pack_requires_2 : tie.Need-pack-requires-2
-pack_requires_2 c κs = search rules
+pack-requires-in-Refused : tie.Need-pack-requires-in-Refused
+pack-requires-in-Refused c κs = search rules
 
-returns : tie.Need-returns
+returns-in-Answered : tie.Need-returns-in-Answered
 unfolding packed_trial
-returns c = c.pack.ensures ∙ ap (λ w. packed_trial (tried_answer w)) (sym c.before.before.answer.given.1)
+returns-in-Answered c = c.pack.ensures ∙ ap (λ w. packed_trial (tried_answer w)) (sym c.in-Answered.is)
 
-returns_2 : tie.Need-returns-2
+returns-in-Refused : tie.Need-returns-in-Refused
 unfolding packed_trial
-returns_2 c = c.pack2.ensures ∙ ap (λ w. packed_trial (tried_answer w)) (sym c.before.before.answer2.given.1)
+returns-in-Refused c = c.pack-in-Refused.ensures ∙ ap (λ w. packed_trial (tried_answer w)) (sym c.in-Refused.is)
 
 pub pack_tried_spec : {M : Type 1} → statement M
 pack_tried_spec =
     tie.close
     (tie.spec
-    enum_known_answer
-    cast_pack
-    pack_requires
-    enum_known_answer_2
-    pack_requires_2
-    returns
-    returns_2)
+    enum_known-answer
+    overflow_cast-verdict
+    pack-requires
+    enum_known-answer-in-Refused-1
+    pack-requires-in-Refused
+    returns-in-Answered
+    returns-in-Refused)

@@ -8,41 +8,41 @@ use borrow.Author.Rules.{rules}
 use Rattle.packing.proofs.copies.pack_copied.Statement.{statement}
 use Rattle.packing.proofs.copies.pack_copied.Tie as tie
 
-enum_known_answer : tie.Need-enum-known-answer
-enum_known_answer c = search rules
+enum_known-answer : tie.Need-enum_known-answer
+enum_known-answer c = search rules
 
-pack_requires : tie.Need-pack-requires
-pack_requires c κs = search rules
+pack-requires : tie.Need-pack-requires
+pack-requires c κs = search rules
 
-enum_known_answer_2 : tie.Need-enum-known-answer-2
-enum_known_answer_2 c = search rules
+enum_known-answer-in-Copied-1 : tie.Need-enum_known-answer-in-Copied-1
+enum_known-answer-in-Copied-1 c = search rules
 
-mul_pack : tie.Need-overflow-mul-pack
-mul_pack c = search rules
+overflow_mul-lowest : tie.Need-overflow_mul-lowest
+overflow_mul-lowest c = search rules
 
-add_pack : tie.Need-overflow-add-pack
-add_pack c = search rules
+overflow_add-copied : tie.Need-overflow_add-copied
+overflow_add-copied c = search rules
 
-pack_requires_2 : tie.Need-pack-requires-2
-pack_requires_2 c κs = search rules
+pack-requires-in-Copied : tie.Need-pack-requires-in-Copied
+pack-requires-in-Copied c κs = search rules
 
-returns : tie.Need-returns
+returns-in-Refused : tie.Need-returns-in-Refused
 unfolding packed_copied
-returns c = c.pack.ensures ∙ ap (λ (a : Stepped). packed_copied (outcome_answer a)) (sym c.before.before.answer.given.1)
+returns-in-Refused c = c.pack.ensures ∙ ap (λ (a : Stepped). packed_copied (outcome_answer a)) (sym c.in-Refused.is)
 
-returns_2 : tie.Need-returns-2
+returns-in-Copied : tie.Need-returns-in-Copied
 unfolding packed_copied
-returns_2 c = c.pack2.ensures ∙ ap (λ (a : Stepped). packed_copied (outcome_answer a)) (sym c.before.before.answer2.given.1)
+returns-in-Copied c = c.pack-in-Copied.ensures ∙ ap (λ (a : Stepped). packed_copied (outcome_answer a)) (sym c.in-Copied.is)
 
 pub pack_copied_spec : {M : Type 1} → statement M
 pack_copied_spec =
     tie.close
     (tie.spec
-    enum_known_answer
-    pack_requires
-    enum_known_answer_2
-    mul_pack
-    add_pack
-    pack_requires_2
-    returns
-    returns_2)
+    enum_known-answer
+    pack-requires
+    enum_known-answer-in-Copied-1
+    overflow_mul-lowest
+    overflow_add-copied
+    pack-requires-in-Copied
+    returns-in-Refused
+    returns-in-Copied)

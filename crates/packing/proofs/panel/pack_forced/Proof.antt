@@ -9,42 +9,42 @@ use borrow.Author.Rules.{rules}
 use Rattle.packing.proofs.panel.pack_forced.Statement.{statement}
 use Rattle.packing.proofs.panel.pack_forced.Tie as tie
 
-enum_known_answer : tie.Need-enum-known-answer
-enum_known_answer c = search rules
+enum_known-answer : tie.Need-enum_known-answer
+enum_known-answer c = search rules
 
-pack_requires : tie.Need-pack-requires
-pack_requires c κs = search rules
+pack-requires : tie.Need-pack-requires
+pack-requires c κs = search rules
 
-enum_known_answer_2 : tie.Need-enum-known-answer-2
-enum_known_answer_2 c = search rules
+enum_known-answer-in-Answered-1 : tie.Need-enum_known-answer-in-Answered-1
+enum_known-answer-in-Answered-1 c = search rules
 
-kind_of_requires : tie.Need-kind-of-requires
-kind_of_requires c κs = search rules
+kind_of-requires : tie.Need-kind_of-requires
+kind_of-requires c κs = search rules
 
-pack_outcome_requires : tie.Need-pack-outcome-requires
-pack_outcome_requires c κs = search rules
+pack_outcome-requires : tie.Need-pack_outcome-requires
+pack_outcome-requires c κs = search rules
 
-returns : tie.Need-returns
+returns-in-Refused : tie.Need-returns-in-Refused
 unfolding packed_forced
-returns c =
-    c.pack.ensures ∙ ap (λ (a : Forced). packed_forced (forced_answer a)) (sym c.before.before.answer.given.1)
+returns-in-Refused c =
+    c.pack.ensures ∙ ap (λ (a : Forced). packed_forced (forced_answer a)) (sym c.in-Refused.is)
 
-returns_2 : tie.Need-returns-2
+returns-in-Answered : tie.Need-returns-in-Answered
 unfolding packed_forced
-returns_2 c =
-    let told = c.before.before.before in
-    c.pack-outcome.ensures ∙
-    ap (λ (k : ℕ). packed_outcome k (outcome_of told.answer2.given.0.1.0)) c.before.kind-of.ensures ∙
-    ap (λ (a : Forced). packed_forced (forced_answer a)) (sym told.answer2.given.1)
+returns-in-Answered c =
+    let told = c in
+    c.pack_outcome.ensures ∙
+    ap (λ (k : ℕ). packed_outcome k (outcome_of told.in-Answered.outcome)) c.kind_of.ensures ∙
+    ap (λ (a : Forced). packed_forced (forced_answer a)) (sym told.in-Answered.is)
 
 pub pack_forced_spec : {M : Type 1} → statement M
 pack_forced_spec =
     tie.close
     (tie.spec
-    enum_known_answer
-    pack_requires
-    enum_known_answer_2
-    kind_of_requires
-    pack_outcome_requires
-    returns
-    returns_2)
+    enum_known-answer
+    pack-requires
+    enum_known-answer-in-Answered-1
+    kind_of-requires
+    pack_outcome-requires
+    returns-in-Refused
+    returns-in-Answered)

@@ -8,87 +8,87 @@ use borrow.Author.Rules.{rules}
 use Rattle.packing.proofs.panel.pack_outcome.Statement.{statement}
 use Rattle.packing.proofs.panel.pack_outcome.Tie as tie
 
-enum_told : tie.Need-enum-told
-enum_told c = search rules
+enum_told-1 : tie.Need-enum_told-1
+enum_told-1 c = search rules
 
-pack_requires : tie.Need-pack-requires
-pack_requires c κs = search rules
+pack-requires : tie.Need-pack-requires
+pack-requires c κs = search rules
 
-enum_told_2 : tie.Need-enum-told-2
-enum_told_2 c = search rules
+enum_told-in-Zero : tie.Need-enum_told-in-Zero
+enum_told-in-Zero c = search rules
 
-pack_requires_2 : tie.Need-pack-requires-2
-pack_requires_2 c κs = search rules
+pack-requires-in-Zero : tie.Need-pack-requires-in-Zero
+pack-requires-in-Zero c κs = search rules
 
-enum_told_3 : tie.Need-enum-told-3
-enum_told_3 c = search rules
+enum_told-in-One : tie.Need-enum_told-in-One
+enum_told-in-One c = search rules
 
-pack_requires_3 : tie.Need-pack-requires-3
-pack_requires_3 c κs = search rules
+pack-requires-in-One : tie.Need-pack-requires-in-One
+pack-requires-in-One c κs = search rules
 
-enum_told_4 : tie.Need-enum-told-4
-enum_told_4 c = search rules
+enum_told-in-Both : tie.Need-enum_told-in-Both
+enum_told-in-Both c = search rules
 
-pack_requires_4 : tie.Need-pack-requires-4
-pack_requires_4 c κs = search rules
+pack-requires-in-Both : tie.Need-pack-requires-in-Both
+pack-requires-in-Both c κs = search rules
 
-enum_known_outcome : tie.Need-enum-known-outcome
-enum_known_outcome c = search rules
+enum_known-outcome : tie.Need-enum_known-outcome
+enum_known-outcome c = search rules
 
-pack_requires_5 : tie.Need-pack-requires-5
-pack_requires_5 c κs = search rules
+pack-requires-in-Stopped : tie.Need-pack-requires-in-Stopped
+pack-requires-in-Stopped c κs = search rules
 
-returns : tie.Need-returns
+returns-in-Neither : tie.Need-returns-in-Neither
 unfolding packed_outcome
-returns c =
-    let told = c.before in
-    let turn = told.before.before.args.turn in
-    c.pack.ensures ∙ ap (λ (o : Outcome). packed_outcome turn (outcome_of o)) (sym told.enum_told.given.1)
+returns-in-Neither c =
+    let told = c in
+    let turn = told.args.turn in
+    c.pack.ensures ∙ ap (λ (o : Outcome). packed_outcome turn (outcome_of o)) (sym told.in-Neither.is)
 
-returns_2 : tie.Need-returns-2
+returns-in-Zero : tie.Need-returns-in-Zero
 unfolding packed_outcome
-returns_2 c =
-    let told = c.before in
-    let turn = told.before.before.args.turn in
-    c.pack2.ensures ∙ ap (λ (o : Outcome). packed_outcome turn (outcome_of o)) (sym told.enum-told2.given.1)
+returns-in-Zero c =
+    let told = c in
+    let turn = told.args.turn in
+    c.pack-in-Zero.ensures ∙ ap (λ (o : Outcome). packed_outcome turn (outcome_of o)) (sym told.in-Zero.is)
 
-returns_3 : tie.Need-returns-3
+returns-in-One : tie.Need-returns-in-One
 unfolding packed_outcome
-returns_3 c =
-    let told = c.before in
-    let turn = told.before.before.args.turn in
-    c.pack3.ensures ∙ ap (λ (o : Outcome). packed_outcome turn (outcome_of o)) (sym told.enum-told3.given.1)
+returns-in-One c =
+    let told = c in
+    let turn = told.args.turn in
+    c.pack-in-One.ensures ∙ ap (λ (o : Outcome). packed_outcome turn (outcome_of o)) (sym told.in-One.is)
 
-returns_4 : tie.Need-returns-4
+returns-in-Both : tie.Need-returns-in-Both
 unfolding packed_outcome
-returns_4 c =
-    let told = c.before in
-    let turn = told.before.before.args.turn in
-    c.pack4.ensures ∙ ap (λ (o : Outcome). packed_outcome turn (outcome_of o)) (sym told.enum-told4.given.1)
+returns-in-Both c =
+    let told = c in
+    let turn = told.args.turn in
+    c.pack-in-Both.ensures ∙ ap (λ (o : Outcome). packed_outcome turn (outcome_of o)) (sym told.in-Both.is)
 
-returns_5 : tie.Need-returns-5
+returns-in-Stopped : tie.Need-returns-in-Stopped
 unfolding packed_outcome
-returns_5 c =
-    let told = c.before.before in
-    let turn = told.before.before.args.turn in
-    c.pack5.ensures ∙ ap (λ (o : Outcome). packed_outcome turn (outcome_of o)) (sym told.outcome.given.1)
+returns-in-Stopped c =
+    let told = c in
+    let turn = told.args.turn in
+    c.pack-in-Stopped.ensures ∙ ap (λ (o : Outcome). packed_outcome turn (outcome_of o)) (sym told.in-Stopped.is)
 
 pub pack_outcome_spec : {M : Type 1} → statement M
 pack_outcome_spec =
     tie.close
     (tie.spec
-    enum_told
-    pack_requires
-    enum_told_2
-    pack_requires_2
-    enum_told_3
-    pack_requires_3
-    enum_told_4
-    pack_requires_4
-    enum_known_outcome
-    pack_requires_5
-    returns
-    returns_2
-    returns_3
-    returns_4
-    returns_5)
+    enum_told-1
+    pack-requires
+    enum_told-in-Zero
+    pack-requires-in-Zero
+    enum_told-in-One
+    pack-requires-in-One
+    enum_told-in-Both
+    pack-requires-in-Both
+    enum_known-outcome
+    pack-requires-in-Stopped
+    returns-in-Neither
+    returns-in-Zero
+    returns-in-One
+    returns-in-Both
+    returns-in-Stopped)

@@ -44,7 +44,7 @@ shape_of-out : tie.Need-shape_of-out
 shape_of-out c = search rules
 
 returns-in-Open : tie.Need-returns-in-Open
-returns-in-Open c = c.open_Turn.ensures
+returns-in-Open c = c.open_turn.ensures
 
 pub take_turn_spec : {M : Type 1} → statement M
 take_turn_spec =
