@@ -12,7 +12,6 @@ use Rattle.formula.specs.Tree.{Formula}
 use Rattle.formula.specs.Decide.{Decision, decide}
 use Rattle.sheet.specs.Format as sheet
 use Rattle.sheet.specs.Format.{Bytes, fits}
-use Rattle.sheet.specs.Sheet.{formula}
 use Rattle.sheet.specs.Check.{Answer, refused, accepted, test, answer, check_tests, check}
 use Rattle.sheet.specs.Operations.{tidy_tests}
 use Rattle.sheet.specs.Trace.{room}

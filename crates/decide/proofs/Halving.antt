@@ -1,9 +1,9 @@
 -- A sheet at the front of bytes stays what it is whatever is behind it, and its halves are written.
 -- Assumes nothing.
-use mathlib.Core.Path.{◌≡◌, refl, sym, ap, ap₂, ◌∙◌, subst}
+use mathlib.Core.Path.{◌≡◌, refl, sym, ap, ◌∙◌, subst}
 use mathlib.Core.Bool.{Bool}
 use mathlib.Core.List.{List, [], ◌∷◌, ◌++◌}
-use Prim.Native.Nat.{ℕ, suc, ◌+◌, ◌-◌, ◌≤◌, ◌<◌}
+use Prim.Native.Nat.{ℕ, ◌+◌, ◌-◌, ◌≤◌, ◌<◌}
 use native.Mathlib.Nat.{mul-le-mul_left}
 use native.Mathlib.Omega.{arith}
 use lib.ListN.{length, take, drop, take-append-drop, length-drop}
@@ -11,7 +11,6 @@ use lib.Seq.{drop-cons, take-append-le, take-take, take_at, length-take-le}
 use Rattle.formula.specs.Tree.{Prefix, Tree, Formula, replace, assign}
 use Rattle.formula.specs.Force.{given_by}
 use Rattle.formula.specs.Decide.{half}
-use Rattle.formula.proofs.Force.{prefix_given}
 use Rattle.sheet.specs.Format.{Bytes, Format, row}
 use Rattle.sheet.specs.Sheet.{binding, formula_rows}
 use Rattle.sheet.specs.Limits.{Within}
@@ -19,7 +18,7 @@ use Rattle.sheet.proofs.Limits.{numbered_at}
 use Rattle.sheet.proofs.RoundTrip.{length-formula_rows}
 use Rattle.sheet.proofs.Force.{within-given}
 use Rattle.rows.specs.Layouts.{format_in, width, total, size, rows_in, Room}
-use Rattle.rows.specs.Formulas.{prefix_in, matrix_in, formula_in, Readable}
+use Rattle.rows.specs.Formulas.{prefix_in, matrix_in, formula_in}
 use Rattle.rows.specs.declared.Layout.{Layout}
 use Rattle.rows.proofs.Layouts.{length-rows_in, rows_in-++}
 use Rattle.rows.proofs.Formulas.{prefix_length, formula_written, written_is_formula}

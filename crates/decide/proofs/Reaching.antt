@@ -1,30 +1,30 @@
 -- What a run leaves in the first buffer: the sheet that it reached, of the layout that its first bytes say.
 -- Assumes nothing.
-use mathlib.Core.Path.{◌≡◌, refl, sym, ap, ap₂, ◌∙◌, subst}
+use mathlib.Core.Path.{◌≡◌, sym, ap, ap₂, ◌∙◌}
 use mathlib.Core.Bool.{Bool}
 use mathlib.Core.List.{◌++◌}
-use Prim.Native.Nat.{ℕ, ◌+◌, ◌*◌, ◌-◌, ◌≤◌}
+use Prim.Native.Nat.{ℕ, ◌+◌, ◌-◌, ◌≤◌}
 use native.Mathlib.Nat.{mul-le-mul_left}
 use native.Mathlib.Omega.{arith}
 use lib.ListN.{length, take, drop, replicate, length-drop}
 use lib.Seq.{take-append-le, drop-append-le}
 use Rattle.formula.specs.Tree.{Formula, rows}
-use Rattle.formula.specs.Solve.{State, End, ended, stopped, Run, solve}
+use Rattle.formula.specs.Solve.{State, End, ended, stopped, Run}
 use Rattle.sheet.specs.Format as sheet
 use Rattle.sheet.specs.Format.{Bytes, number, header, sheet_length, fits, variables, nodes}
-use Rattle.sheet.specs.Sheet.{sheet, formula_rows}
+use Rattle.sheet.specs.Sheet.{sheet}
 use Rattle.sheet.specs.Operations.{padded, Solved, is_refused, is_stopped, is_ended, solved, Solving, solving}
 use Rattle.sheet.specs.Limits.{Within}
 use Rattle.sheet.specs.Trace.{room}
 use Rattle.sheet.proofs.RoundTrip.{variables-sheet, nodes-sheet, length-sheet, length-formula_rows}
 use Rattle.sheet.proofs.Placed.{Placed, solve_placed}
 use Rattle.rows.specs.Formats.{format_of}
-use Rattle.rows.specs.Layouts.{format_in, total, size}
-use Rattle.rows.specs.Formulas.{prefix_in, formula_in, layout_of, layout_for}
+use Rattle.rows.specs.Layouts.{format_in, total}
+use Rattle.rows.specs.Formulas.{formula_in, layout_of, layout_for}
 use Rattle.rows.specs.declared.Format.{Format}
 use Rattle.rows.specs.declared.Layout.{Layout}
 use Rattle.rows.proofs.Layouts.{length-rows_in}
-use Rattle.rows.proofs.Limits.{limits, sound}
+use Rattle.rows.proofs.Limits.{sound}
 use Rattle.solve.specs.Inner.Running.{RawReady, solution, raw_call}
 use Rattle.solve.proofs.Holding.{padded_readable, padded-formula}
 use Rattle.formula.proofs.Decide.Right.{reached}

@@ -1,21 +1,18 @@
 -- A search step by step: its budget spent, a run that ends, no place, and both halves of the sheet that waits.
 -- Assumes nothing.
-use mathlib.Core.Path.{◌≡◌, refl, sym, ap, ap₂, ◌∙◌, subst}
+use mathlib.Core.Path.{◌≡◌, refl, sym, ap, ap₂, ◌∙◌}
 use mathlib.Core.Bool.{Bool, true, false, not, cond}
-use mathlib.Core.List.{◌++◌}
-use Prim.Native.Nat.{ℕ, zero, suc, ◌+◌, ◌-◌, ◌/◌, ◌≤◌, ◌<◌}
+use Prim.Native.Nat.{ℕ, suc, ◌+◌, ◌-◌, ◌/◌, ◌≤◌, ◌<◌}
 use native.Mathlib.Nat.{div-eq_of_lt, div-eq-sub-div}
 use native.Mathlib.Numerals.{add-one}
 use native.Mathlib.Omega.{arith}
 use lib.ListN.{length, take, drop, length-drop}
 use lib.Seq.{drop-cons, take_all}
 use Rattle.formula.specs.Tree.{Quantifier, and, or, same_op, exists, Prefix, Formula}
-use Rattle.formula.specs.Trial.{stops_at}
 use Rattle.formula.specs.Solve.{ended, Fits}
 use Rattle.formula.specs.Force.{owner}
-use Rattle.formula.specs.Decide.{half, Outcome, decided, no_place, spent, Decision, ends_split, split, decide}
+use Rattle.formula.specs.Decide.{half, decided, no_place, spent, Decision, ends_split, split, decide}
 use Rattle.formula.proofs.Decide.More.{decide_ended}
-use Rattle.sheet.specs.Format as sheet
 use Rattle.sheet.specs.Format.{Bytes, row, fits}
 use Rattle.sheet.specs.Sheet.{binding}
 use Rattle.sheet.specs.Trace.{room}
@@ -33,7 +30,7 @@ use Rattle.solve.specs.Answers.{verdict_of}
 use Rattle.solve.specs.Inner.Running.{RawReady, solution}
 use Rattle.decide.specs.declared.search.Outcome as code
 use Rattle.decide.specs.Answers.{outcome_of}
-use Rattle.decide.specs.Inner.Waiting.{Waiting, Halved}
+use Rattle.decide.specs.Inner.Waiting.{Halved}
 use Rattle.decide.specs.Inner.Running.{Stops}
 use Rattle.decide.specs.Inner.Searching.{found, Branches, halves, branched, one_more, both}
 use Rattle.formula.proofs.Decide.Budget.{decide_most, decide_spent, decide_stuck, decide_splits}

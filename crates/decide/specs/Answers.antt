@@ -1,6 +1,6 @@
 -- An answer of Decide in its definition's words.
 -- Assumes nothing.
-use Rattle.std.specs.Borrow.{Bor}
+use Rattle.std.specs.Borrow.{MutBor}
 use denote.Triple.Both.{Both}
 use Rattle.formula.specs.Decide.{Outcome as Said, decided, no_place, spent, Decision as Found}
 use Rattle.sheet.specs.Format.{Bytes}
@@ -26,7 +26,7 @@ deciding_of r first second stack = record { answer = answer_of r; first = first;
 
 -- a work buffer, or the stack, as it is found and as it is left
 abbrev pub Buffer : Type 0
-Buffer = Both (Bor Bytes) (Bor Bytes)
+Buffer = Both (MutBor Bytes) (MutBor Bytes)
 
 abbrev pub decide_left : DecideAnswer → Buffer → Buffer → Buffer → Deciding
 decide_left r first second stack = deciding_of r first.exit.now second.exit.now stack.exit.now

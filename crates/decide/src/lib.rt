@@ -1,6 +1,7 @@
 // Decide: Solve, and where a run stops a split on the first row of the sheet reached, each half decided in the same way. Work buffers and
 // waiting sheets are lent, so it takes no memory of its own beyond a frame for each open split.
 #![tactic(auto)]
+
 ghost use Rattle.std.specs.Prelude.{◌≡◌};
 ghost use Rattle.sheet.specs.Decide.{decide_answer, decide_call};
 ghost use Rattle.sheet.specs.Truthful.{truth_of, TruthfulDecide};

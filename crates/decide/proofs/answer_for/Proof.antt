@@ -7,32 +7,38 @@ use Rattle.decide.specs.Answers.{outcome_of}
 use Rattle.decide.proofs.answer_for.Statement.{statement}
 use Rattle.decide.proofs.answer_for.Tie as tie
 
-enum_known_o : tie.Need-enum-known-o
-enum_known_o c = search rules
+enum_known-o : tie.Need-enum_known-o
+enum_known-o c = search rules
 
-enum_told : tie.Need-enum-told
-enum_told c = search rules
+enum_told-1 : tie.Need-enum_told-1
+enum_told-1 c = search rules
 
-enum_told_2 : tie.Need-enum-told-2
-enum_told_2 c = search rules
+enum_told-in-Spent : tie.Need-enum_told-in-Spent
+enum_told-in-Spent c = search rules
 
-returns : tie.Need-returns
+returns-in-Decided : tie.Need-returns-in-Decided
 unfolding decide_answer
-returns c =
-    let d = c.before.before.before.args.d in
-    ap (λ (o : Outcome). decide_answer (outcome_of o) d.runs) (sym c.before.o.given.1)
+returns-in-Decided c =
+    let d = c.args.d in
+    ap (λ (o : Outcome). decide_answer (outcome_of o) d.runs) (sym c.in-Decided.is)
 
-returns_2 : tie.Need-returns-2
+returns-in-NoPlace : tie.Need-returns-in-NoPlace
 unfolding decide_answer
-returns_2 c =
-    let d = c.before.before.args.d in
-    ap (λ (o : Outcome). decide_answer (outcome_of o) d.runs) (sym c.enum_told.given.1)
+returns-in-NoPlace c =
+    let d = c.args.d in
+    ap (λ (o : Outcome). decide_answer (outcome_of o) d.runs) (sym c.in-NoPlace.is)
 
-returns_3 : tie.Need-returns-3
+returns-in-Spent : tie.Need-returns-in-Spent
 unfolding decide_answer
-returns_3 c =
-    let d = c.before.before.args.d in
-    ap (λ (o : Outcome). decide_answer (outcome_of o) d.runs) (sym c.enum-told2.given.1)
+returns-in-Spent c =
+    let d = c.args.d in
+    ap (λ (o : Outcome). decide_answer (outcome_of o) d.runs) (sym c.in-Spent.is)
 
 pub answer_for_spec : {M : Type 1} → statement M
-answer_for_spec = tie.close (tie.spec enum_known_o enum_told enum_told_2 returns returns_2 returns_3)
+answer_for_spec = tie.close (tie.spec
+    enum_known-o
+    enum_told-1
+    enum_told-in-Spent
+    returns-in-Decided
+    returns-in-NoPlace
+    returns-in-Spent)

@@ -5,16 +5,19 @@ use borrow.Author.Rules.{rules}
 use Rattle.decide.proofs.running.layout_at.Statement.{statement}
 use Rattle.decide.proofs.running.layout_at.Tie as tie
 
-variables_at_requires : tie.Need-variables-at-requires
-variables_at_requires c κs = search rules
+variables_at-requires : tie.Need-variables_at-requires
+variables_at-requires c κs = search rules
 
-nodes_at_requires : tie.Need-nodes-at-requires
-nodes_at_requires c κs = search rules
+nodes_at-requires : tie.Need-nodes_at-requires
+nodes_at-requires c κs = search rules
 
 returns : tie.Need-returns
 returns c =
-    let f = c.before.before.before.args.f in
-    ap₂ (λ (v n : ℕ). record { format = f; variables = v; nodes = n }) c.before.variables-at.ensures.0 c.nodes-at.ensures.0
+    let f = c.args.f in
+    ap₂ (λ (v n : ℕ). record { format = f; variables = v; nodes = n }) c.variables_at.ensures.0 c.nodes_at.ensures.0
 
 pub layout_at_spec : {M : Type 1} → statement M
-layout_at_spec = tie.close (tie.spec variables_at_requires nodes_at_requires returns)
+layout_at_spec = tie.close (tie.spec
+    variables_at-requires
+    nodes_at-requires
+    returns)

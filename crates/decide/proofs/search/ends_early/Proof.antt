@@ -5,61 +5,55 @@ use Rattle.decide.proofs.Searching.{ends_true, ends_false}
 use Rattle.decide.proofs.search.ends_early.Statement.{statement}
 use Rattle.decide.proofs.search.ends_early.Tie as tie
 
-abbrev asked : tie.After-o → tie.After-is-existential
-asked c = c.before.before
+is_existential-existential-requires : tie.Need-is_existential-existential-requires
+is_existential-existential-requires c κs = search rules
 
-abbrev start : tie.After-is-existential → tie.Start
-start c = c.before.before
+enum_known-o : tie.Need-enum_known-o
+enum_known-o c = search rules
 
-is_existential_requires : tie.Need-is-existential-requires
-is_existential_requires c κs = search rules
+enum_told-1 : tie.Need-enum_told-1
+enum_told-1 c = search rules
 
-enum_known_o : tie.Need-enum-known-o
-enum_known_o c = search rules
+enum_told-in-False : tie.Need-enum_told-in-False
+enum_told-in-False c = search rules
 
-enum_told : tie.Need-enum-told
-enum_told c = search rules
+enum_told-in-NoPlace : tie.Need-enum_told-in-NoPlace
+enum_told-in-NoPlace c = search rules
 
-enum_told_2 : tie.Need-enum-told-2
-enum_told_2 c = search rules
+enum_told-in-Spent : tie.Need-enum_told-in-Spent
+enum_told-in-Spent c = search rules
 
-enum_told_3 : tie.Need-enum-told-3
-enum_told_3 c = search rules
+returns-in-True : tie.Need-returns-in-True
+returns-in-True c =
+    let o = c in
+    let a = o in
+    ends_true a.requires.0 a.requires.1 o.is_existential-existential.ensures o.in-Decided.is c.in-True.is
 
-enum_told_4 : tie.Need-enum-told-4
-enum_told_4 c = search rules
+returns-in-False : tie.Need-returns-in-False
+returns-in-False c =
+    let o = c in
+    let a = o in
+    ends_false a.requires.0 a.requires.1 o.is_existential-existential.ensures o.in-Decided.is c.in-False.is
 
-returns : tie.Need-returns
-returns c =
-    let o = c.before.before.before in
-    let a = start (asked o) in
-    ends_true a.pre.0 a.pre.1 (asked o).is-existential.ensures o.o.given.1 c.enum_told.given.1
-
-returns_2 : tie.Need-returns-2
-returns_2 c =
-    let o = c.before.before.before in
-    let a = start (asked o) in
-    ends_false a.pre.0 a.pre.1 (asked o).is-existential.ensures o.o.given.1 c.enum-told2.given.1
-
-returns_3 : tie.Need-returns-3
+returns-in-NoPlace : tie.Need-returns-in-NoPlace
 unfolding ends_split
-returns_3 c = search rules
+returns-in-NoPlace c = search rules
 
-returns_4 : tie.Need-returns-4
+returns-in-Spent : tie.Need-returns-in-Spent
 unfolding ends_split
-returns_4 c = search rules
+returns-in-Spent c = search rules
 
 pub ends_early_spec : {M : Type 1} → statement M
 ends_early_spec =
     tie.close
     (tie.spec
-    is_existential_requires
-    enum_known_o
-    enum_told
-    enum_told_2
-    enum_told_3
-    enum_told_4
-    returns
-    returns_2
-    returns_3
-    returns_4)
+    is_existential-existential-requires
+    enum_known-o
+    enum_told-1
+    enum_told-in-False
+    enum_told-in-NoPlace
+    enum_told-in-Spent
+    returns-in-True
+    returns-in-False
+    returns-in-NoPlace
+    returns-in-Spent)

@@ -7,16 +7,19 @@ use Rattle.decide.specs.Answers.{outcome_of}
 use Rattle.decide.proofs.search.one_more.Statement.{statement}
 use Rattle.decide.proofs.search.one_more.Tie as tie
 
-add_after_runs : tie.Need-overflow-add-after-runs
-add_after_runs c = search rules
+overflow_add-d : tie.Need-overflow_add-d
+overflow_add-d c = search rules
 
-after_runs_requires : tie.Need-after-runs-requires
-after_runs_requires c κs = search rules
+after_runs-requires : tie.Need-after_runs-requires
+after_runs-requires c κs = search rules
 
 returns : tie.Need-returns
 returns c =
-    let d = c.before.before.args.d in
-    c.after-runs.ensures ∙ ap (λ (n : ℕ). record { outcome = outcome_of d.outcome; runs = n }) (add-one d.runs)
+    let d = c.args.d in
+    c.after_runs.ensures ∙ ap (λ (n : ℕ). record { outcome = outcome_of d.outcome; runs = n }) (add-one d.runs)
 
 pub one_more_spec : {M : Type 1} → statement M
-one_more_spec = tie.close (tie.spec add_after_runs after_runs_requires returns)
+one_more_spec = tie.close (tie.spec
+    overflow_add-d
+    after_runs-requires
+    returns)

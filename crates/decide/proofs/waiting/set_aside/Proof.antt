@@ -11,58 +11,52 @@ use Rattle.decide.proofs.Halving.{copied-front}
 use Rattle.decide.proofs.waiting.set_aside.Statement.{statement}
 use Rattle.decide.proofs.waiting.set_aside.Tie as tie
 
-abbrev known : tie.Else1 → tie.After-shared-slice-known
-known c = c.before.before
-
-abbrev start : tie.After-sheet-length → tie.Start
-start c = (known c.before).before
-
 -- how many bytes the sheet has
-its_size : (c : tie.After-sheet-length) → c.sheet_length.result ≡ size (start c).args.t
+its_size : (c : tie.After-sheet_length-n) → c.sheet_length-n.result ≡ size c.args.t
 unfolding sheet_length
-its_size c = c.sheet_length.ensures
+its_size c = c.sheet_length-n.ensures
 
-inside : (c : tie.After-sheet-length) → c.sheet_length.result ≤ length (start c).args.b.now
-inside c = omega (arith, its_size c, (start c).requires.readable.room.holds)
+inside : (c : tie.After-sheet_length-n) → c.sheet_length-n.result ≤ length c.args.b.now
+inside c = omega (arith, its_size c, c.requires.readable.room.holds)
 
-returns : tie.Need-returns
-returns c = search rules
+returns-then-stack-place : tie.Need-returns-then-stack-place
+returns-then-stack-place c = search rules
 
-sheet_length_requires : tie.Need-sheet-length-requires
-sheet_length_requires c κs = search rules
+sheet_length-n-requires : tie.Need-sheet_length-n-requires
+sheet_length-n-requires c κs = search rules
 
-slice_aggregate_copy_front : tie.Need-slice-aggregate-copy-front
-slice_aggregate_copy_front c =
-    let n = c.before in
-    sym (length-take-le n.sheet_length.result (start n).args.b.now (inside n))
+slice_bounds-copy_front-end : tie.Need-slice_bounds-copy_front-end
+slice_bounds-copy_front-end c =
+    let n = c in
+    sym (length-take-le n.sheet_length-n.result n.args.b.now (inside n))
 
-copy_front_requires : tie.Need-copy-front-requires
-copy_front_requires c κs =
-    let n = c.before.before in
+copy_front-requires : tie.Need-copy_front-requires
+copy_front-requires c κs =
+    let n = c in
     omega (
       arith,
-      length-take-le n.sheet_length.result (start n).args.b.now (inside n),
-      its_size n,
-      (start n).requires.has_room,
-      n.before.if1.false,
+      length-take-le n.sheet_length-n.result n.args.b.now (inside n.before),
+      its_size n.before,
+      n.requires.has_room,
+      n.if-stack-place.false,
     )
 
-same_length : tie.Need-same-length
-same_length c = search rules
+shape_of-stack : tie.Need-shape_of-stack
+shape_of-stack c = search rules
 
-returns_2 : tie.Need-returns-2
-returns_2 c =
-    let copied = c.before.before in
-    let n = copied.before.before.before in
-    (n.before.if1.false, copied-front (start n).args.b.now (start n).args.stack.now (its_size n) (inside n) copied.copy-front.ensures)
+returns : tie.Need-returns
+returns c =
+    let copied = c in
+    let n = copied in
+    (n.if-stack-place.false, copied-front n.args.b.now n.args.stack.now (its_size n.before.before.before.before) (inside n.before.before.before.before) copied.copy_front.ensures)
 
 pub set_aside_spec : {M : Type 1} → statement M
 set_aside_spec =
     tie.close
     (tie.spec
-    returns
-    sheet_length_requires
-    slice_aggregate_copy_front
-    copy_front_requires
-    same_length
-    returns_2)
+    returns-then-stack-place
+    sheet_length-n-requires
+    slice_bounds-copy_front-end
+    copy_front-requires
+    shape_of-stack
+    returns)

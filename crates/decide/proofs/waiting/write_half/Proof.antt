@@ -10,66 +10,54 @@ use Rattle.decide.proofs.Halving.{small, half_room, halved}
 use Rattle.decide.proofs.waiting.write_half.Statement.{statement}
 use Rattle.decide.proofs.waiting.write_half.Tie as tie
 
-abbrev called : tie.After-table → tie.Start
-called c = c.before.before.before
-
-abbrev start : tie.After-bound-at → tie.Start
-start c = called c.before
-
-abbrev filled : tie.After-write-settled-arg → tie.After-fill
-filled c = c.before.before.before
-
-abbrev wrote : tie.After-struct-known → tie.After-write-settled
-wrote c = c.before.before.before
-
 entries : length (replicate {A = ℕ} 1025 0) ≡ 1025
 entries =
     let none : ℕ = 0 in
     length-replicate 1025 none
 
-slice_aggregate_fill : tie.Need-slice-aggregate-fill
-slice_aggregate_fill c = search rules
+slice_bounds-fill-end : tie.Need-slice_bounds-fill-end
+slice_bounds-fill-end c = search rules
 
-bound_at_requires : tie.Need-bound-at-requires
-bound_at_requires c κs = search rules
+bound_at-requires : tie.Need-bound_at-requires
+bound_at-requires c κs = search rules
 
-fill_requires : tie.Need-fill-requires
-fill_requires c κs = (omega (arith, c.bound_at.ensures.0, small (start c).requires, entries), omega (arith, entries))
+fill-requires : tie.Need-fill-requires
+fill-requires c κs = (omega (arith, c.bound_at.ensures.0, small c.requires, entries), omega (arith, entries))
 
-slice_aggregate_write_settled : tie.Need-slice-aggregate-write-settled
-slice_aggregate_write_settled c = search rules
+slice_bounds-write_settled-end : tie.Need-slice_bounds-write_settled-end
+slice_bounds-write_settled-end c = search rules
 
-write_settled_requires : tie.Need-write-settled-requires
-write_settled_requires c κs =
-    let w = (start (filled c).before).requires in
+write_settled-requires : tie.Need-write_settled-requires
+write_settled-requires c κs =
+    let w = c.requires in
     (w.readable, omega (arith, w.some_row), half_room w (omega arith))
 
-sub_t10 : tie.Need-overflow-sub-t10
-sub_t10 c = search rules
+overflow_sub-result : tie.Need-overflow_sub-result
+overflow_sub-result c = search rules
 
-same_length : tie.Need-same-length
-same_length c = search rules
+shape_of-out : tie.Need-shape_of-out
+shape_of-out c = search rules
 
 returns : tie.Need-returns
 returns c =
-    let made = wrote c in
-    let table = filled made.before in
-    let a = start table.before in
+    let made = c in
+    let table = made in
+    let a = table in
     let x = (binding_in a.args.t a.args.b.now 0).variable in
-    let few : x < length (replicate {A = ℕ} 1025 0) = omega (arith, small a.pre, entries) in
-    halved a.pre a.args.value few
-    (table.fill.ensures ∙ ap (λ (y : ℕ). putting_in (length (replicate {A = ℕ} 1025 0)) y a.args.value) table.before.bound_at.ensures.0)
-    made.write-settled.kept.1.1.1.1.0 (omega arith) made.write-settled.ensures
+    let few : x < length (replicate {A = ℕ} 1025 0) = omega (arith, small a.requires, entries) in
+    halved a.requires a.args.value few
+    (table.fill.ensures ∙ ap (λ (y : ℕ). putting_in (length (replicate {A = ℕ} 1025 0)) y a.args.value) table.bound_at.ensures.0)
+    made.write_settled.auto.out (omega arith) made.write_settled.ensures
 
 pub write_half_spec : {M : Type 1} → statement M
 write_half_spec =
     tie.close
     (tie.spec
-    slice_aggregate_fill
-    bound_at_requires
-    fill_requires
-    slice_aggregate_write_settled
-    write_settled_requires
-    sub_t10
-    same_length
+    slice_bounds-fill-end
+    bound_at-requires
+    fill-requires
+    slice_bounds-write_settled-end
+    write_settled-requires
+    overflow_sub-result
+    shape_of-out
     returns)
