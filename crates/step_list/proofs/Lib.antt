@@ -3,5 +3,4 @@ pub mod Walking
 pub mod Parts
 pub mod Arrays
 pub mod Whole
-pub mod Lending
 pub mod Numbering

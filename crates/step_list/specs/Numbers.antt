@@ -1,7 +1,7 @@
 -- Step records in arrays of numbers, for callers in C.
 -- Assumes nothing.
 use Rattle.std.specs.Prelude.{List, [], ◌∷◌, ◌++◌, map, ℕ, zero, suc, min, length, get_or, drop}
-use Rattle.std.specs.Borrow.{Bor}
+use Rattle.std.specs.Borrow.{Bor, MutBor}
 use denote.Triple.Both.{Both}
 use Rattle.sheet.specs.Check.{Answer, refused, accepted}
 use Rattle.sheet.specs.Format.{Bytes, Format}
@@ -78,10 +78,14 @@ tabled numbers values l =
 
 -- an array or a buffer lent to a call, as it is found and as it is left
 abbrev pub Lent : Type 0
-Lent = Both (Bor (List ℕ)) (Bor (List ℕ))
+Lent = Both (MutBor (List ℕ)) (MutBor (List ℕ))
+
+-- one that the call only reads
+abbrev pub Shown : Type 0
+Shown = Both (Bor (List ℕ)) (Bor (List ℕ))
 
 -- the call on a sheet and four arrays of records, as they are found
-abbrev pub numbers_call : Format → Lent → Lent → Lent → Lent → Lent → Lent → Lent → Tabled
+abbrev pub numbers_call : Format → Shown → Shown → Shown → Lent → Lent → Lent → Lent → Tabled
 numbers_call F sheet operations variables numbers values first second =
     tabled numbers.entry.now values.entry.now
     (steps_call F sheet.entry.now
@@ -99,7 +103,7 @@ numbers_left r numbers values first second =
     }
 
 -- the list as it is left: with the records that the arrays then say
-abbrev pub listed_left : Written → Lent → Lent → Lent → Lent → Lent → Lent → Listed
+abbrev pub listed_left : Written → Shown → Shown → Lent → Lent → Lent → Lent → Listed
 listed_left r operations variables numbers values first second =
     record {
       answer = written_answer r;

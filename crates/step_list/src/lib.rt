@@ -1,6 +1,7 @@
 // A whole list of steps (N2), thin over the single calls. The sheet held is at the front of the first buffer; each call writes to the
 // second, and a sheet that it writes there is copied back.
 #![tactic(auto)]
+
 ghost use Rattle.std.specs.Prelude.{◌≡◌, ◌≤◌, length};
 ghost use Rattle.sheet.specs.Calls.{perform};
 ghost use Rattle.sheet.specs.Steps.{single};

@@ -14,76 +14,69 @@ use borrow.Author.Rules.{rules}
 use Rattle.step_list.proofs.begin.Statement.{statement}
 use Rattle.step_list.proofs.begin.Tie as tie
 
--- places in the code, each from a later one
-abbrev entry : tie.After-slice-known2 → tie.Start
-entry c = c.before.before.before
-
-abbrev start : tie.After-check → tie.Start
-start c = entry c.before
-
 -- the sheet is accepted
-accepted_at : (c : tie.After-enum-told)
-    → let a = (start c.before.before).args in
+accepted_at : (c : tie.In-Accepted)
+    → let a = c.args in
     passes (check_tests (format_of a.f) a.sheet.now) ≡ true
 accepted_at c =
-    let a = (start c.before.before).args in
-    (sheet_checked {f = a.f} {b = a.sheet.now} c.enum_told.given.1 c.before.before.check.ensures).tests_pass
+    let a = c.args in
+    (sheet_checked {f = a.f} {b = a.sheet.now} c.in-Accepted.is c.check-c.ensures).tests_pass
 
-check_requires : tie.Need-check-requires
-check_requires c κs = search rules
+check-c-requires : tie.Need-check-c-requires
+check-c-requires c κs = search rules
 
-enum_known_c : tie.Need-enum-known-c
-enum_known_c c = search rules
+enum_known-c : tie.Need-enum_known-c
+enum_known-c c = search rules
 
-enum_told : tie.Need-enum-told
-enum_told c = search rules
+enum_told-1 : tie.Need-enum_told-1
+enum_told-1 c = search rules
 
-shorter_requires : tie.Need-shorter-requires
-shorter_requires c κs = search rules
+shorter-requires : tie.Need-shorter-requires
+shorter-requires c κs = search rules
 
-returns : tie.Need-returns
-returns c =
-    let told = c.before.before in
-    let a = (start told.before.before).args in (
-      no_room (format_of a.f) a.sheet.now a.first.now a.second.now (accepted_at told)
-          (omega (arith, c.before.shorter.ensures, c.if1.true)),
+returns-then-shorter-length : tie.Need-returns-then-shorter-length
+returns-then-shorter-length c =
+    let told = c in
+    let a = told.args in (
+      no_room (format_of a.f) a.sheet.now a.first.now a.second.now (accepted_at told.before.before)
+          (omega (arith, c.shorter.ensures, c.if-shorter-length.true)),
       refl,
       refl,
       refl,
       refl,
     )
 
-copy_front_requires : tie.Need-copy-front-requires
-copy_front_requires c κs = search rules
+copy_front-requires : tie.Need-copy_front-requires
+copy_front-requires c κs = search rules
 
-returns_2 : tie.Need-returns-2
-returns_2 c =
-    let told = c.before in
-    let checked = told.before.before in
-    let a = (start checked).args in (
+returns-in-Refused : tie.Need-returns-in-Refused
+returns-in-Refused c =
+    let told = c in
+    let checked = told in
+    let a = checked.args in (
       unchecked (format_of a.f) a.sheet.now a.first.now a.second.now
-          (sheet_refused a.f a.sheet.now told.c.given.1 checked.check.ensures),
+          (sheet_refused a.f a.sheet.now told.in-Refused.is checked.check-c.ensures),
       refl,
       refl,
       refl,
       refl,
     )
 
-same_length : tie.Need-same-length
-same_length c = search rules
+shape_of-first : tie.Need-shape_of-first
+shape_of-first c = search rules
 
-returns_3 : tie.Need-returns-3
-returns_3 c =
-    let copied = c.before.before in
-    let test = copied.before.before in
-    let told = test.before.before in
-    let a = (start told.before.before).args in
+returns-else-shorter-length : tie.Need-returns-else-shorter-length
+returns-else-shorter-length c =
+    let copied = c in
+    let test = copied in
+    let told = test in
+    let a = told.args in
     let b = a.sheet.now in
-    let fits : length b ≤ room a.first.now a.second.now = omega (arith, test.before.shorter.ensures, test.if1.false) in (
-      has_room (format_of a.f) b a.first.now a.second.now (accepted_at told) fits,
+    let fits : length b ≤ room a.first.now a.second.now = omega (arith, test.shorter.ensures, test.if-shorter-length.false) in (
+      has_room (format_of a.f) b a.first.now a.second.now (accepted_at told.before.before.before.before.before.before) fits,
       refl,
       fits,
-      ap (take (length b)) copied.copy-front.ensures ∙ take-append_seam b (drop (length b) a.first.now),
+      ap (take (length b)) copied.copy_front.ensures ∙ take-append_seam b (drop (length b) a.first.now),
       refl,
     )
 
@@ -91,12 +84,12 @@ pub begin_spec : {M : Type 1} → statement M
 begin_spec =
     tie.close
     (tie.spec
-    check_requires
-    enum_known_c
-    enum_told
-    shorter_requires
-    returns
-    copy_front_requires
-    returns_2
-    same_length
-    returns_3)
+    check-c-requires
+    enum_known-c
+    enum_told-1
+    shorter-requires
+    returns-then-shorter-length
+    copy_front-requires
+    returns-in-Refused
+    shape_of-first
+    returns-else-shorter-length)

@@ -10,55 +10,51 @@ use borrow.Author.Rules.{rules}
 use Rattle.step_list.proofs.call.Statement.{statement}
 use Rattle.step_list.proofs.call.Tie as tie
 
--- places in the code, each from a later one
-abbrev start : tie.After-slice-known → tie.Start
-start c = c.before.before
-
 -- the call of an operation
 abbrev does : tie.Start → Operation → Written
 does c o = perform (format_of c.args.f) (single (operation_of o) c.args.x c.args.out.now) c.args.sheet.now
 
-enum_told : tie.Need-enum-told
-enum_told c = search rules
+enum_told-1 : tie.Need-enum_told-1
+enum_told-1 c = search rules
 
-settle_requires : tie.Need-settle-requires
-settle_requires c κs = search rules
+settle-requires : tie.Need-settle-requires
+settle-requires c κs = search rules
 
-enum_told_2 : tie.Need-enum-told-2
-enum_told_2 c = search rules
+enum_told-in-Expand : tie.Need-enum_told-in-Expand
+enum_told-in-Expand c = search rules
 
-expand_requires : tie.Need-expand-requires
-expand_requires c κs = search rules
+expand-requires : tie.Need-expand-requires
+expand-requires c κs = search rules
 
-same_length : tie.Need-same-length
-same_length c = search rules
+shape_of-out-in-Settle : tie.Need-shape_of-out-in-Settle
+shape_of-out-in-Settle c = search rules
 
-returns : tie.Need-returns
+returns-in-Settle : tie.Need-returns-in-Settle
 unfolding perform
-returns c =
-    let call = c.before.before in
-    let told = call.before.before in
-    call.settle.ensures.0 ∙ ap (does (start told.before.before)) (sym told.enum_told.given.1)
+returns-in-Settle c =
+    let call = c in
+    let told = call in
+    call.settle.ensures.0 ∙ ap (does told.before.before.before.before.before.before.before) (sym told.in-Settle.is)
 
-same_length_2 : tie.Need-same-length-2
-same_length_2 c = search rules
+shape_of-out-in-Expand : tie.Need-shape_of-out-in-Expand
+shape_of-out-in-Expand c = search rules
 
-returns_2 : tie.Need-returns-2
+returns-in-Expand : tie.Need-returns-in-Expand
 unfolding perform
-returns_2 c =
-    let call = c.before.before in
-    let told = call.before.before in
-    call.expand.ensures.0 ∙ ap (does (start told.before.before)) (sym told.enum-told2.given.1)
+returns-in-Expand c =
+    let call = c in
+    let told = call in
+    call.expand.ensures.0 ∙ ap (does told.before.before.before.before.before.before.before) (sym told.in-Expand.is)
 
 pub call_spec : {M : Type 1} → statement M
 call_spec =
     tie.close
     (tie.spec
-    enum_told
-    settle_requires
-    enum_told_2
-    expand_requires
-    same_length
-    returns
-    same_length_2
-    returns_2)
+    enum_told-1
+    settle-requires
+    enum_told-in-Expand
+    expand-requires
+    shape_of-out-in-Settle
+    returns-in-Settle
+    shape_of-out-in-Expand
+    returns-in-Expand)

@@ -7,56 +7,48 @@ use borrow.Author.Rules.{rules}
 use Rattle.step_list.proofs.finish.Statement.{statement}
 use Rattle.step_list.proofs.finish.Tie as tie
 
--- places in the code, each from a later one
-abbrev start : tie.After-slice-known2 → tie.Start
-start c = c.before.before
+enum_known-answer : tie.Need-enum_known-answer
+enum_known-answer c = search rules
 
-abbrev first_cleared : tie.After-clear-arg2 → tie.After-clear
-first_cleared c = c.before.before.before
+enum_known-answer-in-Accepted-1 : tie.Need-enum_known-answer-in-Accepted-1
+enum_known-answer-in-Accepted-1 c = search rules
 
-enum_known_answer : tie.Need-enum-known-answer
-enum_known_answer c = search rules
+clear-requires : tie.Need-clear-requires
+clear-requires c κs = search rules
 
-enum_known_answer_2 : tie.Need-enum-known-answer-2
-enum_known_answer_2 c = search rules
+clear-requires-in-Accepted : tie.Need-clear-requires-in-Accepted
+clear-requires-in-Accepted c κs = search rules
 
-clear_requires : tie.Need-clear-requires
-clear_requires c κs = search rules
-
-clear_requires_2 : tie.Need-clear-requires-2
-clear_requires_2 c κs = search rules
-
-returns : tie.Need-returns
-returns c =
-    let told = c.before.answer.given in
-    let a = (start c.before.before.before).args in
-    subst (Finishes a.held a.first.now a.second.now a.first.now a.second.now (refused told.0.0 told.0.1.0)) (sym told.1)
+returns-in-Refused : tie.Need-returns-in-Refused
+returns-in-Refused c =
+    let a = c.args in
+    subst (Finishes a.held a.first.now a.second.now a.first.now a.second.now (refused c.in-Refused.number c.in-Refused.place)) (sym c.in-Refused.is)
     (refl, refl, refl)
 
-same_length : tie.Need-same-length
-same_length c = search rules
+shape_of-first : tie.Need-shape_of-first
+shape_of-first c = search rules
 
-same_length_2 : tie.Need-same-length-2
-same_length_2 c = search rules
+shape_of-second : tie.Need-shape_of-second
+shape_of-second c = search rules
 
-returns_2 : tie.Need-returns-2
-returns_2 c =
-    let last = c.before.before in
-    let cleared = first_cleared last.before in
-    let told = cleared.before.before.before in
-    let a = (start told.before.before).args in
-    subst (Finishes a.held a.first.now a.second.now _ _ (accepted a.held)) (sym told.answer2.given.1)
-    (refl, cleared.clear.ensures, last.clear2.ensures ∙ all_zeros a.second.now)
+returns-in-Accepted : tie.Need-returns-in-Accepted
+returns-in-Accepted c =
+    let last = c in
+    let cleared = last in
+    let told = cleared in
+    let a = told.args in
+    subst (Finishes a.held a.first.now a.second.now _ _ (accepted a.held)) (sym told.in-Accepted.is)
+    (refl, cleared.clear.ensures, last.clear-in-Accepted.ensures ∙ all_zeros a.second.now)
 
 pub finish_spec : {M : Type 1} → statement M
 finish_spec =
     tie.close
     (tie.spec
-    enum_known_answer
-    enum_known_answer_2
-    clear_requires
-    clear_requires_2
-    returns
-    same_length
-    same_length_2
-    returns_2)
+    enum_known-answer
+    enum_known-answer-in-Accepted-1
+    clear-requires
+    clear-requires-in-Accepted
+    returns-in-Refused
+    shape_of-first
+    shape_of-second
+    returns-in-Accepted)

@@ -8,71 +8,64 @@ use borrow.Author.Rules.{rules}
 use Rattle.step_list.proofs.one.Statement.{statement}
 use Rattle.step_list.proofs.one.Tie as tie
 
--- places in the code, each from a later one
-abbrev entry : tie.After-shorter → tie.Start
-entry c = c.before.before.before
+shorter-n-requires : tie.Need-shorter-n-requires
+shorter-n-requires c κs = search rules
 
-abbrev call_made : tie.After-keep-arg → tie.After-call
-call_made c = c.before.before.before
+slice_bounds-call-end : tie.Need-slice_bounds-call-end
+slice_bounds-call-end c = search rules
 
-shorter_requires : tie.Need-shorter-requires
-shorter_requires c κs = search rules
+slice_bounds-call-end-2 : tie.Need-slice_bounds-call-end-2
+slice_bounds-call-end-2 c =
+    let a = c in
+    sym (length-take-le a.args.held a.args.first.now (omega (arith, a.requires)))
 
-slice_reshare_prefix_call : tie.Need-slice-reshare-prefix-call
-slice_reshare_prefix_call c = search rules
+slice_bounds-call-end-3 : tie.Need-slice_bounds-call-end-3
+slice_bounds-call-end-3 c = search rules
 
-slice_aggregate_call : tie.Need-slice-aggregate-call
-slice_aggregate_call c =
-    let a = entry c.before in
-    sym (length-take-le a.args.held a.args.first.now (omega (arith, a.pre)))
+slice_bounds-call-end-4 : tie.Need-slice_bounds-call-end-4
+slice_bounds-call-end-4 c =
+    let n = c in
+    let a = n in
+    sym (length-take-le n.shorter-n.result a.args.second.now (omega (arith, n.shorter-n.ensures)))
 
-slice_relend_prefix_call : tie.Need-slice-relend-prefix-call
-slice_relend_prefix_call c = search rules
+call-answer-requires : tie.Need-call-answer-requires
+call-answer-requires c κs = search rules
 
-slice_aggregate_call_2 : tie.Need-slice-aggregate-call-2
-slice_aggregate_call_2 c =
-    let n = c.before.before in
-    let a = n.before.before.before in
-    sym (length-take-le n.shorter.result a.args.second.now (omega (arith, n.shorter.ensures)))
+keep-kept-requires : tie.Need-keep-kept-requires
+keep-kept-requires c κs =
+    let called = c in
+    let n = called in
+    let a = n.args in
+    can-keep (format_of a.f) a.s a.first.now a.second.now a.held n.shorter-n.result n.shorter-n.ensures
+    called.call-answer.result called.call-answer.ensures called.call-answer.auto.out refl
 
-call_requires : tie.Need-call-requires
-call_requires c κs = search rules
+shape_of-first : tie.Need-shape_of-first
+shape_of-first c = search rules
 
-keep_requires : tie.Need-keep-requires
-keep_requires c κs =
-    let called = call_made c.before in
-    let n = called.before.before.before in
-    let a = n.before.before.before.args in
-    can-keep (format_of a.f) a.s a.first.now a.second.now a.held n.shorter.result n.shorter.ensures
-    called.call.result called.call.ensures called.call.kept.1.1.1.1.0 refl
-
-same_length : tie.Need-same-length
-same_length c = search rules
-
-same_length_2 : tie.Need-same-length-2
-same_length_2 c = search rules
+shape_of-second : tie.Need-shape_of-second
+shape_of-second c = search rules
 
 returns : tie.Need-returns
 returns c =
-    let kept = c.before.before in
-    let called = call_made kept.before.before in
-    let n = called.before.before.before in
-    let start = n.before.before.before in
+    let kept = c in
+    let called = kept in
+    let n = called in
+    let start = n in
     let a = start.args in
-    took (format_of a.f) a.s a.first.now a.second.now a.held n.shorter.result n.shorter.ensures
-    called.call.result called.call.ensures called.call.kept.1.1.1.1.0 refl kept.keep.result _ kept.keep.ensures start.pre
+    took (format_of a.f) a.s a.first.now a.second.now a.held n.shorter-n.result n.shorter-n.ensures
+    called.call-answer.result called.call-answer.ensures called.call-answer.auto.out refl kept.keep-kept.result _ kept.keep-kept.ensures start.requires
 
 pub one_spec : {M : Type 1} → statement M
 one_spec =
     tie.close
     (tie.spec
-    shorter_requires
-    slice_reshare_prefix_call
-    slice_aggregate_call
-    slice_relend_prefix_call
-    slice_aggregate_call_2
-    call_requires
-    keep_requires
-    same_length
-    same_length_2
+    shorter-n-requires
+    slice_bounds-call-end
+    slice_bounds-call-end-2
+    slice_bounds-call-end-3
+    slice_bounds-call-end-4
+    call-answer-requires
+    keep-kept-requires
+    shape_of-first
+    shape_of-second
     returns)

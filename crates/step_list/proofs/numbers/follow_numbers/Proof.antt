@@ -14,61 +14,30 @@ use Rattle.step_list.proofs.Numbering.{turns_few, held_short, equals-whole, says
 use Rattle.step_list.proofs.numbers.follow_numbers.Statement.{statement}
 use Rattle.step_list.proofs.numbers.follow_numbers.Tie as tie
 
-abbrev invariant-loop : tie.invariant-loop
-invariant-loop sheet f operations variables numbers₀ values₀ first₀ second₀ count b turns held₀ at₀ numbers values first second held at =
+abbrev invariant-loop-at : tie.invariant-loop-at
+invariant-loop-at sheet f operations variables numbers₀ values₀ first₀ second₀ count b turns held₀ at₀ numbers values first second held at =
     (at ≤ turns) × Filled (format_of f) operations variables numbers₀ values₀ first₀ second₀ held₀ at numbers values first second held
 
-abbrev decreases-loop : tie.decreases-loop
-decreases-loop sheet f operations variables numbers₀ values₀ first₀ second₀ count b turns held₀ at₀ numbers values first second held at =
+abbrev decreases-loop-at : tie.decreases-loop-at
+decreases-loop-at sheet f operations variables numbers₀ values₀ first₀ second₀ count b turns held₀ at₀ numbers values first second held at =
     turns - at
 
--- places in the code, each from a later one
-abbrev entered : tie.After-slice-known3 invariant-loop decreases-loop → tie.After-shared-slice-known3 invariant-loop decreases-loop
-entered c = c.before.before.before
-
-abbrev known : tie.After-shorter3 invariant-loop decreases-loop → tie.After-slice-known4 invariant-loop decreases-loop
-known c = c.before.before.before
-
-abbrev begun_run : tie.After-second invariant-loop decreases-loop → tie.After-begin invariant-loop decreases-loop
-begun_run c = c.before.before.before
-
-abbrev run_finished : tie.After-second3 invariant-loop decreases-loop → tie.After-finish invariant-loop decreases-loop
-run_finished c = c.before.before.before
-
-abbrev part_followed : tie.After-second2 invariant-loop decreases-loop → tie.After-follow-part invariant-loop decreases-loop
-part_followed c = c.before.before.before
-
-abbrev result_known : tie.After-store-arg2 invariant-loop decreases-loop → tie.After-done invariant-loop decreases-loop
-result_known c = c.before.before
-
-abbrev result_stored : tie.After-values invariant-loop decreases-loop → tie.After-store invariant-loop decreases-loop
-result_stored c = c.before.before.before
-
-abbrev counted_at : tie.After-begin invariant-loop decreases-loop → tie.After-shorter3 invariant-loop decreases-loop
-counted_at c = c.before.before.before
-
-abbrev start : tie.After-begin invariant-loop decreases-loop → tie.Start invariant-loop decreases-loop
-start c = (entered (known (counted_at c)).before).before.before.before
-
-abbrev begun : tie.At-loop invariant-loop decreases-loop → tie.After-begin invariant-loop decreases-loop
-begun c = begun_run c.before.before
-
-counted : (c : tie.After-begin invariant-loop decreases-loop)
-    → let a = (start c).args in
-    (counted_at c).shorter3.result ≡ record_count a.operations.now a.variables.now a.numbers.now a.values.now
+counted : (c : tie.After-begin-b invariant-loop-at decreases-loop-at)
+    → let a = c.args in
+    c.shorter-count.result ≡ record_count a.operations.now a.variables.now a.numbers.now a.values.now
 counted c =
-    let n = counted_at c in
-    n.shorter3.ensures ∙ ap₂ (λ (p q : ℕ). min p q) n.before.before.shorter.ensures n.before.shorter2.ensures
+    let n = c in
+    n.shorter-count.ensures ∙ ap₂ (λ (p q : ℕ). min p q) n.shorter.ensures n.shorter-2.ensures
 
 -- all records are there
-few_turns : (c : tie.At-loop invariant-loop decreases-loop)
-    → let a = (start (begun c)).args in
-    (begun c).begin.result.turns ≤ record_count a.operations.now a.variables.now a.numbers.now a.values.now
+few_turns : (c : tie.At-loop-at invariant-loop-at decreases-loop-at)
+    → let a = c.args in
+    c.begin-b.result.turns ≤ record_count a.operations.now a.variables.now a.numbers.now a.values.now
 few_turns c =
-    let g = begun c in
-    let a = (start g).args in
+    let g = c in
+    let a = g.args in
     turns_few (format_of a.f) a.sheet.now a.operations.now a.variables.now a.numbers.now a.values.now a.first.now a.second.now
-    _ _ g.begin.kept.1.1.1.0 g.begin.kept.1.1.1.1.0 _ (counted g) g.begin.result g.begin.ensures
+    _ _ g.begin-b.auto.first g.begin-b.auto.second _ (counted g.before.before.before.before.before) g.begin-b.result g.begin-b.ensures
 
 -- a part: some records, at most 64, none behind the last
 record Some (at turns n : ℕ) : Type 0 where
@@ -76,162 +45,147 @@ record Some (at turns n : ℕ) : Type 0 where
   few : n ≤ 64
   within : at + n ≤ turns
 
-part : (c : tie.After-shorter4 invariant-loop decreases-loop) → Some c.before.before.loop.at (begun c.before.before).begin.result.turns c.shorter4.result
+part : (c : tie.After-shorter-n invariant-loop-at decreases-loop-at) → Some c.loop-at.at c.begin-b.result.turns c.shorter-n.result
 part c =
-    let t = c.before.loop-test.true in
-    let n = c.shorter4.ensures in
+    let t = c.loop-at-test.true in
+    let n = c.shorter-n.ensures in
     record { some = omega (arith, t, n); few = omega (arith, n); within = omega (arith, t, n) }
 
-shorter_requires : tie.Need-shorter-requires invariant-loop decreases-loop
-shorter_requires c κs = search rules
+shorter-requires : tie.Need-shorter-requires invariant-loop-at decreases-loop-at
+shorter-requires c κs = search rules
 
-shorter_requires_2 : tie.Need-shorter-requires-2 invariant-loop decreases-loop
-shorter_requires_2 c κs = search rules
+shorter-requires-2 : tie.Need-shorter-requires-2 invariant-loop-at decreases-loop-at
+shorter-requires-2 c κs = search rules
 
-shorter_requires_3 : tie.Need-shorter-requires-3 invariant-loop decreases-loop
-shorter_requires_3 c κs = search rules
+shorter-count-requires : tie.Need-shorter-count-requires invariant-loop-at decreases-loop-at
+shorter-count-requires c κs = search rules
 
-begin_requires : tie.Need-begin-requires invariant-loop decreases-loop
-begin_requires c κs = search rules
+begin-b-requires : tie.Need-begin-b-requires invariant-loop-at decreases-loop-at
+begin-b-requires c κs = search rules
 
-loop_holds : tie.Need-loop-init invariant-loop decreases-loop
-loop_holds c =
-    let g = begun_run c.before in
-    let a = (start g).args in (
+loop-at-init : tie.Need-loop-at-init invariant-loop-at decreases-loop-at
+loop-at-init c =
+    let g = c in
+    let a = g.args in (
       omega arith,
-      turned_none (format_of a.f) a.operations.now a.variables.now a.numbers.now a.values.now _ _ g.begin.result.held
+      turned_none (format_of a.f) a.operations.now a.variables.now a.numbers.now a.values.now _ _ g.begin-b.result.held
           (held_short (format_of a.f) a.sheet.now a.operations.now a.variables.now a.numbers.now a.values.now a.first.now a.second.now
-          _ _ g.begin.kept.1.1.1.0 g.begin.kept.1.1.1.1.0 _ (counted g) g.begin.result g.begin.ensures),
+          _ _ g.begin-b.auto.first g.begin-b.auto.second _ (counted g.before.before.before.before) g.begin-b.result g.begin-b.ensures),
     )
 
-sub_shorter : tie.Need-overflow-sub-shorter invariant-loop decreases-loop
-sub_shorter c = omega (arith, c.loop-test.true)
+overflow_sub-turns : tie.Need-overflow_sub-turns invariant-loop-at decreases-loop-at
+overflow_sub-turns c = omega (arith, c.loop-at-test.true)
 
-shorter_requires_4 : tie.Need-shorter-requires-4 invariant-loop decreases-loop
-shorter_requires_4 c κs = search rules
+shorter-n-requires : tie.Need-shorter-n-requires invariant-loop-at decreases-loop-at
+shorter-n-requires c κs = search rules
 
-load_requires : tie.Need-load-requires invariant-loop decreases-loop
-load_requires c κs =
+load-steps-requires : tie.Need-load-steps-requires invariant-loop-at decreases-loop-at
+load-steps-requires c κs =
     let p = part c in
     let all = few_turns c.before.before in
     record { is_part = p.few; in_one = omega (arith, p.within, all); in_other = omega (arith, p.within, all) }
 
-follow_part_requires : tie.Need-follow-part-requires invariant-loop decreases-loop
-follow_part_requires c κs =
-    let n = c.before.before.before in
-    let g = n.before.before.loop.invariant.1.going in
-    record { is_part = (part n).few; is_short = omega (arith, g.is_short, g.same_room) }
+follow_part-p-requires : tie.Need-follow_part-p-requires invariant-loop-at decreases-loop-at
+follow_part-p-requires c κs =
+    let n = c in
+    let g = n.loop-at.invariant.1.going in
+    record { is_part = (part n.before.before.before).few; is_short = omega (arith, g.is_short, g.same_room) }
 
-abbrev loaded : tie.After-follow-part invariant-loop decreases-loop → tie.After-load invariant-loop decreases-loop
-loaded c = c.before.before.before
-
-abbrev followed : tie.After-store-arg2 invariant-loop decreases-loop → tie.After-follow-part invariant-loop decreases-loop
-followed c = part_followed (result_known c).before.before
-
-abbrev stored : tie.After-slice-known10 invariant-loop decreases-loop → tie.After-store invariant-loop decreases-loop
-stored c = result_stored c.before
-
-store_requires : tie.Need-store-requires invariant-loop decreases-loop
-store_requires c κs =
-    let n = (loaded (followed c)).before in
-    let p = part n in
-    let l = n.before.before in
-    let all = few_turns l in
-    let f = l.loop.inv.1 in
+store-requires : tie.Need-store-requires invariant-loop-at decreases-loop-at
+store-requires c κs =
+    let n = c in
+    let p = part n.before.before.before.before.before.before.before.before.before.before.before in
+    let l = n in
+    let all = few_turns l.before.before.before.before.before.before.before.before.before.before.before.before.before in
+    let f = l.loop-at.invariant.1 in
     record { is_part = p.few; in_one = omega (arith, p.within, all, f.same_numbers); in_other = omega (arith, p.within, all, f.same_values) }
 
-add_at : tie.Need-overflow-add-at invariant-loop decreases-loop
-add_at c =
-    let n = (loaded (followed (stored c).before)).before in
-    let l = n.before.before in
-    let s = start (begun l) in
-    let good = s.good in
-    let there : l.loop.at + n.shorter4.result ≤ length s.args.variables.now = omega (arith, (part n).within, few_turns l) in
+overflow_add-at : tie.Need-overflow_add-at invariant-loop-at decreases-loop-at
+overflow_add-at c =
+    let n = c in
+    let l = n in
+    let s = l in
+    let good = s.well_formed in
+    let there : l.loop-at.at + n.shorter-n.result ≤ length s.args.variables.now = omega (arith, (part n.before.before.before.before.before.before.before.before.before.before.before.before.before.before.before.before).within, few_turns l.before.before.before.before.before.before.before.before.before.before.before.before.before.before.before.before.before.before) in
     search rules
 
-loop_less : tie.Need-loop-smaller invariant-loop decreases-loop
-loop_less c =
-    let p = part (loaded (followed (stored c).before)).before in
+loop-at-smaller : tie.Need-loop-at-smaller invariant-loop-at decreases-loop-at
+loop-at-smaller c =
+    let p = part c.before.before.before.before.before.before.before.before.before.before.before.before.before.before.before.before in
     omega (arith, p.some, p.within)
 
-loop_again : tie.Need-loop-preserved invariant-loop decreases-loop
-loop_again c =
-    let f = followed (stored c).before in
-    let n = (loaded f).before in
-    let p = part n in
-    let l = n.before.before in
-    let a = (start (begun l)).args in (
+loop-at-preserved : tie.Need-loop-at-preserved invariant-loop-at decreases-loop-at
+loop-at-preserved c =
+    let f = c in
+    let n = f in
+    let p = part n.before.before.before.before.before.before.before.before.before.before.before.before.before.before.before.before in
+    let l = n in
+    let a = l.args in (
       p.within,
       turned-part (format_of a.f) a.operations.now a.variables.now a.numbers.now a.values.now _ _ _
-          l.loop.inv.1 p.some p.few (omega (arith, p.within, few_turns l)) _ (loaded f).load.ensures f.follow-part.ensures
-          f.follow-part.kept.1.1.1.1.0 f.follow-part.kept.1.1.1.1.1.0 (stored c).store.ensures,
+          l.loop-at.invariant.1 p.some p.few (omega (arith, p.within, few_turns l.before.before.before.before.before.before.before.before.before.before.before.before.before.before.before.before.before.before)) _ f.load-steps.ensures f.follow_part-p.ensures
+          f.follow_part-p.auto.first f.follow_part-p.auto.second c.store.ensures,
     )
 
-finish_requires : tie.Need-finish-requires invariant-loop decreases-loop
-finish_requires c κs =
-    let g = c.before.before.before.loop.invariant.1.going in
+finish-requires : tie.Need-finish-requires invariant-loop-at decreases-loop-at
+finish-requires c κs =
+    let g = c.loop-at.invariant.1.going in
     omega (arith, g.is_short, g.same_room)
 
-abbrev ended : tie.After-slice-known12 invariant-loop decreases-loop → tie.After-finish invariant-loop decreases-loop
-ended c = run_finished c.before
+shape_of-numbers : tie.Need-shape_of-numbers invariant-loop-at decreases-loop-at
+shape_of-numbers c = c.loop-at.invariant.1.same_numbers
 
-abbrev last : tie.After-finish invariant-loop decreases-loop → tie.After-loop invariant-loop decreases-loop
-last c = c.before.before.before
+shape_of-values : tie.Need-shape_of-values invariant-loop-at decreases-loop-at
+shape_of-values c = c.loop-at.invariant.1.same_values
 
-same_length : tie.Need-same-length invariant-loop decreases-loop
-same_length c = (last (ended c)).before.loop.inv.1.same_numbers
+shape_of-first : tie.Need-shape_of-first invariant-loop-at decreases-loop-at
+shape_of-first c =
+    let l = c in
+    c.finish.auto.first ∙ l.loop-at.invariant.1.same_first ∙ l.begin-b.auto.first
 
-same_length_2 : tie.Need-same-length-2 invariant-loop decreases-loop
-same_length_2 c = (last (ended c)).before.loop.inv.1.same_values
+shape_of-second : tie.Need-shape_of-second invariant-loop-at decreases-loop-at
+shape_of-second c =
+    let l = c in
+    c.finish.auto.second ∙ l.loop-at.invariant.1.same_second ∙ l.begin-b.auto.second
 
-same_length_3 : tie.Need-same-length-3 invariant-loop decreases-loop
-same_length_3 c =
-    let l = (last (ended c)).before in
-    (ended c).finish.auto.1.1.0 ∙ l.loop.inv.1.same_first ∙ (begun l).begin.kept.1.1.1.0
-
-same_length_4 : tie.Need-same-length-4 invariant-loop decreases-loop
-same_length_4 c =
-    let l = (last (ended c)).before in
-    (ended c).finish.auto.1.1.1.0 ∙ l.loop.inv.1.same_second ∙ (begun l).begin.kept.1.1.1.1.0
-
-returns : tie.Need-returns invariant-loop decreases-loop
+returns : tie.Need-returns invariant-loop-at decreases-loop-at
 returns c =
-    let left = last (ended c) in
-    let l = left.before in
-    let g = begun l in
-    let a = (start g).args in
-    let all : l.loop.at ≡ g.begin.result.turns = omega (arith, l.loop.inv.0, left.loop-test.left) in
-    let end = (ended c).finish in (
+    let left = c in
+    let l = left in
+    let g = l in
+    let a = g.args in
+    let all : l.loop-at.at ≡ g.begin-b.result.turns = omega (arith, l.loop-at.invariant.0, left.loop-at-test.false) in
+    let end = c.finish in (
       equals-whole (format_of a.f) a.sheet.now a.operations.now a.variables.now a.numbers.now a.values.now a.first.now a.second.now
-          _ _ g.begin.kept.1.1.1.0 g.begin.kept.1.1.1.1.0 _ (counted g) g.begin.result g.begin.ensures
-          l.loop.inv.1 all (written_answer end.result) end.ensures,
+          _ _ g.begin-b.auto.first g.begin-b.auto.second _ (counted g.before.before.before.before.before.before.before.before.before.before.before.before.before) g.begin-b.result g.begin-b.ensures
+          l.loop-at.invariant.1 all (written_answer end.result) end.ensures,
       says_truth (format_of a.f) a.sheet.now a.operations.now a.variables.now a.numbers.now a.values.now a.first.now a.second.now
-          _ _ g.begin.kept.1.1.1.0 g.begin.kept.1.1.1.1.0 _ (counted g) g.begin.result g.begin.ensures
-          l.loop.inv.1 all (sound a.f) _ (written_answer end.result) end.ensures,
+          _ _ g.begin-b.auto.first g.begin-b.auto.second _ (counted g.before.before.before.before.before.before.before.before.before.before.before.before.before) g.begin-b.result g.begin-b.ensures
+          l.loop-at.invariant.1 all (sound a.f) _ (written_answer end.result) end.ensures,
     )
 
 pub follow_numbers_spec : {M : Type 1} → statement M
 follow_numbers_spec =
     tie.close
     (tie.spec
-    invariant-loop
-    decreases-loop
-    shorter_requires
-    shorter_requires_2
-    shorter_requires_3
-    begin_requires
-    loop_holds
-    sub_shorter
-    shorter_requires_4
-    load_requires
-    follow_part_requires
-    store_requires
-    add_at
-    loop_less
-    loop_again
-    finish_requires
-    same_length
-    same_length_2
-    same_length_3
-    same_length_4
+    invariant-loop-at
+    decreases-loop-at
+    shorter-requires
+    shorter-requires-2
+    shorter-count-requires
+    begin-b-requires
+    loop-at-init
+    overflow_sub-turns
+    shorter-n-requires
+    load-steps-requires
+    follow_part-p-requires
+    store-requires
+    overflow_add-at
+    loop-at-smaller
+    loop-at-preserved
+    finish-requires
+    shape_of-numbers
+    shape_of-values
+    shape_of-first
+    shape_of-second
     returns)

@@ -11,100 +11,94 @@ use Rattle.step_list.proofs.Parts.{loaded_none, loaded_next}
 use Rattle.step_list.proofs.numbers.load.Statement.{statement}
 use Rattle.step_list.proofs.numbers.load.Tie as tie
 
-abbrev invariant-loop : tie.invariant-loop
-invariant-loop operations variables at n steps₀ j₀ steps j = (j ≤ n) × Loaded operations variables at j steps
+abbrev invariant-loop-j : tie.invariant-loop-j
+invariant-loop-j operations variables at n steps₀ j₀ steps j = (j ≤ n) × Loaded operations variables at j steps
 
-abbrev decreases-loop : tie.decreases-loop
-decreases-loop operations variables at n steps₀ j₀ steps j = n - j
-
-abbrev begun : tie.At-loop invariant-loop decreases-loop → tie.Start invariant-loop decreases-loop
-begun c = c.before.before.before
-
-abbrev test : tie.After-shared-slice-known4 invariant-loop decreases-loop → tie.In-loop invariant-loop decreases-loop
-test c = c.before.before.before
+abbrev decreases-loop-j : tie.decreases-loop-j
+decreases-loop-j operations variables at n steps₀ j₀ steps j = n - j
 
 -- record j is there
-inside : (c : tie.In-loop invariant-loop decreases-loop)
-    → let a = (begun c.before).args in
-    (a.at + c.before.loop.j < length a.operations.now) × (a.at + c.before.loop.j < length a.variables.now) × (c.before.loop.j < 64)
+inside : (c : tie.In-loop-j invariant-loop-j decreases-loop-j)
+    → let a = c.args in
+    (a.at + c.loop-j.j < length a.operations.now) × (a.at + c.loop-j.j < length a.variables.now) × (c.loop-j.j < 64)
 inside c =
-    let w = (begun c.before).pre in
-    (omega (arith, c.loop-test.true, w.in_one), omega (arith, c.loop-test.true, w.in_other), omega (arith, c.loop-test.true, w.is_part))
+    let w = c.requires in
+    (omega (arith, c.loop-j-test.true, w.in_one), omega (arith, c.loop-j-test.true, w.in_other), omega (arith, c.loop-j-test.true, w.is_part))
 
-loop_holds : tie.Need-loop-init invariant-loop decreases-loop
-loop_holds c =
-    let a = c.before.before.args in
+loop-j-init : tie.Need-loop-j-init invariant-loop-j decreases-loop-j
+loop-j-init c =
+    let a = c.args in
     (omega arith, loaded_none a.operations.now a.variables.now a.at)
 
-add_i : tie.Need-overflow-add-i invariant-loop decreases-loop
-add_i c =
-    let good = (begun c.before).good in
+overflow_add-i : tie.Need-overflow_add-i invariant-loop-j decreases-loop-j
+overflow_add-i c =
+    let good = c.well_formed in
     let there = (inside c).0 in
     search rules
 
-shared_slice_read_operation_for : tie.Need-shared-slice-read-operation-for invariant-loop decreases-loop
-shared_slice_read_operation_for c = (inside c.before).0
+bounds-operations-i : tie.Need-bounds-operations-i invariant-loop-j decreases-loop-j
+bounds-operations-i c = (inside c.before).0
 
-operation_for_requires : tie.Need-operation-for-requires invariant-loop decreases-loop
-operation_for_requires c κs = search rules
+operation_for-requires : tie.Need-operation_for-requires invariant-loop-j decreases-loop-j
+operation_for-requires c κs = search rules
 
-mul_t15 : tie.Need-overflow-mul-t15 invariant-loop decreases-loop
-mul_t15 c =
-    let i = c.before.before in
-    let good = (begun i.before).good in
-    let there = (inside i).1 in
+offset_bounds-variables-i : tie.Need-offset_bounds-variables-i invariant-loop-j decreases-loop-j
+offset_bounds-variables-i c =
+    let i = c in
+    let good = i.well_formed in
+    let there = (inside i.before.before).1 in
     search rules
 
-shared_slice_read_t17 : tie.Need-shared-slice-read-t17 invariant-loop decreases-loop
-shared_slice_read_t17 c = (inside (test c)).1
+bounds-variables-i : tie.Need-bounds-variables-i invariant-loop-j decreases-loop-j
+bounds-variables-i c = (inside c.before.before.before).1
 
-mul_steps : tie.Need-overflow-mul-steps invariant-loop decreases-loop
-mul_steps c =
-    let few = (inside (test c)).2 in
+offset_bounds-steps-j : tie.Need-offset_bounds-steps-j invariant-loop-j decreases-loop-j
+offset_bounds-steps-j c =
+    let few = (inside c.before.before.before).2 in
     search rules
 
-array_set_from_steps : tie.Need-array-set-from-steps invariant-loop decreases-loop
-array_set_from_steps c = (inside (test c)).2
+bounds-steps-j : tie.Need-bounds-steps-j invariant-loop-j decreases-loop-j
+bounds-steps-j c = (inside c.before.before.before).2
 
-add_j : tie.Need-overflow-add-j invariant-loop decreases-loop
-add_j c =
-    let few = (inside (test c)).2 in
+overflow_add-j : tie.Need-overflow_add-j invariant-loop-j decreases-loop-j
+overflow_add-j c =
+    let few = (inside c.before.before.before).2 in
     search rules
 
-loop_less : tie.Need-loop-smaller invariant-loop decreases-loop
-loop_less c = omega (arith, (test c).loop-test.true)
+loop-j-smaller : tie.Need-loop-j-smaller invariant-loop-j decreases-loop-j
+loop-j-smaller c = omega (arith, c.loop-j-test.true)
 
-loop_again : tie.Need-loop-preserved invariant-loop decreases-loop
-loop_again c =
-    let i = test c in
-    let l = i.before in
-    let a = (begun l).args in (
-      omega (arith, i.loop-test.taken),
-      loaded_next a.operations.now a.variables.now a.at l.loop.inv.1 (inside i).2 (add-one l.loop.j) _ c.before.operation-for.ensures refl,
+loop-j-preserved : tie.Need-loop-j-preserved invariant-loop-j decreases-loop-j
+loop-j-preserved c =
+    let i = c in
+    let l = i in
+    let a = l.args in (
+      omega (arith, i.loop-j-test.true),
+      loaded_next a.operations.now a.variables.now a.at l.loop-j.invariant.1 (inside i.before.before.before).2 (add-one l.loop-j.j) _ c.operation_for.ensures refl,
     )
 
-returns : tie.Need-returns invariant-loop decreases-loop
+returns : tie.Need-returns invariant-loop-j decreases-loop-j
 returns c =
-    let l = c.before in
-    let a = (begun l).args in
-    let all : l.loop.j ≡ a.n = omega (arith, l.loop.invariant.0, c.loop-test.false) in
-    subst (λ (k : ℕ). Loaded a.operations.now a.variables.now a.at k l.loop.steps) all l.loop.invariant.1
+    let l = c in
+    let a = l.args in
+    let all : l.loop-j.j ≡ a.n = omega (arith, l.loop-j.invariant.0, c.loop-j-test.false) in
+    subst (λ (k : ℕ). Loaded a.operations.now a.variables.now a.at k l.loop-j.steps) all l.loop-j.invariant.1
 
 pub load_spec : {M : Type 1} → statement M
 load_spec =
     tie.close
     (tie.spec
-    invariant-loop
-    decreases-loop
-    loop_holds
-    add_i
-    shared_slice_read_operation_for
-    operation_for_requires
-    mul_t15
-    shared_slice_read_t17
-    mul_steps
-    array_set_from_steps
-    add_j
-    loop_less
-    loop_again
+    invariant-loop-j
+    decreases-loop-j
+    loop-j-init
+    overflow_add-i
+    bounds-operations-i
+    operation_for-requires
+    offset_bounds-variables-i
+    bounds-variables-i
+    offset_bounds-steps-j
+    bounds-steps-j
+    overflow_add-j
+    loop-j-smaller
+    loop-j-preserved
     returns)

@@ -4,11 +4,13 @@ use borrow.Author.Rules.{rules}
 use Rattle.step_list.proofs.numbers.operation_for.Statement.{statement}
 use Rattle.step_list.proofs.numbers.operation_for.Tie as tie
 
-returns : tie.Need-returns
-returns c = search rules
+returns-then-number-eq0 : tie.Need-returns-then-number-eq0
+returns-then-number-eq0 c = search rules
 
-returns_2 : tie.Need-returns-2
-returns_2 c = expands_else c.before.args.number c.if1.false
+returns : tie.Need-returns
+returns c = expands_else c.args.number c.if-number-eq0.false
 
 pub operation_for_spec : {M : Type 1} → statement M
-operation_for_spec = tie.close (tie.spec returns returns_2)
+operation_for_spec = tie.close (tie.spec
+    returns-then-number-eq0
+    returns)
