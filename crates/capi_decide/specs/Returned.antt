@@ -1,7 +1,7 @@
 -- What a call of Decide from C returns, a number, and what it leaves in its work buffers and its stack.
 -- Assumes nothing.
 use Rattle.std.specs.Prelude.{List, ℕ, min}
-use Rattle.std.specs.Borrow.{Bor}
+use Rattle.std.specs.Borrow.{MutBor}
 use denote.Triple.Both.{Both}
 use Rattle.sheet.specs.Format.{Bytes}
 use Rattle.sheet.specs.Decide.{Deciding}
@@ -19,7 +19,7 @@ pub record Decided : Type 0 where
 
 -- bytes lent: as they were, and as they are left
 abbrev pub Lent : Type 0
-Lent = Both (Bor (List ℕ)) (Bor (List ℕ))
+Lent = Both (MutBor (List ℕ)) (MutBor (List ℕ))
 
 abbrev pub leaves : ℕ → Lent → Lent → Lent → Decided
 leaves r first second stack =

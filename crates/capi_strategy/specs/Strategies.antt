@@ -2,7 +2,7 @@
 -- number means for the truth.
 -- Assumes nothing.
 use Rattle.std.specs.Prelude.{◌≡◌, Bool, cond, List, ℕ, ◌+◌, ◌*◌, ◌/◌, ◌%◌, ◌^◌, ◌<◌, eqb, ltb, take}
-use Rattle.std.specs.Borrow.{Bor}
+use Rattle.std.specs.Borrow.{MutBor}
 use denote.Triple.Both.{Both}
 use Rattle.formula.specs.Strategy.{winner}
 use Rattle.sheet.specs.Format.{Bytes, Format}
@@ -63,7 +63,7 @@ pub record Returned : Type 0 where
 
 -- a buffer lent to a call, as it is found and as it is left
 abbrev pub Lent : Type 0
-Lent = Both (Bor (List ℕ)) (Bor (List ℕ))
+Lent = Both (MutBor (List ℕ)) (MutBor (List ℕ))
 
 abbrev pub all_left : ℕ → Lent → Lent → Lent → Returned
 all_left r first second out = record { number = r; first = first.exit.now; second = second.exit.now; output = out.exit.now }

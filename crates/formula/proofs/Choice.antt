@@ -1,7 +1,7 @@
 -- What `lowest` and `cheapest` choose: a variable of the prefix that passes the test; and the innermost block is never empty.
 -- Assumes nothing.
 use mathlib.Core.Path.{◌≡◌, refl, sym, ◌∙◌, ap, subst}
-use mathlib.Core.Bool.{Bool, true, false, not, ◌||◌, cond, or-true, false≢true, true≢false}
+use mathlib.Core.Bool.{Bool, true, false, ◌||◌, cond, or-true, false≢true, true≢false}
 use mathlib.Core.List.{[], ◌∷◌}
 use mathlib.Core.Logic.{⊎_elim}
 use mathlib.Core.Option.{Option, none, some}

@@ -3,13 +3,13 @@
 use mathlib.Core.Path.{◌≡◌, refl, sym, ap, subst}
 use mathlib.Core.Logic.{◌⊎◌, inl, inr}
 use mathlib.Core.Bool.{Bool, true, false, cond}
-use mathlib.Core.List.{List, [], ◌∷◌, IsPrefix, get_last?}
+use mathlib.Core.List.{List, [], ◌∷◌, get_last?}
 use mathlib.Core.Option.{Option, none, some}
 use Prim.Native.Nat.{ℕ, zero, suc, ◌≤◌}
 use native.Mathlib.Omega.{arith}
 use Rattle.formula.specs.Tree.{Formula}
 use Rattle.formula.specs.Expand.{expanded}
-use Rattle.formula.specs.Solve.{cheapest, State, ended, stopped, Step, halt, next, Fits, fits_raw, expand_step, undecided_step, step_by, step, Run, go_on, run, solve}
+use Rattle.formula.specs.Solve.{cheapest, State, stopped, Step, halt, next, Fits, fits_raw, expand_step, undecided_step, step_by, step, Run, go_on, run, solve}
 use Rattle.formula.specs.Right.{Longer}
 use Rattle.formula.specs.Trace.{Looser, onward, trace, solve_trace}
 

@@ -1,6 +1,6 @@
 -- Expansion of a universal variable one block out (N6; document 000, section 5.2: non-innermost expansion).
 -- Assumes nothing.
-use Rattle.std.specs.Prelude.{Bool, true, false, ◌&&◌, ◌||◌, cond, List, [], ◌∷◌, ◌++◌, map, ℕ, zero, suc, eqb, ltb, length, take}
+use Rattle.std.specs.Prelude.{Bool, false, ◌&&◌, ◌||◌, cond, List, [], ◌∷◌, ◌++◌, map, ℕ, zero, suc, eqb, ltb, length, take}
 use Rattle.formula.specs.Tree.{and, same_op, exists, for_all, Tree, lit, node, Forest, ∅, ◌▸◌, Binding, Prefix, Formula, Literals, of}
 use Rattle.formula.specs.Tree.{binds, quantifier_of, without, has, has_any, constant, assigned}
 use Rattle.formula.specs.Tidy.{tidy}

@@ -1,13 +1,13 @@
 -- The turns of the walks over the prefix.
 -- Assumes nothing.
 use mathlib.Core.Path.{◌≡◌, sym, ap, ap₂, ◌∙◌}
-use mathlib.Core.Bool.{Bool, true, false, not, ◌&&◌, cond, beq}
+use mathlib.Core.Bool.{Bool, true, false, ◌&&◌, cond, beq}
 use Prim.Native.Nat.{ℕ, suc, ◌+◌, ◌≤◌, ◌<◌}
 use native.Mathlib.Omega.{arith}
 use lib.Dec.{eqb}
 use lib.ListN.{drop}
 use borrow.Author.Tests.{eq-eqb, ne_eqb}
-use Rattle.formula.specs.Tree.{or, Quantifier, same_op, exists}
+use Rattle.formula.specs.Tree.{Quantifier, same_op, exists}
 use Rattle.formula.specs.Expand.{all_of}
 use Rattle.sheet.specs.Format.{Bytes}
 use Rattle.rows.specs.Formulas.{prefix_in, Readable}

@@ -7,7 +7,7 @@ use native.Mathlib.Nat.{mul-zero, mul-suc, add-mul, one-mul, add_assoc}
 use native.Mathlib.Numerals.{add-one}
 use native.Mathlib.Omega.{arith}
 use lib.ListN.{length, get_or, take, drop, set, length-append, length-drop, length-set}
-use lib.Seq.{length-take-le, drop-cons, take-suc, set_at, take_at, drop_at, take-add, drop-drop, drop-append-add}
+use lib.Seq.{length-take-le, drop-cons, take_at, drop_at, take-add, drop-drop, drop-append-add}
 use lib.Seq.{take_all, paste, paste-zero, paste-suc, take-set-le, drop-set-lt, take-set-lt, drop-set-add}
 use Rattle.sheet.specs.Format.{Bytes, row, number, digits, zip_rows}
 use Rattle.sheet.proofs.Numbers.{length_digits, number_digits}

@@ -24,7 +24,7 @@ use Rattle.formula.proofs.Steps.{Proper, truth-settled, proper_settled, rows_set
 use Rattle.formula.proofs.Outer.Step.{truth_outer, proper_outer, length_outer, copies_many, rows_outer}
 use Rattle.sheet.specs.Format.{Bytes, Format, fits, variables, nodes}
 use Rattle.sheet.specs.Sheet.{formula, sheet}
-use Rattle.sheet.specs.Check.{Answer, refused, accepted, Test, answer, passes, Sizes, check_tests, check}
+use Rattle.sheet.specs.Check.{Answer, refused, accepted, Test, passes, Sizes, check_tests, check}
 use Rattle.sheet.specs.Operations.{padded, output_after, write, tidy_and_bound_tests, settle_tests, settle_call, quote_tests, expand_tests, expand_call, execute_tests, execute_call}
 use Rattle.sheet.specs.Calls.{Call, settle, expand, execute, outer, perform, copies_by, Held, held_after, perform_all, held}
 use Rattle.sheet.specs.Calls.{copies_after, copies_all, copies_made, none_outer, sheet_verdict, Demand3}

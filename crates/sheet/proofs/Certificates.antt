@@ -1,7 +1,7 @@
 -- Certify on bytes: a verdict is the truth of the sheet, it refuses exactly what Check refuses, and the number in place of a verdict is that
 -- of the first step that isn't valid, or of all steps.
 -- Assumes nothing.
-use mathlib.Core.Path.{◌≡◌, refl, sym, ◌∙◌, ap}
+use mathlib.Core.Path.{◌≡◌, refl, ap}
 use mathlib.Core.Bool.{Bool, true, false, cond}
 use mathlib.Core.List.{List, [], ◌∷◌}
 use mathlib.Core.Logic.{◌⊎◌, ◌↔◌}

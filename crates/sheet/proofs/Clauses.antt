@@ -2,7 +2,6 @@
 -- Assumes nothing.
 use mathlib.Core.Path.{◌≡◌, refl, sym, ◌∙◌, ap, ap₂, subst}
 use mathlib.Core.Bool.{Bool, true, false, not, cond}
-use mathlib.Core.List.{List, [], ◌∷◌, ◌++◌}
 use Prim.Native.Nat.{ℕ, ◌≤◌}
 use native.Mathlib.Omega.{arith}
 use lib.ListN.{length, take, length-append, length-map, length-take}
@@ -18,7 +17,6 @@ use Rattle.formula.proofs.Clausal.Profile.{profile_clausal}
 use Rattle.sheet.specs.Format.{Bytes, Format}
 use Rattle.sheet.specs.Sheet.{formula, sheet}
 use Rattle.sheet.specs.Check.{Answer, refused, accepted, answer, passes, check_tests}
-use Rattle.sheet.specs.Operations.{write}
 use Rattle.sheet.specs.Limits.{Sound, Within}
 use Rattle.sheet.specs.Strategy.{fits_output}
 use Rattle.sheet.specs.Clauses.{clauses_of, clauses_tests, clauses_call, Clausal}

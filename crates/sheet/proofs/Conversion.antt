@@ -14,7 +14,7 @@ use Rattle.formula.proofs.Booleans.{and_parts, or_parts, or-none}
 use Rattle.sheet.specs.Format.{Bytes, Format, narrow, wide, Row, sheet_length, variables, nodes, all_rows, prefix_rows, node_rows, AllBytes}
 use Rattle.sheet.specs.Sheet.{quantifier_kind, binding, binding_row, formula, sheet}
 use Rattle.sheet.specs.Check.{refused, accepted, Test, answer, passes, member, node_tests, arguments, check_tests, check}
-use Rattle.sheet.specs.Operations.{padded, Written, write}
+use Rattle.sheet.specs.Operations.{Written, write}
 use Rattle.sheet.specs.Limits.{Sound, numbered, Within}
 use Rattle.sheet.specs.Conversion.{carried, Converted, above, beyond, to_wide_tests, to_wide_call, to_narrow_tests, to_narrow_call}
 use Rattle.sheet.proofs.Tests.{passed-∷, passes-++, passed-++, answer-++, answer-passes, refused_first}

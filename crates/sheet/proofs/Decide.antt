@@ -1,24 +1,22 @@
 -- Decide on bytes: a verdict is the truth, it is refused exactly as Solve, where Solve ends it is Solve's verdict, and a longer stack or a
 -- larger budget keep it; its buffers are zeros then, and refused, no byte changes.
 -- Assumes nothing.
-use mathlib.Core.Path.{◌≡◌, refl, sym, ◌∙◌, ap, subst}
-use mathlib.Core.Bool.{Bool, true, false}
-use mathlib.Core.List.{◌++◌}
+use mathlib.Core.Path.{◌≡◌, refl, sym, ◌∙◌, ap}
+use mathlib.Core.Bool.{Bool, true}
 use mathlib.Core.Logic.{◌↔◌}
-use Prim.Native.Nat.{ℕ, zero, suc, ◌/◌, ◌^◌, ◌≤◌, min}
+use Prim.Native.Nat.{ℕ, zero, suc, ◌^◌, ◌≤◌}
 use native.Mathlib.Nat.{div-zero, le-div_iff_mul-le, div-mul-le_self, le_trans}
 use native.Mathlib.Omega.{arith}
 use lib.ListN.{length, replicate}
-use Rattle.formula.specs.Tree.{Formula}
 use Rattle.formula.specs.Truth.{truth}
 use Rattle.formula.specs.Solve.{State, End, ended, stopped, Run, solve}
-use Rattle.formula.specs.Decide.{Outcome, decided, no_place, spent, Decision, decide, DecideRight}
+use Rattle.formula.specs.Decide.{Outcome, decided, no_place, spent, Decision}
 use Rattle.formula.proofs.Decide.Right.{decide_right, decide_always}
 use Rattle.formula.proofs.Decide.More.{decide_more, decide_ended}
 use Rattle.sheet.specs.Format.{Bytes, Format, fits, variables}
 use Rattle.sheet.specs.Sheet.{formula}
 use Rattle.sheet.specs.Check.{Answer, refused, accepted, answer, passes, check_tests}
-use Rattle.sheet.specs.Operations.{tidy_tests, Solved, is_refused, is_ended, solved, solving, solve_call}
+use Rattle.sheet.specs.Operations.{tidy_tests, is_refused, is_ended, solved, solving, solve_call}
 use Rattle.sheet.specs.Trace.{room}
 use Rattle.sheet.specs.Decide.{DecideAnswer, decide_refused, decide_answer, Deciding, deciding, places, decision, decide_call}
 use Rattle.sheet.specs.Decide as call

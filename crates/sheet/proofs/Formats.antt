@@ -2,16 +2,11 @@
 -- ask nothing of their format.
 -- Assumes nothing.
 use mathlib.Core.Path.{◌≡◌}
-use mathlib.Core.Bool.{true}
-use mathlib.Core.List.{List}
 use Prim.Native.Nat.{ℕ}
 use lib.ListN.{take}
-use Rattle.formula.specs.Tidy.{is_tidy}
 use Rattle.sheet.specs.Format.{Bytes, Format, narrow, wide}
-use Rattle.sheet.specs.Sheet.{formula}
-use Rattle.sheet.specs.Check.{accepted, Sizes, check}
+use Rattle.sheet.specs.Check.{accepted}
 use Rattle.sheet.specs.Operations.{reduce_call}
-use Rattle.sheet.specs.Calls.{Call, Demand3}
 use Rattle.sheet.proofs.Limits.{narrow_sound, wide_sound}
 use Rattle.sheet.proofs.Calls.{demand_3}
 use Rattle.sheet.proofs.Reduction.{reduce_right}

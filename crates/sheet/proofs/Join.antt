@@ -3,28 +3,24 @@
 -- Assumes nothing.
 use mathlib.Core.Path.{◌≡◌, refl, sym, ◌∙◌, ap, ap₂, subst}
 use mathlib.Core.Bool.{Bool, true, false, not, cond}
-use mathlib.Core.List.{List, [], ◌∷◌, ◌++◌}
 use mathlib.Core.Option.{some}
 use Prim.Native.Nat.{ℕ, ◌-◌, ◌^◌, ◌≤◌, ◌<◌}
 use native.Mathlib.Omega.{arith}
 use lib.Dec.{eqb, ltb}
 use lib.ListN.{length, take, length-drop, length-map}
-use borrow.Author.Tests.{not-false, ltb-false, lt-ltb, le-ltb, eqb-true, eq-eqb, ne_eqb}
-use Rattle.formula.specs.Tree.{Formula}
+use borrow.Author.Tests.{ltb-false, lt-ltb, le-ltb, eq-eqb, ne_eqb}
 use Rattle.formula.specs.Truth.{truth}
-use Rattle.formula.specs.Force.{given}
-use Rattle.formula.specs.Join.{Answer as Known, join_answers, answer_for}
+use Rattle.formula.specs.Join.{Answer as Known, join_answers}
 use Rattle.formula.proofs.Force.{prefix_given, rows-given}
 use Rattle.formula.proofs.Join.{join-truth}
 use Rattle.sheet.specs.Format.{Bytes, Format, sheet_length, variables, nodes}
 use Rattle.sheet.specs.Sheet.{formula, sheet}
 use Rattle.sheet.specs.Check.{Answer, refused, accepted, answer, passes, check_tests}
-use Rattle.sheet.specs.Operations.{Written, write}
-use Rattle.sheet.specs.Limits.{Sound, Within}
+use Rattle.sheet.specs.Limits.{Sound}
 use Rattle.sheet.specs.Force.{are_values, value_of, values_of}
 use Rattle.sheet.specs.Split.{split_tests, under, split_call, Splits}
 use Rattle.sheet.specs.Join.{answers_of, are_answers, join_tests, join_call, RightAnswers}
-use Rattle.sheet.proofs.Tests.{passed-∷, passed-++, answer-++, answer-passes, accepted_passes}
+use Rattle.sheet.proofs.Tests.{passed-∷, passed-++, answer-++, accepted_passes}
 use Rattle.sheet.proofs.RoundTrip.{formula-sheet, passes-sheet, length-sheet}
 use Rattle.sheet.proofs.Accepted.{accepted_within, accepted_variables, accepted_nodes}
 use Rattle.sheet.proofs.Force.{within-given}

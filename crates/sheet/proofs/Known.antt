@@ -16,7 +16,7 @@ use Rattle.formula.proofs.Faults.{fault_most}
 use Rattle.sheet.specs.Format.{Bytes, Format, narrow, wide, header, Row, variables, nodes, kind_bytes, argument_bytes, all_rows, prefix_rows, node_rows, children}
 use Rattle.sheet.specs.Sheet.{formula}
 use Rattle.sheet.specs.Refusals.{wrong_block, too_many_to_try}
-use Rattle.sheet.specs.Check.{Answer, refused, accepted, Test, test, answer, passes, size_tests, quantifier_tests, node_tests, tree_test, arguments, check_tests}
+use Rattle.sheet.specs.Check.{Answer, refused, Test, test, answer, passes, size_tests, quantifier_tests, node_tests, tree_test, arguments, check_tests}
 use Rattle.sheet.specs.Operations.{tidy_tests, tidy_and_bound_tests, settle_tests, quote_tests, expand_tests, execute_tests, reduce_tests}
 use Rattle.sheet.proofs.Tests.{answer-++, refused_first}
 use Rattle.sheet.proofs.Parts.{length-zip_rows}

@@ -4,12 +4,12 @@ use mathlib.Core.Path.{◌≡◌, refl, ap, ap₂, ◌∙◌}
 use mathlib.Core.Bool.{Bool, true, false, not, ◌&&◌, ◌||◌, cond, false≢true}
 use mathlib.Core.List.{[], ◌∷◌, ◌++◌}
 use mathlib.Core.Logic.{⊎_elim}
-use Prim.Native.Nat.{ℕ, zero, suc, ◌+◌, ◌≤◌, ◌<◌, ◌^◌}
+use Prim.Native.Nat.{ℕ, zero, suc, ◌+◌, ◌≤◌, ◌<◌}
 use native.Mathlib.Omega.{arith}
 use lib.Dec.{eqb, ltb}
 use lib.ListN.{length, get_or}
 use borrow.Author.Tests.{not-true, ltb-false, le-ltb, eqb-true, eqb-false, eq-eqb, ne_eqb}
-use Rattle.formula.specs.Tree.{Binding, Prefix, Formula, binds, without, distinct, rows, closed}
+use Rattle.formula.specs.Tree.{Binding, Prefix, Formula, binds, without, rows}
 use Rattle.sheet.specs.Format.{Format, narrow, wide}
 use Rattle.sheet.specs.Limits.{Sound, numbered, Within}
 use Rattle.formula.proofs.Booleans.{and_parts, or_parts, or_cases, or_later}

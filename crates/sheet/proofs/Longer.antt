@@ -3,13 +3,11 @@
 use mathlib.Core.Path.{◌≡◌, refl, sym, ◌∙◌, ap, ap₂}
 use mathlib.Core.Bool.{Bool, true, false, ◌&&◌, cond, false≢true}
 use mathlib.Core.List.{List, [], ◌∷◌, ◌++◌, IsPrefix, get_last?}
-use mathlib.Core.Option.{some}
 use Prim.Native.Nat.{ℕ, ◌≤◌}
 use native.Mathlib.Omega.{arith}
 use lib.Dec.{ltb, leb}
 use lib.ListN.{length}
 use borrow.Author.Tests.{ltb-true, leb-true, leb-false, lt-ltb, le-leb}
-use Rattle.formula.specs.Tree.{Formula}
 use Rattle.formula.specs.Solve.{State, End, ended, stopped, Run, solve}
 use Rattle.formula.specs.Trace.{Looser, solve_trace}
 use Rattle.formula.proofs.Booleans.{and_parts}

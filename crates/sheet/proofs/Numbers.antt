@@ -6,7 +6,7 @@ use Prim.Native.Nat.{ℕ, zero, suc, ◌+◌, ◌*◌, ◌/◌, ◌%◌, ◌^◌
 use native.Mathlib.Nat.{pow-suc}
 use native.Mathlib.Omega.{arith}
 use lib.ListN.{length}
-use Rattle.sheet.specs.Format.{Bytes, IsByte, AllBytes, number, digits}
+use Rattle.sheet.specs.Format.{Bytes, AllBytes, number, digits}
 
 pub length_digits : (w n : ℕ) → length (digits w n) ≡ w
 unfolding digits

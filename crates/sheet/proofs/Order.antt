@@ -1,8 +1,7 @@
 -- Sort and Compare on sheets: what an accepted Sort writes, when two sheets compare equal, and that a refusal alters no byte (N14).
 -- Assumes nothing.
 use mathlib.Core.Path.{◌≡◌, refl, sym, ◌∙◌, ap, ap₂, subst}
-use mathlib.Core.Bool.{true, not, ◌&&◌}
-use mathlib.Core.List.{◌++◌}
+use mathlib.Core.Bool.{true, not}
 use mathlib.Core.Logic.{◌↔◌}
 use Prim.Native.Nat.{ℕ, ◌≤◌, ◌<◌}
 use native.Mathlib.Omega.{arith}
@@ -11,7 +10,7 @@ use borrow.Author.Tests.{lt-ltb, le-ltb}
 use Rattle.formula.specs.Tree.{Formula, closed}
 use Rattle.formula.specs.Truth.{truth}
 use Rattle.formula.specs.Tidy.{is_tidy}
-use Rattle.formula.specs.Order.{Ordering, same, sorted, compare_formulas, Rearranged, turned, nearly_tidy, siblings, alike}
+use Rattle.formula.specs.Order.{Ordering, same, sorted, compare_formulas, Rearranged, turned, nearly_tidy}
 use Rattle.formula.proofs.Ordering.{formulas_turned}
 use Rattle.formula.proofs.Sorting.{sort_idempotent, same_exactly, truth-sorted, rows-sort, has-sort}
 use Rattle.formula.proofs.SortedTidy.{nearly_tidy-sort, is_tidy-sort, tidy_unsorted}

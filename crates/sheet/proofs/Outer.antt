@@ -1,18 +1,18 @@
 -- Expansion one block out on sheets (N6): the order of its last tests, and that what is tested for room is the raw formula.
 -- Assumes nothing.
-use mathlib.Core.Path.{◌≡◌, refl, sym, ◌∙◌, ap, ap₂}
-use mathlib.Core.Bool.{Bool, true, false, not}
-use mathlib.Core.List.{List, [], ◌∷◌, ◌++◌}
+use mathlib.Core.Path.{◌≡◌, refl, sym, ◌∙◌, ap₂}
+use mathlib.Core.Bool.{true, false}
+use mathlib.Core.List.{◌++◌}
 use Prim.Native.Nat.{ℕ, ◌+◌, ◌-◌}
 use native.Mathlib.Omega.{arith}
 use lib.ListN.{length}
 use Rattle.formula.specs.Tree.{rows, binds}
-use Rattle.formula.specs.Outer.{one_block_out, too_few, raw_outer, outer_rows, outer_expanded}
+use Rattle.formula.specs.Outer.{one_block_out, too_few, raw_outer, outer_rows}
 use Rattle.formula.proofs.Closed.{length_without}
 use Rattle.formula.proofs.Outer.Step.{length-raw_outer, copies_many, rows-raw_outer}
 use Rattle.sheet.specs.Format.{Bytes, Format, fits, variables}
-use Rattle.sheet.specs.Sheet.{formula, sheet}
-use Rattle.sheet.specs.Check.{Answer, refused, answer, passes, check_tests}
+use Rattle.sheet.specs.Sheet.{formula}
+use Rattle.sheet.specs.Check.{refused, answer, passes, check_tests}
 use Rattle.sheet.specs.Operations.{write, tidy_and_bound_tests}
 use Rattle.sheet.specs.Outer.{copies, outer_tests, outer_call}
 use Rattle.sheet.proofs.Tests.{answer-++}

@@ -13,7 +13,7 @@ use Rattle.formula.specs.Solve.{fits_raw}
 use Rattle.sheet.specs.Format.{Bytes, Format, fits}
 use Rattle.sheet.specs.Sheet.{formula, sheet}
 use Rattle.sheet.specs.Check.{Answer, refused, accepted, Test, test, answer, passes}
-use Rattle.sheet.specs.Operations.{Written, output_after, write, quote_tests, raw_count, quote_call, raw_room_test, expand_tests, expand_call, execute_tests, execute_call}
+use Rattle.sheet.specs.Operations.{output_after, write, quote_tests, raw_count, quote_call, raw_room_test, expand_tests, expand_call, execute_tests, execute_call}
 use Rattle.sheet.proofs.Tests.{passes-++, answer-++, accepted_passes, refused_first}
 use Rattle.sheet.proofs.Writing.{write_refused}
 

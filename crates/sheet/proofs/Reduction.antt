@@ -2,8 +2,7 @@
 -- profile again, which reducing once more doesn't change (N8).
 -- Assumes nothing.
 use mathlib.Core.Path.{◌≡◌, sym, ◌∙◌, ap, subst}
-use mathlib.Core.Bool.{true, not}
-use mathlib.Core.List.{◌++◌}
+use mathlib.Core.Bool.{true}
 use Prim.Native.Nat.{ℕ, ◌≤◌}
 use native.Mathlib.Nat.{le_trans}
 use lib.ListN.{length, take}
@@ -17,12 +16,12 @@ use Rattle.formula.proofs.Reduce.{truth-reduced, rows-reduced, proper_reduced}
 use Rattle.formula.proofs.ReduceAgain.{reduced_profile, reduced_again}
 use Rattle.sheet.specs.Format.{Bytes, Format}
 use Rattle.sheet.specs.Sheet.{formula, sheet}
-use Rattle.sheet.specs.Check.{accepted, passes, check_tests}
+use Rattle.sheet.specs.Check.{accepted, check_tests}
 use Rattle.sheet.specs.Operations.{reduce_tests, reduce_call}
 use Rattle.sheet.specs.Limits.{Sound, Within}
 use Rattle.sheet.proofs.Tests.{passed-∷, passed-++}
 use Rattle.sheet.proofs.Calls.{front_written}
-use Rattle.sheet.specs.Results.{Good, Reduced}
+use Rattle.sheet.specs.Results.{Reduced}
 use Rattle.sheet.proofs.RoundTrip.{formula-sheet, passes-sheet}
 use Rattle.sheet.proofs.Accepted.{accepted_within}
 

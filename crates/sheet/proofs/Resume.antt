@@ -4,36 +4,27 @@
 use mathlib.Core.Path.{◌≡◌, refl, sym, ◌∙◌, ap, ap₂, subst₂}
 use mathlib.Core.Bool.{Bool, true, false}
 use mathlib.Core.List.{List, []}
-use Prim.Native.Nat.{ℕ, suc, ◌+◌, ◌*◌, ◌-◌, ◌≤◌, ◌<◌}
-use native.Mathlib.Nat.{mul-le-mul_left, le_trans}
+use Prim.Native.Nat.{ℕ, ◌+◌, ◌*◌, ◌≤◌, ◌<◌}
 use native.Mathlib.Omega.{arith}
-use lib.Dec.{leb}
 use lib.ListN.{length, take, drop, replicate, length-drop}
 use lib.Seq.{take-append-le, drop-append-le, take-append_seam}
-use borrow.Author.Tests.{leb-true, lt-ltb, le-ltb, ltb-false, eq-eqb, ne_eqb}
-use Rattle.formula.specs.Tree.{Formula, of, rows}
+use borrow.Author.Tests.{lt-ltb, le-ltb, ltb-false, eq-eqb, ne_eqb}
+use Rattle.formula.specs.Tree.{Formula, rows}
 use Rattle.formula.specs.Truth.{truth}
-use Rattle.formula.specs.Tidy.{tidied}
-use Rattle.formula.specs.Settle.{settled}
-use Rattle.formula.specs.Expand.{raw, raw_rows, expanded}
-use Rattle.formula.specs.Solve.{State, End, ended, stopped, Fits, Run, fits_raw, solve}
+use Rattle.formula.specs.Solve.{State, End, ended, stopped, Fits, Run, solve}
 use Rattle.formula.specs.Trace.{Looser}
 use Rattle.formula.specs.Resume.{add_to_state, add_to_run}
-use Rattle.formula.proofs.Booleans.{and_parts}
-use Rattle.formula.proofs.Closed.{length_without}
-use Rattle.formula.proofs.Tidy.Growth.{rows-tidy}
-use Rattle.formula.proofs.Steps.{proper_tidied, rows_settled, rows-expanded}
 use Rattle.formula.proofs.Solve.{solve_right}
-use Rattle.formula.proofs.Resume.{Keeps, run_keeps, solve-resumed}
+use Rattle.formula.proofs.Resume.{solve-resumed}
 use Rattle.sheet.specs.Format.{Bytes, Format, narrow, wide, sheet_length, fits, number, variables, nodes}
 use Rattle.sheet.specs.Sheet.{formula, sheet}
 use Rattle.sheet.specs.Check.{Answer, refused, accepted, Test, answer, passes, check_tests, check}
 use Rattle.sheet.specs.Operations.{padded, tidy_tests, Solved, is_refused, is_stopped, is_ended, Solving, solved, solving, solve_call}
-use Rattle.sheet.specs.Limits.{Sound, Within}
+use Rattle.sheet.specs.Limits.{Sound}
 use Rattle.sheet.specs.Trace.{room}
 use Rattle.sheet.specs.Resume.{named, widened, resume_tests, add_to_answer, with_counts, resuming, resume_call}
 use Rattle.sheet.proofs.Tests.{passed-∷, passes-++, passed-++, answer-++, answer-passes, accepted_passes, refused_first}
-use Rattle.sheet.proofs.Limits.{narrow_sound, wide_sound, within_step}
+use Rattle.sheet.proofs.Limits.{narrow_sound, wide_sound}
 use Rattle.sheet.proofs.Parts.{sheet_length-rows}
 use Rattle.sheet.proofs.RoundTrip.{variables-sheet, nodes-sheet, formula-sheet, passes-sheet}
 use Rattle.sheet.proofs.Accepted.{accepted_length, accepted_variables, accepted_nodes, accepted_within}

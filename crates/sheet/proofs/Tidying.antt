@@ -3,9 +3,7 @@
 -- Assumes nothing.
 use mathlib.Core.Path.{◌≡◌, sym, ◌∙◌, ap, subst}
 use mathlib.Core.Bool.{true}
-use mathlib.Core.List.{◌++◌, ◌∷◌, []}
 use Prim.Native.Nat.{ℕ, ◌≤◌}
-use lib.Dec.{ltb}
 use lib.ListN.{length, take}
 use borrow.Author.Tests.{le-ltb}
 use Rattle.formula.specs.Tree.{Formula, rows}
@@ -16,9 +14,8 @@ use Rattle.formula.proofs.Tidy.Limits.{tidy-is_tidy, tidy_unchanged}
 use Rattle.formula.proofs.Steps.{truth-tidied}
 use Rattle.sheet.specs.Format.{Bytes, AllBytes, Format}
 use Rattle.sheet.specs.Sheet.{formula, sheet}
-use Rattle.sheet.specs.Refusals.{no_room}
-use Rattle.sheet.specs.Check.{Answer, refused, accepted, test, answer, passes, check_tests}
-use Rattle.sheet.specs.Operations.{Written, padded, output_after, write, tidy_tests, tidy_call}
+use Rattle.sheet.specs.Check.{Answer, accepted, answer, check_tests}
+use Rattle.sheet.specs.Operations.{padded, output_after, write, tidy_tests, tidy_call}
 use Rattle.sheet.specs.Limits.{Sound}
 use Rattle.sheet.specs.Results.{Good, Tidied}
 use Rattle.sheet.proofs.Tests.{passed-++, answer-++}

@@ -15,9 +15,9 @@ use Rattle.formula.specs.Right.{Stuck, SolveRight}
 use Rattle.formula.proofs.Solve.{solve_right}
 use Rattle.formula.proofs.Trial.{trial-verdict, trial-leaves}
 use Rattle.sheet.specs.Format.{Bytes, Format, sheet_length, fits, variables}
-use Rattle.sheet.specs.Sheet.{formula, sheet}
+use Rattle.sheet.specs.Sheet.{formula}
 use Rattle.sheet.specs.Check.{Answer, refused, accepted, answer, passes, check_tests}
-use Rattle.sheet.specs.Operations.{padded, tidy_tests, Solved, is_refused, is_stopped, is_ended, solved, solving, solve_call, trial_call}
+use Rattle.sheet.specs.Operations.{tidy_tests, Solved, is_refused, is_stopped, is_ended, solved, solving, solve_call, trial_call}
 use Rattle.sheet.specs.Trace.{room}
 use Rattle.sheet.specs.Reliance.{Reached}
 use Rattle.sheet.proofs.Tests.{passed-∷, passed-++, answer-passes, accepted_passes}

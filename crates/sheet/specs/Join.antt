@@ -1,6 +1,6 @@
 -- Join on bytes: the verdict of 2 to the k answers, a byte each.
 -- Assumes nothing.
-use Rattle.std.specs.Prelude.{◌≡◌, Bool, true, false, not, ◌&&◌, cond, List, [], ◌∷◌, ◌++◌, map, ℕ, ◌^◌, eqb, ltb, leb, length}
+use Rattle.std.specs.Prelude.{◌≡◌, Bool, true, not, ◌&&◌, cond, List, [], ◌∷◌, ◌++◌, map, ℕ, ◌^◌, eqb, ltb, leb, length}
 use Rattle.std.proofs.Math.Option.{none, some}
 use Rattle.formula.specs.Tree.{Formula}
 use Rattle.formula.specs.Truth.{truth}

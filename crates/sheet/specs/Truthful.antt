@@ -15,7 +15,7 @@ use Rattle.sheet.specs.Sheet.{formula}
 use Rattle.sheet.specs.Check.{Answer, accepted, passes, check_tests}
 use Rattle.sheet.specs.Operations.{Written, is_stopped, is_ended, Solving}
 use Rattle.sheet.specs.Steps.{Listed}
-use Rattle.sheet.specs.Guards.{guards_stopped, guards_true, guards_kept, Guarding, Clashing}
+use Rattle.sheet.specs.Guards.{guards_true, guards_kept, Guarding, Clashing}
 use Rattle.sheet.specs.Force.{values_of, Panel, Forcing}
 use Rattle.sheet.specs.Qdimacs.{qdimacs}
 use Rattle.sheet.specs.Decide.{decide_ended, Deciding}

@@ -10,7 +10,7 @@ use lib.ListN.{length, get_or}
 use Rattle.formula.specs.Tree.{and, or, Tree, lit, node, Forest, ∅, ◌▸◌, rows, count, ◌⧺◌}
 use Rattle.formula.proofs.Forests.{count-⧺}
 use Rattle.sheet.proofs.Forests.{front-⧺}
-use Rattle.sheet.specs.Format.{Bytes, Row, row, children}
+use Rattle.sheet.specs.Format.{Bytes, Row, row}
 use Rattle.sheet.specs.Sheet.{front}
 use Rattle.rows.specs.Layouts.{rows_in}
 use Rattle.rows.specs.Formulas.{node_rows_in, matrix_in, Readable}

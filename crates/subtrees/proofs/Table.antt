@@ -11,7 +11,7 @@ use lib.Seq.{drop-cons, drop-drop, get_or-drop, get_or-take, get_or-set_same, dr
 use Rattle.formula.specs.Tree.{and, or, Tree, lit, node, rows, rows_all, count, ◌⧺◌}
 use Rattle.formula.proofs.Forests.{count-⧺}
 use Rattle.sheet.proofs.Forests.{front-⧺}
-use Rattle.sheet.specs.Format.{Row, row, children}
+use Rattle.sheet.specs.Format.{Row, children}
 use Rattle.sheet.specs.Sheet.{front, trees, root}
 use Rattle.subtrees.specs.Subtrees.{top, kids}
 use Rattle.subtrees.specs.Ends.{subtree_ends, forest_ends, hops, Hops}

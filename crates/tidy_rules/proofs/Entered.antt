@@ -3,23 +3,23 @@
 use mathlib.Core.Path.{◌≡◌, refl, sym, ap, ap₂, ◌∙◌, subst}
 use mathlib.Core.Bool.{Bool, true, false, ◌&&◌, false≢true}
 use mathlib.Core.List.{List, [], ◌∷◌, ◌++◌, append_assoc, append-nil}
-use Prim.Native.Nat.{ℕ, ◌+◌, ◌-◌, ◌≤◌, ◌<◌}
+use Prim.Native.Nat.{ℕ, ◌+◌, ◌≤◌, ◌<◌}
 use native.Mathlib.Omega.{arith}
 use lib.Dec.{eqb, leb}
 use lib.ListN.{length, length-append}
 use lib.Seq.{append_snoc}
 use borrow.Author.Tests.{eq-eqb, ne_eqb, eqb-true, leb-true, leb-false}
-use Rattle.formula.specs.Tree.{and, or, Tree, ∅, ◌▸◌, ◌⧺◌, count}
+use Rattle.formula.specs.Tree.{and, or, Tree, ∅, ◌▸◌, count}
 use Rattle.formula.specs.Tidy.{same_tree}
 use Rattle.formula.proofs.Booleans.{and_parts}
 use Rattle.sheet.specs.Format.{Row, row}
 use Rattle.sheet.specs.Sheet.{operator_kind, tree_rows, forest_rows}
 use Rattle.sheet.proofs.Preorder.{forest_rows-⧺}
 use Rattle.sheet.proofs.Same.{same_rows}
-use Rattle.tidy_rules.specs.Segments.{Segment, gone, literal, operator, Segments, none, ◌◂◌, ◌⊕◌, head, inner, segment_rows, grown, live, Laid, Region, Stands, Standing}
+use Rattle.tidy_rules.specs.Segments.{Segment, gone, literal, operator, Segments, none, ◌◂◌, head, inner, segment_rows, grown, live, Laid, Region, Stands, Standing}
 use Rattle.tidy_rules.specs.Walks.{at_row, extent, Counts, Finds}
 use Rattle.tidy_rules.specs.Entered.{packed, entered, ArgumentOf, LiveAt, Same, same_row, SameRow}
-use Rattle.tidy_rules.proofs.Segments.{rows-⊕, live-⊕, length_one, stands_row, stands, extent-head, start, next, no_rows, rest_laid}
+use Rattle.tidy_rules.proofs.Segments.{rows-⊕, live-⊕, length_one, stands_row, extent-head, start, next, no_rows, rest_laid}
 use Rattle.tidy_rules.proofs.Judge.{inner-laid, live-kind}
 
 -- a segment is its row, if it is live, and those that come next

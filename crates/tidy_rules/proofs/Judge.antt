@@ -28,7 +28,7 @@ use Rattle.tidy_rules.specs.Known.{Says}
 use Rattle.tidy_rules.specs.Rules.{decisive, repeated, new, Unopposed, note, notes, literal_test, Test, Member, Duplicate, Noted, LiteralRow, Kept, Judged, LinkedNow}
 use Rattle.tidy_rules.specs.Walks.{at_row}
 use Rattle.tidy_rules.specs.Entered.{LiveAt, Same}
-use Rattle.tidy_rules.proofs.Segments.{stands, stands_row, start}
+use Rattle.tidy_rules.proofs.Segments.{stands_row, start}
 use Rattle.tidy_rules.proofs.Walks.{like, dead_holds}
 use Rattle.tidy_rules.proofs.Told.{told_gone}
 use Rattle.tidy_rules.proofs.Notes.{noted_count, noted_at, notes-places, unseen, seen, unseen_duplicate, seen_duplicate, member_lives, bucket-made}

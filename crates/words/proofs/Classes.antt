@@ -1,16 +1,16 @@
 -- What a word is, by its class.
 -- Assumes nothing.
-use mathlib.Core.Path.{◌≡◌, refl, sym, ap, ◌∙◌, subst}
+use mathlib.Core.Path.{◌≡◌, refl, sym, ◌∙◌, subst}
 use mathlib.Core.Bool.{Bool, true, false, not, ◌&&◌, ◌||◌, cond}
-use mathlib.Core.List.{List, [], ◌∷◌}
+use mathlib.Core.List.{[], ◌∷◌}
 use Prim.Native.Nat.{ℕ, zero, suc, ◌-◌}
 use native.Mathlib.Omega.{arith}
-use lib.Dec.{eqb, leb, eqb-suc-zero}
+use lib.Dec.{eqb, eqb-suc-zero}
 use borrow.Author.Tests.{eqb-true}
 use Rattle.formula.specs.Tree.{exists, for_all}
 use Rattle.formula.proofs.Booleans.{and_parts}
 use Rattle.sheet.specs.Format.{Bytes}
-use Rattle.sheet.specs.Qdimacs.{is_nil, digit, all, unsigned, number_from, negative, magnitude, is_word, is_e, is_a, Token, opener, plain, minus, other, token}
+use Rattle.sheet.specs.Qdimacs.{is_nil, all, unsigned, number_from, negative, magnitude, is_word, is_e, is_a, Token, opener, plain, minus, other, token}
 use Rattle.words.specs.Tokens.{name_of, number_class, class_of}
 
 -- a word's class, what it says, and its magnitude

@@ -1,15 +1,14 @@
 -- The variable and the kind that a number's literal says.
 -- Assumes nothing.
 use mathlib.Core.Logic.{◌⊎◌, inl, inr}
-use mathlib.Core.Path.{◌≡◌, refl, sym, ap, ◌∙◌, subst}
+use mathlib.Core.Path.{◌≡◌, refl, sym, ap, ◌∙◌}
 use mathlib.Core.Bool.{Bool, true, false, cond}
 use Prim.Native.Nat.{ℕ, zero, suc, ◌≤◌, ◌<◌}
 use native.Mathlib.Omega.{arith}
 use lib.Dec.{eqb, ltb}
-use lib.IntN.{nat_abs}
-use borrow.Author.Tests.{ltb-true, ltb-false, lt-ltb, le-ltb}
+use borrow.Author.Tests.{ltb-true, ltb-false, lt-ltb}
 use Rattle.sheet.specs.Sheet.{literal_kind}
-use Rattle.sheet.specs.Qdimacs.{Token, opener, plain, minus, other, is_plain, absolute}
+use Rattle.sheet.specs.Qdimacs.{Token, is_plain, absolute}
 use Rattle.words.specs.Numbers.{Capped, largest}
 use Rattle.words.specs.Literals.{clamped, literal, variable, kind}
 use Rattle.words.specs.Literals as literals

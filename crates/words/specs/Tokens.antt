@@ -1,6 +1,6 @@
 -- What a word is, and the next word of a text.
 -- Assumes nothing.
-use Rattle.std.specs.Prelude.{◌≡◌, Bool, true, false, not, ◌&&◌, cond, ℕ, ◌≤◌, ◌<◌, eqb, length, drop, get_or}
+use Rattle.std.specs.Prelude.{◌≡◌, not, ◌&&◌, cond, ℕ, ◌≤◌, ◌<◌, eqb, length, drop, get_or}
 use mathlib.Core.List.{List, [], ◌∷◌, tail}
 use Rattle.sheet.specs.Format.{Bytes}
 use Rattle.sheet.specs.Qdimacs.{unsigned, number_from, negative, magnitude, is_word, is_e, is_a}

@@ -1,6 +1,6 @@
 -- A search that hands on what is left of its budget, and stops once it is spent, answers as the whole search kept within the budget.
 -- Assumes nothing.
-use mathlib.Core.Path.{◌≡◌, refl, sym, ◌∙◌, ap, ap₂}
+use mathlib.Core.Path.{◌≡◌, refl, sym, ◌∙◌, ap}
 use mathlib.Core.Bool.{Bool, true, false, cond}
 use Prim.Native.Nat.{ℕ, zero, suc, ◌+◌, ◌-◌, ◌≤◌, ◌<◌}
 use native.Mathlib.Omega.{arith}
@@ -9,7 +9,7 @@ use borrow.Author.Tests.{leb-true, leb-false, le-leb, lt-leb}
 use Rattle.formula.specs.Tree.{Quantifier, Formula}
 use Rattle.formula.specs.Solve.{End, ended, stopped, Fits, solve}
 use Rattle.formula.specs.Force.{owner}
-use Rattle.formula.specs.Decide.{half, Outcome, no_place, spent, Decision, after_solve, ends_split, split, seek, within, decide}
+use Rattle.formula.specs.Decide.{half, no_place, spent, Decision, after_solve, ends_split, split, seek, within, decide}
 
 -- a run before them
 abbrev pub one_more : Decision → Decision

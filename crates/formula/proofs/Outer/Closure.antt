@@ -13,7 +13,7 @@ use Rattle.formula.specs.Tree.{Tree, Prefix, of, has, binds}
 use Rattle.formula.specs.Outer.{within, touches, some_row, touched, grown, stage, chosen_by}
 use Rattle.formula.proofs.Booleans.{and_parts, or_cases, or_later, by_cases}
 use Rattle.formula.specs.Truth.{Leads}
-use Rattle.formula.proofs.Outer.Apart.{members, Linked, apart}
+use Rattle.formula.proofs.Outer.Apart.{Linked, apart}
 use Rattle.formula.proofs.Prefixes.{some_here, some_found, some_leads}
 
 -- tests on rows

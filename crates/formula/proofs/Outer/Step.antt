@@ -14,7 +14,6 @@ use Rattle.formula.specs.Tree.{and, same_op, exists, for_all, Tree, lit, Prefix,
 use Rattle.formula.specs.Tree.{constant, assigned, binds, quantifier_of, without, distinct, closed}
 use Rattle.formula.specs.Truth.{Assignment, put, eval, truth}
 use Rattle.formula.specs.Tidy.{tidied}
-use Rattle.formula.specs.Solve.{those}
 use Rattle.formula.specs.Expand.{all_of, after, occurs, occurring, later, raw_tree, raw_rows, expand_tree, growth}
 use Rattle.formula.specs.Outer.{universal_then_existential, one_block_out, existentials, block, within, depends, dependents, unused}
 use Rattle.formula.specs.Outer.{copies_of, too_few, renamed, chosen_by, renaming, outer_copying, existential, raw_outer}

@@ -1,7 +1,7 @@
 -- Equal siblings (N4): examples that pin the rule, computed in the definitions.
 -- Assumes nothing.
 use mathlib.Core.Path.{◌≡◌, refl}
-use mathlib.Core.Bool.{true, false}
+use mathlib.Core.Bool.{true}
 use Rattle.formula.specs.Tree.{and, or, Tree, lit, node, ∅, ◌▸◌, ◌⧺◌, some_child, some_two, keep}
 use Rattle.formula.specs.Tidy.{is_op, is_empty, opposite, equal, same_variable, same_tree, duplicate, spliced, splice, decides, firsts, unwrap, combine, tidy}
 use Rattle.formula.specs.Tidy.{alone, childless, breaks, faults, root_faults, any, first_true, is_tidy, first_fault}

@@ -5,7 +5,7 @@ use mathlib.Core.Bool.{Bool, true, false, not, ◌&&◌, ◌||◌, cond, or-fals
 use mathlib.Core.Logic.{◌↔◌}
 use lib.Dec.{eqb}
 use borrow.Author.Tests.{eqb-true, eq-eqb}
-use Rattle.formula.specs.Tree.{Op, and, or, same_op, Tree, lit, node, Forest, ∅, ◌▸◌, keep}
+use Rattle.formula.specs.Tree.{Op, same_op, Tree, lit, node, Forest, ∅, ◌▸◌, keep}
 use Rattle.formula.specs.Tidy.{equal, same_tree, same_trees, duplicate, firsts}
 use Rattle.formula.proofs.Booleans.{and_parts, beq_refl, beq_same, same_op_refl, same_op_eq}
 use Rattle.formula.proofs.Forests.{keep_every, keep-keep, keep_swap}

@@ -9,8 +9,6 @@ use Rattle.sets.specs.Sets.{left_in}
 use Rattle.sets.proofs.Members.{NoneBelow, Tells, tells_left, none-next, first_found, first_none}
 use Rattle.sets.proofs.lowest_left.Statement.{statement}
 use Rattle.sets.proofs.lowest_left.Tie as tie
-use Rattle.sets.proofs.lowest_left.Reads as reads
-use Rattle.sets.proofs.lowest_left.Lts as lts
 
 abbrev invariant-loop-i : tie.invariant-loop-i
 invariant-loop-i first second taken i₀ i = (i ≤ length first) × NoneBelow (left_in first second taken) i

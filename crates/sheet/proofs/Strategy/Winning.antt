@@ -19,7 +19,7 @@ use Rattle.formula.proofs.Strategy.Claim.{closed_matrix}
 use Rattle.formula.proofs.Strategy.Matrix.{pairs_matrix}
 use Rattle.sheet.specs.Format.{Bytes, Format, sheet_length, fits}
 use Rattle.sheet.specs.Sheet.{formula, sheet}
-use Rattle.sheet.specs.Check.{answer, passes, check_tests}
+use Rattle.sheet.specs.Check.{passes, check_tests}
 use Rattle.sheet.specs.Operations.{padded, Solved, is_refused, is_stopped, is_ended, solve_call}
 use Rattle.sheet.specs.Limits.{Sound, Within}
 use Rattle.sheet.specs.Trace.{room}

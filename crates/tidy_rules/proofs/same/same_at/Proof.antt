@@ -1,7 +1,6 @@
 -- `tidy_rules::same::same_at` meets its contract: what is left of both is the same if all is. Assumes nothing.
 use Prim.Native.Nat.{◌-◌}
 use native.Mathlib.Omega.{arith}
-use borrow.Author.Tests.{not-true, not-false}
 use Rattle.rows.specs.Layouts.{rows_in}
 use Rattle.rows.proofs.Layouts.{length-rows_in}
 use Rattle.tidy_rules.proofs.Segments.{stands_within, laid-within}

@@ -1,9 +1,9 @@
 -- `words::cursor::end_of` meets its contract. Assumes nothing.
 use borrow.Author.Rules.{rules}
-use mathlib.Core.Path.{◌≡◌, refl, sym, ap, ◌∙◌}
-use Prim.Native.Nat.{◌+◌, ◌-◌, ◌≤◌, ◌<◌}
+use mathlib.Core.Path.{sym, ◌∙◌}
+use Prim.Native.Nat.{◌-◌}
 use native.Mathlib.Omega.{arith}
-use lib.ListN.{length, get_or}
+use lib.ListN.{length}
 use Rattle.words.specs.Words.{ends}
 use Rattle.words.proofs.ByteTurns.{Led, led_none, led_ends, led_more, led_all}
 use Rattle.words.proofs.cursor.end_of.Statement.{statement}

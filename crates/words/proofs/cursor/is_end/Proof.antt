@@ -1,9 +1,5 @@
 -- `words::cursor::is_end` meets its contract. Assumes nothing.
-use mathlib.Core.Path.{◌≡◌, refl, sym, ap, ◌∙◌}
-use Prim.Native.Nat.{◌+◌, ◌-◌, ◌≤◌, ◌<◌}
-use native.Mathlib.Omega.{arith}
 use borrow.Author.Rules.{rules}
-use borrow.Author.Tests.{not-true}
 use Rattle.words.proofs.cursor.is_end.Statement.{statement}
 use Rattle.words.proofs.cursor.is_end.Tie as tie
 

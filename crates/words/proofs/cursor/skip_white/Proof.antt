@@ -1,10 +1,9 @@
 -- `words::cursor::skip_white` meets its contract. Assumes nothing.
 use borrow.Author.Rules.{rules}
-use mathlib.Core.Path.{◌≡◌, refl, sym, ap, ◌∙◌}
-use Prim.Native.Nat.{◌+◌, ◌-◌, ◌≤◌, ◌<◌}
+use mathlib.Core.Path.{sym, ◌∙◌}
+use Prim.Native.Nat.{◌-◌}
 use native.Mathlib.Omega.{arith}
-use borrow.Author.Tests.{not-true, not-false}
-use lib.ListN.{length, get_or}
+use lib.ListN.{length}
 use Rattle.words.proofs.ByteTurns.{Skipped, skipped_none, skipped_ends, skipped_more, skipped_all}
 use Rattle.words.proofs.cursor.skip_white.Statement.{statement}
 use Rattle.words.proofs.cursor.skip_white.Tie as tie

@@ -1,8 +1,4 @@
 -- `words::literal::kind_of` meets its contract. Assumes nothing.
-use borrow.Author.Rules.{rules}
-use mathlib.Core.Path.{◌≡◌, refl, sym, ap, ◌∙◌}
-use Prim.Native.Nat.{◌+◌, ◌-◌, ◌≤◌, ◌<◌}
-use native.Mathlib.Omega.{arith}
 use Rattle.words.proofs.Signed.{kind-below, kind-above}
 use Rattle.words.proofs.literal.kind_of.Statement.{statement}
 use Rattle.words.proofs.literal.kind_of.Tie as tie

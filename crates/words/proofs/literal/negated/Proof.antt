@@ -1,8 +1,4 @@
 -- `words::literal::negated` meets its contract. Assumes nothing.
-use mathlib.Core.Path.{◌≡◌, refl, sym, ap, ◌∙◌}
-use Prim.Native.Nat.{◌+◌, ◌-◌, ◌≤◌, ◌<◌}
-use native.Mathlib.Omega.{arith}
-use borrow.Author.Rules.{rules}
 use Rattle.words.proofs.Signed.{plain_fits, minus_large, minus-fits, minus_small}
 use Rattle.words.proofs.literal.negated.Statement.{statement}
 use Rattle.words.proofs.literal.negated.Tie as tie

@@ -1,8 +1,4 @@
 -- `words::literal::variable_of` meets its contract. Assumes nothing.
-use mathlib.Core.Path.{◌≡◌, refl, sym, ap, ◌∙◌}
-use Prim.Native.Nat.{◌+◌, ◌-◌, ◌≤◌, ◌<◌}
-use native.Mathlib.Omega.{arith}
-use borrow.Author.Rules.{rules}
 use Rattle.words.proofs.Signed.{lowest, not_negative, same_variable, negation-fits, negation-cast, negation-variable}
 use Rattle.words.proofs.literal.variable_of.Statement.{statement}
 use Rattle.words.proofs.literal.variable_of.Tie as tie

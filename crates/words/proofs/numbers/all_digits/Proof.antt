@@ -1,10 +1,8 @@
 -- `words::numbers::all_digits` meets its contract. Assumes nothing.
 use borrow.Author.Rules.{rules}
-use mathlib.Core.Path.{◌≡◌, refl, sym, ap, ◌∙◌}
-use Prim.Native.Nat.{◌+◌, ◌-◌, ◌≤◌, ◌<◌}
+use mathlib.Core.Path.{sym, ◌∙◌}
+use Prim.Native.Nat.{◌-◌}
 use native.Mathlib.Omega.{arith}
-use borrow.Author.Tests.{not-true, not-false}
-use lib.ListN.{length, get_or}
 use Rattle.words.proofs.Digits.{Looked, looked_none, looked_other, looked_digit, looked_all}
 use Rattle.words.proofs.numbers.all_digits.Statement.{statement}
 use Rattle.words.proofs.numbers.all_digits.Tie as tie

@@ -1,8 +1,4 @@
 -- `words::numbers::is_digit` meets its contract. Assumes nothing.
-use borrow.Author.Rules.{rules}
-use mathlib.Core.Path.{◌≡◌, refl, sym, ap, ◌∙◌}
-use Prim.Native.Nat.{◌+◌, ◌-◌, ◌≤◌, ◌<◌}
-use native.Mathlib.Omega.{arith}
 use borrow.Author.Tests.{le-leb, lt-leb}
 use Rattle.words.proofs.numbers.is_digit.Statement.{statement}
 use Rattle.words.proofs.numbers.is_digit.Tie as tie

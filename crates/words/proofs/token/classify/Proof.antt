@@ -1,9 +1,7 @@
 -- `words::token::classify` meets its contract. Assumes nothing.
-use mathlib.Core.Path.{◌≡◌, refl, sym, ap, ◌∙◌}
-use Prim.Native.Nat.{◌+◌, ◌-◌, ◌≤◌, ◌<◌}
+use mathlib.Core.Path.{refl, sym, ◌∙◌}
 use native.Mathlib.Omega.{arith}
 use borrow.Author.Rules.{rules}
-use borrow.Author.Tests.{not-true, not-false}
 use Rattle.words.proofs.Tokens.{says-name, says_plain, says_other, says-negated}
 use Rattle.words.proofs.token.classify.Statement.{statement}
 use Rattle.words.proofs.token.classify.Tie as tie

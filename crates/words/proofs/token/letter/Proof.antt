@@ -1,5 +1,4 @@
 -- `words::token::letter` meets its contract. Assumes nothing.
-use mathlib.Core.Path.{sym}
 use borrow.Author.Tests.{eq-eqb, ne_eqb}
 use Rattle.words.proofs.Names.{name_one}
 use Rattle.words.proofs.token.letter.Statement.{statement}

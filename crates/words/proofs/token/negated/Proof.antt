@@ -1,9 +1,7 @@
 -- `words::token::negated` meets its contract. Assumes nothing.
-use mathlib.Core.Path.{◌≡◌, refl, sym, ap, ◌∙◌}
-use Prim.Native.Nat.{◌+◌, ◌-◌, ◌≤◌, ◌<◌}
+use mathlib.Core.Path.{refl, sym, ◌∙◌}
 use native.Mathlib.Omega.{arith}
 use borrow.Author.Rules.{rules}
-use borrow.Author.Tests.{not-true, not-false}
 use Rattle.words.proofs.Tokens.{negated_nothing, negated_other, negated-zero, negated_some}
 use Rattle.words.proofs.token.negated.Statement.{statement}
 use Rattle.words.proofs.token.negated.Tie as tie

@@ -1,7 +1,4 @@
 -- `words::token::next_token` meets its contract. Assumes nothing.
-use mathlib.Core.Path.{◌≡◌, refl, sym, ap, ◌∙◌}
-use Prim.Native.Nat.{◌+◌, ◌-◌, ◌≤◌, ◌<◌}
-use native.Mathlib.Omega.{arith}
 use borrow.Author.Rules.{rules}
 use Rattle.words.proofs.Tokens.{from_within, reads_none, to-within, reads_word}
 use Rattle.words.proofs.token.next_token.Statement.{statement}

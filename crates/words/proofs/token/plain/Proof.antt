@@ -1,7 +1,5 @@
 -- `words::token::plain` meets its contract. Assumes nothing.
-use mathlib.Core.Path.{◌≡◌, refl, sym, ap, ◌∙◌}
-use Prim.Native.Nat.{◌+◌, ◌-◌, ◌≤◌, ◌<◌}
-use native.Mathlib.Omega.{arith}
+use mathlib.Core.Path.{refl}
 use borrow.Author.Rules.{rules}
 use Rattle.words.proofs.Tokens.{plain_zero, plain_some}
 use Rattle.words.proofs.token.plain.Statement.{statement}
