@@ -16,7 +16,7 @@ use Rattle.sets.specs.Sets as sets
 use Rattle.sheet.specs.Certificates.{coded, code_of, literal_of}
 use Rattle.resolution.specs.declared.words.Part.{Part}
 use Rattle.resolution.specs.Codes.{complement, kept, some_kept, words_in, some_in, Adds, Gathers, ranked_behind, uncovered}
-use Rattle.resolution.specs.Ranks.{rank_from, Ranks}
+use Rattle.resolution.specs.Ranks.{Ranks}
 use Rattle.resolution.specs.Steps.{constraint_in, Triple, follows_in}
 use Rattle.resolution.proofs.Ranks.{bound_by, rank_some, rank_behind}
 

@@ -10,10 +10,10 @@ use lib.Dec.{ltb}
 use lib.ListN.{length}
 use borrow.Author.Tests.{lt-ltb, le-ltb}
 use Rattle.formula.specs.Tree.{Op, Prefix}
-use Rattle.formula.specs.Certificates.{Constraint, follows, resolvent}
-use Rattle.sheet.specs.Certificates.{coded, code_of, literal_of, head_word, step_words, step_constraint}
+use Rattle.formula.specs.Certificates.{follows, resolvent}
+use Rattle.sheet.specs.Certificates.{coded, code_of, literal_of, head_word, step_constraint}
 use Rattle.resolution.specs.declared.words.Part.{Part}
-use Rattle.resolution.specs.Codes.{complement, words_in, PartOf}
+use Rattle.resolution.specs.Codes.{complement, PartOf}
 use Rattle.resolution.specs.Ranks.{Ranks}
 use Rattle.resolution.specs.Steps.{constraint_in, Triple, follows_in, follows_at, derived_by, derived_at, FirstUnderived}
 

@@ -1,8 +1,6 @@
 -- `resolution::first_underived` meets its contract: the steps passed are derived. Assumes nothing.
-use mathlib.Core.Path.{sym}
 use Prim.Native.Nat.{◌-◌, ◌≤◌}
 use native.Mathlib.Omega.{arith}
-use borrow.Author.Tests.{not-true, not-false}
 use Rattle.resolution.proofs.Steps.{Deriving, deriving_none, deriving_on, deriving_found, deriving_all}
 use Rattle.resolution.proofs.first_underived.Statement.{statement}
 use Rattle.resolution.proofs.first_underived.Tie as tie

@@ -10,7 +10,7 @@ use Rattle.sheet.specs.Format.{Bytes}
 use Rattle.rows.specs.declared.Layout.{Layout}
 use Rattle.prefixes.specs.Places.{binding_in}
 use Rattle.trial.specs.Inner.Turns.{TurnsReady}
-use Rattle.trial.proofs.Turns.{owner, owned_by, Own, own_row, kept_one, turn_stopped, leaves-fit, turn-went-on, hands_over, next_turn}
+use Rattle.trial.proofs.Turns.{owner, owned_by, turned_leaf, inside_both, Own, own_row, kept_one, turn_stopped, leaves-fit, turn-went-on, hands_over, next_turn}
 use Rattle.trial.proofs.+existential_universal.Goals as goal
 
 -- a row of the side that asks
@@ -23,6 +23,10 @@ module _ {s : Layout} {b : Bytes} {i x : ℕ} {table : List Bool} {high low : Li
   universal_own e = own_row ready (omega (arith, within, more)) (owned_by _ side e) binds
 
 -- existential turns
+
+pub existential-returns-then-i-s : goal.existential-returns-then-i-s
+existential-returns-then-i-s t c =
+    turned_leaf c.args.s c.args.sheet.now c.requires.0.playable.readable c.leaf.result c.args.i c.args.assignment.now c.if-i-s.true c.leaf.ensures
 
 pub existential-universal-requires : goal.existential-universal-requires
 existential-universal-requires t c = (
@@ -46,6 +50,11 @@ existential-existential-one-requires t c =
     let own = existential_own c.requires.0 c.requires.1 c.if-i-s.false c.is_existential.ensures c.bound_at-x.ensures.0 c.if-not-is_existential.false in
     next_turn own c.requires.0 c.decreases (kept_one own c.existential-zero.ensures)
 
+pub existential-bounds-assignment-x-4 : goal.existential-bounds-assignment-x-4
+existential-bounds-assignment-x-4 t c =
+    let own = existential_own c.requires.0 c.requires.1 c.if-i-s.false c.is_existential.ensures c.bound_at-x.ensures.0 c.if-not-is_existential.false in
+    inside_both own c.existential-zero.ensures c.existential-one.ensures
+
 pub existential-both-requires : goal.existential-both-requires
 existential-both-requires t c =
     let own = existential_own c.requires.0 c.requires.1 c.if-i-s.false c.is_existential.ensures c.bound_at-x.ensures.0 c.if-not-is_existential.false in
@@ -57,6 +66,10 @@ existential-returns t c =
     turn-went-on own c.existential-zero.ensures c.existential-one.ensures c.stops.ensures c.if-stops.false c.both.result c.both.ensures
 
 -- universal turns
+
+pub universal-returns-then-i-s : goal.universal-returns-then-i-s
+universal-returns-then-i-s t c =
+    turned_leaf c.args.s c.args.sheet.now c.requires.0.playable.readable c.leaf.result c.args.i c.args.assignment.now c.if-i-s.true c.leaf.ensures
 
 pub universal-existential-requires : goal.universal-existential-requires
 universal-existential-requires t c = (
@@ -79,6 +92,11 @@ pub universal-universal-one-requires : goal.universal-universal-one-requires
 universal-universal-one-requires t c =
     let own = universal_own c.requires.0 c.requires.1 c.if-i-s.false c.is_existential.ensures c.bound_at-y.ensures.0 c.if-is_existential.false in
     next_turn own c.requires.0 c.decreases (kept_one own c.universal-zero.ensures)
+
+pub universal-bounds-assignment-y-4 : goal.universal-bounds-assignment-y-4
+universal-bounds-assignment-y-4 t c =
+    let own = universal_own c.requires.0 c.requires.1 c.if-i-s.false c.is_existential.ensures c.bound_at-y.ensures.0 c.if-is_existential.false in
+    inside_both own c.universal-zero.ensures c.universal-one.ensures
 
 pub universal-both-requires : goal.universal-both-requires
 universal-both-requires t c =

@@ -17,9 +17,9 @@ use Rattle.decide.specs.Answers.{decision_of}
 use Rattle.decide.specs.Inner.Waiting.{Waiting, Halved}
 use Rattle.decide.specs.Inner.Searching.{Branches, found, branched, one_more}
 use Rattle.decide.specs.declared.search.Decision.{Decision as Decided}
-use Rattle.decide.proofs.Halving.{front_kept, waiting_formula, waiting_kept, waiting_most}
+use Rattle.decide.proofs.Halving.{some_bytes, front_kept, waiting_formula, waiting_kept, waiting_most}
 use Rattle.decide.proofs.Searching.{lent_length, branched_most, decided_most, seek_spent, seek_ended, seek-stuck, branches, seek-branches}
-use Rattle.decide.proofs.Searching.{half-found, zeroth, branch-early, branch-both}
+use Rattle.decide.proofs.Searching.{half_ready, half-found, zeroth, branch-early, branch-both}
 use Rattle.decide.proofs.search.+branch_seek.Goals as goal
 
 -- a split
@@ -63,6 +63,13 @@ first_decided : (first second : Bytes) (budget : ℕ) (zero : Decided) {stack ou
 first_decided first second budget zero {stack} {place = place} j is h kept e =
     e ∙ half-found h second (ap (λ (n : ℕ). min n (length second)) kept) j.waiting.has_room refl (rest place (room first second) stack is) budget
 
+pub branch-seek-zero-requires : goal.branch-seek-zero-requires
+branch-seek-zero-requires t c =
+    let w = c.requires.waiting in (
+      omega (arith, c.decreases, lent_length c.shorter-place.result c.args.stack.now, some_bytes c.args.t, w.has_room, c.requires.has_place, c.shorter-place.ensures),
+      half_ready c.write_half-u.ensures c.args.second.now (ap (λ (n : ℕ). min n (length c.args.second.now)) c.write_half-u.auto.out) w.has_room,
+    )
+
 pub branch-ends_early-requires : goal.branch-ends_early-requires
 branch-ends_early-requires t c =
     let w = waits c.requires c.shorter-place.ensures c.seek-zero.new.stack c.seek-zero.auto.stack in
@@ -82,6 +89,23 @@ branch-write_half-w-requires t c =
 
 pub branch-overflow_sub-budget : goal.branch-overflow_sub-budget
 branch-overflow_sub-budget t c = decided_most _ _ _ _ c.seek-zero.ensures
+
+pub branch-seek-one-requires : goal.branch-seek-one-requires
+branch-seek-one-requires t c =
+    let w = c.requires.waiting in
+    let z = c.seek-zero in (
+      omega (
+        arith,
+        c.decreases,
+        rest_back c.requires c.shorter-place.ensures z.new.stack z.auto.stack,
+        some_bytes c.args.t,
+        w.has_room,
+        c.requires.has_place,
+        c.shorter-place.ensures,
+      ),
+      half_ready c.write_half-w.ensures z.new.second
+          (ap₂ min (c.write_half-w.auto.out ∙ z.auto.first ∙ c.write_half-u.auto.out) z.auto.second) w.has_room,
+    )
 
 pub branch-both-requires : goal.branch-both-requires
 branch-both-requires t c =

@@ -1,5 +1,4 @@
 -- `resolution::following::last_of` meets its contract. Assumes nothing.
-use borrow.Author.Rules.{rules}
 use mathlib.Core.Path.{ap, ◌∙◌}
 use mathlib.Core.Bool.{◌||◌}
 use Rattle.resolution.specs.Codes.{some_in, ranked_behind}
