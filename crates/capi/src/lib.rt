@@ -2,6 +2,7 @@
 // format, and exported by a name for narrow sheets and one for wide ones; a list of steps, which has seven arguments without a format,
 // by each of its two names.
 #![tactic(auto)]
+
 pub mod buffers;
 pub mod copies;
 pub mod lists;

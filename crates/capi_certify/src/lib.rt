@@ -1,6 +1,7 @@
 // Certify and Clauses for callers in C and Rust, thin over the proved operations, in an archive of their own. Each is packed once, for any
 // format, and exported by a name for narrow sheets and one for wide ones. A verdict is handed in as a number: 0 false, any other true.
 #![tactic(auto)]
+
 ghost use Rattle.std.specs.Prelude.{◌≡◌};
 ghost use Rattle.sheet.specs.Format.{narrow, wide};
 ghost use Rattle.sheet.specs.Certificates.{certify_call};

@@ -7,24 +7,20 @@ use Rattle.capi_certify.proofs.Telling.{certify_told}
 use Rattle.capi_certify.proofs.certify.Statement.{statement}
 use Rattle.capi_certify.proofs.certify.Tie as tie
 
-certify_requires : tie.Need-certify-requires
-certify_requires c κs = search rules
+certify-requires : tie.Need-certify-requires
+certify-requires c κs = search rules
 
-pack_certified_requires : tie.Need-pack-certified-requires
-pack_certified_requires c κs = search rules
-
--- places in the code, each from a later one
-abbrev called : tie.After-pack-certified → tie.After-certify
-called c = c.before
-
-abbrev start : tie.After-certify → tie.Start
-start c = let known = c.before.before in known.before.before
+pack_certified-requires : tie.Need-pack_certified-requires
+pack_certified-requires c κs = search rules
 
 returns : tie.Need-returns
 returns c =
-    let a = (start (called c)).args in
+    let a = c.args in
     certify_told a.f a.sheet.now (side_numbered a.verdict) a.heads.now a.codes.now
-    (c.pack-certified.ensures ∙ ap packed_certified (called c).certify.ensures.0)
+    (c.pack_certified.ensures ∙ ap packed_certified c.certify.ensures.0)
 
 pub certify_spec : {M : Type 1} → statement M
-certify_spec = tie.close (tie.spec certify_requires pack_certified_requires returns)
+certify_spec = tie.close (tie.spec
+    certify-requires
+    pack_certified-requires
+    returns)

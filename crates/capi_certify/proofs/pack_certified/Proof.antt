@@ -8,50 +8,50 @@ use borrow.Author.Rules.{rules}
 use Rattle.capi_certify.proofs.pack_certified.Statement.{statement}
 use Rattle.capi_certify.proofs.pack_certified.Tie as tie
 
-enum_known_answer : tie.Need-enum-known-answer
-enum_known_answer c = search rules
+enum_known-answer : tie.Need-enum_known-answer
+enum_known-answer c = search rules
 
-cast_pack : tie.Need-overflow-cast-pack
-cast_pack c = search rules
+overflow_cast-verdict : tie.Need-overflow_cast-verdict
+overflow_cast-verdict c = search rules
 
-pack_requires : tie.Need-pack-requires
-pack_requires c κs = search rules
+pack-requires : tie.Need-pack-requires
+pack-requires c κs = search rules
 
-enum_known_answer_2 : tie.Need-enum-known-answer-2
-enum_known_answer_2 c = search rules
+enum_known-answer-in-Uncertain-1 : tie.Need-enum_known-answer-in-Uncertain-1
+enum_known-answer-in-Uncertain-1 c = search rules
 
-pack_requires_2 : tie.Need-pack-requires-2
-pack_requires_2 c κs = search rules
+pack-requires-in-Uncertain : tie.Need-pack-requires-in-Uncertain
+pack-requires-in-Uncertain c κs = search rules
 
-enum_known_answer_3 : tie.Need-enum-known-answer-3
-enum_known_answer_3 c = search rules
+enum_known-answer-in-Refused-1 : tie.Need-enum_known-answer-in-Refused-1
+enum_known-answer-in-Refused-1 c = search rules
 
-pack_requires_3 : tie.Need-pack-requires-3
-pack_requires_3 c κs = search rules
+pack-requires-in-Refused : tie.Need-pack-requires-in-Refused
+pack-requires-in-Refused c κs = search rules
 
-returns : tie.Need-returns
+returns-in-Certain : tie.Need-returns-in-Certain
 unfolding packed_certified
-returns c = c.pack.ensures ∙ ap (λ (a : Certified). packed_certified (certified_answer a)) (sym c.before.before.answer.given.1)
+returns-in-Certain c = c.pack.ensures ∙ ap (λ (a : Certified). packed_certified (certified_answer a)) (sym c.in-Certain.is)
 
-returns_2 : tie.Need-returns-2
+returns-in-Uncertain : tie.Need-returns-in-Uncertain
 unfolding packed_certified
-returns_2 c = c.pack2.ensures ∙ ap (λ (a : Certified). packed_certified (certified_answer a)) (sym c.before.before.answer2.given.1)
+returns-in-Uncertain c = c.pack-in-Uncertain.ensures ∙ ap (λ (a : Certified). packed_certified (certified_answer a)) (sym c.in-Uncertain.is)
 
-returns_3 : tie.Need-returns-3
+returns-in-Refused : tie.Need-returns-in-Refused
 unfolding packed_certified
-returns_3 c = c.pack3.ensures ∙ ap (λ (a : Certified). packed_certified (certified_answer a)) (sym c.before.before.answer3.given.1)
+returns-in-Refused c = c.pack-in-Refused.ensures ∙ ap (λ (a : Certified). packed_certified (certified_answer a)) (sym c.in-Refused.is)
 
 pub pack_certified_spec : {M : Type 1} → statement M
 pack_certified_spec =
     tie.close
     (tie.spec
-    enum_known_answer
-    cast_pack
-    pack_requires
-    enum_known_answer_2
-    pack_requires_2
-    enum_known_answer_3
-    pack_requires_3
-    returns
-    returns_2
-    returns_3)
+    enum_known-answer
+    overflow_cast-verdict
+    pack-requires
+    enum_known-answer-in-Uncertain-1
+    pack-requires-in-Uncertain
+    enum_known-answer-in-Refused-1
+    pack-requires-in-Refused
+    returns-in-Certain
+    returns-in-Uncertain
+    returns-in-Refused)

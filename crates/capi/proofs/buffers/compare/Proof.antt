@@ -6,27 +6,25 @@ use borrow.Author.Rules.{rules}
 use Rattle.capi.proofs.buffers.compare.Statement.{statement}
 use Rattle.capi.proofs.buffers.compare.Tie as tie
 
--- places in the code, each from a later one
-abbrev returned : tie.After-second → tie.After-compare
-returned c = c.before.before.before
+compare-requires : tie.Need-compare-requires
+compare-requires c κs = search rules
 
-compare_requires : tie.Need-compare-requires
-compare_requires c κs = search rules
+pack_compared-requires : tie.Need-pack_compared-requires
+pack_compared-requires c κs = search rules
 
-pack_compared_requires : tie.Need-pack-compared-requires
-pack_compared_requires c κs = search rules
+shape_of-first : tie.Need-shape_of-first
+shape_of-first c = search rules
 
-same_length : tie.Need-same-length
-same_length c = search rules
-
-same_length_2 : tie.Need-same-length-2
-same_length_2 c = search rules
-
-abbrev called : tie.After-pack-compared → tie.After-compare
-called c = returned c.before.before
+shape_of-second : tie.Need-shape_of-second
+shape_of-second c = search rules
 
 returns : tie.Need-returns
-returns c = rw c.pack-compared.ensures (ap packed_comparing (called c).compare.ensures)
+returns c = rw c.pack_compared.ensures (ap packed_comparing c.compare.ensures)
 
 pub compare_spec : {M : Type 1} → statement M
-compare_spec = tie.close (tie.spec compare_requires pack_compared_requires same_length same_length_2 returns)
+compare_spec = tie.close (tie.spec
+    compare-requires
+    pack_compared-requires
+    shape_of-first
+    shape_of-second
+    returns)

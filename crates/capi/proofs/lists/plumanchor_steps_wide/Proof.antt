@@ -6,48 +6,36 @@ use Rattle.rows.specs.declared.Format.TheVariants.{Wide}
 use Rattle.capi.proofs.lists.plumanchor_steps_wide.Statement.{statement}
 use Rattle.capi.proofs.lists.plumanchor_steps_wide.Tie as tie
 
--- places in the code, each from a later one
-abbrev entry : tie.After-shared-slice-known3 → tie.Start
-entry c = c.before.before.before
+follow_numbers-requires : tie.Need-follow_numbers-requires
+follow_numbers-requires c κs = search rules
 
-abbrev entered : tie.After-follow-numbers-arg2 → tie.After-slice-known3
-entered c = c.before.before.before
+pack_written-requires : tie.Need-pack_written-requires
+pack_written-requires c κs = search rules
 
-abbrev returned : tie.After-values → tie.After-follow-numbers
-returned c = c.before.before.before
+shape_of-numbers : tie.Need-shape_of-numbers
+shape_of-numbers c = search rules
 
-abbrev first_back : tie.After-slice-known8 → tie.After-first
-first_back c = c.before.before.before
+shape_of-values : tie.Need-shape_of-values
+shape_of-values c = search rules
 
-follow_numbers_requires : tie.Need-follow-numbers-requires
-follow_numbers_requires c κs = search rules
+shape_of-first : tie.Need-shape_of-first
+shape_of-first c = search rules
 
-pack_written_requires : tie.Need-pack-written-requires
-pack_written_requires c κs = search rules
-
-same_length : tie.Need-same-length
-same_length c = search rules
-
-same_length_2 : tie.Need-same-length-2
-same_length_2 c = search rules
-
-same_length_3 : tie.Need-same-length-3
-same_length_3 c = search rules
-
-same_length_4 : tie.Need-same-length-4
-same_length_4 c = search rules
-
-abbrev called : tie.After-pack-written → tie.After-follow-numbers
-called c = returned (first_back c.before).before.before
-
-abbrev start : tie.After-follow-numbers → tie.Start
-start c = entry (entered c.before.before.before).before.before.before
+shape_of-second : tie.Need-shape_of-second
+shape_of-second c = search rules
 
 returns : tie.Need-returns
 returns c =
-    let g = called c in
-    let a = (start g).args in
-    steps_told Wide a.sheet.now _ a.first.now a.second.now a.numbers.now a.values.now (listing_joined c.pack-written.ensures g.follow-numbers.ensures.0)
+    let g = c in
+    let a = g.args in
+    steps_told Wide a.sheet.now _ a.first.now a.second.now a.numbers.now a.values.now (listing_joined c.pack_written.ensures g.follow_numbers.ensures.0)
 
 pub plumanchor_steps_wide_spec : {M : Type 1} → statement M
-plumanchor_steps_wide_spec = tie.close (tie.spec follow_numbers_requires pack_written_requires same_length same_length_2 same_length_3 same_length_4 returns)
+plumanchor_steps_wide_spec = tie.close (tie.spec
+    follow_numbers-requires
+    pack_written-requires
+    shape_of-numbers
+    shape_of-values
+    shape_of-first
+    shape_of-second
+    returns)

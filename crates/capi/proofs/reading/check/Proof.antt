@@ -8,14 +8,17 @@ use borrow.Author.Rules.{rules}
 use Rattle.capi.proofs.reading.check.Statement.{statement}
 use Rattle.capi.proofs.reading.check.Tie as tie
 
-check_requires : tie.Need-check-requires
-check_requires c κs = search rules
+check-requires : tie.Need-check-requires
+check-requires c κs = search rules
 
-pack_checked_requires : tie.Need-pack-checked-requires
-pack_checked_requires c κs = search rules
+pack_checked-requires : tie.Need-pack_checked-requires
+pack_checked-requires c κs = search rules
 
 returns : tie.Need-returns
-returns c = c.pack-checked.ensures ∙ ap (λ a. packed_check (checked_answer a)) c.before.check.ensures ∙ ap packed_check (answer_as c.before.before.before.args.f _)
+returns c = c.pack_checked.ensures ∙ ap (λ a. packed_check (checked_answer a)) c.check.ensures ∙ ap packed_check (answer_as c.args.f _)
 
 pub check_spec : {M : Type 1} → statement M
-check_spec = tie.close (tie.spec check_requires pack_checked_requires returns)
+check_spec = tie.close (tie.spec
+    check-requires
+    pack_checked-requires
+    returns)

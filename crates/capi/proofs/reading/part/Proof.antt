@@ -6,8 +6,8 @@ use borrow.Author.Rules.{rules}
 use Rattle.capi.proofs.reading.part.Statement.{statement}
 use Rattle.capi.proofs.reading.part.Tie as tie
 
-part_requires : tie.Need-part-requires
-part_requires c κs = search rules
+part-requires : tie.Need-part-requires
+part-requires c κs = search rules
 
 returns : tie.Need-returns
 returns c =
@@ -15,4 +15,6 @@ returns c =
     (ap length e.0, sym e.0 ∙ e.1.0)
 
 pub part_spec : {M : Type 1} → statement M
-part_spec = tie.close (tie.spec part_requires returns)
+part_spec = tie.close (tie.spec
+    part-requires
+    returns)

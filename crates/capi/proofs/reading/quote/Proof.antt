@@ -6,14 +6,17 @@ use borrow.Author.Rules.{rules}
 use Rattle.capi.proofs.reading.quote.Statement.{statement}
 use Rattle.capi.proofs.reading.quote.Tie as tie
 
-quote_requires : tie.Need-quote-requires
-quote_requires c κs = search rules
+quote-requires : tie.Need-quote-requires
+quote-requires c κs = search rules
 
-pack_quoted_requires : tie.Need-pack-quoted-requires
-pack_quoted_requires c κs = search rules
+pack_quoted-requires : tie.Need-pack_quoted-requires
+pack_quoted-requires c κs = search rules
 
 returns : tie.Need-returns
-returns c = c.pack-quoted.ensures ∙ ap packed_quote c.before.quote.ensures
+returns c = c.pack_quoted.ensures ∙ ap packed_quote c.quote.ensures
 
 pub quote_spec : {M : Type 1} → statement M
-quote_spec = tie.close (tie.spec quote_requires pack_quoted_requires returns)
+quote_spec = tie.close (tie.spec
+    quote-requires
+    pack_quoted-requires
+    returns)

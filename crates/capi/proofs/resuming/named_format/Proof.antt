@@ -6,11 +6,13 @@ use borrow.Author.Tests.{ne_eqb}
 use Rattle.capi.proofs.resuming.named_format.Statement.{statement}
 use Rattle.capi.proofs.resuming.named_format.Tie as tie
 
-returns : tie.Need-returns
-returns c = rw c.if1.true
+returns-then-narrow-eq0 : tie.Need-returns-then-narrow-eq0
+returns-then-narrow-eq0 c = rw c.if-narrow-eq0.true
 
-returns_2 : tie.Need-returns-2
-returns_2 c = sym (ap not (ne_eqb c.before.args.narrow 0 c.if1.false))
+returns : tie.Need-returns
+returns c = sym (ap not (ne_eqb c.args.narrow 0 c.if-narrow-eq0.false))
 
 pub named_format_spec : {M : Type 1} → statement M
-named_format_spec = tie.close (tie.spec returns returns_2)
+named_format_spec = tie.close (tie.spec
+    returns-then-narrow-eq0
+    returns)

@@ -9,52 +9,36 @@ use Rattle.capi.proofs.Telling.{solving-joined, resume_told}
 use Rattle.capi.proofs.resuming.plumanchor_resume.Statement.{statement}
 use Rattle.capi.proofs.resuming.plumanchor_resume.Tie as tie
 
--- places in the code, each from a later one
-abbrev entry : tie.After-slice-known2 → tie.Start
-entry c = c.before.before.before
+named_format-requires : tie.Need-named_format-requires
+named_format-requires c κs = search rules
 
-abbrev returned : tie.After-second → tie.After-resume
-returned c = c.before.before.before
+resume-requires : tie.Need-resume-requires
+resume-requires c κs = search rules
 
-named_format_requires : tie.Need-named-format-requires
-named_format_requires c κs = search rules
+pack_solved-requires : tie.Need-pack_solved-requires
+pack_solved-requires c κs = search rules
 
-resume_requires : tie.Need-resume-requires
-resume_requires c κs = search rules
+shape_of-first : tie.Need-shape_of-first
+shape_of-first c = search rules
 
-pack_solved_requires : tie.Need-pack-solved-requires
-pack_solved_requires c κs = search rules
-
-same_length : tie.Need-same-length
-same_length c = search rules
-
-same_length_2 : tie.Need-same-length-2
-same_length_2 c = search rules
-
-abbrev called : tie.After-pack-solved → tie.After-resume
-called c = returned c.before.before
-
-abbrev named : tie.After-pack-solved → tie.After-named-format
-named c = (called c).before.before.before
-
-abbrev start : tie.After-named-format → tie.Start
-start c = entry c.before
+shape_of-second : tie.Need-shape_of-second
+shape_of-second c = search rules
 
 returns : tie.Need-returns
 returns c =
-    let a = (start (named c)).args in
+    let a = c.args in
     resume_told a.started a.settled a.expanded a.sheet.now (not (eqb a.narrow 0)) a.first.now a.second.now
-    (solving-joined c.pack-solved.ensures
-    ((called c).resume.ensures.0 ∙
-    ap (λ w. resume_call a.started a.settled a.expanded a.sheet.now w a.first.now a.second.now) (named c).named-format.ensures))
+    (solving-joined c.pack_solved.ensures
+    (c.resume.ensures.0 ∙
+    ap (λ w. resume_call a.started a.settled a.expanded a.sheet.now w a.first.now a.second.now) c.named_format.ensures))
 
 pub plumanchor_resume_spec : {M : Type 1} → statement M
 plumanchor_resume_spec =
     tie.close
     (tie.spec
-    named_format_requires
-    resume_requires
-    pack_solved_requires
-    same_length
-    same_length_2
+    named_format-requires
+    resume-requires
+    pack_solved-requires
+    shape_of-first
+    shape_of-second
     returns)

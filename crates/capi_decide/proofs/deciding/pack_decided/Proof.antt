@@ -9,67 +9,67 @@ use borrow.Author.Rules.{rules}
 use Rattle.capi_decide.proofs.deciding.pack_decided.Statement.{statement}
 use Rattle.capi_decide.proofs.deciding.pack_decided.Tie as tie
 
-enum_known_answer : tie.Need-enum-known-answer
-enum_known_answer c = search rules
+enum_known-answer : tie.Need-enum_known-answer
+enum_known-answer c = search rules
 
-pack_requires : tie.Need-pack-requires
-pack_requires c κs = search rules
+pack-requires : tie.Need-pack-requires
+pack-requires c κs = search rules
 
-enum_known_answer_2 : tie.Need-enum-known-answer-2
-enum_known_answer_2 c = search rules
+enum_known-answer-in-Ended-1 : tie.Need-enum_known-answer-in-Ended-1
+enum_known-answer-in-Ended-1 c = search rules
 
-word_for_requires : tie.Need-word-for-requires
-word_for_requires c κs = search rules
+word_for-requires : tie.Need-word_for-requires
+word_for-requires c κs = search rules
 
-pack_requires_2 : tie.Need-pack-requires-2
-pack_requires_2 c κs = search rules
+pack-requires-in-Ended : tie.Need-pack-requires-in-Ended
+pack-requires-in-Ended c κs = search rules
 
-enum_known_answer_3 : tie.Need-enum-known-answer-3
-enum_known_answer_3 c = search rules
+enum_known-answer-in-NoPlace-1 : tie.Need-enum_known-answer-in-NoPlace-1
+enum_known-answer-in-NoPlace-1 c = search rules
 
-pack_requires_3 : tie.Need-pack-requires-3
-pack_requires_3 c κs = search rules
+pack-requires-in-NoPlace : tie.Need-pack-requires-in-NoPlace
+pack-requires-in-NoPlace c κs = search rules
 
-enum_known_answer_4 : tie.Need-enum-known-answer-4
-enum_known_answer_4 c = search rules
+enum_known-answer-in-Spent-1 : tie.Need-enum_known-answer-in-Spent-1
+enum_known-answer-in-Spent-1 c = search rules
 
-pack_requires_4 : tie.Need-pack-requires-4
-pack_requires_4 c κs = search rules
+pack-requires-in-Spent : tie.Need-pack-requires-in-Spent
+pack-requires-in-Spent c κs = search rules
 
-returns : tie.Need-returns
+returns-in-Refused : tie.Need-returns-in-Refused
 unfolding packed_decided
-returns c = c.pack.ensures ∙ ap (λ (a : DecideAnswer). packed_decided (answer_of a)) (sym c.before.before.answer.given.1)
+returns-in-Refused c = c.pack.ensures ∙ ap (λ (a : DecideAnswer). packed_decided (answer_of a)) (sym c.in-Refused.is)
 
-returns_2 : tie.Need-returns-2
+returns-in-Ended : tie.Need-returns-in-Ended
 unfolding packed_decided
-returns_2 c =
-    let told = c.before.before.before in
-    c.pack2.ensures ∙
-    ap (λ w. packed 0 w 0 told.answer2.given.0.1.0) c.before.word_for.ensures ∙
-    ap (λ (a : DecideAnswer). packed_decided (answer_of a)) (sym told.answer2.given.1)
+returns-in-Ended c =
+    let told = c in
+    c.pack-in-Ended.ensures ∙
+    ap (λ w. packed 0 w 0 told.in-Ended.runs) c.word_for.ensures ∙
+    ap (λ (a : DecideAnswer). packed_decided (answer_of a)) (sym told.in-Ended.is)
 
-returns_3 : tie.Need-returns-3
+returns-in-NoPlace : tie.Need-returns-in-NoPlace
 unfolding packed_decided
-returns_3 c = c.pack3.ensures ∙ ap (λ (a : DecideAnswer). packed_decided (answer_of a)) (sym c.before.before.answer3.given.1)
+returns-in-NoPlace c = c.pack-in-NoPlace.ensures ∙ ap (λ (a : DecideAnswer). packed_decided (answer_of a)) (sym c.in-NoPlace.is)
 
-returns_4 : tie.Need-returns-4
+returns-in-Spent : tie.Need-returns-in-Spent
 unfolding packed_decided
-returns_4 c = c.pack4.ensures ∙ ap (λ (a : DecideAnswer). packed_decided (answer_of a)) (sym c.before.before.answer4.given.1)
+returns-in-Spent c = c.pack-in-Spent.ensures ∙ ap (λ (a : DecideAnswer). packed_decided (answer_of a)) (sym c.in-Spent.is)
 
 pub pack_decided_spec : {M : Type 1} → statement M
 pack_decided_spec =
     tie.close
     (tie.spec
-    enum_known_answer
-    pack_requires
-    enum_known_answer_2
-    word_for_requires
-    pack_requires_2
-    enum_known_answer_3
-    pack_requires_3
-    enum_known_answer_4
-    pack_requires_4
-    returns
-    returns_2
-    returns_3
-    returns_4)
+    enum_known-answer
+    pack-requires
+    enum_known-answer-in-Ended-1
+    word_for-requires
+    pack-requires-in-Ended
+    enum_known-answer-in-NoPlace-1
+    pack-requires-in-NoPlace
+    enum_known-answer-in-Spent-1
+    pack-requires-in-Spent
+    returns-in-Refused
+    returns-in-Ended
+    returns-in-NoPlace
+    returns-in-Spent)

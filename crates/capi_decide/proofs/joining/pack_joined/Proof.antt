@@ -9,39 +9,39 @@ use borrow.Author.Rules.{rules}
 use Rattle.capi_decide.proofs.joining.pack_joined.Statement.{statement}
 use Rattle.capi_decide.proofs.joining.pack_joined.Tie as tie
 
-enum_known_answer : tie.Need-enum-known-answer
-enum_known_answer c = search rules
+enum_known-answer : tie.Need-enum_known-answer
+enum_known-answer c = search rules
 
-pack_requires : tie.Need-pack-requires
-pack_requires c κs = search rules
+pack-requires : tie.Need-pack-requires
+pack-requires c κs = search rules
 
-enum_known_answer_2 : tie.Need-enum-known-answer-2
-enum_known_answer_2 c = search rules
+enum_known-answer-in-Joined-1 : tie.Need-enum_known-answer-in-Joined-1
+enum_known-answer-in-Joined-1 c = search rules
 
-word_for_requires : tie.Need-word-for-requires
-word_for_requires c κs = search rules
+word_for-requires : tie.Need-word_for-requires
+word_for-requires c κs = search rules
 
-pack_requires_2 : tie.Need-pack-requires-2
-pack_requires_2 c κs = search rules
+pack-requires-in-Joined : tie.Need-pack-requires-in-Joined
+pack-requires-in-Joined c κs = search rules
 
-returns : tie.Need-returns
+returns-in-Refused : tie.Need-returns-in-Refused
 unfolding packed_joined
-returns c = c.pack.ensures ∙ ap (λ (a : JoinAnswer). packed_joined (join_answer a)) (sym c.before.before.answer.given.1)
+returns-in-Refused c = c.pack.ensures ∙ ap (λ (a : JoinAnswer). packed_joined (join_answer a)) (sym c.in-Refused.is)
 
-returns_2 : tie.Need-returns-2
+returns-in-Joined : tie.Need-returns-in-Joined
 unfolding packed_joined
-returns_2 c =
-    c.pack2.ensures ∙ ap (λ w. packed 0 w 0 0) c.before.word_for.ensures ∙
-    ap (λ (a : JoinAnswer). packed_joined (join_answer a)) (sym c.before.before.before.answer2.given.1)
+returns-in-Joined c =
+    c.pack-in-Joined.ensures ∙ ap (λ w. packed 0 w 0 0) c.word_for.ensures ∙
+    ap (λ (a : JoinAnswer). packed_joined (join_answer a)) (sym c.in-Joined.is)
 
 pub pack_joined_spec : {M : Type 1} → statement M
 pack_joined_spec =
     tie.close
     (tie.spec
-    enum_known_answer
-    pack_requires
-    enum_known_answer_2
-    word_for_requires
-    pack_requires_2
-    returns
-    returns_2)
+    enum_known-answer
+    pack-requires
+    enum_known-answer-in-Joined-1
+    word_for-requires
+    pack-requires-in-Joined
+    returns-in-Refused
+    returns-in-Joined)

@@ -7,11 +7,13 @@ use Rattle.formula.specs.Tree.{exists, for_all}
 use Rattle.capi_strategy.proofs.claiming.named_side.Statement.{statement}
 use Rattle.capi_strategy.proofs.claiming.named_side.Tie as tie
 
-returns : tie.Need-returns
-returns c = rw c.if1.true
+returns-then-kind-eq1 : tie.Need-returns-then-kind-eq1
+returns-then-kind-eq1 c = rw c.if-kind-eq1.true
 
-returns_2 : tie.Need-returns-2
-returns_2 c = sym (ap (λ m. cond m exists for_all) (ne_eqb c.before.args.kind 1 c.if1.false))
+returns : tie.Need-returns
+returns c = sym (ap (λ m. cond m exists for_all) (ne_eqb c.args.kind 1 c.if-kind-eq1.false))
 
 pub named_side_spec : {M : Type 1} → statement M
-named_side_spec = tie.close (tie.spec returns returns_2)
+named_side_spec = tie.close (tie.spec
+    returns-then-kind-eq1
+    returns)

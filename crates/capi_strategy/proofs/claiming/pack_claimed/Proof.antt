@@ -8,33 +8,33 @@ use borrow.Author.Rules.{rules}
 use Rattle.capi_strategy.proofs.claiming.pack_claimed.Statement.{statement}
 use Rattle.capi_strategy.proofs.claiming.pack_claimed.Tie as tie
 
-enum_known_answer : tie.Need-enum-known-answer
-enum_known_answer c = search rules
+enum_known-answer : tie.Need-enum_known-answer
+enum_known-answer c = search rules
 
-pack_requires : tie.Need-pack-requires
-pack_requires c κs = search rules
+pack-requires : tie.Need-pack-requires
+pack-requires c κs = search rules
 
-enum_known_answer_2 : tie.Need-enum-known-answer-2
-enum_known_answer_2 c = search rules
+enum_known-answer-in-Written-1 : tie.Need-enum_known-answer-in-Written-1
+enum_known-answer-in-Written-1 c = search rules
 
-pack_requires_2 : tie.Need-pack-requires-2
-pack_requires_2 c κs = search rules
+pack-requires-in-Written : tie.Need-pack-requires-in-Written
+pack-requires-in-Written c κs = search rules
 
-returns : tie.Need-returns
+returns-in-Refused : tie.Need-returns-in-Refused
 unfolding packed_claimed
-returns c = c.pack.ensures ∙ ap (λ (a : Claimed). packed_claimed (claimed_answer a)) (sym c.before.before.answer.given.1)
+returns-in-Refused c = c.pack.ensures ∙ ap (λ (a : Claimed). packed_claimed (claimed_answer a)) (sym c.in-Refused.is)
 
-returns_2 : tie.Need-returns-2
+returns-in-Written : tie.Need-returns-in-Written
 unfolding packed_claimed
-returns_2 c = c.pack2.ensures ∙ ap (λ (a : Claimed). packed_claimed (claimed_answer a)) (sym c.before.before.answer2.given.1)
+returns-in-Written c = c.pack-in-Written.ensures ∙ ap (λ (a : Claimed). packed_claimed (claimed_answer a)) (sym c.in-Written.is)
 
 pub pack_claimed_spec : {M : Type 1} → statement M
 pack_claimed_spec =
     tie.close
     (tie.spec
-    enum_known_answer
-    pack_requires
-    enum_known_answer_2
-    pack_requires_2
-    returns
-    returns_2)
+    enum_known-answer
+    pack-requires
+    enum_known-answer-in-Written-1
+    pack-requires-in-Written
+    returns-in-Refused
+    returns-in-Written)

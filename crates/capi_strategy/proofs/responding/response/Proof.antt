@@ -6,30 +6,24 @@ use Rattle.capi_strategy.proofs.Telling.{response_told}
 use Rattle.capi_strategy.proofs.responding.response.Statement.{statement}
 use Rattle.capi_strategy.proofs.responding.response.Tie as tie
 
--- places in the code, each from a later one
-abbrev entry : tie.After-response-arg → tie.Start
-entry c = c.before.before.before
+response-requires : tie.Need-response-requires
+response-requires c κs = search rules
 
-response_requires : tie.Need-response-requires
-response_requires c κs = search rules
+pack_written-requires : tie.Need-pack_written-requires
+pack_written-requires c κs = search rules
 
-pack_written_requires : tie.Need-pack-written-requires
-pack_written_requires c κs = search rules
-
-same_length : tie.Need-same-length
-same_length c = search rules
-
-abbrev called : tie.After-pack-written → tie.After-response
-called c = c.before.before.before
-
-abbrev start : tie.After-response → tie.Start
-start c = entry c.before
+shape_of-out : tie.Need-shape_of-out
+shape_of-out c = search rules
 
 returns : tie.Need-returns
 returns c =
-    let a = (start (called c)).args in
+    let a = c.args in
     response_told a.f a.sheet.now a.x a.out.now
-    (written_joined c.pack-written.ensures (called c).response.ensures.0)
+    (written_joined c.pack_written.ensures c.response.ensures.0)
 
 pub response_spec : {M : Type 1} → statement M
-response_spec = tie.close (tie.spec response_requires pack_written_requires same_length returns)
+response_spec = tie.close (tie.spec
+    response-requires
+    pack_written-requires
+    shape_of-out
+    returns)

@@ -12,80 +12,78 @@ use Rattle.capi_strategy.proofs.Strategies.{word_few}
 use Rattle.capi_strategy.proofs.winning.pack_strategy.Statement.{statement}
 use Rattle.capi_strategy.proofs.winning.pack_strategy.Tie as tie
 
-enum_known_answer : tie.Need-enum-known-answer
-enum_known_answer c = search rules
+enum_known-answer : tie.Need-enum_known-answer
+enum_known-answer c = search rules
 
-pack_requires : tie.Need-pack-requires
-pack_requires c κs = search rules
+pack-requires : tie.Need-pack-requires
+pack-requires c κs = search rules
 
-enum_known_answer_2 : tie.Need-enum-known-answer-2
-enum_known_answer_2 c = search rules
+enum_known-answer-in-Stopped-1 : tie.Need-enum_known-answer-in-Stopped-1
+enum_known-answer-in-Stopped-1 c = search rules
 
-pack_counts_requires : tie.Need-pack-counts-requires
-pack_counts_requires c κs = search rules
+pack_counts-requires : tie.Need-pack_counts-requires
+pack_counts-requires c κs = search rules
 
-enum_known_answer_3 : tie.Need-enum-known-answer-3
-enum_known_answer_3 c = search rules
+enum_known-answer-in-Written-1 : tie.Need-enum_known-answer-in-Written-1
+enum_known-answer-in-Written-1 c = search rules
 
-word_for_requires : tie.Need-word-for-requires
-word_for_requires c κs = search rules
+word_for-requires : tie.Need-word_for-requires
+word_for-requires c κs = search rules
 
-pack_counts_requires_2 : tie.Need-pack-counts-requires-2
-pack_counts_requires_2 c κs = search rules
+pack_counts-requires-in-Written : tie.Need-pack_counts-requires-in-Written
+pack_counts-requires-in-Written c κs = search rules
 
-enum_known_answer_4 : tie.Need-enum-known-answer-4
-enum_known_answer_4 c = search rules
+enum_known-answer-in-TooLong-1 : tie.Need-enum_known-answer-in-TooLong-1
+enum_known-answer-in-TooLong-1 c = search rules
 
-word_for_requires_2 : tie.Need-word-for-requires-2
-word_for_requires_2 c κs = search rules
+word_for-requires-in-TooLong : tie.Need-word_for-requires-in-TooLong
+word_for-requires-in-TooLong c κs = search rules
 
-add_pack_counts : tie.Need-overflow-add-pack-counts
-add_pack_counts c = omega (arith, c.word-for2.ensures, word_few (verdict_of c.before.before.answer4.given.0.0))
+overflow_add-word_for : tie.Need-overflow_add-word_for
+overflow_add-word_for c = omega (arith, c.word_for-in-TooLong.ensures, word_few (verdict_of c.in-TooLong.verdict))
 
-pack_counts_requires_3 : tie.Need-pack-counts-requires-3
-pack_counts_requires_3 c κs = search rules
+pack_counts-requires-in-TooLong : tie.Need-pack_counts-requires-in-TooLong
+pack_counts-requires-in-TooLong c κs = search rules
 
-returns : tie.Need-returns
+returns-in-Refused : tie.Need-returns-in-Refused
 unfolding packed_strategy
-returns c = c.pack.ensures ∙ ap (λ (a : StrategyAnswer). packed_strategy (strategy_told a)) (sym c.before.before.answer.given.1)
+returns-in-Refused c = c.pack.ensures ∙ ap (λ (a : StrategyAnswer). packed_strategy (strategy_told a)) (sym c.in-Refused.is)
 
-returns_2 : tie.Need-returns-2
+returns-in-Stopped : tie.Need-returns-in-Stopped
 unfolding packed_strategy
-returns_2 c =
-    c.pack-counts.ensures ∙ ap (λ (a : StrategyAnswer). packed_strategy (strategy_told a)) (sym c.before.before.answer2.given.1)
+returns-in-Stopped c =
+    c.pack_counts.ensures ∙ ap (λ (a : StrategyAnswer). packed_strategy (strategy_told a)) (sym c.in-Stopped.is)
 
-returns_3 : tie.Need-returns-3
+returns-in-Written : tie.Need-returns-in-Written
 unfolding packed_strategy
-returns_3 c =
-    let word = c.before in
-    let a = word.before.before.answer3.given in
-    c.pack-counts2.ensures ∙ ap (λ w. packed_counts w a.0.1.0 a.0.1.1.0 a.0.1.1.1.0) word.word_for.ensures ∙
-    ap (λ (a : StrategyAnswer). packed_strategy (strategy_told a)) (sym a.1)
+returns-in-Written c =
+    let word = c in
+    c.pack_counts-in-Written.ensures ∙ ap (λ w. packed_counts w word.in-Written.settled word.in-Written.expanded word.in-Written.length) word.word_for.ensures ∙
+    ap (λ (a : StrategyAnswer). packed_strategy (strategy_told a)) (sym word.in-Written.is)
 
-returns_4 : tie.Need-returns-4
+returns-in-TooLong : tie.Need-returns-in-TooLong
 unfolding packed_strategy
-returns_4 c =
-    let word = c.before in
-    let a = word.before.before.answer4.given in
-    c.pack-counts3.ensures ∙ ap (λ w. packed_counts (3 + w) a.0.1.0 a.0.1.1.0 a.0.1.1.1.0) word.word-for2.ensures ∙
-    ap (λ (a : StrategyAnswer). packed_strategy (strategy_told a)) (sym a.1)
+returns-in-TooLong c =
+    let word = c in
+    c.pack_counts-in-TooLong.ensures ∙ ap (λ w. packed_counts (3 + w) word.in-TooLong.settled word.in-TooLong.expanded word.in-TooLong.rows) word.word_for-in-TooLong.ensures ∙
+    ap (λ (a : StrategyAnswer). packed_strategy (strategy_told a)) (sym word.in-TooLong.is)
 
 pub pack_strategy_spec : {M : Type 1} → statement M
 pack_strategy_spec =
     tie.close
     (tie.spec
-    enum_known_answer
-    pack_requires
-    enum_known_answer_2
-    pack_counts_requires
-    enum_known_answer_3
-    word_for_requires
-    pack_counts_requires_2
-    enum_known_answer_4
-    word_for_requires_2
-    add_pack_counts
-    pack_counts_requires_3
-    returns
-    returns_2
-    returns_3
-    returns_4)
+    enum_known-answer
+    pack-requires
+    enum_known-answer-in-Stopped-1
+    pack_counts-requires
+    enum_known-answer-in-Written-1
+    word_for-requires
+    pack_counts-requires-in-Written
+    enum_known-answer-in-TooLong-1
+    word_for-requires-in-TooLong
+    overflow_add-word_for
+    pack_counts-requires-in-TooLong
+    returns-in-Refused
+    returns-in-Stopped
+    returns-in-Written
+    returns-in-TooLong)
