@@ -2,6 +2,9 @@
 // for more bytes than there is room for, ends the run.
 use crate::ROOM;
 use crate::operations::run;
+use printing::input::read_full;
+use std::io;
+use std::io::{Read, Write};
 
 // A call's letter and numbers, which stand before its list.
 #[derive(Clone, Copy)]
@@ -13,82 +16,99 @@ struct Call {
 }
 
 // Reads the next call as far as its list; where the input has ended, its letter is 0.
-fn read_call() -> Call {
+fn read_call<R: Read>(from: &mut R) -> io::Result<Call> {
     let mut head = [0u8; 13];
-    io::read_full(0, &mut head);
-    Call {
+    read_full(from, &mut head)?;
+    Ok(Call {
         operation: head[0],
         number: rows::quad_at(&head, 1),
         room: rows::quad_at(&head, 5),
         list_length: rows::quad_at(&head, 9),
-    }
+    })
 }
 
 // Reads the call's list and makes the call; returns false if the list is too long.
-fn make_call(call: Call, sheet: &[u8], out: &mut [u8]) -> bool {
+fn make_call<R: Read, W: Write>(
+    from: &mut R,
+    to: &mut W,
+    call: Call,
+    sheet: &[u8],
+    out: &mut [u8],
+) -> io::Result<bool> {
     let mut space = [0u8; ROOM];
     let length = call.list_length;
     if ROOM < length {
-        return false;
+        return Ok(false);
     }
     let list = &mut space[..length];
-    io::read_full(0, list);
-    run(call.operation, call.number, sheet, list, out);
-    printing::end_line();
-    true
+    read_full(from, list)?;
+    run(to, call.operation, call.number, sheet, list, out)?;
+    printing::end_line(to)?;
+    Ok(true)
 }
 
 // Reads the next call on `sheet` and makes it, with a part of `space` as its output; returns false if it can't be made.
-fn next_call(sheet: &[u8], space: &mut [u8]) -> bool {
-    let call = read_call();
+fn next_call<R: Read, W: Write>(
+    from: &mut R,
+    to: &mut W,
+    sheet: &[u8],
+    space: &mut [u8],
+) -> io::Result<bool> {
+    let call = read_call(from)?;
     if call.operation == 0 {
-        return false;
+        return Ok(false);
     }
     let room = call.room;
     if space.len() < room {
-        return false;
+        return Ok(false);
     }
     let out = &mut space[..room];
-    make_call(call, sheet, out)
+    make_call(from, to, call, sheet, out)
 }
 
 // Makes `calls` calls on `sheet`; returns false if one can't be made.
-fn run_calls(sheet: &[u8], calls: usize) -> bool {
+fn run_calls<R: Read, W: Write>(
+    from: &mut R,
+    to: &mut W,
+    sheet: &[u8],
+    calls: usize,
+) -> io::Result<bool> {
     let mut space = [0u8; ROOM];
     let mut left = calls;
     while 0 < left {
-        if !next_call(sheet, &mut space) {
-            return false;
+        if !next_call(from, to, sheet, &mut space)? {
+            return Ok(false);
         }
         left -= 1;
     }
-    true
+    Ok(true)
 }
 
 // Reads the next sheet and makes its calls; returns false if there is no sheet or a call can't be made.
-fn next_case(space: &mut [u8]) -> bool {
+fn next_case<R: Read, W: Write>(from: &mut R, to: &mut W, space: &mut [u8]) -> io::Result<bool> {
     let mut head = [0u8; 8];
-    let got = io::read_full(0, &mut head);
+    let got = read_full(from, &mut head)?;
     if got < 8 {
-        return false;
+        return Ok(false);
     }
     let length = rows::quad_at(&head, 0);
     let calls = rows::quad_at(&head, 4);
     if space.len() < length {
-        return false;
+        return Ok(false);
     }
     let sheet = &mut space[..length];
-    io::read_full(0, sheet);
-    run_calls(sheet, calls)
+    read_full(from, sheet)?;
+    run_calls(from, to, sheet, calls)
 }
 
 // Goes through the cases, 4,096 at most.
-pub fn run_cases(space: &mut [u8]) {
+pub fn run_cases<R: Read, W: Write>(from: &mut R, to: &mut W, space: &mut [u8]) -> io::Result<()> {
     let mut cases: usize = 0;
     while cases < 4096 {
-        if !next_case(space) {
-            return;
+        if !next_case(from, to, space)? {
+            return Ok(());
         }
         cases += 1;
     }
+    Ok(())
 }

@@ -15,11 +15,14 @@
 // A capital makes the same call on a wide sheet (N11), and its line begins with "wide". W converts a narrow sheet to the wide format, N a
 // wide one to the narrow format.
 #![tactic(auto)]
+
 mod answers;
 mod copies;
 mod input;
 mod operations;
 mod outputs;
+
+use std::io;
 
 // The longest output and the longest list of a call: each holds any sheet.
 pub const ROOM: usize = 46088;
@@ -27,7 +30,7 @@ pub const ROOM: usize = 46088;
 // More than a sheet may have, for those that are refused for their length.
 const SHEET_ROOM: usize = 65535;
 
-fn main() {
+fn main(rt: HostRuntime) -> io::Result<()> {
     let mut space = [0u8; SHEET_ROOM];
-    input::run_cases(&mut space);
+    input::run_cases(&mut rt.stdin(), &mut rt.stdout(), &mut space)
 }

@@ -8,190 +8,269 @@ use crate::copies::run_outer;
 use crate::outputs::fill;
 use printing::print_number;
 use rows::Format;
+use std::io;
+use std::io::Write;
 
-fn run_check(sheet: &[u8], f: Format) {
-    io::write_all(1, b"check");
-    print_checked(checking::check(sheet, f));
+fn run_check<W: Write>(to: &mut W, sheet: &[u8], f: Format) -> io::Result<()> {
+    to.write_all(b"check")?;
+    print_checked(to, checking::check(sheet, f))
 }
 
-fn run_trial(sheet: &[u8], f: Format) {
-    io::write_all(1, b"trial");
-    print_tried(trial::trial(sheet, f));
+fn run_trial<W: Write>(to: &mut W, sheet: &[u8], f: Format) -> io::Result<()> {
+    to.write_all(b"trial")?;
+    print_tried(to, trial::trial(sheet, f))
 }
 
-fn run_part(sheet: &[u8], f: Format, node: usize) {
-    io::write_all(1, b"part");
-    print_kinds(part::part(sheet, f, node));
+fn run_part<W: Write>(to: &mut W, sheet: &[u8], f: Format, node: usize) -> io::Result<()> {
+    to.write_all(b"part")?;
+    print_kinds(to, part::part(sheet, f, node))
 }
 
-fn run_quote(sheet: &[u8], f: Format, x: usize) {
-    io::write_all(1, b"quote");
-    print_number(x);
-    print_quoted(expand::quote::quote(sheet, f, x));
+fn run_quote<W: Write>(to: &mut W, sheet: &[u8], f: Format, x: usize) -> io::Result<()> {
+    to.write_all(b"quote")?;
+    print_number(to, x)?;
+    print_quoted(to, expand::quote::quote(sheet, f, x))
 }
 
-fn run_tidy(sheet: &[u8], f: Format, out: &mut [u8]) {
-    io::write_all(1, b"tidy");
+fn run_tidy<W: Write>(to: &mut W, sheet: &[u8], f: Format, out: &mut [u8]) -> io::Result<()> {
+    to.write_all(b"tidy")?;
     let answer = tidying::tidy(sheet, f, out);
-    print_written(answer, out);
+    print_written(to, answer, out)
 }
 
-fn run_reduce(sheet: &[u8], f: Format, out: &mut [u8]) {
-    io::write_all(1, b"reduce");
+fn run_reduce<W: Write>(to: &mut W, sheet: &[u8], f: Format, out: &mut [u8]) -> io::Result<()> {
+    to.write_all(b"reduce")?;
     let answer = reduce::reduce(sheet, f, out);
-    print_written(answer, out);
+    print_written(to, answer, out)
 }
 
-fn run_sort(sheet: &[u8], f: Format, out: &mut [u8]) {
-    io::write_all(1, b"sort");
+fn run_sort<W: Write>(to: &mut W, sheet: &[u8], f: Format, out: &mut [u8]) -> io::Result<()> {
+    to.write_all(b"sort")?;
     let answer = sort_compare::sort::sort(sheet, f, out);
-    print_written(answer, out);
+    print_written(to, answer, out)
 }
 
-fn run_qdimacs(text: &[u8], f: Format, out: &mut [u8]) {
-    io::write_all(1, b"qdimacs");
+fn run_qdimacs<W: Write>(to: &mut W, text: &[u8], f: Format, out: &mut [u8]) -> io::Result<()> {
+    to.write_all(b"qdimacs")?;
     let answer = reader::qdimacs(text, f, out);
-    print_written(answer, out);
+    print_written(to, answer, out)
 }
 
-fn run_settle(sheet: &[u8], f: Format, x: usize, out: &mut [u8]) {
-    io::write_all(1, b"settle");
-    print_number(x);
+fn run_settle<W: Write>(
+    to: &mut W,
+    sheet: &[u8],
+    f: Format,
+    x: usize,
+    out: &mut [u8],
+) -> io::Result<()> {
+    to.write_all(b"settle")?;
+    print_number(to, x)?;
     let answer = settle::settle(sheet, f, x, out);
-    print_written(answer, out);
+    print_written(to, answer, out)
 }
 
-fn run_expand(sheet: &[u8], f: Format, x: usize, out: &mut [u8]) {
-    io::write_all(1, b"expand");
-    print_number(x);
+fn run_expand<W: Write>(
+    to: &mut W,
+    sheet: &[u8],
+    f: Format,
+    x: usize,
+    out: &mut [u8],
+) -> io::Result<()> {
+    to.write_all(b"expand")?;
+    print_number(to, x)?;
     let answer = expand::expand(sheet, f, x, out);
-    print_written(answer, out);
+    print_written(to, answer, out)
 }
 
 // The ceiling is the number that the list begins with.
-fn run_execute(sheet: &[u8], f: Format, x: usize, list: &[u8], out: &mut [u8]) {
+fn run_execute<W: Write>(
+    to: &mut W,
+    sheet: &[u8],
+    f: Format,
+    x: usize,
+    list: &[u8],
+    out: &mut [u8],
+) -> io::Result<()> {
     if list.len() < 4 {
-        return;
+        return Ok(());
     }
     let ceiling = rows::quad_at(list, 0);
-    io::write_all(1, b"execute");
-    print_number(x);
-    print_number(ceiling);
+    to.write_all(b"execute")?;
+    print_number(to, x)?;
+    print_number(to, ceiling)?;
     let answer = expand::execute(sheet, f, x, ceiling, out);
-    print_written(answer, out);
+    print_written(to, answer, out)
 }
 
-fn run_solve(sheet: &[u8], f: Format, first: &mut [u8], second: &mut [u8]) {
-    io::write_all(1, b"solve");
+fn run_solve<W: Write>(
+    to: &mut W,
+    sheet: &[u8],
+    f: Format,
+    first: &mut [u8],
+    second: &mut [u8],
+) -> io::Result<()> {
+    to.write_all(b"solve")?;
     let answer = solve::solve(sheet, f, first, second);
-    print_solved(answer, f, first, second);
+    print_solved(to, answer, f, first, second)
 }
 
 // Compares the sheet with the one in the list.
-fn run_compare(sheet: &[u8], f: Format, list: &[u8], first: &mut [u8], second: &mut [u8]) {
-    io::write_all(1, b"compare");
+fn run_compare<W: Write>(
+    to: &mut W,
+    sheet: &[u8],
+    f: Format,
+    list: &[u8],
+    first: &mut [u8],
+    second: &mut [u8],
+) -> io::Result<()> {
+    to.write_all(b"compare")?;
     let answer = sort_compare::compare::compare(sheet, list, f, first, second);
-    print_compared(answer, first, second);
+    print_compared(to, answer, first, second)
 }
 
 // The list holds the values.
-fn run_force(sheet: &[u8], f: Format, list: &[u8], first: &mut [u8], second: &mut [u8]) {
-    io::write_all(1, b"force");
+fn run_force<W: Write>(
+    to: &mut W,
+    sheet: &[u8],
+    f: Format,
+    list: &[u8],
+    first: &mut [u8],
+    second: &mut [u8],
+) -> io::Result<()> {
+    to.write_all(b"force")?;
     let answer = force::force(sheet, f, list, first, second);
-    print_forced(answer, first, second);
+    print_forced(to, answer, first, second)
 }
 
-fn guards_in_buffers(sheet: &[u8], f: Format, out: &mut [u8], first: &mut [u8], second: &mut [u8]) {
+fn guards_in_buffers<W: Write>(
+    to: &mut W,
+    sheet: &[u8],
+    f: Format,
+    out: &mut [u8],
+    first: &mut [u8],
+    second: &mut [u8],
+) -> io::Result<()> {
     fill(first);
-    io::write_all(1, b"guards");
+    to.write_all(b"guards")?;
     let answer = guards::guards(sheet, f, out, first, second);
-    print_guarded(answer, out, first, second);
+    print_guarded(to, answer, out, first, second)
 }
 
 // The length of the first buffer is the number that the list begins with.
-fn run_guards(sheet: &[u8], f: Format, list: &[u8], out: &mut [u8], second: &mut [u8]) {
+fn run_guards<W: Write>(
+    to: &mut W,
+    sheet: &[u8],
+    f: Format,
+    list: &[u8],
+    out: &mut [u8],
+    second: &mut [u8],
+) -> io::Result<()> {
     let mut space = [0u8; ROOM];
     if list.len() < 4 {
-        return;
+        return Ok(());
     }
     let room = rows::quad_at(list, 0);
     if ROOM < room {
-        return;
+        return Ok(());
     }
     let first = &mut space[..room];
-    guards_in_buffers(sheet, f, out, first, second);
+    guards_in_buffers(to, sheet, f, out, first, second)
 }
 
 // Calls the operation of this small letter, one of those with a second buffer.
-fn run_in_buffers(
+fn run_in_buffers<W: Write>(
+    to: &mut W,
     operation: u8,
     f: Format,
     sheet: &[u8],
     list: &[u8],
     out: &mut [u8],
     second: &mut [u8],
-) {
+) -> io::Result<()> {
     fill(second);
     match operation {
-        b'o' => run_solve(sheet, f, out, second),
-        b'k' => run_compare(sheet, f, list, out, second),
-        b'f' => run_force(sheet, f, list, out, second),
-        b'g' => run_guards(sheet, f, list, out, second),
-        _ => {}
+        b'o' => run_solve(to, sheet, f, out, second),
+        b'k' => run_compare(to, sheet, f, list, out, second),
+        b'f' => run_force(to, sheet, f, list, out, second),
+        b'g' => run_guards(to, sheet, f, list, out, second),
+        _ => Ok(()),
     }
 }
 
 // The same with a second buffer of `length` bytes.
-fn run_beside(operation: u8, f: Format, length: usize, sheet: &[u8], list: &[u8], out: &mut [u8]) {
+fn run_beside<W: Write>(
+    to: &mut W,
+    operation: u8,
+    f: Format,
+    length: usize,
+    sheet: &[u8],
+    list: &[u8],
+    out: &mut [u8],
+) -> io::Result<()> {
     let mut space = [0u8; ROOM];
     if ROOM < length {
-        return;
+        return Ok(());
     }
     let second = &mut space[..length];
-    run_in_buffers(operation, f, sheet, list, out, second);
+    run_in_buffers(to, operation, f, sheet, list, out, second)
 }
 
 // Calls the operation of this small letter on a sheet of this format.
-fn run_on(operation: u8, f: Format, number: usize, sheet: &[u8], list: &[u8], out: &mut [u8]) {
+fn run_on<W: Write>(
+    to: &mut W,
+    operation: u8,
+    f: Format,
+    number: usize,
+    sheet: &[u8],
+    list: &[u8],
+    out: &mut [u8],
+) -> io::Result<()> {
     match operation {
-        b'c' => run_check(sheet, f),
-        b't' => run_trial(sheet, f),
-        b'p' => run_part(sheet, f, number),
-        b'q' => run_quote(sheet, f, number),
-        b'd' => run_tidy(sheet, f, out),
-        b'r' => run_reduce(sheet, f, out),
-        b'a' => run_sort(sheet, f, out),
-        b'm' => run_qdimacs(sheet, f, out),
-        b's' => run_settle(sheet, f, number, out),
-        b'e' => run_expand(sheet, f, number, out),
-        b'x' => run_execute(sheet, f, number, list, out),
-        b'u' => run_outer(sheet, f, number, out),
-        _ => run_beside(operation, f, number, sheet, list, out),
+        b'c' => run_check(to, sheet, f),
+        b't' => run_trial(to, sheet, f),
+        b'p' => run_part(to, sheet, f, number),
+        b'q' => run_quote(to, sheet, f, number),
+        b'd' => run_tidy(to, sheet, f, out),
+        b'r' => run_reduce(to, sheet, f, out),
+        b'a' => run_sort(to, sheet, f, out),
+        b'm' => run_qdimacs(to, sheet, f, out),
+        b's' => run_settle(to, sheet, f, number, out),
+        b'e' => run_expand(to, sheet, f, number, out),
+        b'x' => run_execute(to, sheet, f, number, list, out),
+        b'u' => run_outer(to, sheet, f, number, out),
+        _ => run_beside(to, operation, f, number, sheet, list, out),
     }
 }
 
-fn run_to_wide(sheet: &[u8], out: &mut [u8]) {
-    io::write_all(1, b"widen");
+fn run_to_wide<W: Write>(to: &mut W, sheet: &[u8], out: &mut [u8]) -> io::Result<()> {
+    to.write_all(b"widen")?;
     let answer = conversion::to_wide(sheet, out);
-    print_written(answer, out);
+    print_written(to, answer, out)
 }
 
-fn run_to_narrow(sheet: &[u8], out: &mut [u8]) {
-    io::write_all(1, b"bring back");
+fn run_to_narrow<W: Write>(to: &mut W, sheet: &[u8], out: &mut [u8]) -> io::Result<()> {
+    to.write_all(b"bring back")?;
     let answer = conversion::to_narrow(sheet, out);
-    print_written(answer, out);
+    print_written(to, answer, out)
 }
 
 // Calls the operation of this letter. A capital other than W and N is the small letter's operation on a wide sheet.
-pub fn run(operation: u8, number: usize, sheet: &[u8], list: &[u8], out: &mut [u8]) {
+pub fn run<W: Write>(
+    to: &mut W,
+    operation: u8,
+    number: usize,
+    sheet: &[u8],
+    list: &[u8],
+    out: &mut [u8],
+) -> io::Result<()> {
     fill(out);
     match operation {
-        b'W' => run_to_wide(sheet, out),
-        b'N' => run_to_narrow(sheet, out),
+        b'W' => run_to_wide(to, sheet, out),
+        b'N' => run_to_narrow(to, sheet, out),
         b'A'..=b'Z' => {
-            io::write_all(1, b"wide ");
-            run_on(operation + 32, Format::Wide, number, sheet, list, out);
+            to.write_all(b"wide ")?;
+            run_on(to, operation + 32, Format::Wide, number, sheet, list, out)
         }
-        _ => run_on(operation, Format::Narrow, number, sheet, list, out),
+        _ => run_on(to, operation, Format::Narrow, number, sheet, list, out),
     }
 }

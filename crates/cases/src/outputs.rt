@@ -4,6 +4,8 @@ use rows::Format;
 use rows::fit::sheet_length;
 use rows::places::header;
 use rows::read::{nodes_at, variables_at};
+use std::io;
+use std::io::Write;
 
 const FILLING: u8 = 165;
 
@@ -30,37 +32,38 @@ fn sum(bytes: &[u8]) -> usize {
     so_far
 }
 
-pub fn print_sum(out: &[u8]) {
-    io::write_all(1, b" sum");
-    print_number(sum(out));
+pub fn print_sum<W: Write>(to: &mut W, out: &[u8]) -> io::Result<()> {
+    to.write_all(b" sum")?;
+    print_number(to, sum(out))
 }
 
-fn print_hexadecimal(bytes: &[u8]) {
-    io::write_all(1, b" sheet");
+fn print_hexadecimal<W: Write>(to: &mut W, bytes: &[u8]) -> io::Result<()> {
+    to.write_all(b" sheet")?;
     let mut i = 0;
     while i < bytes.len() {
-        io::write_all(1, b" ");
-        io::print_hex(1, rows::from_byte(bytes[i]) as u64, 2);
+        write!(to, " {:02x}", rows::from_byte(bytes[i]))?;
         i += 1;
     }
+    Ok(())
 }
 
 // Writes a short sheet of this length from the front of the output.
-pub fn print_short(out: &[u8], length: usize) {
+pub fn print_short<W: Write>(to: &mut W, out: &[u8], length: usize) -> io::Result<()> {
     if length <= SHORT {
         if length <= out.len() {
-            print_hexadecimal(&out[..length]);
+            print_hexadecimal(to, &out[..length])?;
         }
     }
+    Ok(())
 }
 
 // Writes the sheet at the front of Solve's first buffer if it is short. A refused call leaves the filling there, which isn't taken for a
 // short sheet.
-pub fn print_reached(first: &[u8], f: Format) {
+pub fn print_reached<W: Write>(to: &mut W, first: &[u8], f: Format) -> io::Result<()> {
     if first.len() < header(f) {
-        return;
+        return Ok(());
     }
     let variables = variables_at(first, f);
     let nodes = nodes_at(first, f);
-    print_short(first, sheet_length(f, variables, nodes));
+    print_short(to, first, sheet_length(f, variables, nodes))
 }
