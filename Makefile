@@ -19,7 +19,7 @@ soname := libplumanchor.so.$(firstword $(subst ., ,$(version)))
 machine := $(shell uname -m)-$(shell uname -s | tr '[:upper:]' '[:lower:]')
 packed := plumanchor-$(version)-$(machine)
 
-program := target/bin/plumanchor
+program := crates/plumanchor/out/plumanchor
 static := target/staticlib/libplumanchor.a
 tool := build/release/plumanchor-tool
 shared := build/library/libplumanchor.so.$(version)
@@ -38,31 +38,33 @@ list := share/plumanchor/installed
 
 all:
 	@$(need_rt)
-	source .ci/prover; rt check plumanchor; install/archive
+	install/program
+	install/archive
 	cargo build --release --offline -p plumanchor-tool
 	$(MAKE) --no-print-directory library
 
 # Only what is missing is built here. What is older than its source is not installed.
 $(program):
 	@$(need_rt)
-	source .ci/prover; rt check plumanchor
+	install/program
 
 $(static):
 	@$(need_rt)
-	source .ci/prover; install/archive
+	install/archive
 
 built: $(program) $(static)
-	@for made in $^; do newer=$$(find crates crates.txt -newer $$made -print -quit); \
+	@for made in $^; do newer=$$(find crates.txt crates/*/{src,specs,proofs} -newer $$made -print -quit 2>/dev/null || true); \
 	  [[ -z $$newer ]] || { echo "make: $$made is older than $$newer: 'make' proves and builds it" >&2; exit 1; }; done
 	@cargo build --quiet --release --offline -p plumanchor-tool
 
-# Only plumanchor_* is to be seen from outside, and nothing may be missing.
+# Only plumanchor_* is to be seen from outside, and nothing may be missing. Its other names are of the same file here, since rt ci refuses
+# a repository with links, in build/ too.
 $(shared): $(static) install/exports.map Makefile
 	@mkdir -p $(@D)
 	$(CC) -shared -o $@ -Wl,-soname,$(soname) -Wl,--version-script=install/exports.map -Wl,-z,defs -Wl,-z,relro -Wl,-z,now \
 	  -Wl,--whole-archive $(static) -Wl,--no-whole-archive
-	ln -sf $(@F) $(@D)/$(soname)
-	ln -sf $(soname) $(@D)/libplumanchor.so
+	ln -f $@ $(@D)/$(soname)
+	ln -f $@ $(@D)/libplumanchor.so
 
 library: $(shared)
 
@@ -71,7 +73,11 @@ written := $(if $(wildcard tools/src/commands/manual.rs),manual:man/man1/plumanc
   $(if $(wildcard tools/src/commands/completion.rs),completion-bash:bash-completion/completions/plumanchor \
   completion-zsh:zsh/site-functions/_plumanchor completion-fish:fish/vendor_completions.d/plumanchor.fish)
 
-# All that is installed, as it is below PREFIX.
+# Links that belong to what is installed: what follows makes them in a folder.
+links := lib/$(soname) lib/libplumanchor.so
+link = ln -sf libplumanchor.so.$(version) $(1)/lib/$(soname); ln -sf $(soname) $(1)/lib/libplumanchor.so
+
+# All that is installed, as it is below PREFIX, but for the links.
 stage: built $(shared)
 	@rm -rf $(staged)
 	@install -D -m 755 install/plumanchor $(staged)/bin/plumanchor
@@ -79,8 +85,6 @@ stage: built $(shared)
 	@install -D -m 755 $(tool) $(staged)/libexec/plumanchor/tool
 	@install -D -m 644 $(static) $(staged)/lib/libplumanchor.a
 	@install -D -m 755 $(shared) $(staged)/lib/libplumanchor.so.$(version)
-	@ln -s libplumanchor.so.$(version) $(staged)/lib/$(soname)
-	@ln -s $(soname) $(staged)/lib/libplumanchor.so
 	@install -D -m 644 include/plumanchor.h $(staged)/include/plumanchor.h
 	@install -D -m 644 bindings/python/plumanchor.py $(staged)/share/plumanchor/python/plumanchor.py
 	@install -d $(staged)/lib/pkgconfig $(staged)/share/plumanchor $(staged)/share/doc/plumanchor
@@ -89,7 +93,7 @@ stage: built $(shared)
 	  $(tool) $${words//-/ } > "$$file"; done
 	@install -m 644 README.md CHANGELOG.md $(staged)/share/doc/plumanchor
 	@install/told $(version) > $(staged)/share/doc/plumanchor/BUILD
-	@{ find $(staged) ! -type d -printf '%P\n'; echo $(list); } | LC_ALL=C sort > build/installed
+	@{ find $(staged) -type f -printf '%P\n'; printf '%s\n' $(links) $(list); } | LC_ALL=C sort > build/installed
 	@install -m 644 build/installed $(staged)/$(list)
 	@chmod -R u=rwX,go=rX $(staged)
 
@@ -97,8 +101,9 @@ stage: built $(shared)
 install: stage
 	@mkdir -p '$(target)'
 	@! [[ -e '$(target)/$(list)' ]] || LC_ALL=C comm -23 '$(target)/$(list)' $(staged)/$(list) | (cd '$(target)' && xargs -r rm -f)
-	@cd $(staged) && while read -r file; do mkdir -p '$(target)'/"$${file%/*}"; \
-	  cp -P --preserve=mode,timestamps --remove-destination "$$file" '$(target)'/"$$file"; done < $(list)
+	@cd $(staged) && find . -type f -printf '%P\n' | while read -r file; do mkdir -p '$(target)'/"$${file%/*}"; \
+	  cp --preserve=mode,timestamps --remove-destination "$$file" '$(target)'/"$$file"; done
+	@$(call link,'$(target)')
 	@echo "installed in $(target)"
 
 # Folders go that are empty then.
@@ -109,8 +114,8 @@ uninstall:
 	@echo "uninstalled from $(target)"
 
 dist: stage
-	@cp $(staged)/share/doc/plumanchor/BUILD $(staged)/BUILD
-	@tar --sort=name --owner=0 --group=0 --numeric-owner --mtime=@0 --transform 's,^\.,$(packed),' -C $(staged) -cf - . \
+	@copy=$$(mktemp -d); trap 'rm -rf "$$copy"' EXIT; cp -a $(staged)/. "$$copy"; $(call link,"$$copy"); \
+	  cp $(staged)/share/doc/plumanchor/BUILD "$$copy"/BUILD; \
+	  tar --sort=name --owner=0 --group=0 --numeric-owner --mtime=@0 --transform 's,^\.,$(packed),' -C "$$copy" -cf - . \
 	  | gzip -9n > build/$(packed).tar.gz
-	@rm $(staged)/BUILD
 	@echo "build/$(packed).tar.gz"; cat $(staged)/share/doc/plumanchor/BUILD

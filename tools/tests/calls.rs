@@ -562,10 +562,10 @@ fn the_first_use() {
     };
     script(
         "rt",
-        "echo rt $1 >> calls; mkdir -p target/bin target/log; touch target/log/rows.out
-        seq 500; echo 'rt: rows proved (1 s)'; [[ -z ${BROKEN:-} ]] || { echo 'rt: sheet NOT PROVED'; exit 1; }
-        printf '#!/bin/sh\\necho true 0 0 0\\n' > target/bin/plumanchor; chmod +x target/bin/plumanchor
-        [[ $1 != staticlib ]] || { mkdir -p target/staticlib; ar rc target/staticlib/lib$2.a calls; }",
+        "exec >&2; crate=${PWD##*/}; echo rt $1 $crate >> ../../calls; mkdir -p out
+        seq 500; echo 'rt: chose --jobs 2 for rows'; [[ -z ${BROKEN:-} ]] || { echo 'rt: sheet NOT PROVED'; exit 1; }
+        [[ $1 != run ]] || { printf '#!/bin/sh\\necho true 0 0 0\\n' > out/$crate; chmod +x out/$crate; }
+        [[ $1 != lib ]] || ar rc out/lib$crate.a ../../calls",
     );
     script(
         "cargo",
@@ -573,9 +573,9 @@ fn the_first_use() {
         printf '#!/bin/sh\\necho tool $1\\n' > build/release/plumanchor-tool; chmod +x build/release/plumanchor-tool",
     );
     folder.holds(&[
-        ("mkdir -p bin .ci install crates/{rows,plumanchor,capi,capi_more} && mv rt cargo bin && chmod +x bin/*", 0, "", ""),
-        ("cp $P . && cp $(dirname $P)/install/archive install && touch .ci/prover", 0, "", ""),
-        ("printf 'rows:\\nplumanchor: rows\\ncapi: rows\\ncapi_more: rows # why\\n' > crates.txt", 0, "", ""),
+        ("mkdir -p bin install crates/{rows,plumanchor,capi,capi_more} && mv rt cargo bin && chmod +x bin/*", 0, "", ""),
+        ("cp $P . && cp $(dirname $P)/install/{archive,program} install && touch crates/plumanchor/stdin", 0, "", ""),
+        ("printf 'rows:\\nplumanchor: rows\\ncapi staticlib: rows\\ncapi_more staticlib: rows # why\\n' > crates.txt", 0, "", ""),
         ("mkdir none && ln -s $(command -v bash env dirname readlink find head) none", 0, "", ""),
         ("PATH=$PWD/none ./plumanchor < /dev/null", 2, "", "no 'rt' on the path"),
         ("PATH=$PWD/none ./plumanchor check", 2, "", "no 'cargo' on the path"),
@@ -585,7 +585,7 @@ fn the_first_use() {
         ("PATH=$PWD/bin:$PATH ./plumanchor check", 0, "tool check\n", "proving 2 crates; "),
         ("PATH=$PWD/bin:$PATH ./plumanchor check", 0, "tool check\n", ""),
         ("PATH=$PWD/bin:$PATH ./plumanchor < /dev/null", 0, "true 0 0 0\n", ""),
-        ("cat calls", 0, "rt check\nrt staticlib\nrt staticlib\ncargo\n", ""),
+        ("cat calls", 0, "rt run plumanchor\nrt lib capi\nrt lib capi_more\ncargo\n", ""),
         ("ar t target/staticlib/libplumanchor.a", 0, "calls\ncalls\n", ""),
     ]);
 }

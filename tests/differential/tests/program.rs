@@ -17,13 +17,13 @@ fn program_line(input: &[u8]) -> String {
 
 /// What the program writes for an input, to standard output and to standard error.
 fn run_with_hint(input: &[u8]) -> (String, String) {
-    let program = concat!(env!("CARGO_MANIFEST_DIR"), "/../../target/bin/plumanchor");
+    let program = concat!(env!("CARGO_MANIFEST_DIR"), "/../../crates/plumanchor/out/plumanchor");
     let mut child = Command::new(program)
         .stdin(Stdio::piped())
         .stdout(Stdio::piped())
         .stderr(Stdio::piped())
         .spawn()
-        .expect("target/bin/plumanchor, which rt check plumanchor builds");
+        .expect("crates/plumanchor/out/plumanchor, which install/program builds");
     // The program stops reading at 46,089 bytes, and may be gone before a longer input is written.
     let _ = child.stdin.take().expect("a pipe").write_all(input);
     let output = child.wait_with_output().expect("the program's output");

@@ -37,7 +37,7 @@ fn ratio(a: Duration, b: Duration) -> f64 {
 }
 
 /// What makes the page from a clean clone.
-const COMMAND: &str = "rt check plumanchor && install/archive && \
+const COMMAND: &str = "install/program && install/archive && \
     cargo build --release -p plumanchor-tool && \
     cargo run --profile bench -p differential --bin bench > docs/BENCHMARKS.md";
 

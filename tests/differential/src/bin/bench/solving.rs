@@ -13,7 +13,8 @@ use std::io::{Result, Write};
 use std::process::{Command, Stdio};
 use std::time::{Duration, Instant};
 
-const PROGRAM: &str = concat!(env!("CARGO_MANIFEST_DIR"), "/../../target/bin/plumanchor");
+const PROGRAM: &str =
+    concat!(env!("CARGO_MANIFEST_DIR"), "/../../crates/plumanchor/out/plumanchor");
 
 const FORMAT: Format = WIDE.reading.format;
 
