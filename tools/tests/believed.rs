@@ -121,11 +121,17 @@ fn words(text: &str) -> Vec<String> {
 
 /// The words by which a name is used: an operator's are what stands between its operands.
 fn spoken(name: &str) -> Vec<&str> {
-    if name.starts_with('_') || name.ends_with('_') {
-        name.split('_').filter(|part| !part.is_empty()).chain([name]).collect()
+    if name.contains('◌') {
+        name.split('◌').filter(|part| !part.is_empty()).chain([name]).collect()
     } else {
         vec![name]
     }
+}
+
+/// What a word projects from, whose fields stand behind it, each with a dot: all of it if it has
+/// none.
+fn base(word: &str) -> &str {
+    word.split('.').next().unwrap_or(word)
 }
 
 /// Takes in `Module.{a, b as c}` or `Module as short`.
@@ -206,7 +212,10 @@ fn take(file: &mut File, block: &Block, lines: &[(usize, String)]) {
         lines: lines.len(),
     };
     match rest[..] {
-        ["use", ..] => import(file, lines[0].1.trim().trim_start_matches("use ")),
+        ["use", ..] => {
+            let item = lines[0].1.split_once("use ").expect("what is used").1;
+            import(file, item);
+        }
         ["mod" | "infix" | "infixl" | "infixr" | "unfolding", ..] => {}
         ["record" | "data", name, ..] => {
             let mut declaration = new(name, true);
@@ -256,11 +265,14 @@ fn labels(part: &[String]) -> &[String] {
     &part[..part.iter().position(|word| word == ":").unwrap_or(0)]
 }
 
+/// The libraries of the toolchain that definitions name as they name a crate's.
+const KIT: [&str; 1] = ["std"];
+
 /// The file of a module, from the repository's folder; none if it is the logic's library.
 fn path_of(module: &str) -> Option<String> {
-    let (library, path) = module.strip_prefix("Rattle·")?.split_once('.')?;
-    let name = library.split('·').next().unwrap_or(library);
-    Some(format!("crates/{name}/{}.antt", path.replace('.', "/")))
+    let (name, path) = module.strip_prefix("Rattle.")?.split_once('.')?;
+    let is_ours = !KIT.contains(&name);
+    is_ours.then(|| format!("crates/{name}/{}.antt", path.replace('.', "/")))
 }
 
 /// What a module's name stands for; nothing if it is of the logic's library.
@@ -268,8 +280,8 @@ fn meaning_in(files: &Files, module: &str, name: &str) -> Option<Meaning> {
     let path = path_of(module)?;
     if let Some((start, declared)) = path.split_once("/specs/declared/") {
         let of = declared.trim_end_matches(".antt");
-        let is_variant = of.ends_with("/the-variants");
-        let of = of.trim_end_matches("/the-variants").replace('/', "::");
+        let is_variant = of.ends_with("/TheVariants");
+        let of = of.trim_end_matches("/TheVariants").replace('/', "::");
         return Some(Meaning::Coded(
             start.trim_start_matches("crates/").to_string(),
             of,
@@ -305,8 +317,11 @@ fn meaning(files: &Files, path: &str, here: usize, word: &str) -> Option<Meaning
     if let Some((module, name)) = file.imported.get(word) {
         return meaning_in(files, module, name);
     }
-    let (short, name) = word.split_once('.')?;
-    meaning_in(files, file.modules.get(short)?, name)
+    let (short, name) = word.split_once('.').filter(|(short, _)| !short.is_empty())?;
+    match file.modules.get(short) {
+        Some(module) => meaning_in(files, module, name),
+        None => meaning(files, path, here, short),
+    }
 }
 
 fn is_constructor(files: &Files, path: &str, here: usize, word: &str) -> bool {
@@ -356,7 +371,7 @@ fn free(text: &[String], bound: &mut Vec<String>) -> Vec<String> {
             _ if equals && ["{", ";"].contains(&before) => {}
             _ if equals && before == "let" => bound.push(word.clone()),
             _ if lambda == Some(open.len()) => bound.push(word.clone()),
-            _ if word.starts_with('.') || bound.contains(word) => {}
+            _ if word.starts_with('.') || bound.iter().any(|name| name == base(word)) => {}
             _ => used.push(word.clone()),
         }
         i += 1;
@@ -489,7 +504,8 @@ fn below(folder: &str, ending: &str) -> Vec<String> {
 fn crates() -> Vec<String> {
     let text = text_of("crates.txt");
     let lines = text.lines().filter(|line| !line.starts_with('#'));
-    lines.filter_map(|line| Some(line.split_once(':')?.0.trim().to_string())).collect()
+    let names = lines.filter_map(|line| line.split_once(':')?.0.split_whitespace().next());
+    names.map(str::to_string).collect()
 }
 
 fn all_files() -> Files {
@@ -500,16 +516,32 @@ fn all_files() -> Files {
     paths.map(|path| (path.clone(), read(&text_of(&path)))).collect()
 }
 
+/// What a function returns, in its clauses.
+const RESULT: &str = "result";
+
+/// Clauses without the names that they have where there are several.
+fn without_names(clauses: &str) -> String {
+    let lines = clauses.lines().map(|line| match line.split_once(" {") {
+        Some((head, clause)) if line.starts_with("    ") && !line.starts_with("     ") => {
+            let kind = head.split_whitespace().next().unwrap_or(head);
+            format!("{kind} {{{clause}\n")
+        }
+        _ => format!("{line}\n"),
+    });
+    lines.collect()
+}
+
 /// What the contract of a function uses, whose text begins with its name.
 fn contract(path: &str, function: &str) -> Use {
     let name = function.split(['(', '<']).next().unwrap_or("");
     let end = function.find("\n{").unwrap_or_else(|| panic!("{path}: {name} has no body"));
-    let clauses = ["\n    requires {", "\n    ensures {"];
+    let clauses = ["\n    requires ", "\n    ensures "];
     let start = clauses.iter().filter_map(|clause| function[..end].find(clause)).min();
     let start = start.unwrap_or_else(|| panic!("{path}: {name} has no contract"));
     let ends_name = |front: &str| front.rsplit([' ', '(', '\n']).next().unwrap_or("").to_string();
-    let mut parameters = function[..start].split(':').map(ends_name).collect();
-    let names = free(&words(&function[start..end]), &mut parameters);
+    let parameters = function[..start].split(':').map(ends_name);
+    let mut bound = parameters.chain([RESULT.to_string()]).collect();
+    let names = free(&words(&without_names(&function[start..end])), &mut bound);
     Use { by: format!("the contract of {name} in {path}"), path: path.to_string(), here: 0, names }
 }
 
@@ -530,7 +562,7 @@ fn contracts(files: &mut Files) -> Vec<Use> {
     let for_c = crates().into_iter().filter(|name| name.starts_with("capi"));
     for path in for_c.flat_map(|name| below(&format!("crates/{name}/src"), ".rt")) {
         let text = text_of(&path);
-        let start = "#[no_mangle]\npub extern \"C\" fn ";
+        let start = "#[unsafe(no_mangle)]\npub extern \"C\" fn ";
         for function in text.split(start).skip(1) {
             take(&path, start, function.split('(').next().unwrap_or(""));
         }
@@ -580,7 +612,7 @@ fn claims(files: &Files) -> (Vec<Place>, Vec<String>) {
 /// Those between two declarations of a file whose names differ from theirs in the last part alone.
 fn alike(files: &Files, from: Place, to: &Place) -> Vec<Place> {
     let name = |at: usize| &files[&to.0].declared[at].name;
-    let stem = |at: usize| name(at).rsplit_once('-').map(|parts| parts.0);
+    let stem = |at: usize| name(at).rsplit_once(['-', '_']).map(|parts| parts.0);
     let between = from.1 + 1..to.1;
     between.filter(|at| stem(*at) == stem(to.1)).map(|at| (to.0.clone(), at)).collect()
 }
@@ -716,7 +748,7 @@ abbrev pub Many : Type 0
 Many = Shape
 ";
     let proofs = "
-use Rattle·shapes·specs.specs.Base.{Shape, round, Many}
+use Rattle.shapes.specs.Base.{Shape, round, Many}
 
 abbrev pub kept : Many → Shape
 kept s = s
