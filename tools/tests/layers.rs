@@ -11,9 +11,6 @@ use std::process::Command;
 
 const ROOT: &str = concat!(env!("CARGO_MANIFEST_DIR"), "/..");
 
-/// The libraries of the toolchain, which programs link whether they name them or not.
-const KIT: [&str; 2] = ["io", "libc"];
-
 /// How many letters of a section's heading stand on a line of the picture, about.
 const HEADING: usize = 32;
 
@@ -36,7 +33,8 @@ fn lines() -> Vec<Line> {
         let (entry, comment) = line.split_once('#').unwrap_or((line, ""));
         let (name, listed) = entry.split_once(':').expect("NAME: what it names");
         lines.push(Line {
-            name: name.trim().to_string(),
+            // Behind the name of a static library stands the word for it.
+            name: name.split_whitespace().next().expect("a name").to_string(),
             section: section.clone(),
             listed: listed.split_whitespace().map(str::to_string).collect(),
             comment: comment.to_string(),
@@ -74,9 +72,8 @@ fn names(text: &str, other: &str) -> bool {
     let path = format!("{other}::");
     let first =
         |at: usize| !text[..at].ends_with(|c: char| c == ':' || c == '_' || c.is_alphanumeric());
-    let library = [format!("Rattle·{other}."), format!("Rattle·{other}·")];
-    text.match_indices(&path).any(|(at, _)| first(at))
-        || library.iter().any(|name| text.contains(name))
+    let library = format!("Rattle.{other}.");
+    text.match_indices(&path).any(|(at, _)| first(at)) || text.contains(&library)
 }
 
 #[test]
@@ -85,11 +82,10 @@ fn crates_list_what_they_name() {
     for (i, line) in lines.iter().enumerate() {
         let text = text_of(&line.name);
         for listed in &line.listed {
-            let lower = lines[..i].iter().any(|other| other.name == *listed)
-                || KIT.contains(&listed.as_str());
-            assert!(lower, "{}: {listed} is not a crate above it", line.name);
-            let told =
-                line.comment.contains(&format!(" {listed}: ")) || KIT.contains(&listed.as_str());
+            // What is no crate is a library of the toolchain, and rt refuses any other.
+            let higher = lines[i..].iter().any(|other| other.name == *listed);
+            assert!(!higher, "{}: {listed} is not a crate above it", line.name);
+            let told = line.comment.contains(&format!(" {listed}: "));
             assert!(
                 told || names(&text, listed),
                 "{} lists {listed} and never names it",

@@ -40,32 +40,50 @@ fn proofs() -> Vec<(String, String)> {
     found.iter().map(read).collect()
 }
 
-/// The lines at which a chain grows longer than it may. It may go on in the next line.
+/// A line without brackets around a path alone.
+fn unbracketed(line: &str) -> String {
+    let mut line = line.to_string();
+    let bracketed = |line: &str| {
+        line.match_indices('(').find_map(|(open, _)| {
+            let inside = line[open + 1..].find(ends_path)?;
+            line[open + 1 + inside..].starts_with(')').then_some((open, open + 1 + inside))
+        })
+    };
+    while let Some((open, close)) = bracketed(&line) {
+        line.remove(close);
+        line.remove(open);
+    }
+    line
+}
+
+fn ends_path(letter: char) -> bool {
+    letter.is_whitespace() || "(){},;".contains(letter)
+}
+
+/// How far a path goes back at once, at most.
+fn back(path: &str) -> usize {
+    let runs = path.split('.').collect::<Vec<_>>();
+    let runs = runs.split(|name| *name != "before");
+    runs.map(<[&str]>::len).max().unwrap_or(0)
+}
+
+/// The lines with a chain that is longer than it may be, each for every such chain.
 fn long_chains(text: &str) -> Vec<usize> {
     let mut lines = Vec::new();
-    let mut back = 0;
     for (number, line) in text.lines().enumerate() {
-        for word in line.split_whitespace() {
-            let bare = word.trim_end_matches([')', ',', ';']);
-            if bare == ".before" {
-                back += 1;
-                if back == BACK + 1 {
-                    lines.push(number + 1);
-                }
-            }
-            if word != ".before" {
-                back = 0;
-            }
-        }
+        let line = unbracketed(line);
+        let long = line.split(ends_path).filter(|path| back(path) > BACK);
+        lines.extend(long.map(|_| number + 1));
     }
     lines
 }
 
 #[test]
 fn chains_are_told_by_their_length() {
-    assert_eq!(long_chains("f (c .before .before .before) .before"), []);
-    assert_eq!(long_chains("x =\n  c .before .before\n .before .before"), [3]);
-    assert_eq!(long_chains("(c .before .before .before .before)"), [1]);
+    assert_eq!(long_chains("(f (c.before.before.before)).before"), []);
+    assert_eq!(long_chains("c.before.before.before.fact.before"), []);
+    assert_eq!(long_chains("x =\n  c.before.before.before.before.fact"), [2]);
+    assert_eq!(long_chains("f ((c.before.before).before.before)"), [1]);
 }
 
 #[test]

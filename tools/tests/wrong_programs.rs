@@ -52,8 +52,10 @@ fn is_of_a_contract(edit: &str) -> bool {
     changed.any(|old| clauses().any(|clause| clause.contains(old)))
 }
 
+/// Whether a line is a clause, which has a name where there are several of its kind.
 fn is_clause(line: &str) -> bool {
-    line.starts_with("ensures {") || line.starts_with("requires {")
+    let head = line.split_once('{').map_or("", |clause| clause.0);
+    ["ensures", "requires"].contains(&head.split_whitespace().next().unwrap_or(""))
 }
 
 /// The entry points whose contracts `believed.rs` reads.
