@@ -65,7 +65,7 @@ fn is_pattern(path: &str) -> bool {
 
 /// Whether a text has a word, and not only as a part of another.
 fn has_word(text: &str, word: &str) -> bool {
-    let inside = |letter: char| letter.is_alphanumeric() || "_-'′".contains(letter);
+    let inside = |letter: char| letter.is_alphanumeric() || "_-'".contains(letter);
     text.match_indices(word).any(|(at, _)| {
         !text[..at].ends_with(inside) && !text[at + word.len()..].starts_with(inside)
     })
