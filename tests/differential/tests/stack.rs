@@ -7,12 +7,17 @@ use outside::generate::{ladder_formula, limit_sheets};
 use outside::reference::*;
 use outside::with_deep_stack;
 
-/// Runs `work` on a stack of 1 MiB.
-fn with_small_stack<T: Send>(work: impl FnOnce() -> T + Send) -> T {
+/// Runs `work` on a stack of so many bytes.
+fn with_stack<T: Send>(bytes: usize, work: impl FnOnce() -> T + Send) -> T {
     std::thread::scope(|scope| {
-        let worker = std::thread::Builder::new().stack_size(1 << 20).spawn_scoped(scope, work);
+        let worker = std::thread::Builder::new().stack_size(bytes).spawn_scoped(scope, work);
         worker.expect("a thread").join().unwrap_or_else(|panic| std::panic::resume_unwind(panic))
     })
+}
+
+/// Runs `work` on a stack of 1 MiB.
+fn with_small_stack<T: Send>(work: impl FnOnce() -> T + Send) -> T {
+    with_stack(1 << 20, work)
 }
 
 /// The sheets at the limits, and the deepest tidy ones.
@@ -114,14 +119,15 @@ fn splitting(format: Format) -> Formula {
     formula(&all(Quantifier::Exists, format.most_variables), sides(ladder))
 }
 
-/// As many sheets wait as can, one for each variable but the last.
+/// As many sheets wait as can, one for each variable but the last. A split's frame has the tables of a
+/// run, some 58 KB as it was compiled when it was measured.
 #[test]
 fn searches_with_every_split_open() {
     for library in &LIBRARIES {
         let format = library.reading.format;
         let sheet = with_deep_stack(|| format.encode(&splitting(format)));
         let (room, most) = (sheet.len(), format.most_variables);
-        let answers = with_small_stack(|| {
+        let answers = with_stack(most * (96 << 10), || {
             let (mut first, mut second) = (vec![0; room], vec![0; room]);
             let mut stack = vec![0; most * room];
             [most - 2, most - 1].map(|places| {
