@@ -9,6 +9,10 @@ use borrow.Author.Rules.{rules}
 use Rattle.buckets.proofs.first.Statement.{statement}
 use Rattle.buckets.proofs.first.Tie as tie
 
+-- places in the code, each from a later one
+abbrev to_in_Member : tie.After-bucket_of → tie.In-Member
+to_in_Member c = c.before.before.before
+
 offset_bounds-heads-k : tie.Need-offset_bounds-heads-k
 offset_bounds-heads-k c = search rules
 
@@ -57,13 +61,13 @@ bucket_is c = c.bucket_of.ensures.0 ∙ ap bucket c.member.ensures.0
 returns-then-bucket_of-k : tie.Need-returns-then-bucket_of-k
 returns-then-bucket_of-k c =
     let m = c in
-    first_other _ _ _ m.requires.2 (named m.before.before.before.before) (λ z. c.if-bucket_of-k.true (bucket_is c.before ∙ z))
+    first_other _ _ _ m.requires.2 (named (to_in_Member m.before)) (λ z. c.if-bucket_of-k.true (bucket_is c.before ∙ z))
 
 returns : tie.Need-returns
 returns c =
     let got = c in
     let m = got in
-    first-right _ _ _ m.requires.2 (named m.before.before.before.before) (omega (arith, got.if-n-i.false)) (sym (bucket_is c.before) ∙ c.if-bucket_of-k.false)
+    first-right _ _ _ m.requires.2 (named (to_in_Member m.before)) (omega (arith, got.if-n-i.false)) (sym (bucket_is c.before) ∙ c.if-bucket_of-k.false)
 
 pub first_spec : {M : Type 1} → statement M
 first_spec =

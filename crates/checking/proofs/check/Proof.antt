@@ -14,6 +14,16 @@ use Rattle.checking.proofs.Whole.{sizes_refuse, prefix_refuses, nodes-refuse, tr
 use Rattle.checking.proofs.check.Statement.{statement}
 use Rattle.checking.proofs.check.Tie as tie
 
+-- places in the code, each from a later one
+abbrev to_in_Accepted : tie.In-Accepted-p → tie.In-Accepted
+to_in_Accepted c = c.before.before.before
+
+abbrev to_in_Accepted_p : tie.In_default-m → tie.In-Accepted-p
+to_in_Accepted_p c = c.before.before.before
+
+abbrev to_in_Accepted_p_from_in_Accepted_m : tie.In-Accepted-m → tie.In-Accepted-p
+to_in_Accepted_p_from_in_Accepted_m c = c.before.before.before
+
 enum_known-c : tie.Need-enum_known-c
 enum_known-c c = search rules
 
@@ -74,7 +84,7 @@ returns-in_default-p c =
 check_nodes-m-requires : tie.Need-check_nodes-m-requires
 check_nodes-m-requires c κs =
     let p = c in
-    (room p.before.before.before.before, p.check_prefix-p.ensures.1 (p.check_prefix-p.ensures.0 ∙ ap (checked_as _) (accepted_is _ (bound c.before))))
+    (room (to_in_Accepted p.before), p.check_prefix-p.ensures.1 (p.check_prefix-p.ensures.0 ∙ ap (checked_as _) (accepted_is _ (bound c.before))))
 
 enum_told-in-Accepted-m : tie.Need-enum_told-in-Accepted-m
 enum_told-in-Accepted-m c = search rules
@@ -89,14 +99,14 @@ returns-in_default-m c =
     let m = c in
     let s = m in
     told ∙ ap (checked_as s.args.f)
-    (nodes-refuse _ _ _ (own s.before.before.before.before.before.before) (read s.before.before.before.before.before.before).0 (bound m.before.before.before) (refused_as _ _ told m.check_nodes-m.ensures))
+    (nodes-refuse _ _ _ (own (to_in_Accepted (to_in_Accepted_p s))) (read (to_in_Accepted (to_in_Accepted_p s))).0 (bound m.before.before.before) (refused_as _ _ told m.check_nodes-m.ensures))
 
 check_tree-requires : tie.Need-check_tree-requires
-check_tree-requires c κs = room c.before.before.before.before.before.before
+check_tree-requires c κs = room (to_in_Accepted (to_in_Accepted_p_from_in_Accepted_m c))
 
 noded : (c : tie.In-Accepted-m)
     → let s = c in
-    accepted (sizes c.in-Accepted-m.field-0) ≡ node_answer (layout s.before.before.before.before.before.before) s.args.sheet.now
+    accepted (sizes c.in-Accepted-m.field-0) ≡ node_answer (layout (to_in_Accepted (to_in_Accepted_p_from_in_Accepted_m s))) s.args.sheet.now
 noded c = (accepted_as _ _ c.in-Accepted-m.is c.check_nodes-m.ensures).0
 
 returns : tie.Need-returns
@@ -104,7 +114,9 @@ returns c =
     let m = c in
     let s = m in
     c.check_tree.ensures ∙
-    ap₂ checked_as (read s.before.before.before.before.before.before.before).1 (tree-decides _ _ _ (own s.before.before.before.before.before.before.before) (read s.before.before.before.before.before.before.before).0 (bound m.before.before.before.before) (noded c.before))
+    ap₂ checked_as (read (to_in_Accepted (to_in_Accepted_p_from_in_Accepted_m s.before))).1
+    (tree-decides _ _ _ (own (to_in_Accepted (to_in_Accepted_p_from_in_Accepted_m s.before))) (read (to_in_Accepted (to_in_Accepted_p_from_in_Accepted_m s.before))).0
+    (bound (to_in_Accepted_p_from_in_Accepted_m m.before)) (noded c.before))
 
 pub check_spec : {M : Type 1} → statement M
 check_spec =

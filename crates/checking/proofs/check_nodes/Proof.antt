@@ -19,6 +19,13 @@ invariant-loop-r sheet s bound end r₀ r = Noded (rows_in s sheet) (bound_in s 
 abbrev decreases-loop-r : tie.decreases-loop-r
 decreases-loop-r sheet s bound end r₀ r = end - r
 
+-- places in the code, each from a later one
+abbrev to_start : tie.At-loop-r invariant-loop-r decreases-loop-r → tie.Start invariant-loop-r decreases-loop-r
+to_start c = c.before.before.before
+
+abbrev to_in_loop_r : tie.After-is_unbound-unbound invariant-loop-r decreases-loop-r → tie.In-loop-r invariant-loop-r decreases-loop-r
+to_in_loop_r c = c.before.before.before
+
 overflow_add-end : tie.Need-overflow_add-end invariant-loop-r decreases-loop-r
 overflow_add-end c = omega arith
 
@@ -44,7 +51,7 @@ is_unbound-unbound-requires c κs =
 more : (c : tie.In-loop-r invariant-loop-r decreases-loop-r)
     → let a = c.args in
     c.loop-r.r < length (rows_in a.s a.sheet.now)
-more c = omega (arith, all c.before.before.before.before)
+more c = omega (arith, all (to_start c.before))
 
 kind_here : (c : tie.After-is_node-node invariant-loop-r decreases-loop-r)
     → let a = c.args in
@@ -56,7 +63,7 @@ unfolding node_rows_in
 returns-then-not-node c =
     let k = c in
     let turn = k in
-    ap (checked_as _) (node-kind _ _ _ _ (more turn.before.before.before.before) turn.loop-r.invariant (kind_here k.before.before ∙ c.if-not-node.true))
+    ap (checked_as _) (node-kind _ _ _ _ (more (to_in_loop_r turn.before)) turn.loop-r.invariant (kind_here k.before.before ∙ c.if-not-node.true))
 
 returns-then-unbound : tie.Need-returns-then-unbound invariant-loop-r decreases-loop-r
 unfolding node_rows_in
@@ -64,7 +71,7 @@ returns-then-unbound c =
     let u = c in
     let turn = u in
     let start = turn in
-    ap (checked_as _) (node-unbound _ _ _ _ (more turn.before.before.before.before.before) turn.loop-r.invariant (kind_here u.before.before.before ∙ c.if-not-node.false)
+    ap (checked_as _) (node-unbound _ _ _ _ (more (to_in_loop_r turn.before.before)) turn.loop-r.invariant (kind_here u.before.before.before ∙ c.if-not-node.false)
     start.args.bound.now start.requires.1 (sym u.is_unbound-unbound.ensures ∙ c.if-unbound.true))
 
 overflow_add-r : tie.Need-overflow_add-r invariant-loop-r decreases-loop-r
@@ -78,12 +85,12 @@ loop-r-preserved c =
     let u = c in
     let turn = u in
     let start = turn in
-    node-turn _ _ _ _ (more turn.before.before.before.before.before) turn.loop-r.invariant (kind_here u.before.before.before ∙ c.if-not-node.false)
+    node-turn _ _ _ _ (more (to_in_loop_r turn.before.before)) turn.loop-r.invariant (kind_here u.before.before.before ∙ c.if-not-node.false)
     start.args.bound.now start.requires.1 (sym u.is_unbound-unbound.ensures ∙ c.if-unbound.false)
 
 returns : tie.Need-returns invariant-loop-r decreases-loop-r
 unfolding node_rows_in
-returns c = ap (checked_as _) (nodes-all _ _ _ _ (omega (arith, all c.before.before.before.before)) c.loop-r.invariant)
+returns c = ap (checked_as _) (nodes-all _ _ _ _ (omega (arith, all (to_start c.before))) c.loop-r.invariant)
 
 pub check_nodes_spec : {M : Type 1} → statement M
 check_nodes_spec =

@@ -21,6 +21,28 @@ invariant-loop-r sheet s bound₀ most v r₀ bound r = Prefixed (format_in s) (
 abbrev decreases-loop-r : tie.decreases-loop-r
 decreases-loop-r sheet s bound₀ most v r₀ bound r = v - r
 
+-- places in the code, each from a later one
+abbrev to_in_loop_r : tie.After-argument_at-x invariant-loop-r decreases-loop-r → tie.In-loop-r invariant-loop-r decreases-loop-r
+to_in_loop_r c = c.before.before.before
+
+abbrev to_after_is_quantifier_quantifier : tie.After-is_bound-twice invariant-loop-r decreases-loop-r → tie.After-is_quantifier-quantifier invariant-loop-r decreases-loop-r
+to_after_is_quantifier_quantifier c = c.before.before.before
+
+abbrev to_at_loop_r : tie.After-is_quantifier-quantifier invariant-loop-r decreases-loop-r → tie.At-loop-r invariant-loop-r decreases-loop-r
+to_at_loop_r c = c.before.before.before
+
+abbrev to_start : tie.At-loop-r invariant-loop-r decreases-loop-r → tie.Start invariant-loop-r decreases-loop-r
+to_start c = c.before.before.before
+
+abbrev to_after_is_bound_twice : tie.Then-twice invariant-loop-r decreases-loop-r → tie.After-is_bound-twice invariant-loop-r decreases-loop-r
+to_after_is_bound_twice c = c.before.before.before
+
+abbrev to_after_is_misnumbered_misnumbered : tie.Else-misnumbered invariant-loop-r decreases-loop-r → tie.After-is_misnumbered-misnumbered invariant-loop-r decreases-loop-r
+to_after_is_misnumbered_misnumbered c = c.before.before.before
+
+abbrev to_after_is_bound_twice_from_else_twice : tie.Else-twice invariant-loop-r decreases-loop-r → tie.After-is_bound-twice invariant-loop-r decreases-loop-r
+to_after_is_bound_twice_from_else_twice c = c.before.before.before
+
 enough : (c : tie.Start invariant-loop-r decreases-loop-r)
     → c.args.s.variables ≤ length (rows_in c.args.s c.args.sheet.now)
 enough c = omega (arith, length-rows_in c.args.sheet.now c.requires.0.room)
@@ -59,14 +81,14 @@ kind_here c = sym (c.is_quantifier-quantifier.ensures ∙ ap quantifier c.kind_a
 
 number_here : (c : tie.After-is_misnumbered-misnumbered invariant-loop-r decreases-loop-r)
     → let turn = c in
-    misnumbered (format_in turn.args.s).most_variables (here turn.before.before.before.before).argument ≡ c.is_misnumbered-misnumbered.result
+    misnumbered (format_in turn.args.s).most_variables (here (to_in_loop_r turn.before)).argument ≡ c.is_misnumbered-misnumbered.result
 number_here c =
     let most = c in
     sym (c.is_misnumbered-misnumbered.ensures ∙ ap₂ misnumbered most.most_variables-most.ensures c.argument_at-x.ensures.0)
 
 twice_here : (c : tie.After-is_bound-twice invariant-loop-r decreases-loop-r)
     → get_or c.loop-r.bound
-    (here c.before.before.before.before.before).argument false ≡ c.is_bound-twice.result
+    (here (to_in_loop_r c.before.before)).argument false ≡ c.is_bound-twice.result
 twice_here c =
     let read = c in
     sym (c.is_bound-twice.ensures ∙ ap (λ x. get_or read.loop-r.bound x false) read.argument_at-x.ensures.0)
@@ -75,8 +97,8 @@ returns-then-not-quantifier : tie.Need-returns-then-not-quantifier invariant-loo
 returns-then-not-quantifier c =
     let q = c in
     let turn = q in (
-      ap (checked_as _) (prefix-kind _ _ _ _ (enough turn.before.before.before.before.before.before.before.before.before.before) turn.loop-r-test.true turn.loop-r.invariant
-          (kind_here q.before.before.before.before ∙ c.if-not-quantifier.true)),
+      ap (checked_as _) (prefix-kind _ _ _ _ (enough (to_start (to_at_loop_r (to_after_is_quantifier_quantifier turn.before)))) turn.loop-r-test.true turn.loop-r.invariant
+          (kind_here (to_after_is_quantifier_quantifier q.before) ∙ c.if-not-quantifier.true)),
       never_accepted,
     )
 
@@ -85,8 +107,8 @@ returns-then-misnumbered c =
     let m = c in
     let q = m in
     let turn = q in (
-      ap (checked_as _) (prefix-number _ _ _ _ (enough turn.before.before.before.before.before.before.before.before.before.before.before) turn.loop-r-test.true turn.loop-r.invariant
-          (kind_here q.before.before.before.before.before ∙ c.if-not-quantifier.false) (number_here m.before.before.before ∙ c.if-misnumbered.true)),
+      ap (checked_as _) (prefix-number _ _ _ _ (enough (to_start (to_at_loop_r (to_after_is_quantifier_quantifier turn.before.before)))) turn.loop-r-test.true turn.loop-r.invariant
+          (kind_here (to_after_is_quantifier_quantifier q.before.before) ∙ c.if-not-quantifier.false) (number_here m.before.before.before ∙ c.if-misnumbered.true)),
       never_accepted,
     )
 
@@ -96,8 +118,8 @@ returns-then-twice c =
     let m = t in
     let q = m in
     let turn = q in (
-      ap (checked_as _) (prefix-twice _ _ _ _ (enough turn.before.before.before.before.before.before.before.before.before.before.before.before) turn.loop-r-test.true turn.loop-r.invariant
-          (kind_here q.before.before.before.before.before.before ∙ c.if-not-quantifier.false) (number_here m.before.before.before.before ∙ c.if-misnumbered.false)
+      ap (checked_as _) (prefix-twice _ _ _ _ (enough (to_start (to_at_loop_r (to_after_is_quantifier_quantifier (to_after_is_bound_twice turn))))) turn.loop-r-test.true turn.loop-r.invariant
+          (kind_here (to_after_is_quantifier_quantifier (to_after_is_bound_twice q)) ∙ c.if-not-quantifier.false) (number_here (to_after_is_misnumbered_misnumbered m.before) ∙ c.if-misnumbered.false)
           (twice_here t.before.before.before ∙ c.if-twice.true)),
       never_accepted,
     )
@@ -123,13 +145,14 @@ loop-r-preserved c =
     let turn = q in
     let s = turn in
     rw m.argument_at-x.ensures.0
-    (prefix-turn _ _ _ _ (enough s.before.before.before.before.before.before.before.before.before.before.before.before.before) turn.loop-r-test.true turn.loop-r.invariant
-    (kind_here q.before.before.before.before.before.before.before ∙ c.if-not-quantifier.false)
-    (number_here m.before.before.before.before.before ∙ c.if-misnumbered.false) (twice_here t.before.before.before.before ∙ c.if-twice.false) (limits s.args.s.format).few_variables)
+    (prefix-turn _ _ _ _ (enough (to_start (to_at_loop_r (to_after_is_quantifier_quantifier (to_after_is_bound_twice_from_else_twice s.before))))) turn.loop-r-test.true turn.loop-r.invariant
+    (kind_here (to_after_is_quantifier_quantifier (to_after_is_bound_twice_from_else_twice q.before)) ∙ c.if-not-quantifier.false)
+    (number_here (to_after_is_misnumbered_misnumbered m.before.before) ∙ c.if-misnumbered.false) (twice_here (to_after_is_bound_twice_from_else_twice t.before) ∙ c.if-twice.false)
+    (limits s.args.s.format).few_variables)
 
 returns : tie.Need-returns invariant-loop-r decreases-loop-r
 returns c =
-    let p = prefix_all _ _ _ _ (enough c.before.before.before.before) c.loop-r-test.false c.loop-r.invariant in
+    let p = prefix_all _ _ _ _ (enough (to_start c.before)) c.loop-r-test.false c.loop-r.invariant in
     (ap (checked_as _) p.0, λ _. p.1)
 
 pub check_prefix_spec : {M : Type 1} → statement M

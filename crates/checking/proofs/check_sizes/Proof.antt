@@ -10,6 +10,10 @@ use Rattle.checking.proofs.Sizes.{SizesRead, too_short, size_outside, wrong_leng
 use Rattle.checking.proofs.check_sizes.Statement.{statement}
 use Rattle.checking.proofs.check_sizes.Tie as tie
 
+-- places in the code, each from a later one
+abbrev to_after_nodes_at_n : tie.Else-outside → tie.After-nodes_at-n
+to_after_nodes_at_n c = c.before.before.before
+
 header-requires : tie.Need-header-requires
 header-requires c κs = search rules
 
@@ -53,7 +57,7 @@ returns-then-not-exact c =
     let l = c in
     let o = l in
     ap (checked_as _)
-    (wrong_length (file o.before.before.before.before) _ _ _ (read o.before.before.before.before) (sym o.is_outside-outside.ensures ∙ c.if-outside.false) l.sheet_length.ensures
+    (wrong_length (file (to_after_nodes_at_n o.before)) _ _ _ (read (to_after_nodes_at_n o.before)) (sym o.is_outside-outside.ensures ∙ c.if-outside.false) l.sheet_length.ensures
     (ne_eqb _ _ c.if-not-exact.true))
 
 returns : tie.Need-returns
@@ -61,7 +65,7 @@ returns c =
     let l = c in
     let o = l in
     ap (checked_as _)
-    (right_length (file o.before.before.before.before) _ _ _ (read o.before.before.before.before) (sym o.is_outside-outside.ensures ∙ c.if-outside.false) l.sheet_length.ensures
+    (right_length (file (to_after_nodes_at_n o.before)) _ _ _ (read (to_after_nodes_at_n o.before)) (sym o.is_outside-outside.ensures ∙ c.if-outside.false) l.sheet_length.ensures
     (eq-eqb _ _ c.if-not-exact.false))
 
 pub check_sizes_spec : {M : Type 1} → statement M

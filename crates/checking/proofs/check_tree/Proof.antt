@@ -12,6 +12,13 @@ use Rattle.checking.proofs.Debt.{tree_owed, tree_early, tree_whole}
 use Rattle.checking.proofs.check_tree.Statement.{statement}
 use Rattle.checking.proofs.check_tree.Tie as tie
 
+-- places in the code, each from a later one
+abbrev to_start : tie.After-walk-reached → tie.Start
+to_start c = c.before.before.before
+
+abbrev to_after_walk_reached : tie.After-struct_known-3-1 → tie.After-walk-reached
+to_after_walk_reached c = c.before.before.before
+
 overflow_add-end : tie.Need-overflow_add-end
 overflow_add-end c = search rules
 
@@ -28,19 +35,19 @@ returns-then-reached-ne0 : tie.Need-returns-then-reached-ne0
 unfolding node_rows_in
 returns-then-reached-ne0 c =
     let w = c in
-    ap (checked_as _) (tree_owed _ _ _ _ (end w.before.before.before.before.before) w.walk-reached.result w.walk-reached.ensures c.if-reached-ne0.true)
+    ap (checked_as _) (tree_owed _ _ _ _ (end (to_start w.before.before)) w.walk-reached.result w.walk-reached.ensures c.if-reached-ne0.true)
 
 returns-then-reached-end : tie.Need-returns-then-reached-end
 unfolding node_rows_in
 returns-then-reached-end c =
     let w = c in
-    ap (checked_as _) (tree_early _ _ _ _ (end w.before.before.before.before.before.before.before) w.walk-reached.result w.walk-reached.ensures c.if-reached-ne0.false c.if-reached-end.true)
+    ap (checked_as _) (tree_early _ _ _ _ (end (to_start (to_after_walk_reached w.before))) w.walk-reached.result w.walk-reached.ensures c.if-reached-ne0.false c.if-reached-end.true)
 
 returns : tie.Need-returns
 unfolding node_rows_in
 returns c =
     let w = c in
-    ap (checked_as _) (tree_whole _ _ _ _ (end w.before.before.before.before.before.before.before) w.walk-reached.result w.walk-reached.ensures c.if-reached-ne0.false c.if-reached-end.false)
+    ap (checked_as _) (tree_whole _ _ _ _ (end (to_start (to_after_walk_reached w.before))) w.walk-reached.result w.walk-reached.ensures c.if-reached-ne0.false c.if-reached-end.false)
 
 pub check_tree_spec : {M : Type 1} → statement M
 check_tree_spec = tie.close (tie.spec

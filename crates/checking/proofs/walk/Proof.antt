@@ -15,6 +15,13 @@ invariant-loop-row sheet s from end owed₀ row₀ owed row = Walking (rows_in s
 abbrev decreases-loop-row : tie.decreases-loop-row
 decreases-loop-row sheet s from end owed₀ row₀ owed row = end - row
 
+-- places in the code, each from a later one
+abbrev to_at_loop_row : tie.After-children_at invariant-loop-row decreases-loop-row → tie.At-loop-row invariant-loop-row decreases-loop-row
+to_at_loop_row c = c.before.before.before
+
+abbrev to_start : tie.At-loop-row invariant-loop-row decreases-loop-row → tie.Start invariant-loop-row decreases-loop-row
+to_start c = c.before.before.before
+
 overflow_add-end : tie.Need-overflow_add-end invariant-loop-row decreases-loop-row
 overflow_add-end c = omega arith
 
@@ -47,11 +54,11 @@ loop-row-preserved : tie.Need-loop-row-preserved invariant-loop-row decreases-lo
 loop-row-preserved c =
     let turn = c in
     let more = turn.loop-row-test.true in
-    walk_turn _ _ (omega (arith, all turn.before.before.before.before.before.before)) c.if-owed-eq0.false c.children_at.ensures.0
+    walk_turn _ _ (omega (arith, all (to_start (to_at_loop_row turn)))) c.if-owed-eq0.false c.children_at.ensures.0
     c.children_at.ensures.1 turn.loop-row.invariant
 
 returns : tie.Need-returns invariant-loop-row decreases-loop-row
-returns c = walk_out _ _ (omega (arith, all c.before.before.before.before)) c.loop-row.invariant
+returns c = walk_out _ _ (omega (arith, all (to_start c.before))) c.loop-row.invariant
 
 pub walk_spec : {M : Type 1} → statement M
 walk_spec =

@@ -10,6 +10,13 @@ use Rattle.claim.proofs.Answering.{first_call, second_call, checked_call, second
 use Rattle.claim.proofs.claim.Statement.{statement}
 use Rattle.claim.proofs.claim.Tie as tie
 
+-- places in the code, each from a later one
+abbrev to_after_claim_checked_arg_1 : tie.After-slice_known-in-Accepted-d-1 → tie.After-claim_checked-arg-1
+to_after_claim_checked_arg_1 c = c.before.before.before
+
+abbrev to_in_Accepted : tie.After-claim_checked-arg-1 → tie.In-Accepted
+to_in_Accepted c = c.before.before.before
+
 -- Check has accepted the first sheet, and the second
 first_of : (c : tie.In-Accepted) → Sheet c.args.f c.args.sheet.now c.in-Accepted.s
 first_of c = sheet_checked c.in-Accepted.is c.check-c.ensures
@@ -72,7 +79,7 @@ returns-in-Accepted-d c =
     let one = call in
     let a = call.args in
     let e = checked_call a.f a.sheet.now a.strategy.now a.out.now (side_of a.side) one.is_exists-exists.result
-    (first_of one.before.before.before.before.before.before) one.is_exists-exists.ensures w.claim_checked.ensures in
+    (first_of (to_in_Accepted (to_after_claim_checked_arg_1 one))) one.is_exists-exists.ensures w.claim_checked.ensures in
     (e, claim_truthful (format_of a.f) (sound a.f) a.sheet.now (side_of a.side) a.strategy.now a.out.now e)
 
 pub claim_spec : {M : Type 1} → statement M

@@ -9,6 +9,10 @@ use Rattle.clauses.proofs.Answering.{unchecked_call, own_call}
 use Rattle.clauses.proofs.clauses.Statement.{statement}
 use Rattle.clauses.proofs.clauses.Tie as tie
 
+-- places in the code, each from a later one
+abbrev to_in_Accepted : tie.After-out-1 → tie.In-Accepted
+to_in_Accepted c = c.before.before.before
+
 -- Check has accepted the sheet
 checked : (c : tie.In-Accepted) → Sheet c.args.f c.args.sheet.now c.in-Accepted.s
 checked c = sheet_checked c.in-Accepted.is c.check-c.ensures
@@ -41,7 +45,7 @@ returns-in-Accepted c =
     let w = c in
     let k = w in
     let a = k.args in
-    let e = own_call a.out.now (checked k.before.before.before.before) w.clauses_checked.ensures in
+    let e = own_call a.out.now (checked (to_in_Accepted k.before)) w.clauses_checked.ensures in
     (e, clauses_truthful (format_of a.f) (sound a.f) a.sheet.now a.out.now e)
 
 pub clauses_spec : {M : Type 1} → statement M

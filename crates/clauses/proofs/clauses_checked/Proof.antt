@@ -13,6 +13,19 @@ use Rattle.clauses.proofs.Answering.{few_lines, few_variables, enough, no_number
 use Rattle.clauses.proofs.clauses_checked.Statement.{statement}
 use Rattle.clauses.proofs.clauses_checked.Tie as tie
 
+-- places in the code, each from a later one
+abbrev to_else_most_variables_s : tie.After-struct_known-5-1 → tie.Else-most_variables-s
+to_else_most_variables_s c = c.before.before.before
+
+abbrev to_after_struct_known_5_1 : tie.After-ends-4-1 → tie.After-struct_known-5-1
+to_after_struct_known_5_1 c = c.before.before.before
+
+abbrev to_after_clauses_into : tie.After-slice_known-2-1 → tie.After-clauses_into
+to_after_clauses_into c = c.before.before.before
+
+abbrev to_after_ends_4_1 : tie.After-clauses_into → tie.After-ends-4-1
+to_after_ends_4_1 c = c.before.before.before
+
 -- numbers enough are left
 clausable : (c : tie.Else-most_variables-s)
     → let v = c in
@@ -81,7 +94,7 @@ returns-then-not-fits : tie.Need-returns-then-not-fits
 returns-then-not-fits c =
     let d = c in
     let e = d in
-    no_place (clausable e.before.before.before.before.before) e.args.out.now d.fits.ensures (c.if-not-fits.true)
+    no_place (clausable (to_else_most_variables_s e.before.before)) e.args.out.now d.fits.ensures (c.if-not-fits.true)
 
 slice_bounds-clauses_into-end : tie.Need-slice_bounds-clauses_into-end
 slice_bounds-clauses_into-end c = search rules
@@ -93,8 +106,11 @@ clauses_into-requires : tie.Need-clauses_into-requires
 clauses_into-requires c κs =
     let g = c in
     let d = g in
-    let e = d in
-    (clausable e.before.before.before.before.before.before.before.before, has_place (clausable e.before.before.before.before.before.before.before.before) e.args.out.now d.fits.ensures (g.if-not-fits.false))
+    let e = d in (
+      clausable (to_else_most_variables_s (to_after_struct_known_5_1 e.before.before)),
+      has_place (clausable (to_else_most_variables_s (to_after_struct_known_5_1 e.before.before))) e.args.out.now
+          d.fits.ensures (g.if-not-fits.false),
+    )
 
 shape_of-out : tie.Need-shape_of-out
 shape_of-out c = search rules
@@ -105,7 +121,8 @@ returns c =
     let g = w in
     let d = g in
     let e = d in
-    written_call (clausable e.before.before.before.before.before.before.before.before.before.before.before.before) e.args.out.now d.fits.ensures (g.if-not-fits.false) w.clauses_into.ensures.1
+    written_call (clausable (to_else_most_variables_s (to_after_struct_known_5_1 (to_after_ends_4_1 (to_after_clauses_into e))))) e.args.out.now d.fits.ensures (g.if-not-fits.false)
+    w.clauses_into.ensures.1
     w.clauses_into.ensures.0
 
 pub clauses_checked_spec : {M : Type 1} → statement M

@@ -16,6 +16,46 @@ use Rattle.clauses.proofs.Sheets.{ok, numbered_in, literals_fit, enough_left, fe
 use Rattle.clauses.proofs.clauses_into.Statement.{statement}
 use Rattle.clauses.proofs.clauses_into.Tie as tie
 
+-- places in the code, each from a later one
+abbrev to_after_struct_known_1 : tie.After-write_front-arg-1 → tie.After-struct_known-1
+to_after_struct_known_1 c = c.before.before.before
+
+abbrev to_after_name_rows : tie.After-struct_known-1 → tie.After-name_rows
+to_after_name_rows c = c.before.before.before
+
+abbrev to_after_fresh_4_1 : tie.After-out-1 → tie.After-fresh-4-1
+to_after_fresh_4_1 c = c.before.before.before
+
+abbrev to_after_slice_known_3_1 : tie.After-fresh-4-1 → tie.After-slice_known-3-1
+to_after_slice_known_3_1 c = c.before.before.before
+
+abbrev to_after_name_rows_arg_1 : tie.After-slice_known-3-1 → tie.After-name_rows-arg-1
+to_after_name_rows_arg_1 c = c.before.before.before
+
+abbrev to_after_fill_fresh : tie.After-name_rows-arg-1 → tie.After-fill_fresh
+to_after_fill_fresh c = c.before.before.before
+
+abbrev to_after_write_front_arg_1 : tie.After-slice_known-4-1 → tie.After-write_front-arg-1
+to_after_write_front_arg_1 c = c.before.before.before
+
+abbrev to_after_out_2_1 : tie.After-struct_known-3-1 → tie.After-out-2-1
+to_after_out_2_1 c = c.before.before.before
+
+abbrev to_after_slice_known_4_1 : tie.After-out-2-1 → tie.After-slice_known-4-1
+to_after_slice_known_4_1 c = c.before.before.before
+
+abbrev to_after_struct_known_3_1 : tie.After-slice_known-6-1 → tie.After-struct_known-3-1
+to_after_struct_known_3_1 c = c.before.before.before
+
+abbrev to_after_seal_arg_1 : tie.After-out-3-1 → tie.After-seal-arg-1
+to_after_seal_arg_1 c = c.before.before.before
+
+abbrev to_after_write_clauses : tie.After-seal-arg-1 → tie.After-write_clauses
+to_after_write_clauses c = c.before.before.before
+
+abbrev to_after_out_1 : tie.After-write_clauses → tie.After-out-1
+to_after_out_1 c = c.before.before.before
+
 -- the layout of the clauses
 abbrev layout : tie.After-name_rows → Layout
 layout c =
@@ -85,7 +125,7 @@ write_front-at-requires c κs =
     let a = d in
     let h = a.requires.0 in (
       ok h,
-      record { source = (ok h).room; room = clauses-room h (length a.args.out.now) a.requires.1 {t = layout n.before.before.before.before.before.before} refl refl refl; same_format = refl },
+      record { source = (ok h).room; room = clauses-room h (length a.args.out.now) a.requires.1 {t = layout (to_after_name_rows (to_after_struct_known_1 n))} refl refl refl; same_format = refl },
       omega (arith, length-take-le a.args.size.names d.fill_fresh.new.fresh (omega (arith, few_names h, d.fill_fresh.auto.fresh))),
       number_fits a.args.s.format (omega (arith, few_clauses h (length a.args.out.now) a.requires.1)),
     )
@@ -97,17 +137,19 @@ write_clauses-requires c κs =
     let a = n in
     let h = a.requires.0 in
     let L = n.name_rows.new.names in
-    let at = front_at h (take a.args.size.names n.fill_fresh.new.fresh) (shared n.before.before.before.before.before.before.before.before.before.before.before.before.before.before) w.write_front-at.ensures in (
+    let at = front_at h (take a.args.size.names n.fill_fresh.new.fresh) (shared (to_after_fill_fresh (to_after_name_rows_arg_1 (to_after_slice_known_3_1 (to_after_fresh_4_1 n.before.before)))))
+    w.write_front-at.ensures in (
       (
         h.indexed,
         record { readable = ok h; literals_fit = literals_fit h; has_entries = omega (arith, h.has_entries, n.name_rows.auto.names) },
         record {
           source = (ok h).room;
-          room = room_on (clauses-room h (length a.args.out.now) a.requires.1 {t = layout n.before.before.before.before.before.before.before.before.before.before} refl refl refl) w.write_front-at.auto.out;
+          room = room_on (clauses-room h (length a.args.out.now) a.requires.1 {t = layout (to_after_name_rows (to_after_struct_known_1 (to_after_write_front_arg_1 n.before)))} refl refl refl)
+              w.write_front-at.auto.out;
           same_format = refl;
         },
       ),
-      omega (arith, rows-room h (length a.args.out.now) a.requires.1 {t = layout n.before.before.before.before.before.before.before.before.before.before} refl refl refl L at),
+      omega (arith, rows-room h (length a.args.out.now) a.requires.1 {t = layout (to_after_name_rows (to_after_struct_known_1 (to_after_write_front_arg_1 n.before)))} refl refl refl L at),
     )
 
 overflow_add-t-3 : tie.Need-overflow_add-t-3
@@ -121,7 +163,8 @@ seal-requires c κs =
     let w = v in
     let n = w in
     let a = n in (
-      room_on (clauses-room a.requires.0 (length a.args.out.now) a.requires.1 {t = layout n.before.before.before.before.before.before.before.before.before.before.before.before.before.before.before} refl refl refl)
+      room_on (clauses-room a.requires.0 (length a.args.out.now) a.requires.1
+          {t = layout (to_after_name_rows (to_after_struct_known_1 (to_after_write_front_arg_1 (to_after_slice_known_4_1 (to_after_out_2_1 n)))))} refl refl refl)
           (v.write_clauses.auto.out ∙ w.write_front-at.auto.out),
       omega arith,
       omega arith,
@@ -144,9 +187,15 @@ returns c =
     let h = a.requires.0 in
     let long = v.write_clauses.auto.out ∙ w.write_front-at.auto.out in (
       z.seal.ensures.0 ∙
-          clauses-sealed h (length a.args.out.now) a.requires.1 {t = layout n.before.before.before.before.before.before.before.before.before.before.before.before.before.before.before.before.before.before} refl refl refl (given d.before.before.before.before.before.before.before.before.before.before.before.before.before.before.before.before.before.before.before.before.before.before) n.name_rows.ensures w.write_front-at.ensures v.write_clauses.ensures long refl,
+          clauses-sealed h (length a.args.out.now) a.requires.1
+          {t = layout (to_after_name_rows (to_after_struct_known_1 (to_after_write_front_arg_1 (to_after_slice_known_4_1 (to_after_out_2_1 (to_after_struct_known_3_1 n))))))} refl refl refl
+          (given (to_after_fill_fresh (to_after_name_rows_arg_1 (to_after_slice_known_3_1 (to_after_fresh_4_1 (to_after_out_1 (to_after_write_clauses (to_after_seal_arg_1 d.before))))))))
+          n.name_rows.ensures w.write_front-at.ensures v.write_clauses.ensures long refl,
       z.seal.ensures.1 ∙
-          clauses-length h (length a.args.out.now) a.requires.1 {t = layout n.before.before.before.before.before.before.before.before.before.before.before.before.before.before.before.before.before.before} refl refl refl (given d.before.before.before.before.before.before.before.before.before.before.before.before.before.before.before.before.before.before.before.before.before.before) n.name_rows.ensures w.write_front-at.ensures v.write_clauses.ensures long refl,
+          clauses-length h (length a.args.out.now) a.requires.1
+          {t = layout (to_after_name_rows (to_after_struct_known_1 (to_after_write_front_arg_1 (to_after_slice_known_4_1 (to_after_out_2_1 (to_after_struct_known_3_1 n))))))} refl refl refl
+          (given (to_after_fill_fresh (to_after_name_rows_arg_1 (to_after_slice_known_3_1 (to_after_fresh_4_1 (to_after_out_1 (to_after_write_clauses (to_after_seal_arg_1 d.before))))))))
+          n.name_rows.ensures w.write_front-at.ensures v.write_clauses.ensures long refl,
     )
 
 pub clauses_into_spec : {M : Type 1} → statement M

@@ -10,6 +10,10 @@ use Rattle.conversion.proofs.Tests.{to_wide_ready, to_wide_checked}
 use Rattle.conversion.proofs.to_wide.Statement.{statement}
 use Rattle.conversion.proofs.to_wide.Tie as tie
 
+-- places in the code, each from a later one
+abbrev to_in_Accepted : tie.After-out-1 → tie.In-Accepted
+to_in_Accepted c = c.before.before.before
+
 check-c-requires : tie.Need-check-c-requires
 check-c-requires c κs = search rules
 
@@ -34,7 +38,7 @@ returns-in-Accepted c =
     let wrote = c in
     let told = wrote in
     let a = told.args in
-    let e = to_wide_checked (accepted told.before.before.before.before) a.out.now wrote.convert_within.ensures in
+    let e = to_wide_checked (accepted (to_in_Accepted told.before)) a.out.now wrote.convert_within.ensures in
     (e, to_wide_truthful a.sheet.now a.out.now e)
 
 returns-in-Refused : tie.Need-returns-in-Refused

@@ -15,6 +15,10 @@ invariant-loop-left b s ends hashes members₀ i at₀ left₀ n₀ members at l
 abbrev decreases-loop-left : tie.decreases-loop-left
 decreases-loop-left b s ends hashes members₀ i at₀ left₀ n₀ members at left n = left
 
+-- places in the code, each from a later one
+abbrev to_in_loop_left : tie.After-members-1 invariant-loop-left decreases-loop-left → tie.In-loop-left invariant-loop-left decreases-loop-left
+to_in_loop_left c = c.before.before.before
+
 overflow_add-at : tie.Need-overflow_add-at invariant-loop-left decreases-loop-left
 overflow_add-at c = let a = c in omega (arith, a.requires.1, a.requires.0.readable.few_nodes)
 
@@ -49,17 +53,17 @@ put-n-requires c κs =
 offset_bounds-ends-at : tie.Need-offset_bounds-ends-at invariant-loop-left decreases-loop-left
 offset_bounds-ends-at c =
     let here = c in
-    omega (arith, (walked here.before.before.before.before).inside, here.requires.0.readable.few_nodes)
+    omega (arith, (walked (to_in_loop_left here.before)).inside, here.requires.0.readable.few_nodes)
 
 bounds-ends-at : tie.Need-bounds-ends-at invariant-loop-left decreases-loop-left
 bounds-ends-at c =
     let here = c in
-    omega (arith, (walked here.before.before.before.before.before).inside, here.requires.0.holds)
+    omega (arith, (walked (to_in_loop_left here.before.before)).inside, here.requires.0.holds)
 
 overflow_cast-at : tie.Need-overflow_cast-at invariant-loop-left decreases-loop-left
 overflow_cast-at c =
     let here = c in
-    omega (arith, (walked here.before.before.before.before.before).next_within, here.requires.0.readable.few_nodes)
+    omega (arith, (walked (to_in_loop_left here.before.before)).next_within, here.requires.0.readable.few_nodes)
 
 overflow_sub-left : tie.Need-overflow_sub-left invariant-loop-left decreases-loop-left
 overflow_sub-left c = omega arith
@@ -71,7 +75,7 @@ loop-left-preserved : tie.Need-loop-left-preserved invariant-loop-left decreases
 loop-left-preserved c =
     let after = c in
     let head = after in
-    gather-on head.args.b.now head.loop-left.invariant (walked after.before.before.before.before.before) after.put-n.auto.members after.put-n.ensures
+    gather-on head.args.b.now head.loop-left.invariant (walked (to_in_loop_left after.before.before)) after.put-n.auto.members after.put-n.ensures
 
 shape_of-members : tie.Need-shape_of-members invariant-loop-left decreases-loop-left
 shape_of-members c = c.loop-left.invariant.same_length

@@ -12,6 +12,19 @@ use Rattle.duplicates.proofs.Members.{clash-literal, clash_operator, hashes_othe
 use Rattle.duplicates.proofs.members_clash.Statement.{statement}
 use Rattle.duplicates.proofs.members_clash.Tie as tie
 
+-- places in the code, each from a later one
+abbrev to_start : tie.After-row_of-j → tie.Start
+to_start c = c.before.before.before
+
+abbrev to_after_kind_at : tie.After-hash_of-2 → tie.After-kind_at
+to_after_kind_at c = c.before.before.before
+
+abbrev to_after_hash_of : tie.After-same_at → tie.After-hash_of
+to_after_hash_of c = c.before.before.before
+
+abbrev to_after_row_of_j : tie.After-hash_of → tie.After-row_of-j
+to_after_row_of_j c = c.before.before.before
+
 row_of-i-requires : tie.Need-row_of-i-requires
 row_of-i-requires c κs = search rules
 
@@ -28,12 +41,13 @@ abbrev tree_in : tie.Start → ℕ → Tree
 tree_in a i = subtree_in a.args.s a.args.b.now i
 
 -- the kind of the first member's tree
-kind_is : (c : tie.After-kind_at) → c.kind_at.result ≡ (top (tree_in c.before.before.before.before (row_of c.args.m))).kind
-kind_is c = c.kind_at.ensures ∙ ap (λ i. (top (tree_in c.before.before.before.before i)).kind) c.row_of-i.ensures
+kind_is : (c : tie.After-kind_at) → c.kind_at.result ≡ (top (tree_in (to_start c.before) (row_of c.args.m))).kind
+kind_is c = c.kind_at.ensures ∙ ap (λ i. (top (tree_in (to_start c.before) i)).kind) c.row_of-i.ensures
 
 -- both trees, by the rows as computed
 trees : (r : tie.After-row_of-j) (f : Tree → Tree → Bool)
-    → f (tree_in r.before.before.before r.row_of-i.result) (tree_in r.before.before.before r.row_of-j.result) ≡ f (tree_in r.before.before.before (row_of r.args.m)) (tree_in r.before.before.before (row_of r.args.w))
+    → f (tree_in r.before.before.before r.row_of-i.result) (tree_in r.before.before.before r.row_of-j.result) ≡ f (tree_in r.before.before.before (row_of r.args.m))
+    (tree_in r.before.before.before (row_of r.args.w))
 trees r f = ap₂ (λ i j. f (tree_in r.before.before.before i) (tree_in r.before.before.before j)) r.row_of-i.ensures r.row_of-j.ensures
 
 returns-then-kind_at-le-NEGATIVE : tie.Need-returns-then-kind_at-le-NEGATIVE
@@ -54,7 +68,7 @@ returns-then-hash_of c =
     let k = test in
     let a = k in
     sym
-    (hashes_other a.requires.1 a.requires.2 (omega (arith, kind_is k.before.before.before.before, test.if-kind_at-le-NEGATIVE.false))
+    (hashes_other a.requires.1 a.requires.2 (omega (arith, kind_is (to_after_kind_at k.before), test.if-kind_at-le-NEGATIVE.false))
     (λ e. c.if-hash_of.true (p.hash_of.ensures.0 ∙ e ∙ sym p.hash_of-2.ensures.0)))
 
 same_at-requires : tie.Need-same_at-requires
@@ -64,7 +78,8 @@ returns : tie.Need-returns
 returns c =
     let test = c in
     let k = test in
-    c.same_at.ensures ∙ trees k.before.before.before.before.before.before same_tree ∙ sym (clash_operator _ (omega (arith, kind_is k.before.before.before.before.before, test.if-kind_at-le-NEGATIVE.false)) _)
+    c.same_at.ensures ∙ trees (to_after_row_of_j (to_after_hash_of k)) same_tree ∙ sym
+    (clash_operator _ (omega (arith, kind_is (to_after_kind_at k.before.before), test.if-kind_at-le-NEGATIVE.false)) _)
 
 pub members_clash_spec : {M : Type 1} → statement M
 members_clash_spec =

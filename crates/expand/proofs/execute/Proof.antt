@@ -11,6 +11,13 @@ use Rattle.expand.proofs.Deciding.{refused_execution, above_ceiling, within_ceil
 use Rattle.expand.proofs.execute.Statement.{statement}
 use Rattle.expand.proofs.execute.Tie as tie
 
+-- places in the code, each from a later one
+abbrev to_in_Expands : tie.After-cuts-in-Expands-1 → tie.In-Expands
+to_in_Expands c = c.before.before.before
+
+abbrev to_after_cuts_in_Expands_1 : tie.After-out-1 → tie.After-cuts-in-Expands-1
+to_after_cuts_in_Expands_1 c = c.before.before.before
+
 slice_bounds-plan_expand-end : tie.Need-slice_bounds-plan_expand-end
 slice_bounds-plan_expand-end c = search rules
 
@@ -43,7 +50,7 @@ slice_bounds-expand_planned-end : tie.Need-slice_bounds-expand_planned-end
 slice_bounds-expand_planned-end c = search rules
 
 expand_planned-requires : tie.Need-expand_planned-requires
-expand_planned-requires c κs = (planned c.before.before.before.before).1
+expand_planned-requires c κs = (planned (to_in_Expands c.before)).1
 
 returns-in-Refused : tie.Need-returns-in-Refused
 returns-in-Refused c =
@@ -63,7 +70,7 @@ returns-else-ceiling-w c =
     let within = carried in
     let told = within in
     let a = told.args in
-    let is = planned told.before.before.before.before.before.before.before in
+    let is = planned (to_in_Expands (to_after_cuts_in_Expands_1 told.before)) in
     let e = carried.expand_planned.ensures ∙ sym (within_ceiling is.1 a.ceiling a.out.now within.if-ceiling-w.false) ∙
     ap (λ f. execute_call (format_of f) a.sheet.now a.x a.ceiling a.out.now) is.0 in
     (e, execute_truthful (format_of a.f) (sound a.f) a.sheet.now a.x a.ceiling a.out.now e)

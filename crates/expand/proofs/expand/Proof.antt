@@ -12,6 +12,10 @@ use Rattle.expand.proofs.Deciding.{refused_quote, refused_call}
 use Rattle.expand.proofs.expand.Statement.{statement}
 use Rattle.expand.proofs.expand.Tie as tie
 
+-- places in the code, each from a later one
+abbrev to_in_Expands : tie.After-expand_planned → tie.In-Expands
+to_in_Expands c = c.before.before.before
+
 slice_bounds-plan_expand-end : tie.Need-slice_bounds-plan_expand-end
 slice_bounds-plan_expand-end c = search rules
 
@@ -55,7 +59,7 @@ returns-in-Expands c =
     let carried = c in
     let told = carried in
     let a = told.args in
-    let e = carried.expand_planned.ensures ∙ ap (λ f. expand_call (format_of f) a.sheet.now a.x a.out.now) (planned told.before.before.before.before.before).0 in
+    let e = carried.expand_planned.ensures ∙ ap (λ f. expand_call (format_of f) a.sheet.now a.x a.out.now) (planned (to_in_Expands told.before.before)).0 in
     (e, expand_truthful (format_of a.f) (sound a.f) a.sheet.now a.x a.out.now e)
 
 pub expand_spec : {M : Type 1} → statement M

@@ -11,6 +11,16 @@ use Rattle.expand.proofs.Deciding.{no_room, expands, expanded-call}
 use Rattle.expand.proofs.expand_planned.Statement.{statement}
 use Rattle.expand.proofs.expand_planned.Tie as tie
 
+-- places in the code, each from a later one
+abbrev to_start : tie.After-slice_known-1 → tie.Start
+to_start c = c.before.before.before
+
+abbrev to_else_not_fits : tie.After-out-1 → tie.Else-not-fits
+to_else_not_fits c = c.before.before.before
+
+abbrev to_after_slice_known_1 : tie.Else-not-fits → tie.After-slice_known-1
+to_after_slice_known_1 c = c.before.before.before
+
 overflow_sub-s : tie.Need-overflow_sub-s
 overflow_sub-s c = search rules
 
@@ -23,7 +33,7 @@ few_sizes c =
 
 fits-requires : tie.Need-fits-requires
 fits-requires c κs =
-    let few = few_sizes c.before.before.before.before in
+    let few = few_sizes (to_start c.before) in
     (omega (arith, few.0), omega (arith, few.1))
 
 returns-then-not-fits : tie.Need-returns-then-not-fits
@@ -42,7 +52,7 @@ sheet_length-requires : tie.Need-sheet_length-requires
 sheet_length-requires c κs =
     let wrote = c in
     let sizes = wrote.expand_into-t.ensures.1.1 in
-    let few = few_sizes wrote.before.before.before.before.before.before.before.before.before.before in
+    let few = few_sizes (to_start (to_after_slice_known_1 (to_else_not_fits wrote.before))) in
     (omega (arith, sizes.0, few.0), omega (arith, sizes.1, few.1))
 
 shape_of-out : tie.Need-shape_of-out

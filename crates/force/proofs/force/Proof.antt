@@ -10,6 +10,13 @@ use borrow.Author.Rules.{rules}
 use Rattle.force.proofs.force.Statement.{statement}
 use Rattle.force.proofs.force.Tie as tie
 
+-- places in the code, each from a later one
+abbrev to_after_force_checked : tie.After-second-1 → tie.After-force_checked
+to_after_force_checked c = c.before.before.before
+
+abbrev to_in_Accepted : tie.After-force_checked → tie.In-Accepted
+to_in_Accepted c = c.before.before.before
+
 accepted : (c : tie.In-Accepted) → let a = c.args in Sheet a.f a.sheet.now c.in-Accepted.s
 accepted c = sheet_checked c.in-Accepted.is c.check-c.ensures
 
@@ -46,7 +53,7 @@ returns-in-Accepted c =
     let told = call in
     let a = told.args in
     let e = call.force_checked.ensures ∙
-    ap (λ g. force_call (format_of g) a.sheet.now a.values.now a.first.now a.second.now) (sheet_format (accepted told.before.before.before.before.before.before.before)) in
+    ap (λ g. force_call (format_of g) a.sheet.now a.values.now a.first.now a.second.now) (sheet_format (accepted (to_in_Accepted (to_after_force_checked told.before)))) in
     (e, force_truthful (format_of a.f) a.sheet.now a.values.now a.first.now a.second.now e)
 
 pub force_spec : {M : Type 1} → statement M

@@ -13,6 +13,22 @@ use borrow.Author.Rules.{rules}
 use Rattle.force.proofs.force_checked.Statement.{statement}
 use Rattle.force.proofs.force_checked.Tie as tie
 
+-- places in the code, each from a later one
+abbrev to_after_slice_known_5_1 : tie.After-second-2-1 → tie.After-slice_known-5-1
+to_after_slice_known_5_1 c = c.before.before.before
+
+abbrev to_after_clear_arg_1 : tie.After-slice_known-5-1 → tie.After-clear-arg-1
+to_after_clear_arg_1 c = c.before.before.before
+
+abbrev to_after_slice_known_3_1 : tie.After-clear-arg-1 → tie.After-slice_known-3-1
+to_after_slice_known_3_1 c = c.before.before.before
+
+abbrev to_after_try_both_arg_2_1 : tie.After-slice_known-3-1 → tie.After-try_both-arg-2-1
+to_after_try_both_arg_2_1 c = c.before.before.before
+
+abbrev to_else_shorter_sheet : tie.After-try_both-arg-2-1 → tie.Else-shorter-sheet
+to_else_shorter_sheet c = c.before.before.before
+
 -- what the tests that passed tell
 good : (c : tie.Else-shorter-sheet) → not c.are_values.result ≡ false
 good c = (ap not c.if-not-are_values.false)
@@ -82,7 +98,10 @@ returns c =
     let passed = turned in
     let a = passed in
     answered-call a.requires a.args.values.now a.args.first.now a.args.second.now passed.are_values.ensures
-    (good passed.before.before.before.before.before.before.before.before.before.before.before.before.before.before.before.before) (fewer passed.before.before.before.before.before.before.before.before.before.before.before.before.before.before.before.before) (has_room passed.before.before.before.before.before.before.before.before.before.before.before.before.before.before.before.before) turned.turn_at-turn.ensures tried.try_both-outcome.ensures
+    (good (to_else_shorter_sheet (to_after_try_both_arg_2_1 (to_after_slice_known_3_1 (to_after_clear_arg_1 (to_after_slice_known_5_1 passed.before))))))
+    (fewer (to_else_shorter_sheet (to_after_try_both_arg_2_1 (to_after_slice_known_3_1 (to_after_clear_arg_1 (to_after_slice_known_5_1 passed.before))))))
+    (has_room (to_else_shorter_sheet (to_after_try_both_arg_2_1 (to_after_slice_known_3_1 (to_after_clear_arg_1 (to_after_slice_known_5_1 passed.before)))))) turned.turn_at-turn.ensures
+    tried.try_both-outcome.ensures
     (first.clear.ensures ∙ all_zeros tried.try_both-outcome.new.first tried.try_both-outcome.auto.first)
     (c.clear-2.ensures ∙ all_zeros tried.try_both-outcome.new.second tried.try_both-outcome.auto.second)
 

@@ -12,16 +12,41 @@ use Rattle.force.proofs.Answering.{stopped_0, stopped_1, both_ended}
 use Rattle.force.proofs.try_both.Statement.{statement}
 use Rattle.force.proofs.try_both.Tie as tie
 
+-- places in the code, each from a later one
+abbrev to_after_first_1 : tie.After-slice_known-4-1 → tie.After-first-1
+to_after_first_1 c = c.before.before.before
+
+abbrev to_after_judge_arg_1 : tie.After-first-1 → tie.After-judge-arg-1
+to_after_judge_arg_1 c = c.before.before.before
+
+abbrev to_after_slice_known_1 : tie.After-judge-arg-1 → tie.After-slice_known-1
+to_after_slice_known_1 c = c.before.before.before
+
+abbrev to_start : tie.After-slice_known-1 → tie.Start
+to_start c = c.before.before.before
+
+abbrev to_after_slice_known_4_1 : tie.After-judge-arg-in-Ended-2-1 → tie.After-slice_known-4-1
+to_after_slice_known_4_1 c = c.before.before.before
+
+abbrev to_after_judge_k : tie.After-second-in-Ended-1 → tie.After-judge-k
+to_after_judge_k c = c.before.before.before
+
+abbrev to_in_Ended : tie.After-judge-k → tie.In-Ended
+to_in_Ended c = c.before.before.before
+
+abbrev to_after_second_in_Ended_1 : tie.After-is_wanted → tie.After-second-in-Ended-1
+to_after_second_in_Ended_1 c = c.before.before.before
+
 -- where the function begins, and the two runs
 -- the end of a value's run, by the definition
 abbrev right : tie.Start → Bool → End
 right a v = end_in a.args.s a.args.sheet.now a.args.values.now v (room a.args.first.now a.args.second.now)
 
-zero_ended : (c : tie.In-Ended) → ended (verdict_of c.in-Ended.at_zero) ≡ right c.before.before.before.before.before.before.before.before.before.before.before.before.before false
+zero_ended : (c : tie.In-Ended) → ended (verdict_of c.in-Ended.at_zero) ≡ right (to_start (to_after_slice_known_1 (to_after_judge_arg_1 (to_after_first_1 c.before)))) false
 zero_ended c = sym (ap end_of c.in-Ended.is) ∙ c.judge-j.ensures
 
 -- the buffers are as long as they were
-one_judged : (c : tie.After-judge-k) → end_of c.judge-k.result ≡ right c.before.before.before.before.before.before.before.before.before.before.before.before.before.before.before.before true
+one_judged : (c : tie.After-judge-k) → end_of c.judge-k.result ≡ right (to_start (to_after_slice_known_1 (to_after_judge_arg_1 (to_after_first_1 (to_after_slice_known_4_1 c.before))))) true
 one_judged c =
     let run = c in
     let a = run.args in
@@ -83,7 +108,7 @@ returns-in-Stopped-k c =
     let told = c in
     let run = told in
     let zero = run in
-    stopped_1 zero.requires (zero_ended zero.before.before.before.before.before.before.before.before) (sym (ap end_of told.in-Stopped-k.is) ∙ one_judged run.before.before.before.before.before)
+    stopped_1 zero.requires (zero_ended (to_in_Ended (to_after_judge_k zero.before.before))) (sym (ap end_of told.in-Stopped-k.is) ∙ one_judged (to_after_judge_k run.before.before))
 
 shape_of-first-in-Ended-k : tie.Need-shape_of-first-in-Ended-k
 shape_of-first-in-Ended-k c = search rules
@@ -98,8 +123,8 @@ returns-in-Ended-k c =
     let zero = run in
     let asked = zero in
     c.outcome_for.ensures ∙
-    both_ended zero.requires asked.is_existential-existential.ensures (zero_ended zero.before.before.before.before.before.before.before.before.before.before.before)
-    (sym (ap end_of told.in-Ended-k.is) ∙ one_judged run.before.before.before.before.before.before.before.before) c.is_wanted.ensures c.is_wanted-in-Ended-k.ensures
+    both_ended zero.requires asked.is_existential-existential.ensures (zero_ended (to_in_Ended (to_after_judge_k (to_after_second_in_Ended_1 zero.before.before))))
+    (sym (ap end_of told.in-Ended-k.is) ∙ one_judged (to_after_judge_k (to_after_second_in_Ended_1 run.before.before))) c.is_wanted.ensures c.is_wanted-in-Ended-k.ensures
 
 pub try_both_spec : {M : Type 1} → statement M
 try_both_spec =

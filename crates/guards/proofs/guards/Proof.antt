@@ -11,6 +11,16 @@ use borrow.Author.Rules.{rules}
 use Rattle.guards.proofs.guards.Statement.{statement}
 use Rattle.guards.proofs.guards.Tie as tie
 
+-- places in the code, each from a later one
+abbrev to_after_slice_known_in_Accepted_1 : tie.After-second-1 → tie.After-slice_known-in-Accepted-1
+to_after_slice_known_in_Accepted_1 c = c.before.before.before
+
+abbrev to_after_guards_checked_arg_in_Accepted_2_1 : tie.After-slice_known-in-Accepted-1 → tie.After-guards_checked-arg-in-Accepted-2-1
+to_after_guards_checked_arg_in_Accepted_2_1 c = c.before.before.before
+
+abbrev to_in_Accepted : tie.After-guards_checked-arg-in-Accepted-2-1 → tie.In-Accepted
+to_in_Accepted c = c.before.before.before
+
 accepted : (c : tie.In-Accepted) → let a = c.args in Sheet a.f a.sheet.now c.in-Accepted.s
 accepted c = sheet_checked c.in-Accepted.is c.check-c.ensures
 
@@ -50,7 +60,8 @@ returns-in-Accepted c =
     let told = call in
     let a = told.args in
     let e = call.guards_checked.ensures ∙
-    ap (λ g. guards_call (format_of g) a.sheet.now a.out.now a.first.now a.second.now) (sheet_format (accepted told.before.before.before.before.before.before.before.before.before.before)) in
+    ap (λ g. guards_call (format_of g) a.sheet.now a.out.now a.first.now a.second.now)
+    (sheet_format (accepted (to_in_Accepted (to_after_guards_checked_arg_in_Accepted_2_1 (to_after_slice_known_in_Accepted_1 told.before))))) in
     (e, guards_truthful (format_of a.f) (sound a.f) a.sheet.now a.out.now a.first.now a.second.now e)
 
 pub guards_spec : {M : Type 1} → statement M

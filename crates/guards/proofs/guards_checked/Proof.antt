@@ -15,6 +15,28 @@ use borrow.Author.Rules.{rules}
 use Rattle.guards.proofs.guards_checked.Statement.{statement}
 use Rattle.guards.proofs.guards_checked.Tie as tie
 
+-- places in the code, each from a later one
+abbrev to_else_shorter_sheet : tie.After-find-arg-3-1 → tie.Else-shorter-sheet
+to_else_shorter_sheet c = c.before.before.before
+
+abbrev to_else_kind_at_ne_AND : tie.Else-shorter-sheet → tie.Else-kind_at-ne-AND
+to_else_kind_at_ne_AND c = c.before.before.before
+
+abbrev to_after_clear_arg_2_1 : tie.After-slice_known-8-1 → tie.After-clear-arg-2-1
+to_after_clear_arg_2_1 c = c.before.before.before
+
+abbrev to_after_clear : tie.After-clear-arg-2-1 → tie.After-clear
+to_after_clear c = c.before.before.before
+
+abbrev to_after_second_1 : tie.After-clear → tie.After-second-1
+to_after_second_1 c = c.before.before.before
+
+abbrev to_after_slice_known_4_1 : tie.After-second-1 → tie.After-slice_known-4-1
+to_after_slice_known_4_1 c = c.before.before.before
+
+abbrev to_after_find_arg_3_1 : tie.After-slice_known-4-1 → tie.After-find-arg-3-1
+to_after_find_arg_3_1 c = c.before.before.before
+
 -- what the tests that passed tell
 root_and : (c : tie.Else-kind_at-ne-AND) → let a = c.args in is_and (matrix_in a.s a.sheet.now) ≡ true
 unfolding matrix_in subtree_in forest_in
@@ -58,7 +80,7 @@ find-answer-requires c κs =
     let h = passed.requires in (
       record {
         sheet = h;
-        root_is_and = root_and passed.before.before.before.before.before.before;
+        root_is_and = root_and (to_else_kind_at_ne_AND (to_else_shorter_sheet passed));
         has_room = omega (arith, has_place passed.before.before.before, sheet-size h);
       },
       omega (arith, has_place passed.before.before.before, sheet-size h),
@@ -86,7 +108,9 @@ returns c =
     let passed = done in
     let a = passed in
     let found = done.find-answer in
-    told_call a.requires a.args.out.now a.args.first.now a.args.second.now (root_and passed.before.before.before.before.before.before.before.before.before.before.before.before.before.before.before.before.before.before.before.before.before) (has_place passed.before.before.before.before.before.before.before.before.before.before.before.before.before.before.before.before.before.before) found.ensures
+    told_call a.requires a.args.out.now a.args.first.now a.args.second.now
+    (root_and (to_else_kind_at_ne_AND (to_else_shorter_sheet (to_after_find_arg_3_1 (to_after_slice_known_4_1 (to_after_second_1 (to_after_clear (to_after_clear_arg_2_1 passed))))))))
+    (has_place (to_else_shorter_sheet (to_after_find_arg_3_1 (to_after_slice_known_4_1 (to_after_second_1 (to_after_clear (to_after_clear_arg_2_1 passed))))))) found.ensures
     (first.clear.ensures ∙ all_zeros found.new.first found.auto.first)
     (c.clear-2.ensures ∙ all_zeros found.new.second found.auto.second)
 

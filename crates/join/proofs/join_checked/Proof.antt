@@ -8,6 +8,10 @@ use Rattle.join.proofs.Answering.{many_call, count-call, bad_call, joinable, joi
 use Rattle.join.proofs.join_checked.Statement.{statement}
 use Rattle.join.proofs.join_checked.Tie as tie
 
+-- places in the code, each from a later one
+abbrev to_after_is_power : tie.Else-not-are_answers → tie.After-is_power
+to_after_is_power c = c.before.before.before
+
 few : (c : tie.After-is_power) → c.args.k ≤ c.args.s.variables
 few c = omega (arith, c.if-s-k.false)
 
@@ -50,7 +54,7 @@ returns c =
     let good = found in
     let power = good in
     let a = power in
-    joined-call a.requires a.args.k a.args.answers.now (few power.before.before.before.before.before) power.is_power.ensures (ap not good.if-not-is_power.false)
+    joined-call a.requires a.args.k a.args.answers.now (few (to_after_is_power power.before.before)) power.is_power.ensures (ap not good.if-not-is_power.false)
     good.are_answers.ensures (ap not good.if-not-are_answers.false) found.gather.result found.gather.ensures.1 c.known_from.ensures
 
 pub join_checked_spec : {M : Type 1} → statement M

@@ -22,6 +22,22 @@ invariant-loop-i sheet s ends parents₀ high₀ low₀ n i₀ parents high low 
 abbrev decreases-loop-i : tie.decreases-loop-i
 decreases-loop-i sheet s ends parents₀ high₀ low₀ n i₀ parents high low i = n - i
 
+-- places in the code, each from a later one
+abbrev to_start : tie.After-slice_known-1 invariant-loop-i decreases-loop-i → tie.Start invariant-loop-i decreases-loop-i
+to_start c = c.before.before.before
+
+abbrev to_after_slice_known_in_loop_i_1 : tie.After-past-in-loop-i invariant-loop-i decreases-loop-i → tie.After-slice_known-in-loop-i-1 invariant-loop-i decreases-loop-i
+to_after_slice_known_in_loop_i_1 c = c.before.before.before
+
+abbrev to_after_kind_at_conjunction : tie.After-slice_known-in-loop-i-1 invariant-loop-i decreases-loop-i → tie.After-kind_at-conjunction invariant-loop-i decreases-loop-i
+to_after_kind_at_conjunction c = c.before.before.before
+
+abbrev to_at_loop_i : tie.After-kind_at-conjunction invariant-loop-i decreases-loop-i → tie.At-loop-i invariant-loop-i decreases-loop-i
+to_at_loop_i c = c.before.before.before
+
+abbrev to_after_slice_known_1 : tie.At-loop-i invariant-loop-i decreases-loop-i → tie.After-slice_known-1 invariant-loop-i decreases-loop-i
+to_after_slice_known_1 c = c.before.before.before
+
 abbrev R : tie.Start invariant-loop-i decreases-loop-i → List Row
 R a = node_rows_in a.args.s a.args.sheet.now
 
@@ -59,8 +75,8 @@ loop-i-init c =
       known = λ q h l. absurd (omega arith);
       targets =
           record {
-            root_high = get_or-set_same a.args.high.now 0 n 0 (omega arith) ∙ sym (all a.before.before.before.before.before);
-            root_low = get_or-set_same a.args.low.now 0 (n + 1) 0 (omega arith) ∙ ap (λ m. m + 1) (sym (all a.before.before.before.before.before));
+            root_high = get_or-set_same a.args.high.now 0 n 0 (omega arith) ∙ sym (all (to_start a.before.before));
+            root_low = get_or-set_same a.args.low.now 0 (n + 1) 0 (omega arith) ∙ ap (λ m. m + 1) (sym (all (to_start a.before.before)));
             wired = λ q h l. absurd (omega arith);
           };
     }
@@ -156,7 +172,8 @@ loop-i-preserved c =
       within = omega (arith, taken);
       known = parents_more ends head.loop-i.parents i up.result (omega (arith, inv.parents_room)) up.ensures inv.known;
       targets =
-          wire_row (R a.before.before.before.before.before.before.before.before.before.before.before.before.before.before.before) ends head.loop-i.high head.loop-i.low i up.result kind.result c.past.result c.past-in-loop-i.result
+          wire_row (R (to_start (to_after_slice_known_1 (to_at_loop_i (to_after_kind_at_conjunction (to_after_slice_known_in_loop_i_1 a)))))) ends head.loop-i.high head.loop-i.low i up.result
+          kind.result c.past.result c.past-in-loop-i.result
           inv.started (omega (arith, inv.high_room)) (omega (arith, inv.low_room)) up.ensures
           (kind_row a.args.sheet.now a.requires.0.readable up.result (omega arith) kind.ensures)
           c.past.ensures c.past-in-loop-i.ensures inv.targets;
@@ -176,7 +193,7 @@ returns c =
     let a = c in
     let last = c.loop-i in
     let e : last.i ≡ a.args.s.nodes = omega arith in
-    subst (Targets (R a.before.before.before.before.before.before.before) a.args.ends.now last.high last.low) e last.invariant.targets
+    subst (Targets (R (to_start (to_after_slice_known_1 a.before))) a.args.ends.now last.high last.low) e last.invariant.targets
 
 pub wire_spec : {M : Type 1} → statement M
 wire_spec =

@@ -11,6 +11,16 @@ use Rattle.next_function.proofs.Choosing.{expand-named, expand-priced, few-copie
 use Rattle.next_function.proofs.expanded_function.Statement.{statement}
 use Rattle.next_function.proofs.expanded_function.Tie as tie
 
+-- places in the code, each from a later one
+abbrev to_after_choose_expand_c : tie.After-next-4-1 → tie.After-choose_expand-c
+to_after_choose_expand_c c = c.before.before.before
+
+abbrev to_after_function_into_arg_1 : tie.After-slice_known-2-1 → tie.After-function_into-arg-1
+to_after_function_into_arg_1 c = c.before.before.before
+
+abbrev to_after_survey_draft_w : tie.After-function_into-arg-1 → tie.After-survey_draft-w
+to_after_survey_draft_w c = c.before.before.before
+
 slice_bounds-fill_occurrences-end : tie.Need-slice_bounds-fill_occurrences-end
 slice_bounds-fill_occurrences-end c = search rules
 
@@ -81,7 +91,7 @@ surveyed c =
     let a = k.args in
     let r = k.choose_expand-c.result in
     let v = c.survey_draft-w.ensures _ (drafted d.before.before.before) in
-    prepared (priced k.before.before.before.before.before)
+    prepared (priced (to_after_choose_expand_c k.before.before))
     (subst (λ q. Surveyed (of r.variable) a.s a.b.now q c.survey_draft-w.new.cuts c.survey_draft-w.result) d.draft-d.ensures v)
 
 slice_bounds-function_into-end : tie.Need-slice_bounds-function_into-end
@@ -110,7 +120,7 @@ returns c =
       named = expand-named p.0 p.1 here;
       bytes_are = e.0;
       layout_is = e.1.0;
-      sizes = (e.1.1.0, le_trans e.1.1.1 (few-copied p.0 p.1 here (surveyed w.before.before.before.before.before.before)));
+      sizes = (e.1.1.0, le_trans e.1.1.1 (few-copied p.0 p.1 here (surveyed (to_after_survey_draft_w (to_after_function_into_arg_1 w)))));
     }
 
 pub expanded_function_spec : {M : Type 1} → statement M

@@ -10,6 +10,10 @@ use Rattle.next_function.proofs.Choosing.{settle-named, settle-constant, settle-
 use Rattle.next_function.proofs.next_function.Statement.{statement}
 use Rattle.next_function.proofs.next_function.Tie as tie
 
+-- places in the code, each from a later one
+abbrev to_in_Settle : tie.After-out-1 → tie.In-Settle
+to_in_Settle c = c.before.before.before
+
 most_variables-requires : tie.Need-most_variables-requires
 most_variables-requires c κs = search rules
 
@@ -63,8 +67,8 @@ returns-in-Settle c =
     let k = p.requires.0 in
     let e = wrote.constant_into-sheet.ensures in
     record {
-      variable_is = settle-move k (here p.before.before.before.before);
-      named = settle-named k (here p.before.before.before.before);
+      variable_is = settle-move k (here (to_in_Settle p.before));
+      named = settle-named k (here (to_in_Settle p.before));
       bytes_are = e.0;
       layout_is = e.1.0;
       sizes = (e.1.1.0, le_trans e.1.1.1 k.from.readable.some_nodes);

@@ -12,6 +12,13 @@ use Rattle.outer.proofs.Telling.{outer_told}
 use Rattle.outer.proofs.outer.Statement.{statement}
 use Rattle.outer.proofs.outer.Tie as tie
 
+-- places in the code, each from a later one
+abbrev to_after_outer_planned_arg_1 : tie.After-slice_known-in-Copies-1 → tie.After-outer_planned-arg-1
+to_after_outer_planned_arg_1 c = c.before.before.before
+
+abbrev to_in_Copies : tie.After-outer_planned-arg-1 → tie.In-Copies
+to_in_Copies c = c.before.before.before
+
 -- what is written is planned
 planned : (c : tie.In-Copies)
     → let k = c in
@@ -63,7 +70,7 @@ returns-in-Copies c =
     let carried = c in
     let told = carried in
     let a = told.args in
-    let is = planned told.before.before.before.before.before.before in
+    let is = planned (to_in_Copies (to_after_outer_planned_arg_1 told)) in
     outer_told a.f a.sheet.now a.x a.out.now
     (carried.outer_planned.ensures ∙ ap₂ (λ (g : Format) (y : ℕ). outer_written (format_of g) a.sheet.now y a.out.now) is.0 is.1)
 

@@ -17,6 +17,13 @@ use borrow.Author.Rules.{rules}
 use Rattle.pairs.proofs.write_if_left.Statement.{statement}
 use Rattle.pairs.proofs.write_if_left.Tie as tie
 
+-- places in the code, each from a later one
+abbrev to_after_bound_at : tie.After-out-1 → tie.After-bound_at
+to_after_bound_at c = c.before.before.before
+
+abbrev to_after_out_1 : tie.After-write_row → tie.After-out-1
+to_after_out_1 c = c.before.before.before
+
 -- the row is of the side
 own_row : (c : tie.After-bound_at)
     → let a = c.args in same_op (winner a.exists) (binding_in a.s a.b.now a.i).quantifier ≡ true
@@ -55,7 +62,7 @@ write_row-requires c κs =
     let bound = head in
     let a = bound in
     let x = bound.bound_at.ensures.0 in
-    let rows = (own_left (winner a.args.exists) (binding_in a.args.s a.args.b.now a.args.i) (own_row bound.before.before.before.before.before) x).0 in (
+    let rows = (own_left (winner a.args.exists) (binding_in a.args.s a.args.b.now a.args.i) (own_row (to_after_bound_at bound.before.before)) x).0 in (
       room_on a.requires.0.2 head.write_head-at.auto.out,
       omega (arith, a.requires.1, ap length rows, head.write_head-at.ensures.next_row),
       number_fits a.args.to.layout.format (omega arith),
@@ -72,7 +79,7 @@ returns c =
     let a = bound.args in
     let x = bound.bound_at.ensures.0 in
     subst (Laid a.to.layout a.out.now _ a.to.at _)
-    (own_left (winner a.exists) (binding_in a.s a.b.now a.i) (own_row bound.before.before.before.before.before.before.before.before) x).0
+    (own_left (winner a.exists) (binding_in a.s a.b.now a.i) (own_row (to_after_bound_at (to_after_out_1 bound.before.before))) x).0
     (laid_on head.write_head-at.ensures row.write_row.ensures)
 
 pub write_if_left_spec : {M : Type 1} → statement M

@@ -14,6 +14,13 @@ use Rattle.part.proofs.Subtree.{told as told_at, bad_sheet, bad_sheet-place, bad
 use Rattle.part.proofs.part.Statement.{statement}
 use Rattle.part.proofs.part.Tie as tie
 
+-- places in the code, each from a later one
+abbrev to_in_Accepted : tie.After-struct_known-2-1 → tie.In-Accepted
+to_in_Accepted c = c.before.before.before
+
+abbrev to_after_struct_known_2_1 : tie.After-kind_place-to → tie.After-struct_known-2-1
+to_after_struct_known_2_1 c = c.before.before.before
+
 check-c-requires : tie.Need-check-c-requires
 check-c-requires c κs = search rules
 
@@ -77,24 +84,24 @@ walk-end-requires c κs = (sheet_sized (checked c.before.before.before), omega a
 
 -- where the walk ends
 end : (c : tie.After-walk-end)
-    → let s = layout c.before.before.before.before in
+    → let s = layout (to_in_Accepted c.before) in
     (s.variables + c.args.node ≤ c.walk-end.result.row) × (c.walk-end.result.row ≤ total s)
 end c =
     let s = c in
-    let room = (readable s.before.before.before.before).room in
+    let room = (readable (to_in_Accepted s.before)).room in
     let some = c.if-s-node.false in (
-      ends-behind _ (checked s.before.before.before.before) room some c.walk-end.result c.walk-end.ensures,
-      ends-within _ (checked s.before.before.before.before) room some c.walk-end.result c.walk-end.ensures,
+      ends-behind _ (checked (to_in_Accepted s.before)) room some c.walk-end.result c.walk-end.ensures,
+      ends-within _ (checked (to_in_Accepted s.before)) room some c.walk-end.result c.walk-end.ensures,
     )
 
-few_bytes : (c : tie.After-walk-end) → width (layout c.before.before.before.before) ≤ 4
-few_bytes c = (limits (layout c.before.before.before.before).format).few_bytes
+few_bytes : (c : tie.After-walk-end) → width (layout (to_in_Accepted c.before)) ≤ 4
+few_bytes c = (limits (layout (to_in_Accepted c.before)).format).few_bytes
 
 kind_place-from-requires : tie.Need-kind_place-from-requires
-kind_place-from-requires c κs = omega (arith, readable c.before.before.before.before, few_bytes c)
+kind_place-from-requires c κs = omega (arith, readable (to_in_Accepted c.before), few_bytes c)
 
 kind_place-to-requires : tie.Need-kind_place-to-requires
-kind_place-to-requires c κs = omega (arith, readable c.before.before.before.before.before, few_bytes c.before, end c.before)
+kind_place-to-requires c κs = omega (arith, readable (to_in_Accepted c.before.before), few_bytes c.before, end c.before)
 
 slice_bounds-result-count-2 : tie.Need-slice_bounds-result-count-2
 slice_bounds-result-count-2 c = omega (arith, end c.before.before, c.kind_place-from.ensures, c.kind_place-to.ensures)
@@ -103,7 +110,7 @@ slice_bounds-result-start-2 : tie.Need-slice_bounds-result-start-2
 slice_bounds-result-start-2 c = omega (arith, end c.before.before, c.kind_place-from.ensures, c.kind_place-to.ensures)
 
 slice_bounds-result-end-2 : tie.Need-slice_bounds-result-end-2
-slice_bounds-result-end-2 c = omega (arith, readable c.before.before.before.before.before.before, end c.before.before, c.kind_place-to.ensures)
+slice_bounds-result-end-2 c = omega (arith, readable (to_in_Accepted (to_after_struct_known_2_1 c)), end c.before.before, c.kind_place-to.ensures)
 
 returns : tie.Need-returns
 returns c =
@@ -115,9 +122,10 @@ returns c =
     told_at (format_of a.f) a.sheet.now a.node a.sheet.ref_ptr places.kind_place-from.result (places.kind_place-to.result - places.kind_place-from.result)
     (record {
       contents =
-          part-here _ (checked s.before.before.before.before.before.before.before) (readable s.before.before.before.before.before.before.before).room some w.walk-end.result w.walk-end.ensures places.kind_place-from.ensures
+          part-here _ (checked (to_in_Accepted (to_after_struct_known_2_1 s.before))) (readable (to_in_Accepted (to_after_struct_known_2_1 s.before))).room some w.walk-end.result
+          w.walk-end.ensures places.kind_place-from.ensures
           places.kind_place-to.ensures;
-      place = places.kind_place-from.ensures ∙ place_here _ (checked s.before.before.before.before.before.before.before) some;
+      place = places.kind_place-from.ensures ∙ place_here _ (checked (to_in_Accepted (to_after_struct_known_2_1 s.before))) some;
     })
 
 pub part_spec : {M : Type 1} → statement M

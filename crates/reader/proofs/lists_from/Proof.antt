@@ -12,6 +12,16 @@ use Rattle.reader.proofs.Listing.{malformed, crowded, listed_from}
 use Rattle.reader.proofs.lists_from.Statement.{statement}
 use Rattle.reader.proofs.lists_from.Tie as tie
 
+-- places in the code, each from a later one
+abbrev to_after_read_body_arg_1 : tie.After-out-1 → tie.After-read_body-arg-1
+to_after_read_body_arg_1 c = c.before.before.before
+
+abbrev to_after_most_variables : tie.After-read_body-arg-1 → tie.After-most_variables
+to_after_most_variables c = c.before.before.before
+
+abbrev to_else_most_variables_h : tie.After-read_body → tie.Else-most_variables-h
+to_else_most_variables_h c = c.before.before.before
+
 returns-then-not-h : tie.Need-returns-then-not-h
 returns-then-not-h c =
     let a = c.args in
@@ -59,7 +69,7 @@ returns c =
     let e = read in
     let m = e in
     let a = m.args in
-    listed_from a.f a.h a.text.now a.at a.out.now (formed m.before.before.before.before.before.before.before) (few e.before.before.before.before.before) read.read_body.ensures
+    listed_from a.f a.h a.text.now a.at a.out.now (formed (to_after_most_variables (to_after_read_body_arg_1 m.before))) (few (to_else_most_variables_h e.before.before)) read.read_body.ensures
 
 pub lists_from_spec : {M : Type 1} → statement M
 lists_from_spec =

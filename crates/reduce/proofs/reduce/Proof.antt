@@ -12,6 +12,10 @@ use Rattle.reduce.proofs.Deciding.{refused_call, reduced_call}
 use Rattle.reduce.proofs.reduce.Statement.{statement}
 use Rattle.reduce.proofs.reduce.Tie as tie
 
+-- places in the code, each from a later one
+abbrev to_in_Reduces : tie.After-out-1 → tie.In-Reduces
+to_in_Reduces c = c.before.before.before
+
 plan_reduce-p-requires : tie.Need-plan_reduce-p-requires
 plan_reduce-p-requires c κs = search rules
 
@@ -59,8 +63,8 @@ returns-in-Reduces c =
     let reduced = c in
     let told = reduced in
     let a = told.args in
-    let e = reduced_call a.out.now (own told.before.before.before.before) reduced.reduce_into.ensures.1 reduced.reduce_into.ensures.0 ∙
-    ap (λ g. reduce_call (format_of g) a.sheet.now a.out.now) (same_format told.before.before.before.before) in
+    let e = reduced_call a.out.now (own (to_in_Reduces told.before)) reduced.reduce_into.ensures.1 reduced.reduce_into.ensures.0 ∙
+    ap (λ g. reduce_call (format_of g) a.sheet.now a.out.now) (same_format (to_in_Reduces told.before)) in
     (e, reduce_truthful (format_of a.f) (sound a.f) a.sheet.now a.out.now e)
 
 pub reduce_spec : {M : Type 1} → statement M

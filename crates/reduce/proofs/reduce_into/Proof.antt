@@ -6,6 +6,13 @@ use Rattle.reduce.proofs.Deciding.{sheet-numbered, sheet-clausal, copied, blanke
 use Rattle.reduce.proofs.reduce_into.Statement.{statement}
 use Rattle.reduce.proofs.reduce_into.Tie as tie
 
+-- places in the code, each from a later one
+abbrev to_after_tidy_in_place_arg_1 : tie.After-slice_known-4-1 → tie.After-tidy_in_place-arg-1
+to_after_tidy_in_place_arg_1 c = c.before.before.before
+
+abbrev to_after_blank_clauses : tie.After-tidy_in_place-arg-1 → tie.After-blank_clauses
+to_after_blank_clauses c = c.before.before.before
+
 slice_bounds-fill_places-end : tie.Need-slice_bounds-fill_places-end
 slice_bounds-fill_places-end c = search rules
 
@@ -46,8 +53,8 @@ returns c =
     let blank = tidy in
     let a = blank in
     let t = tidy.tidy_in_place-t.ensures in (
-      reduced-output a.args.out.now a.requires _ (same_room blank.before.before.before.before.before.before.before) blank.blank_clauses.ensures t.0,
-      c.sheet_length.ensures ∙ reduced-length a.args.out.now a.requires _ (same_room blank.before.before.before.before.before.before.before) blank.blank_clauses.ensures t.1.0,
+      reduced-output a.args.out.now a.requires _ (same_room (to_after_blank_clauses (to_after_tidy_in_place_arg_1 blank.before))) blank.blank_clauses.ensures t.0,
+      c.sheet_length.ensures ∙ reduced-length a.args.out.now a.requires _ (same_room (to_after_blank_clauses (to_after_tidy_in_place_arg_1 blank.before))) blank.blank_clauses.ensures t.1.0,
     )
 
 pub reduce_into_spec : {M : Type 1} → statement M

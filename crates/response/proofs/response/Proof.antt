@@ -15,6 +15,16 @@ use Rattle.response.proofs.Deciding.{refused_call, responded_call}
 use Rattle.response.proofs.response.Statement.{statement}
 use Rattle.response.proofs.response.Tie as tie
 
+-- places in the code, each from a later one
+abbrev to_in_Constant : tie.After-out-1 → tie.In-Constant
+to_in_Constant c = c.before.before.before
+
+abbrev to_in_Copy : tie.After-function_into-t → tie.In-Copy
+to_in_Copy c = c.before.before.before
+
+abbrev to_after_function_into_t : tie.After-sheet_length-in-Copy → tie.After-function_into-t
+to_after_function_into_t c = c.before.before.before
+
 slice_bounds-plan_response-end : tie.Need-slice_bounds-plan_response-end
 slice_bounds-plan_response-end c = search rules
 
@@ -58,7 +68,7 @@ constant_into-t-requires c κs = (by_constant c.before).3
 sheet_length-requires : tie.Need-sheet_length-requires
 sheet_length-requires c κs =
     let wrote = c in
-    let few = (by_constant wrote.before.before.before.before).3.from.readable in
+    let few = (by_constant (to_in_Constant wrote.before)).3.from.readable in
     let sizes = wrote.constant_into-t.ensures.1.1 in
     (omega (arith, sizes.0, few.few_variables), omega (arith, sizes.1))
 
@@ -68,7 +78,7 @@ function_into-t-requires c κs = (by_copy c.before.before).2
 sheet_length-requires-in-Copy : tie.Need-sheet_length-requires-in-Copy
 sheet_length-requires-in-Copy c κs =
     let wrote = c in
-    let k = (by_copy wrote.before.before.before.before.before).2 in
+    let k = (by_copy (to_in_Copy wrote.before.before)).2 in
     let sizes = wrote.function_into-t.ensures.1.1 in
     (omega (arith, sizes.0, k.from.readable.few_variables), omega (arith, sizes.1, copy_few k))
 
@@ -89,7 +99,7 @@ returns-in-Constant c =
     let wrote = c in
     let told = wrote in
     let a = told.args in
-    let is = by_constant told.before.before.before.before.before in
+    let is = by_constant (to_in_Constant told.before.before) in
     let done = wrote.constant_into-t.ensures in
     let t = wrote.constant_into-t.result in
     let passes = subst (λ y. Passes a.sheet.now y (length a.out.now) told.in-Constant.s) (sym is.1) is.2 in
@@ -106,7 +116,7 @@ returns-in-Copy c =
     let wrote = c in
     let told = wrote in
     let a = told.args in
-    let is = by_copy told.before.before.before.before.before.before in
+    let is = by_copy (to_in_Copy (to_after_function_into_t told)) in
     let done = wrote.function_into-t.ensures in
     let t = wrote.function_into-t.result in
     let long = c.sheet_length-in-Copy.ensures ∙ ap (λ f. sheet_length (format_of f) t.variables t.nodes) (sym is.0) in

@@ -7,6 +7,13 @@ use Rattle.resume.proofs.Answered.{resume_told, sheet_placed, resume-checked, re
 use Rattle.resume.proofs.resume.Statement.{statement}
 use Rattle.resume.proofs.resume.Tie as tie
 
+-- places in the code, each from a later one
+abbrev to_after_resume_checked : tie.After-second-1 → tie.After-resume_checked
+to_after_resume_checked c = c.before.before.before
+
+abbrev to_in_Accepted : tie.After-resume_checked → tie.In-Accepted
+to_in_Accepted c = c.before.before.before
+
 check-checked-requires : tie.Need-check-checked-requires
 check-checked-requires c κs = search rules
 
@@ -49,7 +56,7 @@ returns-in-Accepted c =
     let told = went in
     let a = told.args in
     resume_told a.c a.sheet.now a.f a.first.now a.second.now
-    (resume-checked _ a.c a.sheet.now a.first.now a.second.now (accepted told.before.before.before.before.before.before.before) went.resume_checked.ensures)
+    (resume-checked _ a.c a.sheet.now a.first.now a.second.now (accepted (to_in_Accepted (to_after_resume_checked told.before))) went.resume_checked.ensures)
 
 pub resume_spec : {M : Type 1} → statement M
 resume_spec =

@@ -13,6 +13,16 @@ use Rattle.resume.proofs.Answered.{uncounted, short, ran}
 use Rattle.resume.proofs.resume_checked.Statement.{statement}
 use Rattle.resume.proofs.resume_checked.Tie as tie
 
+-- places in the code, each from a later one
+abbrev to_after_run_wide_answer : tie.After-second-1 → tie.After-run_wide-answer
+to_after_run_wide_answer c = c.before.before.before
+
+abbrev to_else_shorter_length : tie.After-run_wide-answer → tie.Else-shorter-length
+to_else_shorter_length c = c.before.before.before
+
+abbrev to_else_not_adds_up : tie.Else-shorter-length → tie.Else-not-adds_up
+to_else_not_adds_up c = c.before.before.before
+
 adds_up-requires : tie.Need-adds_up-requires
 adds_up-requires c κs = search rules
 
@@ -63,7 +73,7 @@ add_counts-requires c κs =
     let a = right in
     addable a.args.first.now a.args.second.now a.requires went.run_wide-answer.result
     a.args.c.started a.args.c.settled a.args.c.expanded
-    went.run_wide-answer.ensures (eqb-true _ _ (counted right.before.before.before.before.before.before.before.before.before.before)) (omega (arith, a.well_formed))
+    went.run_wide-answer.ensures (eqb-true _ _ (counted (to_else_not_adds_up (to_else_shorter_length (to_after_run_wide_answer right.before))))) (omega (arith, a.well_formed))
 
 shape_of-first : tie.Need-shape_of-first
 shape_of-first c = search rules
@@ -77,7 +87,8 @@ returns c =
     let going = went in
     let right = going in
     let a = right.args in
-    ran a.s a.c a.sheet.now a.first.now a.second.now (counted right.before.before.before.before.before.before.before.before.before.before.before) _ _ (enough going.before.before.before.before.before.before.before.before) went.run_wide-answer.ensures
+    ran a.s a.c a.sheet.now a.first.now a.second.now (counted (to_else_not_adds_up (to_else_shorter_length (to_after_run_wide_answer right.before.before)))) _ _
+    (enough (to_else_shorter_length (to_after_run_wide_answer going.before.before))) went.run_wide-answer.ensures
     c.add_counts.ensures
 
 pub resume_checked_spec : {M : Type 1} → statement M

@@ -14,6 +14,10 @@ use Rattle.settle.proofs.Deciding.{refused_call, settled_call}
 use Rattle.settle.proofs.settle.Statement.{statement}
 use Rattle.settle.proofs.settle.Tie as tie
 
+-- places in the code, each from a later one
+abbrev to_in_Settles : tie.After-out-1 → tie.In-Settles
+to_in_Settles c = c.before.before.before
+
 plan_settle-p-requires : tie.Need-plan_settle-p-requires
 plan_settle-p-requires c κs = search rules
 
@@ -37,7 +41,7 @@ settle_into-t-requires c κs = (planned c.before).1.puts
 sheet_length-requires : tie.Need-sheet_length-requires
 sheet_length-requires c κs =
     let wrote = c in
-    let few = (planned wrote.before.before.before.before).1.puts.from.readable in
+    let few = (planned (to_in_Settles wrote.before)).1.puts.from.readable in
     let sizes = wrote.settle_into-t.ensures.1.1 in
     (omega (arith, sizes.0, few.few_variables), omega (arith, sizes.1, few.few_nodes))
 
@@ -57,7 +61,7 @@ returns-in-Settles : tie.Need-returns-in-Settles
 returns-in-Settles c =
     let wrote = c in
     let a = wrote.args in
-    let is = planned wrote.before.before.before.before.before in
+    let is = planned (to_in_Settles wrote.before.before) in
     let written = wrote.settle_into-t.ensures in
     let t = wrote.settle_into-t.result in
     let long = c.sheet_length.ensures ∙ ap (λ f. sheet_length (format_of f) t.variables t.nodes) (sym is.0) in

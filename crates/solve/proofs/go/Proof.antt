@@ -16,6 +16,19 @@ invariant-loop-verdict first₀ second₀ room s₀ ends₀ first second s ends 
 abbrev decreases-loop-verdict : tie.decreases-loop-verdict
 decreases-loop-verdict first₀ second₀ room s₀ ends₀ first second s ends = s.sheet.variables
 
+-- places in the code, each from a later one
+abbrev to_after_second_1 : tie.In-Ended invariant-loop-verdict decreases-loop-verdict → tie.After-second-1 invariant-loop-verdict decreases-loop-verdict
+to_after_second_1 c = c.before.before.before
+
+abbrev to_after_take_step_t : tie.After-second-1 invariant-loop-verdict decreases-loop-verdict → tie.After-take_step-t invariant-loop-verdict decreases-loop-verdict
+to_after_take_step_t c = c.before.before.before
+
+abbrev to_after_second_1_from_in_Stopped : tie.In-Stopped invariant-loop-verdict decreases-loop-verdict → tie.After-second-1 invariant-loop-verdict decreases-loop-verdict
+to_after_second_1_from_in_Stopped c = c.before.before.before
+
+abbrev to_after_second_1_from_in_Next : tie.In-Next invariant-loop-verdict decreases-loop-verdict → tie.After-second-1 invariant-loop-verdict decreases-loop-verdict
+to_after_second_1_from_in_Next c = c.before.before.before
+
 -- the step, once it is known
 stepped : (c : tie.After-take_step-t invariant-loop-verdict decreases-loop-verdict) (r : Step) → c.take_step-t.result ≡ r →
     let a = c.args in
@@ -62,7 +75,7 @@ shape_of-second-in-Ended c =
 returns-in-Ended : tie.Need-returns-in-Ended invariant-loop-verdict decreases-loop-verdict
 returns-in-Ended c =
     let t = c in
-    turn_ended t.loop-verdict.invariant.0 c.in-Ended.verdict (stepped t.before.before.before.before.before.before _ c.in-Ended.is)
+    turn_ended t.loop-verdict.invariant.0 c.in-Ended.verdict (stepped (to_after_take_step_t (to_after_second_1 t)) _ c.in-Ended.is)
 
 enum_known-t-in-Stopped-1 : tie.Need-enum_known-t-in-Stopped-1 invariant-loop-verdict decreases-loop-verdict
 enum_known-t-in-Stopped-1 c = search rules
@@ -80,7 +93,7 @@ shape_of-second-in-Stopped c =
 returns-in-Stopped : tie.Need-returns-in-Stopped invariant-loop-verdict decreases-loop-verdict
 returns-in-Stopped c =
     let t = c in
-    turn_stopped t.loop-verdict.invariant.0 c.in-Stopped.x (stepped t.before.before.before.before.before.before _ c.in-Stopped.is)
+    turn_stopped t.loop-verdict.invariant.0 c.in-Stopped.x (stepped (to_after_take_step_t (to_after_second_1_from_in_Stopped t)) _ c.in-Stopped.is)
 
 enum_known-t-in-Next-1 : tie.Need-enum_known-t-in-Next-1 invariant-loop-verdict decreases-loop-verdict
 enum_known-t-in-Next-1 c = search rules
@@ -88,13 +101,16 @@ enum_known-t-in-Next-1 c = search rules
 loop-verdict-smaller : tie.Need-loop-verdict-smaller invariant-loop-verdict decreases-loop-verdict
 loop-verdict-smaller c =
     let t = c in
-    omega (arith, (stepped t.before.before.before.before.before.before _ c.in-Next.is).2)
+    omega (arith, (stepped (to_after_take_step_t (to_after_second_1_from_in_Next t)) _ c.in-Next.is).2)
 
 loop-verdict-preserved : tie.Need-loop-verdict-preserved invariant-loop-verdict decreases-loop-verdict
 loop-verdict-preserved c =
     let t = c in
-    let u = t.loop-verdict.invariant in
-    (turn-next u.0 t.loop-verdict.second (stepped t.before.before.before.before.before.before _ c.in-Next.is) t.take_step-t.auto.first, t.take_step-t.auto.second ∙ u.1, t.take_step-t.auto.ends ∙ u.2)
+    let u = t.loop-verdict.invariant in (
+      turn-next u.0 t.loop-verdict.second (stepped (to_after_take_step_t (to_after_second_1_from_in_Next t)) _ c.in-Next.is) t.take_step-t.auto.first,
+      t.take_step-t.auto.second ∙ u.1,
+      t.take_step-t.auto.ends ∙ u.2,
+    )
 
 pub go_spec : {M : Type 1} → statement M
 go_spec =

@@ -11,6 +11,13 @@ use Rattle.solve.proofs.Answering.{unchecked_call}
 use Rattle.solve.proofs.solve.Statement.{statement}
 use Rattle.solve.proofs.solve.Tie as tie
 
+-- places in the code, each from a later one
+abbrev to_after_solve_checked : tie.After-second-1 → tie.After-solve_checked
+to_after_solve_checked c = c.before.before.before
+
+abbrev to_in_Accepted : tie.After-solve_checked → tie.In-Accepted
+to_in_Accepted c = c.before.before.before
+
 check-c-requires : tie.Need-check-c-requires
 check-c-requires c κs = search rules
 
@@ -47,7 +54,7 @@ returns-in-Accepted c =
     let told = solved in
     let a = told.args in
     let e = solved.solve_checked.ensures ∙
-    ap (λ f. solve_call (format_of f) a.sheet.now a.first.now a.second.now) (sheet_format (checked told.before.before.before.before.before.before.before)) in
+    ap (λ f. solve_call (format_of f) a.sheet.now a.first.now a.second.now) (sheet_format (checked (to_in_Accepted (to_after_solve_checked told.before)))) in
     (e, solve_truthful (format_of a.f) (sound a.f) a.sheet.now a.first.now a.second.now e)
 
 pub solve_spec : {M : Type 1} → statement M

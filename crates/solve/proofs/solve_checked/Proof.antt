@@ -9,6 +9,16 @@ use Rattle.solve.proofs.Answering.{short_call, raw-ready, solved-call}
 use Rattle.solve.proofs.solve_checked.Statement.{statement}
 use Rattle.solve.proofs.solve_checked.Tie as tie
 
+-- places in the code, each from a later one
+abbrev to_after_copy_front : tie.After-run_raw-arg-1 → tie.After-copy_front
+to_after_copy_front c = c.before.before.before
+
+abbrev to_after_first_2_1 : tie.After-slice_known-5-1 → tie.After-first-2-1
+to_after_first_2_1 c = c.before.before.before
+
+abbrev to_after_run_raw_arg_1 : tie.After-first-2-1 → tie.After-run_raw-arg-1
+to_after_run_raw_arg_1 c = c.before.before.before
+
 shorter-requires : tie.Need-shorter-requires
 shorter-requires c κs = search rules
 
@@ -28,7 +38,7 @@ run_raw-requires : tie.Need-run_raw-requires
 run_raw-requires c κs =
     let copied = c in
     let a = copied in
-    raw-ready a.requires a.args.first.now a.args.second.now (has_room copied.before.before.before.before) copied.copy_front.ensures
+    raw-ready a.requires a.args.first.now a.args.second.now (has_room (to_after_copy_front copied.before)) copied.copy_front.ensures
 
 shape_of-first : tie.Need-shape_of-first
 shape_of-first c = search rules
@@ -41,7 +51,7 @@ returns c =
     let ran = c in
     let copied = ran in
     let a = copied in
-    ran.run_raw.ensures ∙ solved-call a.requires a.args.first.now a.args.second.now (has_room copied.before.before.before.before.before.before.before.before.before) copied.copy_front.ensures
+    ran.run_raw.ensures ∙ solved-call a.requires a.args.first.now a.args.second.now (has_room (to_after_copy_front (to_after_run_raw_arg_1 (to_after_first_2_1 copied)))) copied.copy_front.ensures
 
 pub solve_checked_spec : {M : Type 1} → statement M
 solve_checked_spec =

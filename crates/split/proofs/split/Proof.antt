@@ -11,6 +11,10 @@ use Rattle.split.proofs.Splitting.{unchecked_call}
 use Rattle.split.proofs.split.Statement.{statement}
 use Rattle.split.proofs.split.Tie as tie
 
+-- places in the code, each from a later one
+abbrev to_in_Accepted : tie.After-out-1 → tie.In-Accepted
+to_in_Accepted c = c.before.before.before
+
 accepted : (c : tie.In-Accepted) → let a = c.args in Sheet a.f a.sheet.now c.in-Accepted.s
 accepted c = sheet_checked c.in-Accepted.is c.check-c.ensures
 
@@ -44,7 +48,7 @@ returns-in-Accepted c =
     let told = call in
     let a = told.args in
     let e = call.split_checked.ensures ∙
-    ap (λ g. split_call (format_of g) a.sheet.now a.values.now a.out.now) (sheet_format (accepted told.before.before.before.before)) in
+    ap (λ g. split_call (format_of g) a.sheet.now a.values.now a.out.now) (sheet_format (accepted (to_in_Accepted told.before))) in
     (e, split_truthful (format_of a.f) (sound a.f) a.sheet.now a.values.now a.out.now e)
 
 pub split_spec : {M : Type 1} → statement M

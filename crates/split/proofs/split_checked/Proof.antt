@@ -11,6 +11,13 @@ use Rattle.split.proofs.Splitting.{bad_call, many_call, short_call, splittable, 
 use Rattle.split.proofs.split_checked.Statement.{statement}
 use Rattle.split.proofs.split_checked.Tie as tie
 
+-- places in the code, each from a later one
+abbrev to_else_out_sheet_length : tie.After-out-1 → tie.Else-out-sheet_length
+to_else_out_sheet_length c = c.before.before.before
+
+abbrev to_else_s_values : tie.Else-out-sheet_length → tie.Else-s-values
+to_else_s_values c = c.before.before.before
+
 -- what the tests that passed tell
 fewer : (c : tie.Else-s-values) → let a = c.args in length a.values.now ≤ a.s.variables
 fewer c = omega (arith, c.if-s-values.false)
@@ -66,7 +73,7 @@ returns c =
     let passed = wrote in
     let k = passed in
     let a = k in
-    split-accepted a.requires a.args.values.now a.args.out.now k.are_values.ensures (ap not k.if-not-are_values.false) (fewer k.before.before.before.before.before.before.before)
+    split-accepted a.requires a.args.values.now a.args.out.now k.are_values.ensures (ap not k.if-not-are_values.false) (fewer (to_else_s_values (to_else_out_sheet_length k.before)))
     passed.sheet_length.ensures (omega (arith, passed.if-out-sheet_length.false)) wrote.split_into.ensures.0 wrote.split_into.ensures.1
 
 pub split_checked_spec : {M : Type 1} → statement M

@@ -14,6 +14,13 @@ use borrow.Author.Rules.{rules}
 use Rattle.step_list.proofs.begin.Statement.{statement}
 use Rattle.step_list.proofs.begin.Tie as tie
 
+-- places in the code, each from a later one
+abbrev to_after_copy_front_arg_1 : tie.After-slice_known-in-Accepted-1 → tie.After-copy_front-arg-1
+to_after_copy_front_arg_1 c = c.before.before.before
+
+abbrev to_in_Accepted : tie.After-copy_front-arg-1 → tie.In-Accepted
+to_in_Accepted c = c.before.before.before
+
 -- the sheet is accepted
 accepted_at : (c : tie.In-Accepted)
     → let a = c.args in
@@ -73,7 +80,7 @@ returns-else-shorter-length c =
     let a = told.args in
     let b = a.sheet.now in
     let fits : length b ≤ room a.first.now a.second.now = omega (arith, test.shorter.ensures, test.if-shorter-length.false) in (
-      has_room (format_of a.f) b a.first.now a.second.now (accepted_at told.before.before.before.before.before.before) fits,
+      has_room (format_of a.f) b a.first.now a.second.now (accepted_at (to_in_Accepted (to_after_copy_front_arg_1 told))) fits,
       refl,
       fits,
       ap (take (length b)) copied.copy_front.ensures ∙ take-append_seam b (drop (length b) a.first.now),

@@ -10,6 +10,19 @@ use borrow.Author.Rules.{rules}
 use Rattle.step_list.proofs.call.Statement.{statement}
 use Rattle.step_list.proofs.call.Tie as tie
 
+-- places in the code, each from a later one
+abbrev to_in_Settle : tie.After-out-1 → tie.In-Settle
+to_in_Settle c = c.before.before.before
+
+abbrev to_start : tie.In-Settle → tie.Start
+to_start c = c.before.before.before
+
+abbrev to_in_Expand : tie.After-out-in-Expand-1 → tie.In-Expand
+to_in_Expand c = c.before.before.before
+
+abbrev to_start_from_in_Expand : tie.In-Expand → tie.Start
+to_start_from_in_Expand c = c.before.before.before
+
 -- the call of an operation
 abbrev does : tie.Start → Operation → Written
 does c o = perform (format_of c.args.f) (single (operation_of o) c.args.x c.args.out.now) c.args.sheet.now
@@ -34,7 +47,7 @@ unfolding perform
 returns-in-Settle c =
     let call = c in
     let told = call in
-    call.settle.ensures.0 ∙ ap (does told.before.before.before.before.before.before.before) (sym told.in-Settle.is)
+    call.settle.ensures.0 ∙ ap (does (to_start (to_in_Settle told.before))) (sym told.in-Settle.is)
 
 shape_of-out-in-Expand : tie.Need-shape_of-out-in-Expand
 shape_of-out-in-Expand c = search rules
@@ -44,7 +57,7 @@ unfolding perform
 returns-in-Expand c =
     let call = c in
     let told = call in
-    call.expand.ensures.0 ∙ ap (does told.before.before.before.before.before.before.before) (sym told.in-Expand.is)
+    call.expand.ensures.0 ∙ ap (does (to_start_from_in_Expand (to_in_Expand told.before))) (sym told.in-Expand.is)
 
 pub call_spec : {M : Type 1} → statement M
 call_spec =

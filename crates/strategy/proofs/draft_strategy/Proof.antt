@@ -21,6 +21,43 @@ use Rattle.strategy.proofs.Ending.{few_variables, start-held, start-few, start-f
 use Rattle.strategy.proofs.draft_strategy.Statement.{statement}
 use Rattle.strategy.proofs.draft_strategy.Tie as tie
 
+-- places in the code, each from a later one
+abbrev to_after_draft_front_behind : tie.After-tidy_into-arg-1 → tie.After-draft_front-behind
+to_after_draft_front_behind c = c.before.before.before
+
+abbrev to_after_nodes_that_fit : tie.After-draft_front-behind → tie.After-nodes_that_fit
+to_after_nodes_that_fit c = c.before.before.before
+
+abbrev to_after_tidy_into_tidied : tie.After-walk-arg-1 → tie.After-tidy_into-tidied
+to_after_tidy_into_tidied c = c.before.before.before
+
+abbrev to_after_slice_known_5_1 : tie.After-walk-arg-3-1 → tie.After-slice_known-5-1
+to_after_slice_known_5_1 c = c.before.before.before
+
+abbrev to_after_tidy_into_arg_1 : tie.After-slice_known-5-1 → tie.After-tidy_into-arg-1
+to_after_tidy_into_arg_1 c = c.before.before.before
+
+abbrev to_after_slice_known_8_1 : tie.After-second-2-1 → tie.After-slice_known-8-1
+to_after_slice_known_8_1 c = c.before.before.before
+
+abbrev to_after_second_1 : tie.After-slice_known-8-1 → tie.After-second-1
+to_after_second_1 c = c.before.before.before
+
+abbrev to_after_walk_end : tie.After-second-1 → tie.After-walk-end
+to_after_walk_end c = c.before.before.before
+
+abbrev to_after_walk_arg_1 : tie.After-walk-end → tie.After-walk-arg-1
+to_after_walk_arg_1 c = c.before.before.before
+
+abbrev to_after_out_2_1 : tie.After-clear → tie.After-out-2-1
+to_after_out_2_1 c = c.before.before.before
+
+abbrev to_after_slice_known_6_1 : tie.After-out-2-1 → tie.After-slice_known-6-1
+to_after_slice_known_6_1 c = c.before.before.before
+
+abbrev to_after_walk_arg_3_1 : tie.After-slice_known-6-1 → tie.After-walk-arg-3-1
+to_after_walk_arg_3_1 c = c.before.before.before
+
 nodes_that_fit-requires : tie.Need-nodes_that_fit-requires
 nodes_that_fit-requires c κs = search rules
 
@@ -72,7 +109,7 @@ abbrev draft : tie.After-tidy_into-tidied → Draft
 draft c =
     record {
       exists = c.args.exists;
-      to = record { layout = layout c.before.before.before.before.before.before.before; at = c.draft_front-behind.result };
+      to = record { layout = layout (to_after_nodes_that_fit (to_after_draft_front_behind c.before)); at = c.draft_front-behind.result };
     }
 
 enough : (c : tie.After-tidy_into-tidied) → let a = c.args in room a.first.now a.second.now ≤ length a.first.now
@@ -103,25 +140,27 @@ walk-end-requires c κs =
     let a = t in
     let e = t.tidy_into-tidied.ensures in
     let first = a.args.first.now in
-    subst (λ m. WalkReady m (from t.before.before.before.before.before) (draft t.before.before.before.before.before) t.tidy_into-tidied.new.out a.args.second.now f.draft_front-behind.new.out) (same_room t.before.before.before.before.before)
+    subst (λ m. WalkReady m (from (to_after_tidy_into_tidied t.before.before)) (draft (to_after_tidy_into_tidied t.before.before)) t.tidy_into-tidied.new.out a.args.second.now
+    f.draft_front-behind.new.out) (same_room (to_after_tidy_into_tidied t.before.before))
     (record {
       run =
           record {
-            held = start-held a.requires first (enough t.before.before.before.before.before) e.0 e.1.0;
+            held = start-held a.requires first (enough (to_after_tidy_into_tidied t.before.before)) e.0 e.1.0;
             first_room = omega (arith, t.tidy_into-tidied.auto.out);
             second_room = omega arith;
-            few = omega (arith, start-few a.requires first (enough t.before.before.before.before.before) e.0 e.1.0);
+            few = omega (arith, start-few a.requires first (enough (to_after_tidy_into_tidied t.before.before)) e.0 e.1.0);
           };
       says = a.args.exists;
-      ends = start-ends a.requires first (enough t.before.before.before.before.before) e.0 e.1.0;
+      ends = start-ends a.requires first (enough (to_after_tidy_into_tidied t.before.before)) e.0 e.1.0;
       draft =
           record {
-            same_format = sym (start-format a.requires first (enough t.before.before.before.before.before) e.0 e.1.0);
-            draftable = subst (Draftable (layout t.before.before.before.before.before.before.before.before.before.before.before.before)) (sym f.draft_front-behind.auto.out) (draftable t.before.before.before.before.before.before.before.before.before.before.before.before);
-            behind = omega (arith, at_pairs t.before.before.before.before.before);
-            few = omega (arith, at_pairs t.before.before.before.before.before, few_variables a.requires);
+            same_format = sym (start-format a.requires first (enough (to_after_tidy_into_tidied t.before.before)) e.0 e.1.0);
+            draftable = subst (Draftable (layout (to_after_nodes_that_fit (to_after_draft_front_behind (to_after_tidy_into_arg_1 (to_after_slice_known_5_1 t))))))
+                (sym f.draft_front-behind.auto.out) (draftable (to_after_nodes_that_fit (to_after_draft_front_behind (to_after_tidy_into_arg_1 (to_after_slice_known_5_1 t)))));
+            behind = omega (arith, at_pairs (to_after_tidy_into_tidied t.before.before));
+            few = omega (arith, at_pairs (to_after_tidy_into_tidied t.before.before), few_variables a.requires);
           };
-      few = omega (arith, at_pairs t.before.before.before.before.before, few_variables a.requires, start-few a.requires first (enough t.before.before.before.before.before) e.0 e.1.0);
+      few = omega (arith, at_pairs (to_after_tidy_into_tidied t.before.before), few_variables a.requires, start-few a.requires first (enough (to_after_tidy_into_tidied t.before.before)) e.0 e.1.0);
     })
 
 clear-requires : tie.Need-clear-requires
@@ -147,20 +186,29 @@ returns c =
     let e = t.tidy_into-tidied.ensures in
     let first = a.args.first.now in
     let went = subst
-    (λ m. Walked m (from t.before.before.before.before.before.before.before.before.before.before.before.before.before.before.before.before) (draft t.before.before.before.before.before.before.before.before.before.before.before.before.before.before.before.before) t.tidy_into-tidied.new.out w.walk-end.new.first f.draft_front-behind.new.out w.walk-end.new.out w.walk-end.result)
-    (sym (same_room t.before.before.before.before.before.before.before.before.before.before.before.before.before.before.before.before)) w.walk-end.ensures in (
+    (λ m. Walked m (from (to_after_tidy_into_tidied (to_after_walk_arg_1 (to_after_walk_end (to_after_second_1 (to_after_slice_known_8_1 t.before))))))
+    (draft (to_after_tidy_into_tidied (to_after_walk_arg_1 (to_after_walk_end (to_after_second_1 (to_after_slice_known_8_1 t.before)))))) t.tidy_into-tidied.new.out w.walk-end.new.first
+    f.draft_front-behind.new.out w.walk-end.new.out w.walk-end.result)
+    (sym (same_room (to_after_tidy_into_tidied (to_after_walk_arg_1 (to_after_walk_end (to_after_second_1 (to_after_slice_known_8_1 t.before))))))) w.walk-end.ensures in (
       record {
         same_format = refl;
         same_variables = refl;
-        draftable = draftable n.before.before.before.before.before.before.before.before.before.before.before.before.before.before.before.before.before.before.before.before.before.before.before;
+        draftable = draftable
+            (to_after_nodes_that_fit
+            (to_after_draft_front_behind (to_after_tidy_into_arg_1 (to_after_slice_known_5_1 (to_after_walk_arg_3_1 (to_after_slice_known_6_1 (to_after_out_2_1 n.before.before)))))));
         most_nodes = n.nodes_that_fit.ensures.0;
         drafted =
-            subst (Drafted (layout n.before.before.before.before.before.before.before.before.before.before.before.before.before.before.before.before.before.before.before.before.before.before.before) a.args.out.now w.walk-end.new.out 0 w.walk-end.result)
-            (start-rows a.requires first (enough t.before.before.before.before.before.before.before.before.before.before.before.before.before.before.before.before) e.0 e.1.0 f.count_left.ensures)
+            subst (Drafted (layout
+            (to_after_nodes_that_fit
+            (to_after_draft_front_behind (to_after_tidy_into_arg_1 (to_after_slice_known_5_1 (to_after_walk_arg_3_1 (to_after_slice_known_6_1 (to_after_out_2_1 n.before.before))))))))
+            a.args.out.now w.walk-end.new.out 0 w.walk-end.result)
+            (start-rows a.requires first (enough (to_after_tidy_into_tidied (to_after_walk_arg_1 (to_after_walk_end (to_after_second_1 (to_after_slice_known_8_1 t.before)))))) e.0 e.1.0
+            f.count_left.ensures)
             (drafted_on f.draft_front-behind.ensures went.drafted);
       },
       (
-        start_left a.requires first (enough t.before.before.before.before.before.before.before.before.before.before.before.before.before.before.before.before) e.0 e.1.0 _ went.shows t.tidy_into-tidied.auto.out,
+        start_left a.requires first (enough (to_after_tidy_into_tidied (to_after_walk_arg_1 (to_after_walk_end (to_after_second_1 (to_after_slice_known_8_1 t.before)))))) e.0 e.1.0 _ went.shows
+            t.tidy_into-tidied.auto.out,
         z.clear.ensures ∙ all_zeros w.walk-end.new.second w.walk-end.auto.second,
       ),
     )

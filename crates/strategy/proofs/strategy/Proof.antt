@@ -12,6 +12,16 @@ use Rattle.strategy.proofs.Ending.{refused_strategy}
 use Rattle.strategy.proofs.strategy.Statement.{statement}
 use Rattle.strategy.proofs.strategy.Tie as tie
 
+-- places in the code, each from a later one
+abbrev to_after_slice_known_in_Accepted_1 : tie.After-out-1 → tie.After-slice_known-in-Accepted-1
+to_after_slice_known_in_Accepted_1 c = c.before.before.before
+
+abbrev to_after_strategy_checked_arg_in_Accepted_2_1 : tie.After-slice_known-in-Accepted-1 → tie.After-strategy_checked-arg-in-Accepted-2-1
+to_after_strategy_checked_arg_in_Accepted_2_1 c = c.before.before.before
+
+abbrev to_in_Accepted : tie.After-strategy_checked-arg-in-Accepted-2-1 → tie.In-Accepted
+to_in_Accepted c = c.before.before.before
+
 check-c-requires : tie.Need-check-c-requires
 check-c-requires c κs = search rules
 
@@ -53,7 +63,8 @@ returns-in-Accepted c =
     let told = r in
     let a = told.args in
     let e = r.strategy_checked.ensures ∙
-    ap (λ f. strategy_call (format_of f) a.sheet.now a.first.now a.second.now a.out.now) (sheet_format (checked told.before.before.before.before.before.before.before.before.before.before)) in
+    ap (λ f. strategy_call (format_of f) a.sheet.now a.first.now a.second.now a.out.now)
+    (sheet_format (checked (to_in_Accepted (to_after_strategy_checked_arg_in_Accepted_2_1 (to_after_slice_known_in_Accepted_1 told.before))))) in
     (e, strategy_truthful (format_of a.f) (sound a.f) a.sheet.now a.first.now a.second.now a.out.now e)
 
 pub strategy_spec : {M : Type 1} → statement M

@@ -13,6 +13,34 @@ use Rattle.strategy.proofs.Ending.{refused_strategy, stopped_strategy, ended_rea
 use Rattle.strategy.proofs.strategy_checked.Statement.{statement}
 use Rattle.strategy.proofs.strategy_checked.Tie as tie
 
+-- places in the code, each from a later one
+abbrev to_after_exists_wins : tie.After-write_strategy-arg-in-Ended-2-1 → tie.After-exists_wins
+to_after_exists_wins c = c.before.before.before
+
+abbrev to_after_second_1 : tie.After-exists_wins → tie.After-second-1
+to_after_second_1 c = c.before.before.before
+
+abbrev to_after_solve_checked_r : tie.After-second-1 → tie.After-solve_checked-r
+to_after_solve_checked_r c = c.before.before.before
+
+abbrev to_after_clear_arg_1 : tie.After-slice_known-in-Stopped-1 → tie.After-clear-arg-1
+to_after_clear_arg_1 c = c.before.before.before
+
+abbrev to_after_second_1_from_after_clear_arg_1 : tie.After-clear-arg-1 → tie.After-second-1
+to_after_second_1_from_after_clear_arg_1 c = c.before.before.before
+
+abbrev to_after_slice_known_in_Ended_1 : tie.After-out-in-Ended-1 → tie.After-slice_known-in-Ended-1
+to_after_slice_known_in_Ended_1 c = c.before.before.before
+
+abbrev to_after_write_strategy_arg_in_Ended_2_1 : tie.After-slice_known-in-Ended-1 → tie.After-write_strategy-arg-in-Ended-2-1
+to_after_write_strategy_arg_in_Ended_2_1 c = c.before.before.before
+
+abbrev to_after_second_in_Ended_1 : tie.After-slice_known-in-Ended-3-1 → tie.After-second-in-Ended-1
+to_after_second_in_Ended_1 c = c.before.before.before
+
+abbrev to_after_write_strategy_o : tie.After-second-in-Ended-1 → tie.After-write_strategy-o
+to_after_write_strategy_o c = c.before.before.before
+
 solve_checked-r-requires : tie.Need-solve_checked-r-requires
 solve_checked-r-requires c κs = search rules
 
@@ -43,7 +71,7 @@ write_strategy-o-requires : tie.Need-write_strategy-o-requires
 write_strategy-o-requires c κs =
     let w = c in
     let r = w in
-    let e = told r.before.before.before.before.before.before.before.before.before _ w.in-Ended.is in
+    let e = told (to_after_solve_checked_r (to_after_second_1 (to_after_exists_wins r))) _ w.in-Ended.is in
     let a = r.args in
     ended_ready a.s a.sheet.now a.first.now a.second.now e r.solve_checked-r.auto.first r.solve_checked-r.auto.second r.requires w.exists_wins.ensures
 
@@ -64,7 +92,7 @@ returns-in-Refused c =
     let said = c in
     let r = said in
     let a = r.args in
-    refused_strategy (format_in a.s) a.sheet.now a.first.now a.second.now a.out.now (told r.before.before.before.before.before _ said.in-Refused.is)
+    refused_strategy (format_in a.s) a.sheet.now a.first.now a.second.now a.out.now (told (to_after_solve_checked_r r.before.before) _ said.in-Refused.is)
 
 shape_of-first-in-Stopped : tie.Need-shape_of-first-in-Stopped
 shape_of-first-in-Stopped c = search rules
@@ -81,7 +109,8 @@ returns-in-Stopped c =
     let said = z in
     let r = said in
     let a = r.args in
-    stopped_strategy (format_in a.s) a.sheet.now a.first.now a.second.now a.out.now (told r.before.before.before.before.before.before.before.before.before _ said.in-Stopped.is)
+    stopped_strategy (format_in a.s) a.sheet.now a.first.now a.second.now a.out.now
+    (told (to_after_solve_checked_r (to_after_second_1_from_after_clear_arg_1 (to_after_clear_arg_1 r))) _ said.in-Stopped.is)
     (z.clear.ensures ∙ all_zeros a.out.now refl)
 
 shape_of-first-in-Written : tie.Need-shape_of-first-in-Written
@@ -117,9 +146,11 @@ returns-in-Written c =
     let r = w in
     let e = p.write_strategy-o.ensures in
     let a = r.args in
-    ended_strategy a.s a.sheet.now a.first.now a.second.now (told r.before.before.before.before.before.before.before.before.before.before.before.before.before.before.before.before.before _ w.in-Ended.is) r.solve_checked-r.auto.first
+    ended_strategy a.s a.sheet.now a.first.now a.second.now
+    (told (to_after_solve_checked_r (to_after_second_1 (to_after_exists_wins (to_after_write_strategy_arg_in_Ended_2_1 (to_after_slice_known_in_Ended_1 r.before.before))))) _ w.in-Ended.is)
+    r.solve_checked-r.auto.first
     r.solve_checked-r.auto.second a.out.now
-    w.exists_wins.ensures (outcome p.before.before.before.before.before.before.before _ said.in-Written.is) e.1.0 e.1.1
+    w.exists_wins.ensures (outcome (to_after_write_strategy_o (to_after_second_in_Ended_1 p.before)) _ said.in-Written.is) e.1.0 e.1.1
 
 shape_of-first-in-TooLong : tie.Need-shape_of-first-in-TooLong
 shape_of-first-in-TooLong c = search rules
@@ -138,9 +169,11 @@ returns-in-TooLong c =
     let r = w in
     let e = p.write_strategy-o.ensures in
     let a = r.args in
-    ended_strategy a.s a.sheet.now a.first.now a.second.now (told r.before.before.before.before.before.before.before.before.before.before.before.before.before.before.before.before.before _ w.in-Ended.is) r.solve_checked-r.auto.first
+    ended_strategy a.s a.sheet.now a.first.now a.second.now
+    (told (to_after_solve_checked_r (to_after_second_1 (to_after_exists_wins (to_after_write_strategy_arg_in_Ended_2_1 (to_after_slice_known_in_Ended_1 r.before.before))))) _ w.in-Ended.is)
+    r.solve_checked-r.auto.first
     r.solve_checked-r.auto.second a.out.now
-    w.exists_wins.ensures (outcome p.before.before.before.before.before.before.before _ said.in-TooLong.is) e.1.0 e.1.1
+    w.exists_wins.ensures (outcome (to_after_write_strategy_o (to_after_second_in_Ended_1 p.before)) _ said.in-TooLong.is) e.1.0 e.1.1
 
 pub strategy_checked_spec : {M : Type 1} → statement M
 strategy_checked_spec =

@@ -15,6 +15,28 @@ use Rattle.claim.proofs.Claims.{operator_of_other, root-children, claim-room, fr
 use Rattle.claim.proofs.write.claim_into.Statement.{statement}
 use Rattle.claim.proofs.write.claim_into.Tie as tie
 
+-- places in the code, each from a later one
+abbrev to_after_write_front_arg_1 : tie.After-slice_known-2-1 → tie.After-write_front-arg-1
+to_after_write_front_arg_1 c = c.before.before.before
+
+abbrev to_after_write_pairs : tie.After-seal-arg-1 → tie.After-write_pairs
+to_after_write_pairs c = c.before.before.before
+
+abbrev to_after_slice_known_2_1 : tie.After-write_pairs → tie.After-slice_known-2-1
+to_after_slice_known_2_1 c = c.before.before.before
+
+abbrev to_after_seal_arg_1 : tie.After-seal → tie.After-seal-arg-1
+to_after_seal_arg_1 c = c.before.before.before
+
+abbrev to_after_struct_known_4_1 : tie.After-slice_known-4-1 → tie.After-struct_known-4-1
+to_after_struct_known_4_1 c = c.before.before.before
+
+abbrev to_after_slice_known_3_1 : tie.After-struct_known-4-1 → tie.After-slice_known-3-1
+to_after_slice_known_3_1 c = c.before.before.before
+
+abbrev to_after_write_pairs_arg_1 : tie.After-slice_known-3-1 → tie.After-write_pairs-arg-1
+to_after_write_pairs_arg_1 c = c.before.before.before
+
 -- the claim's layout
 abbrev layout : tie.After-write_front-arg-1 → Layout
 layout c =
@@ -67,10 +89,10 @@ write_pairs-requires c κs =
       p.paired,
       record {
         source = p.second.readable.room;
-        room = room_on (claim-room p (layout w.before.before.before.before.before) refl refl refl) w.write_front-front.auto.out;
+        room = room_on (claim-room p (layout (to_after_write_front_arg_1 w.before.before)) refl refl refl) w.write_front-front.auto.out;
         same_format = p.same_format;
       },
-      omega (arith, pairs-room p (layout w.before.before.before.before.before) refl refl refl (kind_is c) w.write_front-front.ensures.1),
+      omega (arith, pairs-room p (layout (to_after_write_front_arg_1 w.before.before)) refl refl refl (kind_is c) w.write_front-front.ensures.1),
     )
 
 -- as long as at first
@@ -87,7 +109,7 @@ seal-requires : tie.Need-seal-requires
 seal-requires c κs =
     let w = c in
     let p = w.requires in
-    (room_on (claim-room p (layout w.before.before.before.before.before.before.before.before.before.before.before) refl refl refl) (long c), omega arith, omega arith)
+    (room_on (claim-room p (layout (to_after_write_front_arg_1 (to_after_slice_known_2_1 (to_after_write_pairs w.before.before)))) refl refl refl) (long c), omega arith, omega arith)
 
 shape_of-out : tie.Need-shape_of-out
 shape_of-out c = search rules
@@ -98,12 +120,14 @@ returns c =
     let w = z in
     let f = w in
     let p = f.requires in
-    let t = layout f.before.before.before.before.before.before.before.before.before.before.before.before.before.before in (
+    let t = layout (to_after_write_front_arg_1 (to_after_slice_known_2_1 (to_after_write_pairs (to_after_seal_arg_1 f.before.before)))) in (
       z.seal.ensures.0 ∙
-          claim-sealed p t refl refl refl (root-children p refl).0 (kind_is w.before.before.before.before.before.before.before.before.before) f.write_front-front.ensures.0 w.write_pairs.ensures f.write_front-front.ensures.1
+          claim-sealed p t refl refl refl (root-children p refl).0 (kind_is (to_after_write_pairs_arg_1 (to_after_slice_known_3_1 (to_after_struct_known_4_1 w)))) f.write_front-front.ensures.0
+          w.write_pairs.ensures f.write_front-front.ensures.1
           (long z.before.before.before) refl,
       z.seal.ensures.1 ∙
-          claim-length p t refl refl refl (root-children p refl).0 (kind_is w.before.before.before.before.before.before.before.before.before) f.write_front-front.ensures.0 w.write_pairs.ensures f.write_front-front.ensures.1
+          claim-length p t refl refl refl (root-children p refl).0 (kind_is (to_after_write_pairs_arg_1 (to_after_slice_known_3_1 (to_after_struct_known_4_1 w)))) f.write_front-front.ensures.0
+          w.write_pairs.ensures f.write_front-front.ensures.1
           (long z.before.before.before) refl,
     )
 

@@ -13,6 +13,16 @@ use Rattle.claim.proofs.Claims.{front-laid}
 use Rattle.claim.proofs.write.write_front.Statement.{statement}
 use Rattle.claim.proofs.write.write_front.Tie as tie
 
+-- places in the code, each from a later one
+abbrev to_after_write_quantifiers_top : tie.After-write_row-arg-1 → tie.After-write_quantifiers-top
+to_after_write_quantifiers_top c = c.before.before.before
+
+abbrev to_after_write_row_arg_1 : tie.After-out-2-1 → tie.After-write_row-arg-1
+to_after_write_row_arg_1 c = c.before.before.before
+
+abbrev to_after_out_2_1 : tie.After-write_rows → tie.After-out-2-1
+to_after_out_2_1 c = c.before.before.before
+
 -- the row behind the prefix
 top_is : (c : tie.After-write_quantifiers-top) → c.write_quantifiers-top.result ≡ c.args.s.variables
 top_is c =
@@ -40,7 +50,7 @@ write_row-at-requires : tie.Need-write_row-at-requires
 write_row-at-requires c κs =
     let p = c in
     let a = p in
-    (room_on a.requires.1.room p.write_quantifiers-top.auto.out, omega (arith, top_is p.before.before.before.before, a.requires.2), a.requires.3)
+    (room_on a.requires.1.room p.write_quantifiers-top.auto.out, omega (arith, top_is (to_after_write_quantifiers_top p.before), a.requires.2), a.requires.3)
 
 write_rows-requires : tie.Need-write_rows-requires
 write_rows-requires c κs =
@@ -49,7 +59,7 @@ write_rows-requires c κs =
     let a = p in (
       ready_on a.requires.1 (w.write_row-at.auto.out ∙ p.write_quantifiers-top.auto.out),
       record { ordered = omega arith; inside = omega arith },
-      omega (arith, w.write_row-at.ensures.next_row, top_is p.before.before.before.before.before.before.before.before, a.requires.2),
+      omega (arith, w.write_row-at.ensures.next_row, top_is (to_after_write_quantifiers_top (to_after_write_row_arg_1 p.before.before)), a.requires.2),
     )
 
 shape_of-out : tie.Need-shape_of-out
@@ -63,7 +73,7 @@ returns c =
     let a = p in (
       front-laid (side a.args.exists) a.args.b.now a.requires.0.readable p.quantifier_for.ensures r.operator_for.ensures
           p.write_quantifiers-top.ensures r.write_row-at.ensures w.write_rows.ensures.0,
-      omega (arith, w.write_rows.ensures.1, r.write_row-at.ensures.next_row, top_is p.before.before.before.before.before.before.before.before.before.before.before),
+      omega (arith, w.write_rows.ensures.1, r.write_row-at.ensures.next_row, top_is (to_after_write_quantifiers_top (to_after_write_row_arg_1 (to_after_out_2_1 p.before.before)))),
     )
 
 pub write_front_spec : {M : Type 1} → statement M

@@ -9,6 +9,10 @@ use Rattle.claim.proofs.Turns.{fits-row, room_on, length-negated, pair_laid}
 use Rattle.claim.proofs.write.write_pair.Statement.{statement}
 use Rattle.claim.proofs.write.write_pair.Tie as tie
 
+-- places in the code, each from a later one
+abbrev to_after_write_head_arg_2_1 : tie.After-slice_known-4-1 → tie.After-write_head-arg-2-1
+to_after_write_head_arg_2_1 c = c.before.before.before
+
 overflow_sub-span : tie.Need-overflow_sub-span
 overflow_sub-span c = omega (arith, c.requires.3)
 
@@ -62,7 +66,7 @@ write_rows-requires c κs =
     let n = l in
     let h = n in
     let a = h in (
-      ready_on a.requires.1 (l.write_head-last.auto.out ∙ long l.before.before.before.before),
+      ready_on a.requires.1 (l.write_head-last.auto.out ∙ long (to_after_write_head_arg_2_1 l.before)),
       a.requires.2,
       omega (
         arith,

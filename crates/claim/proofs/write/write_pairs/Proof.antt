@@ -17,6 +17,13 @@ invariant-loop-j b s kind cuts out₀ t v at₀ j₀ out at j = Differing s b ki
 abbrev decreases-loop-j : tie.decreases-loop-j
 decreases-loop-j b s kind cuts out₀ t v at₀ j₀ out at j = length cuts - j
 
+-- places in the code, each from a later one
+abbrev to_after_write_pair_arg_1 : tie.After-slice_known-in-loop-j-1 invariant-loop-j decreases-loop-j → tie.After-write_pair-arg-1 invariant-loop-j decreases-loop-j
+to_after_write_pair_arg_1 c = c.before.before.before
+
+abbrev to_in_loop_j : tie.After-write_pair-arg-1 invariant-loop-j decreases-loop-j → tie.In-loop-j invariant-loop-j decreases-loop-j
+to_in_loop_j c = c.before.before.before
+
 -- the pair at hand
 abbrev pair : tie.In-loop-j invariant-loop-j decreases-loop-j → ℕ
 pair c = c.loop-j.j
@@ -96,7 +103,8 @@ write_pair-at-requires : tie.Need-write_pair-at-requires invariant-loop-j decrea
 write_pair-at-requires c κs =
     let t = c in
     let a = t in
-    let f = function-stands a.args.b.now a.requires.1 (pair t.before.before.before) (here t.before.before.before) {span = function t.before.before.before} (begins_at t.before.before.before) (ends_at t.before.before.before) in (
+    let f = function-stands a.args.b.now a.requires.1 (pair t.before.before.before) (here t.before.before.before) {span = function t.before.before.before} (begins_at t.before.before.before)
+    (ends_at t.before.before.before) in (
       a.requires.0,
       ready_on a.requires.2 t.loop-j.invariant.same_length,
       record { ordered = f.ordered; inside = f.inside },
@@ -106,18 +114,19 @@ write_pair-at-requires c κs =
     )
 
 overflow_add-j-in-loop-j : tie.Need-overflow_add-j-in-loop-j invariant-loop-j decreases-loop-j
-overflow_add-j-in-loop-j c = omega (arith, here c.before.before.before.before.before.before)
+overflow_add-j-in-loop-j c = omega (arith, here (to_in_loop_j (to_after_write_pair_arg_1 c)))
 
 loop-j-smaller : tie.Need-loop-j-smaller invariant-loop-j decreases-loop-j
-loop-j-smaller c = omega (arith, here c.before.before.before.before.before.before)
+loop-j-smaller c = omega (arith, here (to_in_loop_j (to_after_write_pair_arg_1 c)))
 
 loop-j-preserved : tie.Need-loop-j-preserved invariant-loop-j decreases-loop-j
 loop-j-preserved c =
     let w = c in
     let t = c in
     let a = t in
-    differing-on a.args.b.now a.requires.1 a.args.kind a.args.to.layout a.args.out.now a.args.to.at t.loop-j.invariant (here t.before.before.before.before.before.before)
-    {span = function t.before.before.before.before.before.before} (begins_at t.before.before.before.before.before.before) (ends_at t.before.before.before.before.before.before) (add-one _) w.write_pair-at.ensures w.write_pair-at.auto.out
+    differing-on a.args.b.now a.requires.1 a.args.kind a.args.to.layout a.args.out.now a.args.to.at t.loop-j.invariant (here (to_in_loop_j (to_after_write_pair_arg_1 t)))
+    {span = function (to_in_loop_j (to_after_write_pair_arg_1 t))} (begins_at (to_in_loop_j (to_after_write_pair_arg_1 t))) (ends_at (to_in_loop_j (to_after_write_pair_arg_1 t))) (add-one _)
+    w.write_pair-at.ensures w.write_pair-at.auto.out
 
 shape_of-out : tie.Need-shape_of-out invariant-loop-j decreases-loop-j
 shape_of-out c = c.loop-j.invariant.same_length

@@ -13,6 +13,10 @@ invariant-loop-i used highest count fresh₀ from₀ i₀ fresh from i = Giving 
 abbrev decreases-loop-i : tie.decreases-loop-i
 decreases-loop-i used highest count fresh₀ from₀ i₀ fresh from i = count - i
 
+-- places in the code, each from a later one
+abbrev to_start : tie.At-loop-i invariant-loop-i decreases-loop-i → tie.Start invariant-loop-i decreases-loop-i
+to_start c = c.before.before.before
+
 -- a number is left
 small : (c : tie.After-next_unused-n invariant-loop-i decreases-loop-i) → c.next_unused-n.result ≤ c.args.highest
 small c =
@@ -61,7 +65,7 @@ shape_of-fresh c = c.loop-i.invariant.same_length
 
 returns : tie.Need-returns invariant-loop-i decreases-loop-i
 returns c =
-    let a = let l = c in l.before.before.before.before in
+    let a = let l = c in (to_start l.before) in
     giving-all a.args.used.now a.args.highest a.args.count a.args.fresh.now a.requires.3 a.requires.2 c.loop-i.invariant c.loop-i-test.false
 
 pub fill_unused_spec : {M : Type 1} → statement M

@@ -18,6 +18,10 @@ invariant-loop-j b s ends names₀ n count₀ clauses₀ rows₀ j₀ next₀ na
 abbrev decreases-loop-j : tie.decreases-loop-j
 decreases-loop-j b s ends names₀ n count₀ clauses₀ rows₀ j₀ next₀ names count clauses rows j next = n - j
 
+-- places in the code, each from a later one
+abbrev to_in_loop_j : tie.After-own_rows-rows invariant-loop-j decreases-loop-j → tie.In-loop-j invariant-loop-j decreases-loop-j
+to_in_loop_j c = c.before.before.before
+
 -- one row further
 turned : (c : tie.In-loop-j invariant-loop-j decreases-loop-j)
     → let a = c.args in
@@ -92,7 +96,7 @@ loop-j-preserved c =
     let one = walking_on a.args.b.now a.requires.0.readable t.loop-j-test.true a.args.ends.now a.requires.0 l.invariant.ts l.invariant.us l.invariant.walking refl
     c.next_conjunct-next.ensures in
     surveying-on a.args.b.now a.requires.0.readable l.invariant one (add-one l.j) d.own_names-count.ensures.0
-    d.own_names-count.ensures.1 d.own_clauses-clauses.ensures d.own_rows-rows.ensures (inside t.before.before.before.before)
+    d.own_names-count.ensures.1 d.own_clauses-clauses.ensures d.own_rows-rows.ensures (inside (to_in_loop_j t.before))
 
 shape_of-names : tie.Need-shape_of-names invariant-loop-j decreases-loop-j
 shape_of-names c = c.loop-j.invariant.same_length

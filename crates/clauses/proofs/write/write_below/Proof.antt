@@ -23,6 +23,16 @@ invariant-loop-left b s ends names out₀ t operator each at₀ left₀ r₀ out
 abbrev decreases-loop-left : tie.decreases-loop-left
 decreases-loop-left b s ends names out₀ t operator each at₀ left₀ r₀ out at left r = left
 
+-- places in the code, each from a later one
+abbrev to_in_loop_left : tie.After-out-1 invariant-loop-left decreases-loop-left → tie.In-loop-left invariant-loop-left decreases-loop-left
+to_in_loop_left c = c.before.before.before
+
+abbrev to_after_write_child_at : tie.After-shared_slice_known-in-loop-left-1 invariant-loop-left decreases-loop-left → tie.After-write_child-at invariant-loop-left decreases-loop-left
+to_after_write_child_at c = c.before.before.before
+
+abbrev to_at_loop_left : tie.After-write_child-at invariant-loop-left decreases-loop-left → tie.At-loop-left invariant-loop-left decreases-loop-left
+to_at_loop_left c = c.before.before.before
+
 -- whether each child has a clause
 abbrev each : tie.At-loop-left invariant-loop-left decreases-loop-left → Bool
 each c = not (eqb c.kind_at-each.result 6)
@@ -80,10 +90,10 @@ write_child-at-requires c κs =
     )
 
 offset_bounds-ends-r : tie.Need-offset_bounds-ends-r invariant-loop-left decreases-loop-left
-offset_bounds-ends-r c = let w = c in omega (arith, inside w.before.before.before.before, w.requires.0.0.readable.few_nodes)
+offset_bounds-ends-r c = let w = c in omega (arith, inside (to_in_loop_left w.before), w.requires.0.0.readable.few_nodes)
 
 bounds-ends-r : tie.Need-bounds-ends-r invariant-loop-left decreases-loop-left
-bounds-ends-r c = let t = c in omega (arith, inside t.before.before.before.before.before, t.requires.0.0.holds)
+bounds-ends-r c = let t = c in omega (arith, inside (to_in_loop_left t.before.before), t.requires.0.0.holds)
 
 overflow_cast-r : tie.Need-overflow_cast-r invariant-loop-left decreases-loop-left
 overflow_cast-r c = omega (arith, c.shared_slice_known-in-loop-left-1.given c.loop-left.r)
@@ -101,7 +111,8 @@ loop-left-preserved c =
     let l = t in
     let a = l in
     let L = a.args.names.now in
-    listing-on (each l.before.before.before.before.before.before) (get_or L a.args.place.row 0) L a.args.b.now a.requires.0.0.readable a.args.place.layout a.args.out.now a.args.place.at l.loop-left.invariant
+    listing-on (each (to_at_loop_left (to_after_write_child_at l))) (get_or L a.args.place.row 0) L a.args.b.now a.requires.0.0.readable a.args.place.layout a.args.out.now a.args.place.at
+    l.loop-left.invariant
     a.args.ends.now a.requires.0.0 t.loop-left-test.true w.write_child-at.ensures w.write_child-at.auto.out refl
 
 shape_of-out : tie.Need-shape_of-out invariant-loop-left decreases-loop-left

@@ -12,6 +12,13 @@ use Rattle.clauses.proofs.Writing.{head-none, head-name, length-name}
 use Rattle.clauses.proofs.write.write_head.Statement.{statement}
 use Rattle.clauses.proofs.write.write_head.Tie as tie
 
+-- places in the code, each from a later one
+abbrev to_after_kind_at : tie.Else-not-place → tie.After-kind_at
+to_after_kind_at c = c.before.before.before
+
+abbrev to_else_not_place : tie.After-write_name → tie.Else-not-place
+to_else_not_place c = c.before.before.before
+
 -- the tree at the row
 abbrev here : tie.After-kind_at → Tree
 here c = let a = c.args in subtree_in a.s a.b.now a.place.row
@@ -45,12 +52,12 @@ write_name-requires c κs =
     let e = c in
     let k = e in
     let a = k in
-    let rows = head-name a.args.names.now a.args.place.row (here k.before.before.before.before.before) {c = a.args.place.conjunct} k.kind_at.ensures e.if-kind_at-eq-OR.false
+    let rows = head-name a.args.names.now a.args.place.row (here (to_after_kind_at k.before.before)) {c = a.args.place.conjunct} k.kind_at.ensures e.if-kind_at-eq-OR.false
     (not-false a.args.place.conjunct e.if-not-place.false) in (
       a.requires.0.0,
       a.requires.0.1,
       a.requires.0.2,
-      omega (arith, a.requires.1, ap length rows, length-name (get_or a.args.names.now a.args.place.row 0) (here k.before.before.before.before.before)),
+      omega (arith, a.requires.1, ap length rows, length-name (get_or a.args.names.now a.args.place.row 0) (here (to_after_kind_at k.before.before))),
     )
 
 shape_of-out : tie.Need-shape_of-out
@@ -63,7 +70,8 @@ returns c =
     let k = e in
     let a = k.args in
     subst (Laid a.place.layout a.out.now _ a.place.at _)
-    (head-name a.names.now a.place.row (here k.before.before.before.before.before.before.before.before) {c = a.place.conjunct} k.kind_at.ensures e.if-kind_at-eq-OR.false (not-false a.place.conjunct e.if-not-place.false))
+    (head-name a.names.now a.place.row (here (to_after_kind_at (to_else_not_place k.before.before))) {c = a.place.conjunct} k.kind_at.ensures e.if-kind_at-eq-OR.false
+    (not-false a.place.conjunct e.if-not-place.false))
     w.write_name.ensures
 
 pub write_head_spec : {M : Type 1} → statement M

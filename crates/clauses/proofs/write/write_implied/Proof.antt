@@ -15,6 +15,10 @@ use Rattle.clauses.specs.Inner.Writing.{implied_rows}
 use Rattle.clauses.proofs.write.write_implied.Statement.{statement}
 use Rattle.clauses.proofs.write.write_implied.Tie as tie
 
+-- places in the code, each from a later one
+abbrev to_after_write_row_arg_1 : tie.After-slice_known-2-1 → tie.After-write_row-arg-1
+to_after_write_row_arg_1 c = c.before.before.before
+
 returns-then-not-child : tie.Need-returns-then-not-child
 returns-then-not-child c =
     let a = c.args in
@@ -47,7 +51,7 @@ write_row-requires c κs =
     let w = c in
     let a = w in (
       room_on a.requires.1 w.write_row-at.auto.out,
-      omega (arith, a.requires.2, two w.before.before.before.before.before, w.write_row-at.ensures.next_row),
+      omega (arith, a.requires.2, two (to_after_write_row_arg_1 w.before.before), w.write_row-at.ensures.next_row),
       number_fits a.args.child.layout.format (omega (arith, c.shared_slice_known-2-1.given a.args.child.operator)),
     )
 

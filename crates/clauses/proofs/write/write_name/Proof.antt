@@ -15,6 +15,19 @@ use Rattle.clauses.proofs.Writing.{literal-name, operator_name}
 use Rattle.clauses.proofs.write.write_name.Statement.{statement}
 use Rattle.clauses.proofs.write.write_name.Tie as tie
 
+-- places in the code, each from a later one
+abbrev to_after_write_row_arg_1 : tie.After-slice_known-then-kind-le-NEGATIVE-1 → tie.After-write_row-arg-1
+to_after_write_row_arg_1 c = c.before.before.before
+
+abbrev to_after_kind_at_kind : tie.After-write_row-arg-1 → tie.After-kind_at-kind
+to_after_kind_at_kind c = c.before.before.before
+
+abbrev to_after_shared_slice_known_3_1 : tie.After-slice_known-2-1 → tie.After-shared_slice_known-3-1
+to_after_shared_slice_known_3_1 c = c.before.before.before
+
+abbrev to_after_kind_at_kind_from_after_shared_slice_known_3_1 : tie.After-shared_slice_known-3-1 → tie.After-kind_at-kind
+to_after_kind_at_kind_from_after_shared_slice_known_3_1 c = c.before.before.before
+
 -- the tree at the row
 abbrev here : tie.After-kind_at-kind → Tree
 here c = let a = c.args in subtree_in a.s a.b.now a.r
@@ -45,7 +58,7 @@ returns-then-kind-le-NEGATIVE c =
     let k = n in
     let a = k.args in
     subst (Laid a.to.layout a.out.now _ a.to.at _)
-    (literal-name (get_or a.names.now a.r 0) (here k.before.before.before.before.before.before) k.kind_at-kind.ensures n.argument_at-literal.ensures.0 n.if-kind-le-NEGATIVE.true)
+    (literal-name (get_or a.names.now a.r 0) (here (to_after_kind_at_kind (to_after_write_row_arg_1 k))) k.kind_at-kind.ensures n.argument_at-literal.ensures.0 n.if-kind-le-NEGATIVE.true)
     w.write_row.ensures
 
 offset_bounds-names-r : tie.Need-offset_bounds-names-r
@@ -71,7 +84,8 @@ returns c =
     let e = w in
     let k = e in
     let a = k.args in
-    subst (Laid a.to.layout a.out.now _ a.to.at _) (operator_name (here k.before.before.before.before.before.before) k.kind_at-kind.ensures (omega (arith, e.if-kind-le-NEGATIVE.false)) refl)
+    subst (Laid a.to.layout a.out.now _ a.to.at _)
+    (operator_name (here (to_after_kind_at_kind_from_after_shared_slice_known_3_1 (to_after_shared_slice_known_3_1 k))) k.kind_at-kind.ensures (omega (arith, e.if-kind-le-NEGATIVE.false)) refl)
     w.write_row-2.ensures
 
 pub write_name_spec : {M : Type 1} → statement M

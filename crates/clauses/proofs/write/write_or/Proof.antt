@@ -15,6 +15,19 @@ use Rattle.clauses.proofs.Writing.{or-conjunct, or-below, few_children}
 use Rattle.clauses.proofs.write.write_or.Statement.{statement}
 use Rattle.clauses.proofs.write.write_or.Tie as tie
 
+-- places in the code, each from a later one
+abbrev to_after_children_at_children : tie.After-write_row → tie.After-children_at-children
+to_after_children_at_children c = c.before.before.before
+
+abbrev to_after_write_row_at : tie.After-write_row-arg-3-1 → tie.After-write_row-at
+to_after_write_row_at c = c.before.before.before
+
+abbrev to_after_children_at_children_from_after_write_row_at : tie.After-write_row-at → tie.After-children_at-children
+to_after_children_at_children_from_after_write_row_at c = c.before.before.before
+
+abbrev to_after_write_row_arg_3_1 : tie.After-out-3-1 → tie.After-write_row-arg-3-1
+to_after_write_row_arg_3_1 c = c.before.before.before
+
 -- the tree at the row
 abbrev here : tie.After-children_at-children → Tree
 here c = let a = c.args in subtree_in a.s a.b.now a.place.row
@@ -42,7 +55,7 @@ returns-then-place c =
     let k = t in
     let a = k in
     subst (Laid a.args.place.layout a.args.out.now _ a.args.place.at _)
-    (or-conjunct a.args.names.now a.args.place.row (here k.before.before.before.before.before) a.requires.0.3 t.if-place.true k.children_at-children.ensures.0) w.write_row.ensures
+    (or-conjunct a.args.names.now a.args.place.row (here (to_after_children_at_children k.before.before)) a.requires.0.3 t.if-place.true k.children_at-children.ensures.0) w.write_row.ensures
 
 overflow_add-children : tie.Need-overflow_add-children
 overflow_add-children c = search rules
@@ -72,7 +85,7 @@ write_row-requires-2 c κs =
     let w = c in
     let k = c in
     let a = k in
-    let rows = or-below a.args.names.now a.args.place.row (here k.before.before.before.before.before.before.before) a.requires.0.3 w.if-place.false
+    let rows = or-below a.args.names.now a.args.place.row (here (to_after_children_at_children_from_after_write_row_at (to_after_write_row_at k.before))) a.requires.0.3 w.if-place.false
     (add-one k.children_at-children.result ∙ ap suc k.children_at-children.ensures.0) refl in (
       room_on a.requires.0.1.room w.write_row-at.auto.out,
       omega (arith, a.requires.1, ap length rows, w.write_row-at.ensures.next_row),
@@ -90,7 +103,8 @@ returns c =
     let k = place in
     let a = k in
     subst (Laid a.args.place.layout a.args.out.now _ a.args.place.at _)
-    (or-below a.args.names.now a.args.place.row (here k.before.before.before.before.before.before.before.before.before.before) a.requires.0.3 w.if-place.false (add-one k.children_at-children.result ∙ ap suc k.children_at-children.ensures.0) refl)
+    (or-below a.args.names.now a.args.place.row (here (to_after_children_at_children_from_after_write_row_at (to_after_write_row_at (to_after_write_row_arg_3_1 k.before)))) a.requires.0.3
+    w.if-place.false (add-one k.children_at-children.result ∙ ap suc k.children_at-children.ensures.0) refl)
     (laid_on w.write_row-at.ensures v.write_row-2.ensures)
 
 pub write_or_spec : {M : Type 1} → statement M

@@ -14,6 +14,13 @@ use Rattle.clauses.proofs.Writing.{head-below}
 use Rattle.clauses.proofs.write.write_own.Statement.{statement}
 use Rattle.clauses.proofs.write.write_own.Tie as tie
 
+-- places in the code, each from a later one
+abbrev to_after_write_head_arg_1 : tie.After-slice_known-2-1 → tie.After-write_head-arg-1
+to_after_write_head_arg_1 c = c.before.before.before
+
+abbrev to_after_slice_known_2_1 : tie.After-out-2-1 → tie.After-slice_known-2-1
+to_after_slice_known_2_1 c = c.before.before.before
+
 -- the tree at the row
 abbrev here : tie.After-write_head-arg-1 → Tree
 here c = let a = c.args in subtree_in a.s a.b.now a.place.row
@@ -41,8 +48,8 @@ write_below-requires c κs =
         arith,
         a.requires.1,
         w.write_head-at.ensures.next_row,
-        both w.before.before.before.before,
-        ap length (head-below a.args.names.now a.args.place.row a.args.place.conjunct (here w.before.before.before.before)),
+        both (to_after_write_head_arg_1 w.before),
+        ap length (head-below a.args.names.now a.args.place.row a.args.place.conjunct (here (to_after_write_head_arg_1 w.before))),
       ),
     )
 
@@ -55,7 +62,7 @@ returns c =
     let w = v in
     let a = w.args in
     subst (Laid a.place.layout a.out.now _ a.place.at _)
-    (head-below a.names.now a.place.row a.place.conjunct (here w.before.before.before.before.before.before.before))
+    (head-below a.names.now a.place.row a.place.conjunct (here (to_after_write_head_arg_1 (to_after_slice_known_2_1 w.before))))
     (laid_on w.write_head-at.ensures v.write_below.ensures)
 
 pub write_own_spec : {M : Type 1} → statement M

@@ -79,7 +79,8 @@ pub branch-returns-then-ends_early : goal.branch-returns-then-ends_early
 branch-returns-then-ends_early t c =
     branch-early (room c.args.first.now c.args.second.now) c.args.t c.args.stack.now c.args.budget
     (same_prefix c.requires c.shorter-place.ensures c.seek-zero.new.stack c.seek-zero.auto.stack)
-    (first_decided c.args.first.now c.args.second.now c.args.budget c.seek-zero.result c.requires c.shorter-place.ensures c.write_half-u.ensures c.write_half-u.auto.out c.seek-zero.ensures) c.ends_early.ensures
+    (first_decided c.args.first.now c.args.second.now c.args.budget c.seek-zero.result c.requires c.shorter-place.ensures c.write_half-u.ensures c.write_half-u.auto.out c.seek-zero.ensures)
+    c.ends_early.ensures
     c.if-ends_early.true
 
 pub branch-write_half-w-requires : goal.branch-write_half-w-requires

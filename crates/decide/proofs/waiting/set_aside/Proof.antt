@@ -11,6 +11,10 @@ use Rattle.decide.proofs.Halving.{copied-front}
 use Rattle.decide.proofs.waiting.set_aside.Statement.{statement}
 use Rattle.decide.proofs.waiting.set_aside.Tie as tie
 
+-- places in the code, each from a later one
+abbrev to_after_sheet_length_n : tie.After-stack-1 → tie.After-sheet_length-n
+to_after_sheet_length_n c = c.before.before.before
+
 -- how many bytes the sheet has
 its_size : (c : tie.After-sheet_length-n) → c.sheet_length-n.result ≡ size c.args.t
 unfolding sheet_length
@@ -48,7 +52,7 @@ returns : tie.Need-returns
 returns c =
     let copied = c in
     let n = copied in
-    (n.if-stack-place.false, copied-front n.args.b.now n.args.stack.now (its_size n.before.before.before.before) (inside n.before.before.before.before) copied.copy_front.ensures)
+    (n.if-stack-place.false, copied-front n.args.b.now n.args.stack.now (its_size (to_after_sheet_length_n n.before)) (inside (to_after_sheet_length_n n.before)) copied.copy_front.ensures)
 
 pub set_aside_spec : {M : Type 1} → statement M
 set_aside_spec =

@@ -17,6 +17,28 @@ invariant-loop-y b ends ranges next set₀ s x block found₀ y₀ set found y =
 abbrev decreases-loop-y : tie.decreases-loop-y
 decreases-loop-y b ends ranges next set₀ s x block found₀ y₀ set found y = 1088 - size set
 
+-- places in the code, each from a later one
+abbrev to_else_not_occurs : tie.After-block-2-1 invariant-loop-y decreases-loop-y → tie.Else-not-occurs invariant-loop-y decreases-loop-y
+to_else_not_occurs c = c.before.before.before
+
+abbrev to_after_block_2_1 : tie.After-mark_relevant invariant-loop-y decreases-loop-y → tie.After-block-2-1 invariant-loop-y decreases-loop-y
+to_after_block_2_1 c = c.before.before.before
+
+abbrev to_after_mark_relevant : tie.After-found-3-1 invariant-loop-y decreases-loop-y → tie.After-mark_relevant invariant-loop-y decreases-loop-y
+to_after_mark_relevant c = c.before.before.before
+
+abbrev to_in_loop_y : tie.After-set-1 invariant-loop-y decreases-loop-y → tie.In-loop-y invariant-loop-y decreases-loop-y
+to_in_loop_y c = c.before.before.before
+
+abbrev to_after_set_1 : tie.After-found-in-loop-y-1 invariant-loop-y decreases-loop-y → tie.After-set-1 invariant-loop-y decreases-loop-y
+to_after_set_1 c = c.before.before.before
+
+abbrev to_after_found_in_loop_y_1 : tie.After-block-in-loop-y-1 invariant-loop-y decreases-loop-y → tie.After-found-in-loop-y-1 invariant-loop-y decreases-loop-y
+to_after_found_in_loop_y_1 c = c.before.before.before
+
+abbrev to_after_mark_relevant_in_loop_y : tie.After-found-in-loop-y-3-1 invariant-loop-y decreases-loop-y → tie.After-mark_relevant-in-loop-y invariant-loop-y decreases-loop-y
+to_after_mark_relevant_in_loop_y c = c.before.before.before
+
 occurs-requires : tie.Need-occurs-requires invariant-loop-y decreases-loop-y
 occurs-requires c κs = let a = c in (a.requires.1.holds, a.requires.2.few)
 
@@ -51,7 +73,7 @@ mark_relevant-requires : tie.Need-mark_relevant-requires invariant-loop-y decrea
 mark_relevant-requires c κs =
     let here = c in
     let a = here in
-    (chained-range a.args.b.now a.requires.1 a.requires.2.few c.range_of-own.ensures (occurs here.before.before.before.before.before) a.requires.0, refl)
+    (chained-range a.args.b.now a.requires.1 a.requires.2.few c.range_of-own.ensures (occurs (to_else_not_occurs here.before.before)) a.requires.0, refl)
 
 slice_bounds-next_member-end : tie.Need-slice_bounds-next_member-end invariant-loop-y decreases-loop-y
 slice_bounds-next_member-end c = sym c.fill_block.ensures.words
@@ -62,8 +84,8 @@ growing : (c : tie.After-mark_relevant invariant-loop-y decreases-loop-y) →
 growing c =
     let here = c in
     let a = here in
-    grow_start a.args.t.variable _ (occurs here.before.before.before.before.before.before) refl a.requires.3
-    (marked-range a.args.b.now a.requires.1 a.requires.2.few c.range_of-own.ensures (occurs here.before.before.before.before.before.before) c.mark_relevant.ensures)
+    grow_start a.args.t.variable _ (occurs (to_else_not_occurs (to_after_block_2_1 here))) refl a.requires.3
+    (marked-range a.args.b.now a.requires.1 a.requires.2.few c.range_of-own.ensures (occurs (to_else_not_occurs (to_after_block_2_1 here))) c.mark_relevant.ensures)
 
 slice_bounds-next_member-end-2 : tie.Need-slice_bounds-next_member-end-2 invariant-loop-y decreases-loop-y
 slice_bounds-next_member-end-2 c = sym (growing c.before.before.before).room
@@ -77,7 +99,7 @@ next_member-y-requires c κs =
 loop-y-init : tie.Need-loop-y-init invariant-loop-y decreases-loop-y
 loop-y-init c =
     let first = c in
-    record { block_is = first.fill_block.ensures; growing = growing first.before.before.before.before; next_is = c.next_member-y.ensures }
+    record { block_is = first.fill_block.ensures; growing = growing (to_after_mark_relevant first.before); next_is = c.next_member-y.ensures }
 
 taken : (c : tie.In-loop-y invariant-loop-y decreases-loop-y) →
     let a = c.args in Taken a.t.variable (formula_in a.t.layout a.b.now) c.loop-y.set c.loop-y.y
@@ -93,7 +115,7 @@ range_of-range-requires : tie.Need-range_of-range-requires invariant-loop-y decr
 range_of-range-requires c κs =
     let here = c in
     let a = here in
-    (a.requires.1.holds, omega (arith, a.requires.2.few, (taken here.before.before.before.before).near))
+    (a.requires.1.holds, omega (arith, a.requires.2.few, (taken (to_in_loop_y here.before)).near))
 
 slice_bounds-mark_relevant-end-in-loop-y : tie.Need-slice_bounds-mark_relevant-end-in-loop-y invariant-loop-y decreases-loop-y
 slice_bounds-mark_relevant-end-in-loop-y c = sym c.loop-y.invariant.growing.room
@@ -102,7 +124,7 @@ mark_relevant-requires-in-loop-y : tie.Need-mark_relevant-requires-in-loop-y inv
 mark_relevant-requires-in-loop-y c κs =
     let here = c in
     let a = here in
-    let k = taken here.before.before.before.before.before.before in (
+    let k = taken (to_in_loop_y (to_after_set_1 here)) in (
       chained-range a.args.b.now a.requires.1 k.near c.range_of-range.ensures k.occurs a.requires.0,
       here.loop-y.invariant.growing.room,
     )
@@ -114,7 +136,7 @@ grown c =
     let grew = c in
     let head = grew in
     let a = head in
-    let k = taken grew.before.before.before.before.before.before.before in
+    let k = taken (to_in_loop_y (to_after_set_1 grew.before)) in
     grow_on a.args.t.variable (formula_in a.args.t.layout a.args.b.now) k head.loop-y.invariant.growing grew.add.ensures.0 grew.add.ensures.1
     (marked-range a.args.b.now a.requires.1 k.near c.range_of-range.ensures k.occurs c.mark_relevant-in-loop-y.ensures)
 
@@ -135,14 +157,14 @@ loop-y-smaller c =
     let grew = c in
     let head = grew in
     let a = head.args in
-    grow_less a.t.variable (formula_in a.t.layout a.b.now) head.loop-y.set grew.add.new.set (taken grew.before.before.before.before.before.before.before.before.before.before.before)
+    grow_less a.t.variable (formula_in a.t.layout a.b.now) head.loop-y.set grew.add.new.set (taken (to_in_loop_y (to_after_set_1 (to_after_found_in_loop_y_1 grew.before.before))))
     head.loop-y.invariant.growing grew.add.ensures.0 grew.add.ensures.1
 
 loop-y-preserved : tie.Need-loop-y-preserved invariant-loop-y decreases-loop-y
 loop-y-preserved c =
     let gone = c in
     let head = gone in
-    record { block_is = head.loop-y.invariant.block_is; growing = grown gone.before.before.before.before; next_is = c.next_member-y-in-loop-y.ensures }
+    record { block_is = head.loop-y.invariant.block_is; growing = grown (to_after_mark_relevant_in_loop_y gone.before); next_is = c.next_member-y-in-loop-y.ensures }
 
 slice_bounds-intersect-end : tie.Need-slice_bounds-intersect-end invariant-loop-y decreases-loop-y
 slice_bounds-intersect-end c = sym c.loop-y.invariant.block_is.words

@@ -19,6 +19,13 @@ invariant-loop-left b s ends next set₀ left₀ at₀ row₀ set left at row =
 abbrev decreases-loop-left : tie.decreases-loop-left
 decreases-loop-left b s ends next set₀ left₀ at₀ row₀ set left at row = left
 
+-- places in the code, each from a later one
+abbrev to_after_mark_child_arg_1 : tie.After-slice_known-in-loop-left-1 invariant-loop-left decreases-loop-left → tie.After-mark_child-arg-1 invariant-loop-left decreases-loop-left
+to_after_mark_child_arg_1 c = c.before.before.before
+
+abbrev to_at_loop_left : tie.After-mark_child-arg-1 invariant-loop-left decreases-loop-left → tie.At-loop-left invariant-loop-left decreases-loop-left
+to_at_loop_left c = c.before.before.before
+
 children_at-left-requires : tie.Need-children_at-left-requires invariant-loop-left decreases-loop-left
 children_at-left-requires c κs =
     let a = c in
@@ -68,7 +75,7 @@ mark_child-requires c κs =
 first_behind-row-requires : tie.Need-first_behind-row-requires invariant-loop-left decreases-loop-left
 first_behind-row-requires c κs =
     let here = c in
-    leads _ (begun here.before.before.before.before.before.before) here.loop-left-test.true (marking here.before.before.before.before.before.before).walk
+    leads _ (begun (to_at_loop_left (to_after_mark_child_arg_1 here))) here.loop-left-test.true (marking (to_at_loop_left (to_after_mark_child_arg_1 here))).walk
 
 overflow_sub-left : tie.Need-overflow_sub-left invariant-loop-left decreases-loop-left
 overflow_sub-left c = omega arith

@@ -14,6 +14,19 @@ use Rattle.dependence.proofs.Within.{within-literal, within_operator}
 use Rattle.dependence.proofs.mark.mark_relevant.Statement.{statement}
 use Rattle.dependence.proofs.mark.mark_relevant.Tie as tie
 
+-- places in the code, each from a later one
+abbrev to_then_relevant_range : tie.After-set-1 → tie.Then-relevant-range
+to_then_relevant_range c = c.before.before.before
+
+abbrev to_after_relevant_subtree_relevant : tie.Then-relevant-range → tie.After-relevant_subtree-relevant
+to_after_relevant_subtree_relevant c = c.before.before.before
+
+abbrev to_else_relevant_range : tie.After-set-2-1 → tie.Else-relevant-range
+to_else_relevant_range c = c.before.before.before
+
+abbrev to_after_relevant_subtree_relevant_from_else_relevant_range : tie.Else-relevant-range → tie.After-relevant_subtree-relevant
+to_after_relevant_subtree_relevant_from_else_relevant_range c = c.before.before.before
+
 relevant_subtree-relevant-requires : tie.Need-relevant_subtree-relevant-requires
 relevant_subtree-relevant-requires c κs = search rules
 
@@ -38,7 +51,8 @@ returns-then-relevant-range c =
     λ L k.
     marked_as c.mark_row.ensures
     (λ v h. sym
-    (within-literal L (of v) a.args.b.now a.requires.0.indexed.readable a.args.range k.bounds (at there.before.before.before.before.before.before.before L k) here.if-relevant-range.true))
+    (within-literal L (of v) a.args.b.now a.requires.0.indexed.readable a.args.range k.bounds (at (to_after_relevant_subtree_relevant (to_then_relevant_range there.before)) L k)
+    here.if-relevant-range.true))
 
 before : (c : tie.Else-relevant-range) → c.relevant_subtree-relevant.result.operator < c.args.range.first
 before c =
@@ -63,7 +77,8 @@ returns c =
     λ L k.
     marked_as (c.mark_children.ensures L a.args.range.last k)
     (λ v h. sym
-    (within_operator L (of v) a.args.b.now a.requires.0.indexed.readable a.args.range k.bounds (at there.before.before.before.before.before.before.before L k) here.if-relevant-range.false))
+    (within_operator L (of v) a.args.b.now a.requires.0.indexed.readable a.args.range k.bounds
+    (at (to_after_relevant_subtree_relevant_from_else_relevant_range (to_else_relevant_range there.before)) L k) here.if-relevant-range.false))
 
 pub mark_relevant_spec : {M : Type 1} → statement M
 mark_relevant_spec =

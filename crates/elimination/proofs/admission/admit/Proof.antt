@@ -11,6 +11,10 @@ use Rattle.elimination.specs.Admission.{admission_tests, Admits}
 use Rattle.elimination.proofs.admission.admit.Statement.{statement}
 use Rattle.elimination.proofs.admission.admit.Tie as tie
 
+-- places in the code, each from a later one
+abbrev to_in_Accepted : tie.After-ends-1 → tie.In-Accepted
+to_in_Accepted c = c.before.before.before
+
 check-c-requires : tie.Need-check-c-requires
 check-c-requires c κs = search rules
 
@@ -43,7 +47,7 @@ returns-in-Accepted c =
     let admitted = c in
     let told = admitted in
     let a = told.args in
-    subst (λ f. Admits f a.sheet.now a.x admitted.admit_checked.new.ends admitted.admit_checked.result) (sheet_format (checked told.before.before.before.before)) admitted.admit_checked.ensures
+    subst (λ f. Admits f a.sheet.now a.x admitted.admit_checked.new.ends admitted.admit_checked.result) (sheet_format (checked (to_in_Accepted told.before))) admitted.admit_checked.ensures
 
 pub admit_spec : {M : Type 1} → statement M
 admit_spec =

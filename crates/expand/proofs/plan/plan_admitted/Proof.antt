@@ -13,6 +13,16 @@ use Rattle.expand.proofs.Deciding.{not-innermost, priced, planned}
 use Rattle.expand.proofs.plan.plan_admitted.Statement.{statement}
 use Rattle.expand.proofs.plan.plan_admitted.Tie as tie
 
+-- places in the code, each from a later one
+abbrev to_after_next_in_Inside_1 : tie.After-cuts-1 → tie.After-next-in-Inside-1
+to_after_next_in_Inside_1 c = c.before.before.before
+
+abbrev to_in_Inside : tie.After-next-in-Inside-1 → tie.In-Inside
+to_in_Inside c = c.before.before.before
+
+abbrev to_after_draft_d : tie.After-survey_draft → tie.After-draft-d
+to_after_draft_d c = c.before.before.before
+
 slice_bounds-find_price-end : tie.Need-slice_bounds-find_price-end
 slice_bounds-find_price-end c = search rules
 
@@ -85,9 +95,12 @@ returns-in-Inside c =
     let d = surveyed in
     let told = d in
     let a = told in
-    let k = price told.before.before.before.before.before.before.before in
-    let v = surveyed.survey_draft.ensures _ (drafted d.before.before.before.before.before) in
-    (refl, planned a.requires.0 (inside told.before.before.before.before.before.before.before).1 (inside told.before.before.before.before.before.before.before).0 (prepared k (rw d.draft-d.ensures at v)))
+    let k = price (to_in_Inside (to_after_next_in_Inside_1 told.before)) in
+    let v = surveyed.survey_draft.ensures _ (drafted (to_after_draft_d d.before.before)) in (
+      refl,
+      planned a.requires.0 (inside (to_in_Inside (to_after_next_in_Inside_1 told.before))).1 (inside (to_in_Inside (to_after_next_in_Inside_1 told.before))).0
+          (prepared k (rw d.draft-d.ensures at v)),
+    )
 
 pub plan_admitted_spec : {M : Type 1} → statement M
 plan_admitted_spec =

@@ -9,6 +9,10 @@ use Rattle.expand.proofs.Deciding.{refused_before}
 use Rattle.expand.proofs.plan.plan_expand.Statement.{statement}
 use Rattle.expand.proofs.plan.plan_expand.Tie as tie
 
+-- places in the code, each from a later one
+abbrev to_in_Admitted : tie.After-plan_admitted → tie.In-Admitted
+to_in_Admitted c = c.before.before.before
+
 slice_bounds-admit-end : tie.Need-slice_bounds-admit-end
 slice_bounds-admit-end c = search rules
 
@@ -53,7 +57,7 @@ returns-in-Admitted c =
     let planned = c in
     let found = planned in
     let a = found.args in
-    let is = admitted found.before.before.before.before.before in
+    let is = admitted (to_in_Admitted found.before.before) in
     subst₂ (λ f y. ExpandPlans f a.sheet.now y planned.plan_admitted.new.cuts planned.plan_admitted.result) is.0 is.1
     planned.plan_admitted.ensures
 

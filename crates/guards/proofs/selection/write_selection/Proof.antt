@@ -9,16 +9,32 @@ use borrow.Author.Rules.{rules}
 use Rattle.guards.proofs.selection.write_selection.Statement.{statement}
 use Rattle.guards.proofs.selection.write_selection.Tie as tie
 
+-- places in the code, each from a later one
+abbrev to_after_write_rows_top : tie.After-write_row-arg-1 → tie.After-write_rows-top
+to_after_write_rows_top c = c.before.before.before
+
+abbrev to_after_write_row_below : tie.After-write_kept-arg-1 → tie.After-write_row-below
+to_after_write_row_below c = c.before.before.before
+
+abbrev to_after_struct_known_2_1 : tie.After-write_rows-arg-2-1 → tie.After-struct_known-2-1
+to_after_struct_known_2_1 c = c.before.before.before
+
+abbrev to_after_write_kept_next : tie.After-struct_known-2-1 → tie.After-write_kept-next
+to_after_write_kept_next c = c.before.before.before
+
+abbrev to_after_write_rows_arg_2_1 : tie.After-slice_known-5-1 → tie.After-write_rows-arg-2-1
+to_after_write_rows_arg_2_1 c = c.before.before.before
+
 -- the rows of the prefix, of the root and of the children kept are written one after the other
 -- the output is as long as it was
 same_1 : (c : tie.After-write_rows-top) → length c.write_rows-top.new.out ≡ length c.args.out.now
 same_1 c = c.write_rows-top.auto.out
 
 same_2 : (c : tie.After-write_row-below) → length c.write_row-below.new.out ≡ length c.args.out.now
-same_2 c = c.write_row-below.auto.out ∙ same_1 c.before.before.before.before
+same_2 c = c.write_row-below.auto.out ∙ same_1 (to_after_write_rows_top c.before)
 
 same_3 : (c : tie.After-write_kept-next) → length c.write_kept-next.new.out ≡ length c.args.out.now
-same_3 c = c.write_kept-next.auto.out ∙ same_2 c.before.before.before.before
+same_3 c = c.write_kept-next.auto.out ∙ same_2 (to_after_write_row_below c.before)
 
 overflow_add-t : tie.Need-overflow_add-t
 overflow_add-t c = search rules
@@ -63,7 +79,7 @@ write_rows-requires c κs =
     let a = wrote in
     let h = a.requires.0 in
     let top = wrote.write_rows-top.ensures.1 in (
-      ready_on (part_ready h a.args.out.now a.requires.1) (same_3 wrote.before.before.before.before.before.before),
+      ready_on (part_ready h a.args.out.now a.requires.1) (same_3 (to_after_write_kept_next (to_after_struct_known_2_1 wrote))),
       record { ordered = omega (arith, h.rest_within); inside = omega arith },
       omega (arith, h.rest_within, top, wrote.write_row-below.ensures.next_row, wrote.write_kept-next.ensures.next_row, both_long h),
     )
@@ -78,7 +94,7 @@ returns c =
     let h = kept.requires in
     let first = kept.write_rows-top.ensures in (
       refl,
-      part_written h.0 (part_room h.0 (room_on h.1 (last.write_rows.auto.out ∙ same_3 kept.before.before.before.before.before.before.before.before.before)))
+      part_written h.0 (part_room h.0 (room_on h.1 (last.write_rows.auto.out ∙ same_3 (to_after_write_kept_next (to_after_struct_known_2_1 (to_after_write_rows_arg_2_1 kept))))))
           (omega (arith, first.1)) first.0 kept.write_row-below.ensures kept.write_kept-next.ensures last.write_rows.ensures.0,
     )
 

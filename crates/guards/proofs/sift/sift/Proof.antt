@@ -29,6 +29,52 @@ invariant-loop-g b s ends kept₀ first₀ second₀ g₀ kept first second g =
 abbrev decreases-loop-g : tie.decreases-loop-g
 decreases-loop-g b s ends kept₀ first₀ second₀ g₀ kept first second g = g.left
 
+-- places in the code, each from a later one
+abbrev to_after_children_at : tie.In-loop-g invariant-loop-g decreases-loop-g → tie.After-children_at invariant-loop-g decreases-loop-g
+to_after_children_at c = c.before.before.before
+
+abbrev to_after_slice_known_1 : tie.After-children_at invariant-loop-g decreases-loop-g → tie.After-slice_known-1 invariant-loop-g decreases-loop-g
+to_after_slice_known_1 c = c.before.before.before
+
+abbrev to_start : tie.After-slice_known-1 invariant-loop-g decreases-loop-g → tie.Start invariant-loop-g decreases-loop-g
+to_start c = c.before.before.before
+
+abbrev to_in_loop_g : tie.After-struct_known-in-loop-g-2-1 invariant-loop-g decreases-loop-g → tie.In-loop-g invariant-loop-g decreases-loop-g
+to_in_loop_g c = c.before.before.before
+
+abbrev to_after_write_selection_t : tie.After-run_raw-arg-1 invariant-loop-g decreases-loop-g → tie.After-write_selection-t invariant-loop-g decreases-loop-g
+to_after_write_selection_t c = c.before.before.before
+
+abbrev to_after_struct_known_in_loop_g_2_1 : tie.After-write_selection-t invariant-loop-g decreases-loop-g → tie.After-struct_known-in-loop-g-2-1 invariant-loop-g decreases-loop-g
+to_after_struct_known_in_loop_g_2_1 c = c.before.before.before
+
+abbrev to_after_first_in_loop_g_1 : tie.After-slice_known-in-loop-g-3-1 invariant-loop-g decreases-loop-g → tie.After-first-in-loop-g-1 invariant-loop-g decreases-loop-g
+to_after_first_in_loop_g_1 c = c.before.before.before
+
+abbrev to_after_run_raw_arg_1 : tie.After-first-in-loop-g-1 invariant-loop-g decreases-loop-g → tie.After-run_raw-arg-1 invariant-loop-g decreases-loop-g
+to_after_run_raw_arg_1 c = c.before.before.before
+
+abbrev to_after_slice_known_in_loop_g_2_1 : tie.After-heard-said invariant-loop-g decreases-loop-g → tie.After-slice_known-in-loop-g-2-1 invariant-loop-g decreases-loop-g
+to_after_slice_known_in_loop_g_2_1 c = c.before.before.before
+
+abbrev to_after_run_raw_arg_in_loop_g_1 : tie.After-slice_known-in-loop-g-2-1 invariant-loop-g decreases-loop-g → tie.After-run_raw-arg-in-loop-g-1 invariant-loop-g decreases-loop-g
+to_after_run_raw_arg_in_loop_g_1 c = c.before.before.before
+
+abbrev to_after_first_1 : tie.After-run_raw-arg-in-loop-g-1 invariant-loop-g decreases-loop-g → tie.After-first-1 invariant-loop-g decreases-loop-g
+to_after_first_1 c = c.before.before.before
+
+abbrev to_after_struct_known_in_loop_g_3_1 : tie.After-first-1 invariant-loop-g decreases-loop-g → tie.After-struct_known-in-loop-g-3-1 invariant-loop-g decreases-loop-g
+to_after_struct_known_in_loop_g_3_1 c = c.before.before.before
+
+abbrev to_after_shared_slice_known_in_loop_g_1 : tie.After-struct_known-in-loop-g-3-1 invariant-loop-g decreases-loop-g → tie.After-shared_slice_known-in-loop-g-1 invariant-loop-g decreases-loop-g
+to_after_shared_slice_known_in_loop_g_1 c = c.before.before.before
+
+abbrev to_at_loop_g : tie.After-shared_slice_known-in-loop-g-1 invariant-loop-g decreases-loop-g → tie.At-loop-g invariant-loop-g decreases-loop-g
+to_at_loop_g c = c.before.before.before
+
+abbrev to_after_children_at_from_after_loop_g : tie.After-loop-g invariant-loop-g decreases-loop-g → tie.After-children_at invariant-loop-g decreases-loop-g
+to_after_children_at_from_after_loop_g c = c.before.before.before
+
 -- where the function begins, and a turn: a child is left, the rows of its try are written, the run is heard
 abbrev most : tie.Start invariant-loop-g decreases-loop-g → ℕ
 most a = room a.args.first.now a.args.second.now
@@ -45,7 +91,7 @@ walk : (c : tie.In-loop-g invariant-loop-g decreases-loop-g)
     Walked a.s a.b.now a.ends.now c.loop-g.g.at c.loop-g.g.left
 walk c =
     let a = c in
-    walked a.args.s a.args.b.now (most a.before.before.before.before.before.before.before.before.before) a.requires.0 a.requires.1 (more c) c.loop-g.invariant.0
+    walked a.args.s a.args.b.now (most (to_start (to_after_slice_known_1 (to_after_children_at a)))) a.requires.0 a.requires.1 (more c) c.loop-g.invariant.0
 
 -- all numbers are small
 small : (c : tie.In-loop-g invariant-loop-g decreases-loop-g)
@@ -62,17 +108,17 @@ small c =
       omega (arith, w.next),
       w.next_within,
       a.requires.1.readable.few_nodes,
-      kept_few a.args.s a.args.b.now (most a.before.before.before.before.before.before.before.before.before) a.requires.0 i.0,
+      kept_few a.args.s a.args.b.now (most (to_start (to_after_slice_known_1 (to_after_children_at a)))) a.requires.0 i.0,
       i.0.below,
       i.0.few_stops,
-      left_few a.args.s a.args.b.now (most a.before.before.before.before.before.before.before.before.before) a.requires.0 a.requires.1 (more c) i.0,
+      left_few a.args.s a.args.b.now (most (to_start (to_after_slice_known_1 (to_after_children_at a)))) a.requires.0 a.requires.1 (more c) i.0,
       i.1,
       a.requires.2,
       more c,
     )
 
 -- the work buffers are as long as they were
-same_room : (c : tie.In-loop-g invariant-loop-g decreases-loop-g) → room c.loop-g.first c.loop-g.second ≡ most c.before.before.before.before.before.before.before.before.before
+same_room : (c : tie.In-loop-g invariant-loop-g decreases-loop-g) → room c.loop-g.first c.loop-g.second ≡ most (to_start (to_after_slice_known_1 (to_after_children_at c)))
 same_room c = ap₂ min c.loop-g.invariant.2 c.loop-g.invariant.3
 
 -- the children kept and those behind the child at hand
@@ -88,7 +134,7 @@ without : (c : tie.In-loop-g invariant-loop-g decreases-loop-g)
 without c =
     let a = c in
     subst (Tried a.args.s a.args.b.now a.args.ends.now _ _) (sym (same_room c))
-    (tried a.args.s a.args.b.now (most a.before.before.before.before.before.before.before.before.before) a.requires.0 a.requires.1 (more c) c.loop-g.invariant.0)
+    (tried a.args.s a.args.b.now (most (to_start (to_after_slice_known_1 (to_after_children_at a)))) a.requires.0 a.requires.1 (more c) c.loop-g.invariant.0)
 
 -- the first work buffer is as long after a try's rows are written
 room_left : (c : tie.After-write_selection-t invariant-loop-g decreases-loop-g)
@@ -102,7 +148,7 @@ children_at-requires c κs = let h = c.requires.1.readable in (h, h.some_nodes)
 loop-g-init : tie.Need-loop-g-init invariant-loop-g decreases-loop-g
 loop-g-init c =
     let a = c in (
-      first_turn a.args.s a.args.b.now (most a.before.before.before.before.before.before) a.requires.0 a.args.ends.now a.args.kept.now c.children_at.ensures.0,
+      first_turn a.args.s a.args.b.now (most (to_start (to_after_slice_known_1 a))) a.requires.0 a.args.ends.now a.args.kept.now c.children_at.ensures.0,
       refl,
       refl,
       refl,
@@ -127,42 +173,43 @@ overflow_sub-others-in-loop-g : tie.Need-overflow_sub-others-in-loop-g invariant
 overflow_sub-others-in-loop-g c = (small c.before.before.before).2
 
 overflow_add-others-in-loop-g : tie.Need-overflow_add-others-in-loop-g invariant-loop-g decreases-loop-g
-overflow_add-others-in-loop-g c = omega (arith, small c.before.before.before.before)
+overflow_add-others-in-loop-g c = omega (arith, small (to_in_loop_g c.before))
 
 slice_bounds-write_selection-end : tie.Need-slice_bounds-write_selection-end invariant-loop-g decreases-loop-g
-slice_bounds-write_selection-end c = omega (arith, small c.before.before.before.before)
+slice_bounds-write_selection-end c = omega (arith, small (to_in_loop_g c.before))
 
 slice_bounds-write_selection-end-in-loop-g : tie.Need-slice_bounds-write_selection-end-in-loop-g invariant-loop-g decreases-loop-g
 slice_bounds-write_selection-end-in-loop-g c =
     let turn = c in
-    sym (length-take-le _ turn.loop-g.kept (omega (arith, small turn.before.before.before.before)))
+    sym (length-take-le _ turn.loop-g.kept (omega (arith, small (to_in_loop_g turn.before))))
 
 write_selection-t-requires : tie.Need-write_selection-t-requires invariant-loop-g decreases-loop-g
 write_selection-t-requires c κs =
-    let w = without c.before.before.before.before.before in
+    let w = without (to_in_loop_g c.before.before) in
     (w.chosen, record { holds = omega (arith, w.has_room) })
 
 run_raw-answer-requires : tie.Need-run_raw-answer-requires invariant-loop-g decreases-loop-g
 run_raw-answer-requires c κs =
     let w = c in
     let part = w.write_selection-t in
-    part_raw (without w.before.before.before.before.before.before.before.before.before.before) part.result _ w.loop-g.second part.ensures.0 part.ensures.1 (room_left w.before.before.before.before)
+    part_raw (without (to_in_loop_g (to_after_struct_known_in_loop_g_2_1 (to_after_write_selection_t w.before)))) part.result _ w.loop-g.second part.ensures.0 part.ensures.1
+    (room_left (to_after_write_selection_t w.before))
 
 heard-said-requires : tie.Need-heard-said-requires invariant-loop-g decreases-loop-g
 heard-said-requires c κs = search rules
 
 overflow_cast-kept : tie.Need-overflow_cast-kept invariant-loop-g decreases-loop-g
-overflow_cast-kept c = omega (arith, small c.before.before.before.before.before.before.before.before.before.before.before.before.before.before.before.before)
+overflow_cast-kept c = omega (arith, small (to_in_loop_g (to_after_struct_known_in_loop_g_2_1 (to_after_write_selection_t (to_after_run_raw_arg_1 (to_after_first_in_loop_g_1 c.before))))))
 
 offset_bounds-kept-count : tie.Need-offset_bounds-kept-count invariant-loop-g decreases-loop-g
-offset_bounds-kept-count c = omega (arith, small c.before.before.before.before.before.before.before.before.before.before.before.before.before.before.before.before)
+offset_bounds-kept-count c = omega (arith, small (to_in_loop_g (to_after_struct_known_in_loop_g_2_1 (to_after_write_selection_t (to_after_run_raw_arg_1 (to_after_first_in_loop_g_1 c.before))))))
 
 bounds-kept-count : tie.Need-bounds-kept-count invariant-loop-g decreases-loop-g
-bounds-kept-count c = omega (arith, small c.before.before.before.before.before.before.before.before.before.before.before.before.before.before.before.before)
+bounds-kept-count c = omega (arith, small (to_in_loop_g (to_after_struct_known_in_loop_g_2_1 (to_after_write_selection_t (to_after_run_raw_arg_1 (to_after_first_in_loop_g_1 c.before))))))
 
 judge-g-requires : tie.Need-judge-g-requires invariant-loop-g decreases-loop-g
 judge-g-requires c κs =
-    let l = small c.before.before.before.before.before.before.before.before.before.before.before.before.before.before.before.before in
+    let l = small (to_in_loop_g (to_after_struct_known_in_loop_g_2_1 (to_after_write_selection_t (to_after_run_raw_arg_1 (to_after_first_in_loop_g_1 c.before))))) in
     (l.1, l.10, omega (arith, l), omega (arith, l), omega (arith, l), omega (arith, l))
 
 loop-g-smaller : tie.Need-loop-g-smaller invariant-loop-g decreases-loop-g
@@ -172,8 +219,10 @@ loop-g-smaller c =
     omega (
       arith,
       ap (λ (g : Sieve). g.left) c.judge-g.ensures,
-      judged-left now.loop-g.g heard.heard-said.result (end now.before.before.before.before.before.before.before.before.before.before.before.before.before.before.before.before.before.before.before),
-      more now.before.before.before.before.before.before.before.before.before.before.before.before.before.before.before.before.before,
+      judged-left now.loop-g.g heard.heard-said.result
+          (end (to_at_loop_g (to_after_shared_slice_known_in_loop_g_1
+          (to_after_struct_known_in_loop_g_3_1 (to_after_first_1 (to_after_run_raw_arg_in_loop_g_1 (to_after_slice_known_in_loop_g_2_1 now.before))))))),
+      more (to_in_loop_g (to_after_struct_known_in_loop_g_2_1 (to_after_write_selection_t (to_after_run_raw_arg_1 (to_after_first_in_loop_g_1 now.before.before))))),
     )
 
 loop-g-preserved : tie.Need-loop-g-preserved invariant-loop-g decreases-loop-g
@@ -189,13 +238,33 @@ loop-g-preserved c =
     let b = a.args.b.now in
     let part = w.write_selection-t in
     let word = heard.heard-said in
-    let said : Says word.result (says (fits F (most a.before.before.before.before.before.before.before.before.before.before.before.before.before.before.before.before.before.before.before.before.before.before.before.before.before.before)) (prefix_in s b) _)
-    = subst₂ (λ (m : ℕ) (us : Forest). Says word.result (says (fits F m) (prefix_in s b) us)) (same_room now.before.before.before.before.before.before.before.before.before.before.before.before.before.before.before.before.before)
-    (tried_read s b (most a.before.before.before.before.before.before.before.before.before.before.before.before.before.before.before.before.before.before.before.before.before.before.before.before.before.before) a.requires.0 a.requires.1 (more now.before.before.before.before.before.before.before.before.before.before.before.before.before.before.before.before.before) l.invariant.0)
-    (part_said (without now.before.before.before.before.before.before.before.before.before.before.before.before.before.before.before.before.before) part.result _ l.second part.ensures.0 part.ensures.1 (room_left w.before.before.before.before.before.before.before.before.before.before.before) run.run_raw-answer.result word.ensures
+    let said : Says word.result
+    (says (fits F (most (to_start
+    (to_after_slice_known_1
+    (to_after_children_at (to_in_loop_g (to_after_struct_known_in_loop_g_2_1 (to_after_write_selection_t (to_after_run_raw_arg_1 (to_after_first_in_loop_g_1 a.before.before))))))))))
+    (prefix_in s b) _)
+    = subst₂ (λ (m : ℕ) (us : Forest). Says word.result (says (fits F m) (prefix_in s b) us))
+    (same_room (to_in_loop_g (to_after_struct_known_in_loop_g_2_1 (to_after_write_selection_t (to_after_run_raw_arg_1 (to_after_first_in_loop_g_1 now.before.before))))))
+    (tried_read s b (most
+    (to_start (to_after_slice_known_1
+    (to_after_children_at (to_in_loop_g (to_after_struct_known_in_loop_g_2_1 (to_after_write_selection_t (to_after_run_raw_arg_1 (to_after_first_in_loop_g_1 a.before.before)))))))))
+    a.requires.0 a.requires.1
+    (more (to_in_loop_g (to_after_struct_known_in_loop_g_2_1 (to_after_write_selection_t (to_after_run_raw_arg_1 (to_after_first_in_loop_g_1 now.before.before)))))) l.invariant.0)
+    (part_said (without (to_in_loop_g (to_after_struct_known_in_loop_g_2_1 (to_after_write_selection_t (to_after_run_raw_arg_1 (to_after_first_in_loop_g_1 now.before.before)))))) part.result _
+    l.second part.ensures.0 part.ensures.1 (room_left (to_after_write_selection_t (to_after_run_raw_arg_1 (to_after_first_in_loop_g_1 w.before.before)))) run.run_raw-answer.result word.ensures
     run.run_raw-answer.ensures) in (
-      subst (Sifting s b (most a.before.before.before.before.before.before.before.before.before.before.before.before.before.before.before.before.before.before.before.before.before.before.before.before.before.before) a.args.ends.now _) (sym c.judge-g.ensures)
-          (next_turn s b (most a.before.before.before.before.before.before.before.before.before.before.before.before.before.before.before.before.before.before.before.before.before.before.before.before.before.before) a.requires.0 a.requires.1 (more now.before.before.before.before.before.before.before.before.before.before.before.before.before.before.before.before.before) l.invariant.0 _ refl (omega (arith, small now.before.before.before.before.before.before.before.before.before.before.before.before.before.before.before.before.before)) word.result said),
+      subst (Sifting s b (most
+          (to_start (to_after_slice_known_1
+          (to_after_children_at (to_in_loop_g (to_after_struct_known_in_loop_g_2_1 (to_after_write_selection_t (to_after_run_raw_arg_1 (to_after_first_in_loop_g_1 a.before.before)))))))))
+          a.args.ends.now _) (sym c.judge-g.ensures)
+          (next_turn s b (most (to_start
+          (to_after_slice_known_1
+          (to_after_children_at (to_in_loop_g (to_after_struct_known_in_loop_g_2_1 (to_after_write_selection_t (to_after_run_raw_arg_1 (to_after_first_in_loop_g_1 a.before.before)))))))))
+          a.requires.0 a.requires.1
+          (more (to_in_loop_g (to_after_struct_known_in_loop_g_2_1 (to_after_write_selection_t (to_after_run_raw_arg_1 (to_after_first_in_loop_g_1 now.before.before))))))
+          l.invariant.0 _ refl (omega
+          (arith, small (to_in_loop_g (to_after_struct_known_in_loop_g_2_1 (to_after_write_selection_t (to_after_run_raw_arg_1 (to_after_first_in_loop_g_1 now.before.before)))))))
+          word.result said),
       length-set l.kept l.g.guards l.g.at ∙ l.invariant.1,
       run.run_raw-answer.auto.first ∙ part.auto.out ∙ l.invariant.2,
       run.run_raw-answer.auto.second ∙ l.invariant.3,
@@ -214,7 +283,8 @@ returns : tie.Need-returns invariant-loop-g decreases-loop-g
 returns c =
     let at = c in
     let a = at in
-    last_turn a.args.s a.args.b.now (most a.before.before.before.before.before.before.before.before.before) a.requires.0 a.requires.1.holds (omega (arith, c.loop-g-test.false)) at.loop-g.invariant.0
+    last_turn a.args.s a.args.b.now (most (to_start (to_after_slice_known_1 (to_after_children_at_from_after_loop_g a)))) a.requires.0 a.requires.1.holds (omega (arith, c.loop-g-test.false))
+    at.loop-g.invariant.0
 
 pub sift_spec : {M : Type 1} → statement M
 sift_spec =

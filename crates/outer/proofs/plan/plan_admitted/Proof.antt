@@ -14,6 +14,25 @@ use Rattle.outer.proofs.Deciding.{Counted, located, second_size, distinct_here, 
 use Rattle.outer.proofs.plan.plan_admitted.Statement.{statement}
 use Rattle.outer.proofs.plan.plan_admitted.Tie as tie
 
+-- places in the code, each from a later one
+abbrev to_after_set_4_1 : tie.After-fill_tables-arg-1 → tie.After-set-4-1
+to_after_set_4_1 c = c.before.before.before
+
+abbrev to_after_most_variables_highest : tie.After-set-4-1 → tie.After-most_variables-highest
+to_after_most_variables_highest c = c.before.before.before
+
+abbrev to_after_next_3_1 : tie.After-cuts-1 → tie.After-next-3-1
+to_after_next_3_1 c = c.before.before.before
+
+abbrev to_after_next_1 : tie.After-next-3-1 → tie.After-next-1
+to_after_next_1 c = c.before.before.before
+
+abbrev to_after_slice_known_3_1 : tie.After-next-1 → tie.After-slice_known-3-1
+to_after_slice_known_3_1 c = c.before.before.before
+
+abbrev to_after_fill_tables_arg_1 : tie.After-slice_known-3-1 → tie.After-fill_tables-arg-1
+to_after_fill_tables_arg_1 c = c.before.before.before
+
 -- the variable is one block out
 abbrev members : tie.Else-not-find_dependents → List ℕ
 members c = c.find_dependents.new.set
@@ -87,7 +106,7 @@ fill_tables-requires c κs =
     let e = c in
     let a = e in
     let d = a.requires.0 in
-    let k = counted e.before.before.before.before.before.before in
+    let k = counted (to_after_most_variables_highest (to_after_set_4_1 e)) in
     let most = (limits a.args.t.layout.format).few_variables in (
       (d.indexed.readable, sheet-numbered d.sheet, k.found.words, omega (arith, k.highest_is, most), d.named.few, a.requires.1),
       room-for-all a.args.t d k e.if-highest-s.false,
@@ -148,7 +167,7 @@ returns c =
     let fill = drafted in
     let e = fill in
     let a = e in
-    let k = counted e.before.before.before.before.before.before.before.before.before.before.before.before.before.before.before.before.before.before.before in
+    let k = counted (to_after_most_variables_highest (to_after_set_4_1 (to_after_fill_tables_arg_1 (to_after_slice_known_3_1 (to_after_next_1 (to_after_next_3_1 e.before)))))) in
     let f = formula_in a.args.t.layout a.args.sheet.now in
     let low = fill.lowest_dependent-lowest.ensures a.args.t.variable f k.found in (
       refl,

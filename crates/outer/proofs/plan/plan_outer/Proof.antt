@@ -9,6 +9,13 @@ use Rattle.outer.proofs.Deciding.{refused_before}
 use Rattle.outer.proofs.plan.plan_outer.Statement.{statement}
 use Rattle.outer.proofs.plan.plan_outer.Tie as tie
 
+-- places in the code, each from a later one
+abbrev to_after_plan_admitted_arg_in_Admitted_1 : tie.After-slice_known-in-Admitted-1 → tie.After-plan_admitted-arg-in-Admitted-1
+to_after_plan_admitted_arg_in_Admitted_1 c = c.before.before.before
+
+abbrev to_in_Admitted : tie.After-plan_admitted-arg-in-Admitted-1 → tie.In-Admitted
+to_in_Admitted c = c.before.before.before
+
 -- tests 1 to 10 admit the variable
 admitted : (c : tie.In-Admitted)
     → let k = c in
@@ -57,7 +64,7 @@ returns-in-Admitted c =
     let plan = c in
     let told = plan in
     let b = told.args.sheet.now in
-    let is = admitted told.before.before.before.before.before.before.before.before in
+    let is = admitted (to_in_Admitted (to_after_plan_admitted_arg_in_Admitted_1 told.before.before)) in
     let r = plan.plan_admitted in
     subst₂ (λ f y. OuterPlans f b y r.new.tables r.new.cuts r.result) is.0 is.1 r.ensures
 

@@ -20,6 +20,16 @@ invariant-loop-j b s exists places cuts seen₀ v j₀ seen j = Marking (side ex
 abbrev decreases-loop-j : tie.decreases-loop-j
 decreases-loop-j b s exists places cuts seen₀ v j₀ seen j = j
 
+-- places in the code, each from a later one
+abbrev to_in_loop_j : tie.After-argument_at-x invariant-loop-j decreases-loop-j → tie.In-loop-j invariant-loop-j decreases-loop-j
+to_in_loop_j c = c.before.before.before
+
+abbrev to_after_argument_at_x : tie.Then-seen-x invariant-loop-j decreases-loop-j → tie.After-argument_at-x invariant-loop-j decreases-loop-j
+to_after_argument_at_x c = c.before.before.before
+
+abbrev to_after_argument_at_x_from_else_seen_x : tie.Else-seen-x invariant-loop-j decreases-loop-j → tie.After-argument_at-x invariant-loop-j decreases-loop-j
+to_after_argument_at_x_from_else_seen_x c = c.before.before.before
+
 -- the pair at hand
 here : (c : tie.In-loop-j invariant-loop-j decreases-loop-j) → suc (c.loop-j.j - 1) < length c.args.cuts.now
 here c =
@@ -81,7 +91,7 @@ returns-then-not-own c =
     let a = t in
     let i = t.loop-j.j - 1 in (
       not-owned (side a.args.exists) (prefix_in a.args.s a.args.b.now) (pairs_in a.args.s a.args.b.now) {i = i} t.loop-j.invariant (omega (arith, t.loop-j-test.true))
-          (opened a.args.b.now a.requires.1 i (here t.before.before.before.before)) (literal-variable a.args.b.now a.requires.1 i (here t.before.before.before.before) (omega arith) refl)
+          (opened a.args.b.now a.requires.1 i (here (to_in_loop_j t.before))) (literal-variable a.args.b.now a.requires.1 i (here (to_in_loop_j t.before)) (omega arith) refl)
           (sym d.is_own-own.ensures ∙ c.if-not-own.true),
       λ e. absurd (false≢true e),
     )
@@ -105,7 +115,8 @@ returns-then-seen-x c =
     let a = t in
     let i = t.loop-j.j - 1 in (
       met-twice (side a.args.exists) (prefix_in a.args.s a.args.b.now) (pairs_in a.args.s a.args.b.now) {i = i} t.loop-j.invariant (omega (arith, t.loop-j-test.true))
-          (opened a.args.b.now a.requires.1 i (here t.before.before.before.before.before.before)) (literal-variable a.args.b.now a.requires.1 i (here t.before.before.before.before.before.before) (omega arith) d.argument_at-x.ensures.0)
+          (opened a.args.b.now a.requires.1 i (here (to_in_loop_j (to_after_argument_at_x t))))
+          (literal-variable a.args.b.now a.requires.1 i (here (to_in_loop_j (to_after_argument_at_x t))) (omega arith) d.argument_at-x.ensures.0)
           c.if-seen-x.true,
       λ e. absurd (false≢true e),
     )
@@ -123,7 +134,8 @@ loop-j-preserved c =
     let a = t in
     let i = t.loop-j.j - 1 in
     marking_on (side a.args.exists) (prefix_in a.args.s a.args.b.now) (pairs_in a.args.s a.args.b.now) {i = i} t.loop-j.invariant (omega (arith, t.loop-j-test.true))
-    (opened a.args.b.now a.requires.1 i (here t.before.before.before.before.before.before)) (literal-variable a.args.b.now a.requires.1 i (here t.before.before.before.before.before.before) (omega arith) d.argument_at-x.ensures.0)
+    (opened a.args.b.now a.requires.1 i (here (to_in_loop_j (to_after_argument_at_x_from_else_seen_x t))))
+    (literal-variable a.args.b.now a.requires.1 i (here (to_in_loop_j (to_after_argument_at_x_from_else_seen_x t))) (omega arith) d.argument_at-x.ensures.0)
     (ap (owns (side a.args.exists) (prefix_in a.args.s a.args.b.now)) d.argument_at-x.ensures.0 ∙ sym d.is_own-own.ensures ∙
     c.if-not-own.false) c.if-seen-x.false (small d.before.before.before)
 

@@ -24,6 +24,16 @@ invariant-loop-j b s exists places cuts levels₀ v j₀ levels j = Levelling (s
 abbrev decreases-loop-j : tie.decreases-loop-j
 decreases-loop-j b s exists places cuts levels₀ v j₀ levels j = j
 
+-- places in the code, each from a later one
+abbrev to_in_loop_j : tie.After-deepest_in-level invariant-loop-j decreases-loop-j → tie.In-loop-j invariant-loop-j decreases-loop-j
+to_in_loop_j c = c.before.before.before
+
+abbrev to_after_deepest_in_level : tie.Then-place-level invariant-loop-j decreases-loop-j → tie.After-deepest_in-level invariant-loop-j decreases-loop-j
+to_after_deepest_in_level c = c.before.before.before
+
+abbrev to_after_deepest_in_level_from_else_place_level : tie.Else-place-level invariant-loop-j decreases-loop-j → tie.After-deepest_in-level invariant-loop-j decreases-loop-j
+to_after_deepest_in_level_from_else_place_level c = c.before.before.before
+
 -- the pair at hand
 abbrev pair : tie.In-loop-j invariant-loop-j decreases-loop-j → ℕ
 pair c = c.loop-j.j - 1
@@ -125,13 +135,13 @@ place_at-place-requires : tie.Need-place_at-place-requires invariant-loop-j decr
 place_at-place-requires c κs = let t = c in (t.requires.0, bound t.before.before.before)
 
 overflow_add-v-in-loop-j-2 : tie.Need-overflow_add-v-in-loop-j-2 invariant-loop-j decreases-loop-j
-overflow_add-v-in-loop-j-2 c = let t = c in omega (arith, few t.before.before.before.before, t.requires.1.readable.few_variables)
+overflow_add-v-in-loop-j-2 c = let t = c in omega (arith, few (to_in_loop_j t.before), t.requires.1.readable.few_variables)
 
 overflow_add-v-in-loop-j-3 : tie.Need-overflow_add-v-in-loop-j-3 invariant-loop-j decreases-loop-j
-overflow_add-v-in-loop-j-3 c = let t = c in omega (arith, few t.before.before.before.before, t.requires.1.readable.few_variables)
+overflow_add-v-in-loop-j-3 c = let t = c in omega (arith, few (to_in_loop_j t.before), t.requires.1.readable.few_variables)
 
 argument_at-x-requires : tie.Need-argument_at-x-requires invariant-loop-j decreases-loop-j
-argument_at-x-requires c κs = let t = c in (t.requires.1.readable.room, (bound t.before.before.before.before).inside)
+argument_at-x-requires c κs = let t = c in (t.requires.1.readable.room, (bound (to_in_loop_j t.before)).inside)
 
 -- the level is that of the pair's function, and the place is its variable's
 level_is : (c : tie.After-argument_at-x invariant-loop-j decreases-loop-j)
@@ -139,25 +149,26 @@ level_is : (c : tie.After-argument_at-x invariant-loop-j decreases-loop-j)
     let a = t in
     c.deepest_in-level.result ≡
     deepest (level_by (side a.args.exists) (prefix_in a.args.s a.args.b.now) t.loop-j.levels)
-    (get_or (pairs_in a.args.s a.args.b.now) (pair t.before.before.before.before.before) no_pair).function
+    (get_or (pairs_in a.args.s a.args.b.now) (pair (to_in_loop_j t.before.before)) no_pair).function
 level_is c =
     let t = c in
     let a = t in
     let d = level_by (side a.args.exists) (prefix_in a.args.s a.args.b.now) t.loop-j.levels in
     c.deepest_in-level.ensures ∙
-    ap (deepest_row d) (function-rows a.args.b.now a.requires.1 (pair t.before.before.before.before.before) (here t.before.before.before.before.before) {span = function t.before.before.before.before.before} (omega arith) (ends_at t.before.before.before.before.before)) ∙
-    deepest-rows d (get_or (pairs_in a.args.s a.args.b.now) (pair t.before.before.before.before.before) no_pair).function
+    ap (deepest_row d) (function-rows a.args.b.now a.requires.1 (pair (to_in_loop_j t.before.before)) (here (to_in_loop_j t.before.before)) {span = function (to_in_loop_j t.before.before)}
+    (omega arith) (ends_at (to_in_loop_j t.before.before))) ∙
+    deepest-rows d (get_or (pairs_in a.args.s a.args.b.now) (pair (to_in_loop_j t.before.before)) no_pair).function
 
 place_is : (c : tie.After-argument_at-x invariant-loop-j decreases-loop-j)
     → let t = c in
     let a = t in
     c.place_at-place.result ≡
-    place (get_or (pairs_in a.args.s a.args.b.now) (pair t.before.before.before.before.before) no_pair).variable (prefix_in a.args.s a.args.b.now)
+    place (get_or (pairs_in a.args.s a.args.b.now) (pair (to_in_loop_j t.before.before)) no_pair).variable (prefix_in a.args.s a.args.b.now)
 place_is c =
     let t = c in
     let a = t in
     c.place_at-place.ensures.0 ∙
-    ap (λ x. place x (prefix_in a.args.s a.args.b.now)) (literal-variable a.args.b.now a.requires.1 (pair t.before.before.before.before.before) (here t.before.before.before.before.before) (omega arith) refl)
+    ap (λ x. place x (prefix_in a.args.s a.args.b.now)) (literal-variable a.args.b.now a.requires.1 (pair (to_in_loop_j t.before.before)) (here (to_in_loop_j t.before.before)) (omega arith) refl)
 
 shape_of-levels-then-place-level : tie.Need-shape_of-levels-then-place-level invariant-loop-j decreases-loop-j
 shape_of-levels-then-place-level c = let t = c in t.loop-j.invariant.size ∙ sym t.requires.3
@@ -166,9 +177,9 @@ returns-then-place-level : tie.Need-returns-then-place-level invariant-loop-j de
 returns-then-place-level c =
     let t = c in
     let a = t in
-    fault-found (side a.args.exists) (prefix_in a.args.s a.args.b.now) (pairs_in a.args.s a.args.b.now) t.loop-j.invariant (next t.before.before.before.before.before.before)
-    (opened a.args.b.now a.requires.1 (pair t.before.before.before.before.before.before) (here t.before.before.before.before.before.before)) (level_is c.before) (place_is c.before)
-    (ap (λ (l : List ℕ). get_or l (pair t.before.before.before.before.before.before) 0) a.requires.1.are_cuts) c.if-place-level.true
+    fault-found (side a.args.exists) (prefix_in a.args.s a.args.b.now) (pairs_in a.args.s a.args.b.now) t.loop-j.invariant (next (to_in_loop_j (to_after_deepest_in_level t)))
+    (opened a.args.b.now a.requires.1 (pair (to_in_loop_j (to_after_deepest_in_level t))) (here (to_in_loop_j (to_after_deepest_in_level t)))) (level_is c.before) (place_is c.before)
+    (ap (λ (l : List ℕ). get_or l (pair (to_in_loop_j (to_after_deepest_in_level t))) 0) a.requires.1.are_cuts) c.if-place-level.true
 
 low : (c : tie.Else-place-level invariant-loop-j decreases-loop-j) → c.deepest_in-level.result ≤ 1024
 low c =
@@ -177,7 +188,7 @@ low c =
 small : (c : tie.Else-place-level invariant-loop-j decreases-loop-j) → c.argument_at-x.result < 1025
 small c =
     let t = c in
-    omega (arith, c.argument_at-x.ensures.0, t.requires.0.numbered.few_numbers _ (bound t.before.before.before.before.before.before).is_bound)
+    omega (arith, c.argument_at-x.ensures.0, t.requires.0.numbered.few_numbers _ (bound (to_in_loop_j (to_after_deepest_in_level_from_else_place_level t))).is_bound)
 
 overflow_add-levels : tie.Need-overflow_add-levels invariant-loop-j decreases-loop-j
 overflow_add-levels c = omega (arith, low c)
@@ -198,9 +209,11 @@ loop-j-preserved : tie.Need-loop-j-preserved invariant-loop-j decreases-loop-j
 loop-j-preserved c =
     let t = c in
     let a = t in
-    levelling-on (side a.args.exists) (prefix_in a.args.s a.args.b.now) (pairs_in a.args.s a.args.b.now) t.loop-j.invariant (next t.before.before.before.before.before.before)
-    (opened a.args.b.now a.requires.1 (pair t.before.before.before.before.before.before) (here t.before.before.before.before.before.before)) (level_is c.before) (place_is c.before)
-    (literal-variable a.args.b.now a.requires.1 (pair t.before.before.before.before.before.before) (here t.before.before.before.before.before.before) (omega arith) c.argument_at-x.ensures.0) (small c) (add-one _) c.if-place-level.false
+    levelling-on (side a.args.exists) (prefix_in a.args.s a.args.b.now) (pairs_in a.args.s a.args.b.now) t.loop-j.invariant (next (to_in_loop_j (to_after_deepest_in_level_from_else_place_level t)))
+    (opened a.args.b.now a.requires.1 (pair (to_in_loop_j (to_after_deepest_in_level_from_else_place_level t))) (here (to_in_loop_j (to_after_deepest_in_level_from_else_place_level t))))
+    (level_is c.before) (place_is c.before)
+    (literal-variable a.args.b.now a.requires.1 (pair (to_in_loop_j (to_after_deepest_in_level_from_else_place_level t))) (here (to_in_loop_j (to_after_deepest_in_level_from_else_place_level t)))
+    (omega arith) c.argument_at-x.ensures.0) (small c) (add-one _) c.if-place-level.false
 
 shape_of-levels : tie.Need-shape_of-levels invariant-loop-j decreases-loop-j
 shape_of-levels c = c.loop-j.invariant.size ∙ sym c.requires.3

@@ -10,6 +10,16 @@ use Rattle.pair_tests.proofs.Deepest.{operator_level, set-level, unset_level, ow
 use Rattle.pair_tests.proofs.levels.row_level.Statement.{statement}
 use Rattle.pair_tests.proofs.levels.row_level.Tie as tie
 
+-- places in the code, each from a later one
+abbrev to_else_entry_gt0 : tie.Then-is_existential-exists → tie.Else-entry-gt0
+to_else_entry_gt0 c = c.before.before.before
+
+abbrev to_else_kind_at_gt_NEGATIVE : tie.Else-entry-gt0 → tie.Else-kind_at-gt-NEGATIVE
+to_else_kind_at_gt_NEGATIVE c = c.before.before.before
+
+abbrev to_else_entry_gt0_from_else_is_existential_exists : tie.Else-is_existential-exists → tie.Else-entry-gt0
+to_else_entry_gt0_from_else_is_existential_exists c = c.before.before.before
+
 kind_at-requires : tie.Need-kind_at-requires
 kind_at-requires c κs = search rules
 
@@ -63,9 +73,10 @@ returns-then-is_existential-exists c =
     let e = c in
     let d = e in
     let a = d in
-    own_level a.args.b.now a.requires.0 (bound d.before.before.before.before.before.before.before) e.place_at-i.ensures.0 a.args.exists e.is_existential.ensures c.if-is_existential-exists.true ∙
+    own_level a.args.b.now a.requires.0 (bound (to_else_kind_at_gt_NEGATIVE (to_else_entry_gt0 d.before))) e.place_at-i.ensures.0 a.args.exists e.is_existential.ensures
+    c.if-is_existential-exists.true ∙
     sym (unset_level (side a.args.exists) (prefix_in a.args.s a.args.b.now) a.args.levels.now (row_of a.args.s a.args.b.now a.args.r)
-    (low d.before.before.before.before.before.before.before) d.argument_at.ensures.0 refl e.if-entry-gt0.false)
+    (low (to_else_kind_at_gt_NEGATIVE (to_else_entry_gt0 d.before))) d.argument_at.ensures.0 refl e.if-entry-gt0.false)
 
 overflow_add-result-2 : tie.Need-overflow_add-result-2
 overflow_add-result-2 c = search rules
@@ -75,9 +86,10 @@ returns c =
     let e = c in
     let d = e in
     let a = d in
-    other_level a.args.b.now a.requires.0 (bound d.before.before.before.before.before.before) e.place_at-i.ensures.0 a.args.exists e.is_existential.ensures c.if-is_existential-exists.false ∙
+    other_level a.args.b.now a.requires.0 (bound (to_else_kind_at_gt_NEGATIVE (to_else_entry_gt0_from_else_is_existential_exists d))) e.place_at-i.ensures.0 a.args.exists e.is_existential.ensures
+    c.if-is_existential-exists.false ∙
     sym (unset_level (side a.args.exists) (prefix_in a.args.s a.args.b.now) a.args.levels.now (row_of a.args.s a.args.b.now a.args.r)
-    (low d.before.before.before.before.before.before) d.argument_at.ensures.0 refl e.if-entry-gt0.false)
+    (low (to_else_kind_at_gt_NEGATIVE (to_else_entry_gt0_from_else_is_existential_exists d))) d.argument_at.ensures.0 refl e.if-entry-gt0.false)
 
 pub row_level_spec : {M : Type 1} → statement M
 row_level_spec =

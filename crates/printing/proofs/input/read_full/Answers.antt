@@ -17,5 +17,9 @@ take_read a k n xs ys within fits =
     ∙ ap (λ l. take a xs ++ l) (take-append-le n ys (post_of a k xs) fits)
 
 pub loop-done-preserved : goal.loop-done-preserved
-loop-done-preserved g c =
-    (search rules, search rules, subst (Consumes _ _) (sym (take_read _ _ _ _ _ c.loop-done.invariant.0 c.in_ok-count.ensures.bound.0)) (Consumes-trans _ _ _ _ _ c.loop-done.invariant.2 c.in_ok-count.ensures.bytes.0))
+loop-done-preserved g c = (
+  search rules,
+  search rules,
+  subst (Consumes _ _) (sym (take_read _ _ _ _ _ c.loop-done.invariant.0 c.in_ok-count.ensures.bound.0))
+      (Consumes-trans _ _ _ _ _ c.loop-done.invariant.2 c.in_ok-count.ensures.bytes.0),
+)

@@ -14,6 +14,31 @@ use Rattle.qdimacs.proofs.Whole.{ordered_whole, not_listed, too-high, other-coun
 use Rattle.qdimacs.proofs.body.read_body.Statement.{statement}
 use Rattle.qdimacs.proofs.body.read_body.Tie as tie
 
+-- places in the code, each from a later one
+abbrev to_else_c : tie.After-struct_known-3-1 → tie.Else-c
+to_else_c c = c.before.before.before
+
+abbrev to_after_count_clauses_c : tie.Else-c → tie.After-count_clauses-c
+to_after_count_clauses_c c = c.before.before.before
+
+abbrev to_after_struct_known_3_1 : tie.After-read_scanned-arg-1 → tie.After-struct_known-3-1
+to_after_struct_known_3_1 c = c.before.before.before
+
+abbrev to_else_has_above : tie.Else-c-h → tie.Else-has_above
+to_else_has_above c = c.before.before.before
+
+abbrev to_else_not_c : tie.Else-has_above → tie.Else-not-c
+to_else_not_c c = c.before.before.before
+
+abbrev to_else_not_cut : tie.Else-not-c → tie.Else-not-cut
+to_else_not_cut c = c.before.before.before
+
+abbrev to_after_read_scanned_arg_1 : tie.After-slice_known-2-1 → tie.After-read_scanned-arg-1
+to_after_read_scanned_arg_1 c = c.before.before.before
+
+abbrev to_else_c_h : tie.After-out-1 → tie.Else-c-h
+to_else_c_h c = c.before.before.before
+
 prefix_end-cut-requires : tie.Need-prefix_end-cut-requires
 prefix_end-cut-requires c κs = tt
 
@@ -87,8 +112,8 @@ returns-then-c-h c =
     let p = e in
     let a = p.args in
     record {
-      answers = λ t w h. other-count w a.out.now (well e.before.before.before.before.before)
-          (count_said p.before.before.before.before.before.before.before.before (text_header t).clause_count h ∙ ne_eqb p.count_clauses-c.result.count a.h.clauses c.if-c-h.true);
+      answers = λ t w h. other-count w a.out.now (well (to_else_c e.before.before))
+          (count_said (to_after_count_clauses_c (to_else_c p.before.before)) (text_header t).clause_count h ∙ ne_eqb p.count_clauses-c.result.count a.h.clauses c.if-c-h.true);
     }
 
 read_scanned-requires : tie.Need-read_scanned-requires
@@ -99,9 +124,9 @@ read_scanned-requires c κs =
     let ends_at = p.prefix_end-cut.ensures in
     let counts = p.count_clauses-c.ensures in
     record {
-      listed = record { well = well e.before.before.before.before.before.before; below = up_to_more a.args.h.variables (tokens_at a.args.b.now 0) a.requires.0 (low e.before.before.before.before) };
+      listed = record { well = well (to_else_c (to_after_struct_known_3_1 e)); below = up_to_more a.args.h.variables (tokens_at a.args.b.now 0) a.requires.0 (low (to_else_has_above e.before)) };
       inside = ends_at.inside;
-      clauses_from = ends_at.clauses_from (in_order p.before.before.before.before.before.before.before.before.before.before);
+      clauses_from = ends_at.clauses_from (in_order (to_else_not_cut (to_else_not_c (to_else_has_above p.before))));
       clauses_are = counts.count_is;
       words_are = counts.words_are;
       most_is = a.requires.0;
@@ -119,8 +144,9 @@ returns c =
     let a = p.args in
     record {
       answers = λ t w h. read.read_scanned.ensures.answers t w
-          (right-counts w a.out.now (well e.before.before.before.before.before.before.before.before.before) (low e.before.before.before.before.before.before.before)
-          (count_said p.before.before.before.before.before.before.before.before.before.before.before.before (text_header t).clause_count h ∙ eq-eqb p.count_clauses-c.result.count a.h.clauses test.if-c-h.false));
+          (right-counts w a.out.now (well (to_else_c (to_after_struct_known_3_1 (to_after_read_scanned_arg_1 e)))) (low (to_else_has_above (to_else_c_h e.before)))
+          (count_said (to_after_count_clauses_c (to_else_c (to_after_struct_known_3_1 (to_after_read_scanned_arg_1 p)))) (text_header t).clause_count h ∙ eq-eqb p.count_clauses-c.result.count
+          a.h.clauses test.if-c-h.false));
     }
 
 pub read_body_spec : {M : Type 1} → statement M

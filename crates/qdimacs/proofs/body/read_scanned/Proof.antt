@@ -20,6 +20,40 @@ use Rattle.qdimacs.proofs.Whole.{twice, too_many, short, whole-sheet, few_bound,
 use Rattle.qdimacs.proofs.body.read_scanned.Statement.{statement}
 use Rattle.qdimacs.proofs.body.read_scanned.Tie as tie
 
+-- places in the code, each from a later one
+abbrev to_after_marks_1 : tie.After-name → tie.After-marks-1
+to_after_marks_1 c = c.before.before.before
+
+abbrev to_start : tie.After-marks-1 → tie.Start
+to_start c = c.before.before.before
+
+abbrev to_else_bound : tie.Else-most_nodes-k → tie.Else-bound
+to_else_bound c = c.before.before.before
+
+abbrev to_after_name : tie.Else-bound → tie.After-name
+to_after_name c = c.before.before.before
+
+abbrev to_after_struct_known_1 : tie.After-struct_known-3-1 → tie.After-struct_known-1
+to_after_struct_known_1 c = c.before.before.before
+
+abbrev to_after_count_free_free : tie.After-struct_known-1 → tie.After-count_free-free
+to_after_count_free_free c = c.before.before.before
+
+abbrev to_else_most_nodes_k : tie.After-sheet_length → tie.Else-most_nodes-k
+to_else_most_nodes_k c = c.before.before.before
+
+abbrev to_after_struct_known_3_1 : tie.After-marks-4-1 → tie.After-struct_known-3-1
+to_after_struct_known_3_1 c = c.before.before.before
+
+abbrev to_after_sheet_length : tie.After-write_sheet-arg-1 → tie.After-sheet_length
+to_after_sheet_length c = c.before.before.before
+
+abbrev to_after_write_sheet_arg_1 : tie.After-slice_known-2-1 → tie.After-write_sheet-arg-1
+to_after_write_sheet_arg_1 c = c.before.before.before
+
+abbrev to_after_marks_4_1 : tie.After-out-1 → tie.After-marks-4-1
+to_after_marks_4_1 c = c.before.before.before
+
 bind-bound-requires : tie.Need-bind-bound-requires
 bind-bound-requires c κs = (c.requires.listed, refl)
 
@@ -52,7 +86,7 @@ nodes_are : (a : tie.Start) → a.args.k.words + 1 ≡ suc (length (clauses a))
 nodes_are a = add-one a.args.k.words ∙ ap suc (a.requires.words_are ∙ ap length a.requires.clauses_from)
 
 free_is : (c : tie.After-count_free-free) (x : ℕ) → 1 ≤ x → x ≤ c.args.k.most
-    → eqb (get_or (marks c) x 0) 2 ≡ (named x (clauses c.before.before.before.before.before.before.before.before) && not (binds (bindings_in c.args.b.now) x))
+    → eqb (get_or (marks c) x 0) 2 ≡ (named x (clauses (to_start (to_after_marks_1 c.before.before))) && not (binds (bindings_in c.args.b.now) x))
 free_is c =
     let a = c in
     let b = a.args.b.now in
@@ -95,13 +129,13 @@ few_words c = omega (arith, c.if-most_nodes-k.false, c.most_nodes.ensures)
 
 few_clauses : (c : tie.Else-most_nodes-k)
     → let a = c in
-    length (clauses a.before.before.before.before.before.before.before.before.before.before.before.before) < (format_of a.args.f).most_nodes
+    length (clauses (to_start (to_after_marks_1 (to_after_name (to_else_bound a))))) < (format_of a.args.f).most_nodes
 few_clauses c =
     let q = c.requires in
     omega (arith, few_words c, q.words_are, ap length q.clauses_from)
 
 overflow_add-s : tie.Need-overflow_add-s
-overflow_add-s c = omega (arith, few_variables c.before.before.before.before)
+overflow_add-s c = omega (arith, few_variables (to_else_bound c.before))
 
 overflow_add-s-2 : tie.Need-overflow_add-s-2
 overflow_add-s-2 c =
@@ -112,17 +146,19 @@ sheet_length-requires : tie.Need-sheet_length-requires
 sheet_length-requires c κs =
     let n = c in
     let limit = (limits n.args.f).few_nodes in
-    (omega (arith, few_variables n.before.before.before.before.before), omega (arith, few_words n.before.before, limit))
+    (omega (arith, few_variables (to_else_bound n.before.before)), omega (arith, few_words n.before.before, limit))
 
 -- the sheet's length
 length_is : (c : tie.After-sheet_length)
     → let p = c in
     let a = p.args in
     c.sheet_length.result ≡
-    sheet_length (format_of a.f) (length (frees (marks p.before.before.before.before.before.before.before) a.k.most) + length (bindings_in a.b.now)) (suc (length (clauses p.before.before.before.before.before.before.before.before.before.before.before.before.before.before.before)))
+    sheet_length (format_of a.f) (length (frees (marks (to_after_count_free_free (to_after_struct_known_1 p.before))) a.k.most) + length (bindings_in a.b.now))
+    (suc (length (clauses (to_start (to_after_marks_1 (to_after_name (to_else_bound (to_else_most_nodes_k p))))))))
 length_is c =
     let p = c in
-    c.sheet_length.ensures ∙ ap₂ (sheet_length (format_of p.args.f)) (variables_are p.before.before.before.before.before.before.before) (nodes_are p.before.before.before.before.before.before.before.before.before.before.before.before.before.before.before)
+    c.sheet_length.ensures ∙ ap₂ (sheet_length (format_of p.args.f)) (variables_are (to_after_count_free_free (to_after_struct_known_1 p.before)))
+    (nodes_are (to_start (to_after_marks_1 (to_after_name (to_else_bound (to_else_most_nodes_k p))))))
 
 returns-then-out-sheet_length : tie.Need-returns-then-out-sheet_length
 returns-then-out-sheet_length c =
@@ -131,7 +167,8 @@ returns-then-out-sheet_length c =
     let p = e in
     let a = p in
     record {
-      answers = λ t w counts. short w a.args.out.now a.requires.listed.well counts (once e.before.before.before.before.before.before.before) (few_clauses n.before.before.before.before) (marks p.before.before.before.before.before.before.before.before) (free_is p.before.before.before.before.before.before.before.before)
+      answers = λ t w counts. short w a.args.out.now a.requires.listed.well counts (once (to_else_bound (to_else_most_nodes_k e.before))) (few_clauses (to_else_most_nodes_k n.before))
+          (marks (to_after_count_free_free (to_after_struct_known_1 p.before.before))) (free_is (to_after_count_free_free (to_after_struct_known_1 p.before.before)))
           (omega (arith, c.if-out-sheet_length.true, length_is c.before));
     }
 
@@ -145,11 +182,11 @@ write_sheet-requires c κs =
     let limit = limits a.args.f in
     record {
       scanned = a.requires;
-      variables_are = variables_are e.before.before.before.before.before.before.before.before.before.before;
+      variables_are = variables_are (to_after_count_free_free (to_after_struct_known_1 (to_after_struct_known_3_1 e.before)));
       nodes_are = add-one a.args.k.words;
       room = record { holds = omega (arith, test.if-out-sheet_length.false, test.sheet_length.ensures) };
-      nodes_fit = omega (arith, limit.few_rows, few_words n.before.before.before.before.before.before);
-      few_rows = omega (arith, limit.few_nodes, few_words n.before.before.before.before.before.before, few_variables e.before.before.before.before.before.before.before.before.before);
+      nodes_fit = omega (arith, limit.few_rows, few_words (to_else_most_nodes_k (to_after_sheet_length n)));
+      few_rows = omega (arith, limit.few_nodes, few_words (to_else_most_nodes_k (to_after_sheet_length n)), few_variables (to_else_bound (to_else_most_nodes_k (to_after_sheet_length e))));
     }
 
 shape_of-out : tie.Need-shape_of-out
@@ -166,8 +203,14 @@ returns c =
     let q = a.requires in
     let ended = q.clauses_are ∙ ap ends q.clauses_from in
     record {
-      answers = λ t w counts. whole-sheet w a.args.out.now q.listed.well counts (once e.before.before.before.before.before.before.before.before.before.before.before.before) (few_clauses n.before.before.before.before.before.before.before.before.before) (marks p.before.before.before.before.before.before.before.before.before.before.before.before.before) (free_is p.before.before.before.before.before.before.before.before.before.before.before.before.before)
-          (layout p.before.before.before.before.before.before.before.before.before.before.before.before.before) (omega (arith, test.if-out-sheet_length.false, length_is test.before.before.before.before.before.before)) refl (variables_are p.before.before.before.before.before.before.before.before.before.before.before.before.before) (nodes_are a.before.before.before.before.before.before.before.before.before.before.before.before.before.before.before.before.before.before.before.before.before) ended q.clauses_from
+      answers = λ t w counts. whole-sheet w a.args.out.now q.listed.well counts (once (to_else_bound (to_else_most_nodes_k (to_after_sheet_length (to_after_write_sheet_arg_1 e)))))
+          (few_clauses (to_else_most_nodes_k (to_after_sheet_length (to_after_write_sheet_arg_1 n))))
+          (marks (to_after_count_free_free (to_after_struct_known_1 (to_after_struct_known_3_1 (to_after_marks_4_1 p.before)))))
+          (free_is (to_after_count_free_free (to_after_struct_known_1 (to_after_struct_known_3_1 (to_after_marks_4_1 p.before)))))
+          (layout (to_after_count_free_free (to_after_struct_known_1 (to_after_struct_known_3_1 (to_after_marks_4_1 p.before)))))
+          (omega (arith, test.if-out-sheet_length.false, length_is (to_after_sheet_length (to_after_write_sheet_arg_1 test)))) refl
+          (variables_are (to_after_count_free_free (to_after_struct_known_1 (to_after_struct_known_3_1 (to_after_marks_4_1 p.before)))))
+          (nodes_are (to_start (to_after_marks_1 (to_after_name (to_else_bound (to_else_most_nodes_k (to_after_sheet_length (to_after_write_sheet_arg_1 a)))))))) ended q.clauses_from
           written.write_sheet.ensures.0 written.write_sheet.ensures.1;
     }
 

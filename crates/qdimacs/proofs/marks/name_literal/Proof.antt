@@ -9,6 +9,10 @@ use Rattle.words.specs.Literals.{variable}
 use Rattle.qdimacs.proofs.marks.name_literal.Statement.{statement}
 use Rattle.qdimacs.proofs.marks.name_literal.Tie as tie
 
+-- places in the code, each from a later one
+abbrev to_after_variable_of_x : tie.After-t7-1 → tie.After-variable_of-x
+to_after_variable_of_x c = c.before.before.before
+
 variable_of-x-requires : tie.Need-variable_of-x-requires
 variable_of-x-requires c κs = search rules
 
@@ -28,7 +32,7 @@ returns-then-marks-x-ne0 : tie.Need-returns-then-marks-x-ne0
 returns-then-marks-x-ne0 c =
     let v = c in
     let x = v.variable_of-x.result in
-    rw (← named v.before.before.before.before, lt-leb 1025 x c.if-x-ge-NUMBERS.false, ne_eqb (get_or v.args.marks.now x 0) 0 c.if-marks-x-ne0.true)
+    rw (← named (to_after_variable_of_x v.before), lt-leb 1025 x c.if-x-ge-NUMBERS.false, ne_eqb (get_or v.args.marks.now x 0) 0 c.if-marks-x-ne0.true)
 
 bounds-marks-x-2 : tie.Need-bounds-marks-x-2
 bounds-marks-x-2 c = search rules
@@ -37,7 +41,7 @@ returns : tie.Need-returns
 returns c =
     let v = c in
     let x = v.variable_of-x.result in
-    rw (← named v.before.before.before.before, lt-leb 1025 x c.if-x-ge-NUMBERS.false, eq-eqb (get_or v.args.marks.now x 0) 0 c.if-marks-x-ne0.false)
+    rw (← named (to_after_variable_of_x v.before), lt-leb 1025 x c.if-x-ge-NUMBERS.false, eq-eqb (get_or v.args.marks.now x 0) 0 c.if-marks-x-ne0.false)
 
 pub name_literal_spec : {M : Type 1} → statement M
 name_literal_spec =

@@ -19,6 +19,16 @@ invariant-loop-at b out₀ s from r₀ state₀ at₀ out r state at = BoundWrit
 abbrev decreases-loop-at : tie.decreases-loop-at
 decreases-loop-at b out₀ s from r₀ state₀ at₀ out r state at = length b - at
 
+-- places in the code, each from a later one
+abbrev to_after_step_next : tie.After-write_binding-r invariant-loop-at decreases-loop-at → tie.After-step-next invariant-loop-at decreases-loop-at
+to_after_step_next c = c.before.before.before
+
+abbrev to_at_loop_at : tie.After-step-next invariant-loop-at decreases-loop-at → tie.At-loop-at invariant-loop-at decreases-loop-at
+to_at_loop_at c = c.before.before.before
+
+abbrev to_start : tie.At-loop-at invariant-loop-at decreases-loop-at → tie.Start invariant-loop-at decreases-loop-at
+to_start c = c.before.before.before
+
 -- the rows have their place
 enough : (c : tie.Start invariant-loop-at decreases-loop-at)
     → c.args.from + length (bindings_in c.args.b.now) ≤ length (rows_in c.args.s c.args.out.now)
@@ -70,7 +80,7 @@ loop-at-preserved c =
     let h = token.loop-at.invariant in
     let written = w.write_binding-r in (
       bound_written_more h.0 token.next_token-t.ensures test.step-next.ensures test.if-next-ge-CLAUSE.false
-          (enough token.before.before.before.before.before.before.before.before.before.before.before) written.ensures.0 written.ensures.1,
+          (enough (to_start (to_at_loop_at (to_after_step_next token.before.before)))) written.ensures.0 written.ensures.1,
       written.auto.out ∙ h.1,
     )
 

@@ -20,6 +20,19 @@ invariant-loop-p b from out₀ s r p₀ out p = ClausesWritten b from r (rows_in
 abbrev decreases-loop-p : tie.decreases-loop-p
 decreases-loop-p b from out₀ s r p₀ out p = length b - p.at
 
+-- places in the code, each from a later one
+abbrev to_at_loop_p : tie.After-next_token-t invariant-loop-p decreases-loop-p → tie.At-loop-p invariant-loop-p decreases-loop-p
+to_at_loop_p c = c.before.before.before
+
+abbrev to_start : tie.At-loop-p invariant-loop-p decreases-loop-p → tie.Start invariant-loop-p decreases-loop-p
+to_start c = c.before.before.before
+
+abbrev to_after_next_token_t : tie.After-out-1 invariant-loop-p decreases-loop-p → tie.After-next_token-t invariant-loop-p decreases-loop-p
+to_after_next_token_t c = c.before.before.before
+
+abbrev to_after_out_1 : tie.After-write_word-p invariant-loop-p decreases-loop-p → tie.After-out-1 invariant-loop-p decreases-loop-p
+to_after_out_1 c = c.before.before.before
+
 -- the rows have their place
 enough : (c : tie.Start invariant-loop-p decreases-loop-p)
     → c.args.r + length (tokens_at c.args.b.now c.args.from) ≤ length (rows_in c.args.s c.args.out.now)
@@ -43,7 +56,7 @@ open_clause-opened-requires c κs =
     record {
       room = record { holds = omega (arith, a.requires.room.holds, h.1) };
       inside = h.0.inside;
-      has_row = λ e. omega (arith, rows, clause_row_there a.requires.whole (enough a.before.before.before.before.before.before.before) h.0 token.next_token-t.ensures e);
+      has_row = λ e. omega (arith, rows, clause_row_there a.requires.whole (enough (to_start (to_at_loop_p a.before))) h.0 token.next_token-t.ensures e);
       few = omega (arith, rows, h.0.put.inside, a.requires.few_rows);
       fits = omega (arith, first_length_few (tokens_at a.args.b.now at.loop-p.p.at), h.0.fewer, a.requires.lengths_fit);
     }
@@ -55,7 +68,7 @@ literal : (c : tie.After-open_clause-opened invariant-loop-p decreases-loop-p) �
 literal c l =
     let at = c in
     let a = at in
-    literal_row_there a.requires.whole (enough a.before.before.before.before.before.before.before.before) at.loop-p.invariant.0 c.next_token-t.ensures c.open_clause-opened.ensures.0 c.open_clause-opened.ensures.1 l
+    literal_row_there a.requires.whole (enough (to_start (to_at_loop_p a.before.before))) at.loop-p.invariant.0 c.next_token-t.ensures c.open_clause-opened.ensures.0 c.open_clause-opened.ensures.1 l
 
 write_word-p-requires : tie.Need-write_word-p-requires invariant-loop-p decreases-loop-p
 write_word-p-requires c κs =
@@ -65,7 +78,7 @@ write_word-p-requires c κs =
     let a = at in
     let h = at.loop-p.invariant in
     let rows = length-rows_in a.args.out.now a.requires.room in
-    let inside = row_inside a.requires.whole (enough a.before.before.before.before.before.before.before.before.before.before.before) h.0 opened.next_token-t.ensures o.ensures.0 o.ensures.1 in (
+    let inside = row_inside a.requires.whole (enough (to_start (to_at_loop_p (to_after_next_token_t a.before.before)))) h.0 opened.next_token-t.ensures o.ensures.0 o.ensures.1 in (
       record { holds = omega (arith, a.requires.room.holds, h.1, o.auto.out) },
       λ l. omega (arith, rows, (literal opened.before.before.before l).0),
       omega (arith, rows, inside, a.requires.few_rows),
@@ -88,7 +101,7 @@ loop-p-preserved c =
     let at = opened in
     let a = at in
     let h = at.loop-p.invariant in (
-      clauses_written_more a.requires.whole (enough a.before.before.before.before.before.before.before.before.before.before.before.before.before.before) h.0 opened.next_token-t.ensures o.ensures.0 o.ensures.1
+      clauses_written_more a.requires.whole (enough (to_start (to_at_loop_p (to_after_next_token_t (to_after_out_1 a.before.before))))) h.0 opened.next_token-t.ensures o.ensures.0 o.ensures.1
           w.ensures.0 w.ensures.1,
       w.auto.out ∙ o.auto.out ∙ h.1,
     )

@@ -11,6 +11,13 @@ use Rattle.words.specs.Literals.{variable, kind}
 use Rattle.qdimacs.proofs.write.write_literal.Statement.{statement}
 use Rattle.qdimacs.proofs.write.write_literal.Tie as tie
 
+-- places in the code, each from a later one
+abbrev to_after_kind_of_kind : tie.After-set_row → tie.After-kind_of-kind
+to_after_kind_of_kind c = c.before.before.before
+
+abbrev to_after_variable_of_x : tie.After-out-1 → tie.After-variable_of-x
+to_after_variable_of_x c = c.before.before.before
+
 kind_of-kind-requires : tie.Need-kind_of-kind-requires
 kind_of-kind-requires c κs = search rules
 
@@ -42,7 +49,8 @@ returns c =
     let written = c in
     let v = written in
     let a = v in
-    written.set_row.ensures.0 ∙ ap₂ (λ k x. set (rows_in a.args.s a.args.out.now) a.args.r (row k x)) (said_kind v.before.before.before.before.before) (said_variable v.before.before.before.before)
+    written.set_row.ensures.0 ∙ ap₂ (λ k x. set (rows_in a.args.s a.args.out.now) a.args.r (row k x)) (said_kind (to_after_kind_of_kind v.before.before))
+    (said_variable (to_after_variable_of_x v.before))
 
 pub write_literal_spec : {M : Type 1} → statement M
 write_literal_spec =

@@ -15,6 +15,10 @@ use Rattle.qdimacs.specs.Inner.Rows.{literal_row}
 use Rattle.qdimacs.proofs.write.write_word.Statement.{statement}
 use Rattle.qdimacs.proofs.write.write_word.Tie as tie
 
+-- places in the code, each from a later one
+abbrev to_after_literal_said : tie.After-out-1 → tie.After-literal_said
+to_after_literal_said c = c.before.before.before
+
 returns-then-t-eq-ZERO : tie.Need-returns-then-t-eq-ZERO
 returns-then-t-eq-ZERO c =
     let k = c.args.t.class in
@@ -62,7 +66,7 @@ returns c =
     let zero = ne_eqb k 6 number.if-t-eq-ZERO.false in
     let less = le-ltb k 6 number.if-t-lt-ZERO.false in (
       rw (zero, less),
-      rw (zero, less) (written.write_literal.ensures ∙ ap (λ l. set (rows_in a.args.s a.args.out.now) a.args.p.row (literal_row l)) (passed said.before.before.before.before.before)),
+      rw (zero, less) (written.write_literal.ensures ∙ ap (λ l. set (rows_in a.args.s a.args.out.now) a.args.p.row (literal_row l)) (passed (to_after_literal_said said.before.before))),
     )
 
 pub write_word_spec : {M : Type 1} → statement M

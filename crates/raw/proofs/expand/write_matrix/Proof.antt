@@ -11,6 +11,13 @@ use borrow.Author.Rules.{rules}
 use Rattle.raw.proofs.expand.write_matrix.Statement.{statement}
 use Rattle.raw.proofs.expand.write_matrix.Tie as tie
 
+-- places in the code, each from a later one
+abbrev to_after_write_rows_arg_1 : tie.After-slice_known-2-1 → tie.After-write_rows-arg-1
+to_after_write_rows_arg_1 c = c.before.before.before
+
+abbrev to_else_e : tie.After-write_rows-arg-1 → tie.Else-e
+to_else_e c = c.before.before.before
+
 absent : (c : tie.Else-e) → let a = c in has (chosen_by a.args.tables.now) (matrix_in a.args.s a.args.b.now) ≡ false
 absent c = let a = c in sym a.requires.1.0 ∙ c.if-e.false
 
@@ -42,7 +49,7 @@ shape_of-out c = search rules
 returns : tie.Need-returns
 returns c =
     let a = c in
-    subst (Laid a.args.e.layout a.args.out.now _ a.args.e.layout.variables _) (absent-parts a.requires.0 (absent c.before.before.before.before.before.before))
+    subst (Laid a.args.e.layout a.args.out.now _ a.args.e.layout.variables _) (absent-parts a.requires.0 (absent (to_else_e (to_after_write_rows_arg_1 c))))
     c.write_rows.ensures.0
 
 pub write_matrix_spec : {M : Type 1} → statement M

@@ -25,6 +25,13 @@ invariant-loop-left b ends next cuts₀ left₀ at₀ row₀ runs₀ cuts left a
 abbrev decreases-loop-left : tie.decreases-loop-left
 decreases-loop-left b ends next cuts₀ left₀ at₀ row₀ runs₀ cuts left at row runs = left
 
+-- places in the code, each from a later one
+abbrev to_after_cut_arg_1 : tie.After-slice_known-in-loop-left-1 invariant-loop-left decreases-loop-left → tie.After-cut-arg-1 invariant-loop-left decreases-loop-left
+to_after_cut_arg_1 c = c.before.before.before
+
+abbrev to_at_loop_left : tie.After-cut-arg-1 invariant-loop-left decreases-loop-left → tie.At-loop-left invariant-loop-left decreases-loop-left
+to_at_loop_left c = c.before.before.before
+
 children_at-left-requires : tie.Need-children_at-left-requires invariant-loop-left decreases-loop-left
 children_at-left-requires c κs =
     let a = c in
@@ -95,7 +102,7 @@ cut-runs-requires c κs = let r = room c.before.before.before in (r.0, omega (ar
 first_behind-row-requires : tie.Need-first_behind-row-requires invariant-loop-left decreases-loop-left
 first_behind-row-requires c κs =
     let here = c in
-    leads _ (begun here.before.before.before.before.before.before) here.loop-left-test.true (cutting here.before.before.before.before.before.before).walk
+    leads _ (begun (to_at_loop_left (to_after_cut_arg_1 here))) here.loop-left-test.true (cutting (to_at_loop_left (to_after_cut_arg_1 here))).walk
 
 overflow_sub-left : tie.Need-overflow_sub-left invariant-loop-left decreases-loop-left
 overflow_sub-left c = omega arith
@@ -109,7 +116,7 @@ loop-left-preserved c =
     let head = here in
     let cut = c.cut-runs.ensures in
     let end = get_or head.args.ends.now head.loop-left.at 0 in (
-      λ s L k. cut_on L k here.loop-left-test.true (room head.before.before.before.before.before.before.before).0 (head.loop-left.invariant.0 s L k) cut.0 cut.1 c.first_behind-row.ensures,
+      λ s L k. cut_on L k here.loop-left-test.true (room (to_at_loop_left (to_after_cut_arg_1 head.before))).0 (head.loop-left.invariant.0 s L k) cut.0 cut.1 c.first_behind-row.ensures,
       kept-turn (ltb head.loop-left.row end) head.loop-left.at cut.0 cut.1 head.loop-left.invariant.1,
     )
 

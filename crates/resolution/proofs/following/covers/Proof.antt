@@ -17,6 +17,10 @@ invariant-loop-i codes other derived all last skip to i₀ i =
 abbrev decreases-loop-i : tie.decreases-loop-i
 decreases-loop-i codes other derived all last skip to i₀ i = to - i
 
+-- places in the code, each from a later one
+abbrev to_at_loop_i : tie.After-passes invariant-loop-i decreases-loop-i → tie.At-loop-i invariant-loop-i decreases-loop-i
+to_at_loop_i c = c.before.before.before
+
 -- what is at fault, and whether the part has it
 abbrev fault : tie.At-loop-i invariant-loop-i decreases-loop-i → ℕ → Bool
 fault c =
@@ -42,7 +46,7 @@ returns-then-not-passes c =
     let p = c in
     let at = p in
     let a = at in
-    seek_found a.args.p.skip a.args.codes.now a.args.p.to (fault at.before.before.before.before) (whole at.before.before.before.before) at.loop-i.i _ p.passes.result
+    seek_found a.args.p.skip a.args.codes.now a.args.p.to (fault (to_at_loop_i at.before)) (whole (to_at_loop_i at.before)) at.loop-i.i _ p.passes.result
     p.loop-i-test.true a.requires.1 p.code_at-c.ensures.0 p.passes.ensures at.loop-i.invariant (ap not c.if-not-passes.true)
 
 overflow_add-i : tie.Need-overflow_add-i invariant-loop-i decreases-loop-i
@@ -56,7 +60,7 @@ loop-i-preserved c =
     let p = c in
     let at = p in
     let a = at in
-    seek_on a.args.p.skip a.args.codes.now a.args.p.to (fault at.before.before.before.before) (whole at.before.before.before.before) at.loop-i.i _ p.passes.result
+    seek_on a.args.p.skip a.args.codes.now a.args.p.to (fault (to_at_loop_i at.before)) (whole (to_at_loop_i at.before)) at.loop-i.i _ p.passes.result
     p.loop-i-test.true a.requires.1 p.code_at-c.ensures.0 p.passes.ensures at.loop-i.invariant (ap not c.if-not-passes.false)
 
 returns : tie.Need-returns invariant-loop-i decreases-loop-i

@@ -10,6 +10,10 @@ use Rattle.resolution.proofs.Resolvents.{follows-walked}
 use Rattle.resolution.proofs.following.follows.Statement.{statement}
 use Rattle.resolution.proofs.following.follows.Tie as tie
 
+-- places in the code, each from a later one
+abbrev to_after_covers : tie.After-all-4-1 → tie.After-covers
+to_after_covers c = c.before.before.before
+
 -- a code at fault
 abbrev fault : tie.After-covers → ℕ → Bool
 fault c = uncovered c.args.other.now c.mark.new.set c.mark_all.new.set c.last_of-last.result
@@ -68,9 +72,9 @@ returns : tie.Need-returns
 returns c =
     let left = c in
     let a = left.args in
-    decided left.before.before.before.before c.covers-2.result
+    decided (to_after_covers left.before) c.covers-2.result
     (c.covers-2.ensures ∙
-    ap (λ x. x || some_in a.b a.codes.now (fault left.before.before.before.before)) (sym (ap not left.if-not-covers.false) ∙ left.covers.ensures))
+    ap (λ x. x || some_in a.b a.codes.now (fault (to_after_covers left.before))) (sym (ap not left.if-not-covers.false) ∙ left.covers.ensures))
 
 pub follows_spec : {M : Type 1} → statement M
 follows_spec =

@@ -12,6 +12,22 @@ use borrow.Author.Rules.{rules}
 use Rattle.response.proofs.function.function_into.Statement.{statement}
 use Rattle.response.proofs.function.function_into.Tie as tie
 
+-- places in the code, each from a later one
+abbrev to_after_fill : tie.After-relevant-1 → tie.After-fill
+to_after_fill c = c.before.before.before
+
+abbrev to_after_out_1 : tie.After-write_selection-arg-1 → tie.After-out-1
+to_after_out_1 c = c.before.before.before
+
+abbrev to_after_relevant_1 : tie.After-out-1 → tie.After-relevant-1
+to_after_relevant_1 c = c.before.before.before
+
+abbrev to_after_write_selection_arg_1 : tie.After-slice_known-3-1 → tie.After-write_selection-arg-1
+to_after_write_selection_arg_1 c = c.before.before.before
+
+abbrev to_after_slice_known_3_1 : tie.After-out-3-1 → tie.After-slice_known-3-1
+to_after_slice_known_3_1 c = c.before.before.before
+
 -- the table puts the value of a positive literal in
 table_is : (c : tie.After-fill) → let a = c.args in c.fill.new.table ≡ putting a.x (eqb a.w.to.joint 6)
 table_is c =
@@ -33,7 +49,7 @@ write_prefix-requires c κs =
     let table = c in
     let a = table in
     let k = a.requires in
-    let is = table_is table.before.before.before.before in
+    let is = table_is (to_after_fill table.before) in
     let len = length table.args.out.now in (
       k.from.readable,
       prefix_ready k.from k.named k.unsettled (new k is) (raw_copy k is) (copy_counted k is) len k.has_room a.args.out.now refl,
@@ -55,7 +71,7 @@ write_selection-requires c κs =
     let table = first in
     let a = table in
     let k = a.requires in
-    let is = table_is table.before.before.before.before.before.before.before.before.before in
+    let is = table_is (to_after_fill (to_after_relevant_1 (to_after_out_1 table))) in
     let len = length table.args.out.now in
     let same = first.write_prefix.auto.out in (
       selection_ready k is _
@@ -69,7 +85,7 @@ tidy_in_place-requires c κs =
     let first = part in
     let table = first in
     let k = table.requires in
-    let is = table_is table.before.before.before.before.before.before.before.before.before.before.before.before.before in
+    let is = table_is (to_after_fill (to_after_relevant_1 (to_after_out_1 (to_after_write_selection_arg_1 table.before)))) in
     let len = length table.args.out.now in
     raw-written k.from k.named k.unsettled (new k is) (raw_copy k is) (copy_counted k is) len k.has_room refl
     (part.write_selection.auto.out ∙ first.write_prefix.auto.out) refl
@@ -86,7 +102,7 @@ returns c =
     let first = part in
     let table = first in
     let k = table.requires in
-    let is = table_is table.before.before.before.before.before.before.before.before.before.before.before.before.before.before.before.before in
+    let is = table_is (to_after_fill (to_after_relevant_1 (to_after_out_1 (to_after_write_selection_arg_1 (to_after_slice_known_3_1 table.before))))) in
     let len = length table.args.out.now in
     let same = part.write_selection.auto.out ∙ first.write_prefix.auto.out in
     let front = laid_to first.write_prefix.ensures.1 first.write_prefix.ensures.0 in (

@@ -9,6 +9,10 @@ use Rattle.response.proofs.Deciding.{refused_before}
 use Rattle.response.proofs.plan.plan_response.Statement.{statement}
 use Rattle.response.proofs.plan.plan_response.Tie as tie
 
+-- places in the code, each from a later one
+abbrev to_in_Admitted : tie.After-plan_variable → tie.In-Admitted
+to_in_Admitted c = c.before.before.before
+
 slice_bounds-admit-end : tie.Need-slice_bounds-admit-end
 slice_bounds-admit-end c = search rules
 
@@ -51,7 +55,7 @@ returns-in-Admitted c =
     let planned = c in
     let in-sheet = planned in
     let a = in-sheet.args in
-    let is = admitted in-sheet.before.before.before.before.before in
+    let is = admitted (to_in_Admitted in-sheet.before.before) in
     subst₂ (λ f y. ResponsePlans f a.sheet.now y a.room planned.plan_variable.new.cuts planned.plan_variable.result) is.0 is.1
     planned.plan_variable.ensures
 

@@ -11,6 +11,13 @@ use borrow.Author.Rules.{rules}
 use Rattle.rows.proofs.write.seal.Statement.{statement}
 use Rattle.rows.proofs.write.seal.Tie as tie
 
+-- places in the code, each from a later one
+abbrev to_after_width_w : tie.After-move_down → tie.After-width-w
+to_after_width_w c = c.before.before.before
+
+abbrev to_after_move_down : tie.After-clear-arg-1 → tie.After-move_down
+to_after_move_down c = c.before.before.before
+
 width-w-requires : tie.Need-width-w-requires
 width-w-requires c κs = search rules
 
@@ -52,16 +59,16 @@ overflow_add-end : tie.Need-overflow_add-end
 overflow_add-end c = search rules
 
 overflow_mul-end-2 : tie.Need-overflow_mul-end-2
-overflow_mul-end-2 c = omega (arith, within c.before.before.before.before.before)
+overflow_mul-end-2 c = omega (arith, within (to_after_width_w c.before.before))
 
 overflow_add-end-2 : tie.Need-overflow_add-end-2
-overflow_add-end-2 c = omega (arith, within c.before.before.before.before.before)
+overflow_add-end-2 c = omega (arith, within (to_after_width_w c.before.before))
 
 clear-requires : tie.Need-clear-requires
 clear-requires c κs =
     let move = c in
     let w = move in
-    omega (arith, move.move_down.auto.b, within w.before.before.before.before.before.before, w.requires.1)
+    omega (arith, move.move_down.auto.b, within (to_after_width_w (to_after_move_down w)), w.requires.1)
 
 put_number-requires : tie.Need-put_number-requires
 put_number-requires c κs = search rules

@@ -11,6 +11,10 @@ use borrow.Author.Rules.{rules}
 use Rattle.solve.proofs.step.bring.Statement.{statement}
 use Rattle.solve.proofs.step.bring.Tie as tie
 
+-- places in the code, each from a later one
+abbrev to_after_longer_part : tie.After-first-1 → tie.After-longer-part
+to_after_longer_part c = c.before.before.before
+
 sheet_length-bytes-requires : tie.Need-sheet_length-bytes-requires
 sheet_length-bytes-requires c κs = c.requires.few_to
 
@@ -53,7 +57,7 @@ returns c =
     let second = a.args.second.now in
     cleared_part second first l.sheet_length-bytes.result l.longer-part.result (long_in a.args.from a.args.from)
     (omega (arith, l.sheet_length-bytes.ensures, a.requires.fetchable.in_second)) (omega (arith, l.longer-part.ensures))
-    (omega (arith, l.longer-part.ensures, l.sheet_length.ensures)) (inside l.before.before.before.before) a.requires.zeros fetched.fetch.ensures refl ∙
+    (omega (arith, l.longer-part.ensures, l.sheet_length.ensures)) (inside (to_after_longer_part l.before)) a.requires.zeros fetched.fetch.ensures refl ∙
     ap (λ n. padded (length first) (take n second)) l.sheet_length-bytes.ensures
 
 pub bring_spec : {M : Type 1} → statement M

@@ -25,6 +25,40 @@ use Rattle.solve.proofs.Arriving.{raw-small, expand-stops, expand-named, few-and
 use Rattle.solve.proofs.step.expand_step.Statement.{statement}
 use Rattle.solve.proofs.step.expand_step.Tie as tie
 
+-- places in the code, each from a later one
+abbrev to_else_not_fits : tie.After-next-4-1 → tie.Else-not-fits
+to_else_not_fits c = c.before.before.before
+
+abbrev to_after_next_4_1 : tie.After-cuts-2-1 → tie.After-next-4-1
+to_after_next_4_1 c = c.before.before.before
+
+abbrev to_after_choose_expand_c : tie.Else-not-fits → tie.After-choose_expand-c
+to_after_choose_expand_c c = c.before.before.before
+
+abbrev to_after_cuts_2_1 : tie.After-cuts-3-1 → tie.After-cuts-2-1
+to_after_cuts_2_1 c = c.before.before.before
+
+abbrev to_after_survey_draft_w : tie.After-sheet_length-need → tie.After-survey_draft-w
+to_after_survey_draft_w c = c.before.before.before
+
+abbrev to_after_expand_into_sheet : tie.After-bring-arg-1 → tie.After-expand_into-sheet
+to_after_expand_into_sheet c = c.before.before.before
+
+abbrev to_after_sheet_length_need : tie.After-expand_into-sheet → tie.After-sheet_length-need
+to_after_sheet_length_need c = c.before.before.before
+
+abbrev to_after_cuts_3_1 : tie.After-second-1 → tie.After-cuts-3-1
+to_after_cuts_3_1 c = c.before.before.before
+
+abbrev to_after_bring : tie.After-struct_known-3-1 → tie.After-bring
+to_after_bring c = c.before.before.before
+
+abbrev to_after_second_1 : tie.After-bring → tie.After-second-1
+to_after_second_1 c = c.before.before.before
+
+abbrev to_after_bring_arg_1 : tie.After-slice_known-4-1 → tie.After-bring-arg-1
+to_after_bring_arg_1 c = c.before.before.before
+
 slice_bounds-fill_occurrences-end : tie.Need-slice_bounds-fill_occurrences-end
 slice_bounds-fill_occurrences-end c = search rules
 
@@ -130,7 +164,7 @@ surveyed c =
     let d = c in
     let a = d.args in
     let x = d.choose_expand-c.result.variable in
-    prepared (priced d.before.before.before.before.before)
+    prepared (priced (to_else_not_fits d.before.before))
     (subst (λ e. Surveyed (of x) a.s.sheet a.first.now e c.survey_draft-w.new.cuts c.survey_draft-w.result) d.draft-d.ensures
     (c.survey_draft-w.ensures (of x) (drafted d.before.before.before)))
 
@@ -141,13 +175,13 @@ sheet_length-need-requires : tie.Need-sheet_length-need-requires
 sheet_length-need-requires c κs =
     let v = c in
     let few = few_rows v.requires.0 in
-    (omega (arith, few.0), omega (arith, small v.before.before.before.before.before.before.before.before.before.before))
+    (omega (arith, few.0), omega (arith, small (to_after_choose_expand_c (to_else_not_fits (to_after_next_4_1 v.before)))))
 
 enough : (c : tie.After-sheet_length-need) → c.sheet_length-need.result ≤ length c.args.second.now
 enough c =
     let d = c in
     let p = c.requires in
-    omega (arith, c.sheet_length-need.ensures, (few-and-short p.0 p.1 p.2 d.choose_expand-c.ensures (fit d.before.before.before.before.before.before.before.before)).1, p.0.second_room)
+    omega (arith, c.sheet_length-need.ensures, (few-and-short p.0 p.1 p.2 d.choose_expand-c.ensures (fit (to_else_not_fits (to_after_next_4_1 d.before.before)))).1, p.0.second_room)
 
 part_length : (c : tie.After-sheet_length-need) → length (take c.sheet_length-need.result c.args.second.now) ≡ c.sheet_length-need.result
 part_length c = length-take-le c.sheet_length-need.result c.args.second.now (enough c)
@@ -167,7 +201,7 @@ expand_into-sheet-requires c κs =
     let v = need in
     let d = v in
     let p = need.requires in
-    expand-expands p.0 p.1 p.2 d.choose_expand-c.ensures (fit d.before.before.before.before.before.before.before.before.before.before) (surveyed v.before.before.before.before.before)
+    expand-expands p.0 p.1 p.2 d.choose_expand-c.ensures (fit (to_else_not_fits (to_after_next_4_1 (to_after_cuts_2_1 d.before)))) (surveyed (to_after_survey_draft_w v.before.before))
     (omega (arith, need.sheet_length-need.ensures, part_length need.before.before))
 
 -- the expanded sheet stands at the front of the second buffer
@@ -192,12 +226,16 @@ bring-requires c κs =
     let p = a.requires in
     let few = few_rows p.0 in
     let sizes = grown.expand_into-sheet.ensures.1.1 in
-    let raw = ap (λ (l : Layout). l.nodes) (surveyed v.before.before.before.before.before.before.before.before.before).layout_is ∙ sym k.choose_expand-c.ensures.raw_is in
+    let raw = ap (λ (l : Layout). l.nodes) (surveyed (to_after_survey_draft_w (to_after_sheet_length_need (to_after_expand_into_sheet v)))).layout_is ∙ sym k.choose_expand-c.ensures.raw_is in
     record {
       few_from = few;
-      few_to = (omega (arith, few.0, sizes.0), omega (arith, sizes.1, raw, small k.before.before.before.before.before.before.before.before.before.before.before.before.before.before.before.before.before));
+      few_to = (
+        omega (arith, few.0, sizes.0),
+        omega
+            (arith, sizes.1, raw, small (to_after_choose_expand_c (to_else_not_fits (to_after_next_4_1 (to_after_cuts_2_1 (to_after_cuts_3_1 k.before.before)))))),
+      );
       fetchable =
-          fetchable a.args.s.sheet.format (expand-arrives p.0 p.1 p.2 k.choose_expand-c.ensures (fit v.before.before.before.before.before.before.before.before.before.before.before.before.before.before)) _
+          fetchable a.args.s.sheet.format (expand-arrives p.0 p.1 p.2 k.choose_expand-c.ensures (fit (to_else_not_fits (to_after_next_4_1 (to_after_cuts_2_1 (to_after_cuts_3_1 v.before.before)))))) _
           (in_second grown.before.before.before) grown.expand_into-sheet.ensures.1.0 p.0.first_room;
       zeros = zeros_behind p.0;
     }
@@ -224,8 +262,10 @@ returns c =
     let here = d.choose_expand-c.ensures in
     let less = grown.expand_into-sheet.ensures.1.1.0 in
     let some = some_left p.0 p.1 in
-    taken a.args.s _ a.args.first.now (expand-arrives p.0 p.1 p.2 here (fit d.before.before.before.before.before.before.before.before.before.before.before.before.before.before.before.before.before.before)) _ (in_second grown.before.before.before.before.before.before.before) grown.expand_into-sheet.ensures.1.0
-    (length a.args.first.now) p.0.first_room brought.bring.ensures (expand-next p.0 p.1 p.2 here (fit d.before.before.before.before.before.before.before.before.before.before.before.before.before.before.before.before.before.before) _ _)
+    taken a.args.s _ a.args.first.now (expand-arrives p.0 p.1 p.2 here (fit (to_else_not_fits (to_after_next_4_1 (to_after_cuts_2_1 (to_after_cuts_3_1 (to_after_second_1 (to_after_bring d))))))))
+    _ (in_second (to_after_expand_into_sheet (to_after_bring_arg_1 grown.before))) grown.expand_into-sheet.ensures.1.0
+    (length a.args.first.now) p.0.first_room brought.bring.ensures
+    (expand-next p.0 p.1 p.2 here (fit (to_else_not_fits (to_after_next_4_1 (to_after_cuts_2_1 (to_after_cuts_3_1 (to_after_second_1 (to_after_bring d))))))) _ _)
     (omega (arith, some, less)) (omega (arith, some, less)) a.args.second.now
 
 pub expand_step_spec : {M : Type 1} → statement M

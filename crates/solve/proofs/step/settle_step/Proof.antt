@@ -16,6 +16,13 @@ use borrow.Author.Rules.{rules}
 use Rattle.solve.proofs.step.settle_step.Statement.{statement}
 use Rattle.solve.proofs.step.settle_step.Tie as tie
 
+-- places in the code, each from a later one
+abbrev to_after_bring_arg_1 : tie.After-slice_known-4-1 → tie.After-bring-arg-1
+to_after_bring_arg_1 c = c.before.before.before
+
+abbrev to_after_settle_into_sheet : tie.After-bring-arg-1 → tie.After-settle_into-sheet
+to_after_settle_into_sheet c = c.before.before.before
+
 overflow_sub-t : tie.Need-overflow_sub-t
 overflow_sub-t c = search rules
 
@@ -87,7 +94,7 @@ returns c =
     let p = a.requires in
     let less = settled.settle_into-sheet.ensures.1.1.0 in
     let some = some_left p.0 p.1 in
-    taken a.args.s _ a.args.first.now (settle-arrives p.0 p.1 p.2) _ (in_second settled.before.before.before.before.before.before.before) settled.settle_into-sheet.ensures.1.0
+    taken a.args.s _ a.args.first.now (settle-arrives p.0 p.1 p.2) _ (in_second (to_after_settle_into_sheet (to_after_bring_arg_1 settled.before))) settled.settle_into-sheet.ensures.1.0
     (length a.args.first.now) p.0.first_room brought.bring.ensures (settle-next p.0 p.1 p.2 _ _)
     (omega (arith, some, less)) (omega (arith, some, less)) a.args.second.now
 

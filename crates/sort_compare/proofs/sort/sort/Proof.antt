@@ -11,6 +11,10 @@ use borrow.Author.Rules.{rules}
 use Rattle.sort_compare.proofs.sort.sort.Statement.{statement}
 use Rattle.sort_compare.proofs.sort.sort.Tie as tie
 
+-- places in the code, each from a later one
+abbrev to_in_Accepted : tie.After-out-1 → tie.In-Accepted
+to_in_Accepted c = c.before.before.before
+
 check-c-requires : tie.Need-check-c-requires
 check-c-requires c κs = search rules
 
@@ -34,7 +38,7 @@ returns-in-Accepted c =
     let call = c in
     let told = call in
     let a = told.args in
-    let e = call.sort_checked.ensures ∙ ap (λ g. sort_call (format_of g) a.sheet.now a.out.now) (sheet_format (accepted told.before.before.before.before)) in
+    let e = call.sort_checked.ensures ∙ ap (λ g. sort_call (format_of g) a.sheet.now a.out.now) (sheet_format (accepted (to_in_Accepted told.before))) in
     (e, sort_truthful (format_of a.f) (sound a.f) a.sheet.now a.out.now e)
 
 returns-in-Refused : tie.Need-returns-in-Refused

@@ -8,6 +8,16 @@ use Rattle.sort_compare.proofs.Written.{part_length, copied-room, new-room, sort
 use Rattle.sort_compare.proofs.sort.sort_into.Statement.{statement}
 use Rattle.sort_compare.proofs.sort.sort_into.Tie as tie
 
+-- places in the code, each from a later one
+abbrev to_after_copy_front : tie.After-table-1 → tie.After-copy_front
+to_after_copy_front c = c.before.before.before
+
+abbrev to_after_table_2_1 : tie.After-seal-arg-1 → tie.After-table-2-1
+to_after_table_2_1 c = c.before.before.before
+
+abbrev to_after_table_1 : tie.After-table-2-1 → tie.After-table-1
+to_after_table_1 c = c.before.before.before
+
 copy_front-requires : tie.Need-copy_front-requires
 copy_front-requires c κs = c.requires.1
 
@@ -24,14 +34,14 @@ write_sorted-requires : tie.Need-write_sorted-requires
 write_sorted-requires c κs =
     let d = c in
     let a = d in (
-      readable d.before.before.before.before,
-      part_length 8192 _ (readable d.before.before.before.before).few_nodes,
+      readable (to_after_copy_front d.before),
+      part_length 8192 _ (readable (to_after_copy_front d.before)).few_nodes,
       copied-room a.requires.0 a.args.out.now a.requires.1 d.copy_front.ensures,
     )
 
 overflow_add-s : tie.Need-overflow_add-s
 overflow_add-s c =
-    let ok = readable c.before.before.before.before.before.before.before.before.before.before in
+    let ok = readable (to_after_copy_front (to_after_table_1 (to_after_table_2_1 c.before))) in
     omega (arith, ok.few_nodes, ok.few_variables)
 
 seal-requires : tie.Need-seal-requires

@@ -12,6 +12,10 @@ invariant-loop-r source s at out₀ r₀ out r = Wrote source s at out₀ out r
 abbrev decreases-loop-r : tie.decreases-loop-r
 decreases-loop-r source s at out₀ r₀ out r = length at - r
 
+-- places in the code, each from a later one
+abbrev to_after_struct_known_1 : tie.After-argument_at-argument invariant-loop-r decreases-loop-r → tie.After-struct_known-1 invariant-loop-r decreases-loop-r
+to_after_struct_known_1 c = c.before.before.before
+
 -- the number that the table holds
 number : (c : tie.After-struct_known-1 invariant-loop-r decreases-loop-r) → get_or c.args.at.now c.loop-r.r 0 < c.args.s.nodes
 number c =
@@ -63,7 +67,7 @@ set_row-requires c κs =
     let a = k in (
       room-kept a.args.at.now a.requires.0 a.requires.1 a.requires.2 a.args.out.now a.requires.3 head.loop-r.invariant,
       omega (arith, k.loop-r-test.true, a.requires.2),
-      argument_fits a.args.at.now a.requires.0 a.requires.1 a.requires.2 a.args.out.now a.requires.3 (λ i. (a_bytes k.before.before.before.before.before i))
+      argument_fits a.args.at.now a.requires.0 a.requires.1 a.requires.2 a.args.out.now a.requires.3 (λ i. (a_bytes (to_after_struct_known_1 k.before.before) i))
           k.loop-r-test.true c.argument_at-argument.ensures.0,
     )
 

@@ -22,6 +22,52 @@ abbrev decreases-loop-at : tie.decreases-loop-at
 decreases-loop-at sheet f operations variables numbers₀ values₀ first₀ second₀ count b turns held₀ at₀ numbers values first second held at =
     turns - at
 
+-- places in the code, each from a later one
+abbrev to_after_begin_b : tie.After-second-1 invariant-loop-at decreases-loop-at → tie.After-begin-b invariant-loop-at decreases-loop-at
+to_after_begin_b c = c.before.before.before
+
+abbrev to_after_slice_known_in_loop_at_1 : tie.After-done-1 invariant-loop-at decreases-loop-at → tie.After-slice_known-in-loop-at-1 invariant-loop-at decreases-loop-at
+to_after_slice_known_in_loop_at_1 c = c.before.before.before
+
+abbrev to_after_follow_part_arg_in_loop_at_1 : tie.After-slice_known-in-loop-at-1 invariant-loop-at decreases-loop-at → tie.After-follow_part-arg-in-loop-at-1 invariant-loop-at decreases-loop-at
+to_after_follow_part_arg_in_loop_at_1 c = c.before.before.before
+
+abbrev to_after_shorter_n : tie.After-follow_part-arg-in-loop-at-1 invariant-loop-at decreases-loop-at → tie.After-shorter-n invariant-loop-at decreases-loop-at
+to_after_shorter_n c = c.before.before.before
+
+abbrev to_after_second_in_loop_at_1 : tie.After-store-arg-1 invariant-loop-at decreases-loop-at → tie.After-second-in-loop-at-1 invariant-loop-at decreases-loop-at
+to_after_second_in_loop_at_1 c = c.before.before.before
+
+abbrev to_after_follow_part_p : tie.After-second-in-loop-at-1 invariant-loop-at decreases-loop-at → tie.After-follow_part-p invariant-loop-at decreases-loop-at
+to_after_follow_part_p c = c.before.before.before
+
+abbrev to_after_load_steps : tie.After-follow_part-p invariant-loop-at decreases-loop-at → tie.After-load-steps invariant-loop-at decreases-loop-at
+to_after_load_steps c = c.before.before.before
+
+abbrev to_at_loop_at : tie.After-load-steps invariant-loop-at decreases-loop-at → tie.At-loop-at invariant-loop-at decreases-loop-at
+to_at_loop_at c = c.before.before.before
+
+abbrev to_after_store : tie.After-values-1 invariant-loop-at decreases-loop-at → tie.After-store invariant-loop-at decreases-loop-at
+to_after_store c = c.before.before.before
+
+abbrev to_after_done_1 : tie.After-store invariant-loop-at decreases-loop-at → tie.After-done-1 invariant-loop-at decreases-loop-at
+to_after_done_1 c = c.before.before.before
+
+abbrev to_after_numbers_1 : tie.After-slice_known-in-loop-at-4-1 invariant-loop-at decreases-loop-at → tie.After-numbers-1 invariant-loop-at decreases-loop-at
+to_after_numbers_1 c = c.before.before.before
+
+abbrev to_after_store_arg_1 : tie.After-numbers-1 invariant-loop-at decreases-loop-at → tie.After-store-arg-1 invariant-loop-at decreases-loop-at
+to_after_store_arg_1 c = c.before.before.before
+
+abbrev to_after_finish : tie.After-second-2-1 invariant-loop-at decreases-loop-at → tie.After-finish invariant-loop-at decreases-loop-at
+to_after_finish c = c.before.before.before
+
+abbrev to_after_loop_at : tie.After-finish invariant-loop-at decreases-loop-at → tie.After-loop-at invariant-loop-at decreases-loop-at
+to_after_loop_at c = c.before.before.before
+
+abbrev to_after_second_1 : tie.After-loop-at invariant-loop-at decreases-loop-at → tie.After-second-1 invariant-loop-at decreases-loop-at
+to_after_second_1 c = c.before.before.before
+
 counted : (c : tie.After-begin-b invariant-loop-at decreases-loop-at)
     → let a = c.args in
     c.shorter-count.result ≡ record_count a.operations.now a.variables.now a.numbers.now a.values.now
@@ -37,7 +83,7 @@ few_turns c =
     let g = c in
     let a = g.args in
     turns_few (format_of a.f) a.sheet.now a.operations.now a.variables.now a.numbers.now a.values.now a.first.now a.second.now
-    _ _ g.begin-b.auto.first g.begin-b.auto.second _ (counted g.before.before.before.before.before) g.begin-b.result g.begin-b.ensures
+    _ _ g.begin-b.auto.first g.begin-b.auto.second _ (counted (to_after_begin_b g.before.before)) g.begin-b.result g.begin-b.ensures
 
 -- a part: some records, at most 64, none behind the last
 record Some (at turns n : ℕ) : Type 0 where
@@ -70,7 +116,7 @@ loop-at-init c =
       omega arith,
       turned_none (format_of a.f) a.operations.now a.variables.now a.numbers.now a.values.now _ _ g.begin-b.result.held
           (held_short (format_of a.f) a.sheet.now a.operations.now a.variables.now a.numbers.now a.values.now a.first.now a.second.now
-          _ _ g.begin-b.auto.first g.begin-b.auto.second _ (counted g.before.before.before.before) g.begin-b.result g.begin-b.ensures),
+          _ _ g.begin-b.auto.first g.begin-b.auto.second _ (counted (to_after_begin_b g.before)) g.begin-b.result g.begin-b.ensures),
     )
 
 overflow_sub-turns : tie.Need-overflow_sub-turns invariant-loop-at decreases-loop-at
@@ -94,9 +140,9 @@ follow_part-p-requires c κs =
 store-requires : tie.Need-store-requires invariant-loop-at decreases-loop-at
 store-requires c κs =
     let n = c in
-    let p = part n.before.before.before.before.before.before.before.before.before.before.before in
+    let p = part (to_after_shorter_n (to_after_follow_part_arg_in_loop_at_1 (to_after_slice_known_in_loop_at_1 n.before.before))) in
     let l = n in
-    let all = few_turns l.before.before.before.before.before.before.before.before.before.before.before.before.before in
+    let all = few_turns (to_at_loop_at (to_after_load_steps (to_after_follow_part_p (to_after_second_in_loop_at_1 l.before)))) in
     let f = l.loop-at.invariant.1 in
     record { is_part = p.few; in_one = omega (arith, p.within, all, f.same_numbers); in_other = omega (arith, p.within, all, f.same_values) }
 
@@ -106,24 +152,31 @@ overflow_add-at c =
     let l = n in
     let s = l in
     let good = s.well_formed in
-    let there : l.loop-at.at + n.shorter-n.result ≤ length s.args.variables.now = omega (arith, (part n.before.before.before.before.before.before.before.before.before.before.before.before.before.before.before.before).within, few_turns l.before.before.before.before.before.before.before.before.before.before.before.before.before.before.before.before.before.before) in
+    let there : l.loop-at.at + n.shorter-n.result ≤ length s.args.variables.now = omega (
+      arith,
+      (part (to_after_shorter_n (to_after_follow_part_arg_in_loop_at_1 (to_after_slice_known_in_loop_at_1 (to_after_done_1 (to_after_store n.before)))))).within,
+      few_turns
+          (to_at_loop_at (to_after_load_steps (to_after_follow_part_p (to_after_second_in_loop_at_1 (to_after_store_arg_1 (to_after_numbers_1 l)))))),
+    ) in
     search rules
 
 loop-at-smaller : tie.Need-loop-at-smaller invariant-loop-at decreases-loop-at
 loop-at-smaller c =
-    let p = part c.before.before.before.before.before.before.before.before.before.before.before.before.before.before.before.before in
+    let p = part (to_after_shorter_n (to_after_follow_part_arg_in_loop_at_1 (to_after_slice_known_in_loop_at_1 (to_after_done_1 (to_after_store c.before))))) in
     omega (arith, p.some, p.within)
 
 loop-at-preserved : tie.Need-loop-at-preserved invariant-loop-at decreases-loop-at
 loop-at-preserved c =
     let f = c in
     let n = f in
-    let p = part n.before.before.before.before.before.before.before.before.before.before.before.before.before.before.before.before in
+    let p = part (to_after_shorter_n (to_after_follow_part_arg_in_loop_at_1 (to_after_slice_known_in_loop_at_1 (to_after_done_1 (to_after_store n.before))))) in
     let l = n in
     let a = l.args in (
       p.within,
       turned-part (format_of a.f) a.operations.now a.variables.now a.numbers.now a.values.now _ _ _
-          l.loop-at.invariant.1 p.some p.few (omega (arith, p.within, few_turns l.before.before.before.before.before.before.before.before.before.before.before.before.before.before.before.before.before.before)) _ f.load-steps.ensures f.follow_part-p.ensures
+          l.loop-at.invariant.1 p.some p.few
+          (omega (arith, p.within, few_turns (to_at_loop_at (to_after_load_steps (to_after_follow_part_p (to_after_second_in_loop_at_1 (to_after_store_arg_1 (to_after_numbers_1 l)))))))) _
+          f.load-steps.ensures f.follow_part-p.ensures
           f.follow_part-p.auto.first f.follow_part-p.auto.second c.store.ensures,
     )
 
@@ -157,10 +210,10 @@ returns c =
     let all : l.loop-at.at ≡ g.begin-b.result.turns = omega (arith, l.loop-at.invariant.0, left.loop-at-test.false) in
     let end = c.finish in (
       equals-whole (format_of a.f) a.sheet.now a.operations.now a.variables.now a.numbers.now a.values.now a.first.now a.second.now
-          _ _ g.begin-b.auto.first g.begin-b.auto.second _ (counted g.before.before.before.before.before.before.before.before.before.before.before.before.before) g.begin-b.result g.begin-b.ensures
+          _ _ g.begin-b.auto.first g.begin-b.auto.second _ (counted (to_after_begin_b (to_after_second_1 (to_after_loop_at (to_after_finish g.before))))) g.begin-b.result g.begin-b.ensures
           l.loop-at.invariant.1 all (written_answer end.result) end.ensures,
       says_truth (format_of a.f) a.sheet.now a.operations.now a.variables.now a.numbers.now a.values.now a.first.now a.second.now
-          _ _ g.begin-b.auto.first g.begin-b.auto.second _ (counted g.before.before.before.before.before.before.before.before.before.before.before.before.before) g.begin-b.result g.begin-b.ensures
+          _ _ g.begin-b.auto.first g.begin-b.auto.second _ (counted (to_after_begin_b (to_after_second_1 (to_after_loop_at (to_after_finish g.before))))) g.begin-b.result g.begin-b.ensures
           l.loop-at.invariant.1 all (sound a.f) _ (written_answer end.result) end.ensures,
     )
 

@@ -13,6 +13,10 @@ use Rattle.strategy.proofs.Drafting.{only_counted, laid_drafted, length-left-row
 use Rattle.strategy.proofs.draft.draft_left.Statement.{statement}
 use Rattle.strategy.proofs.draft.draft_left.Tie as tie
 
+-- places in the code, each from a later one
+abbrev to_after_count_left : tie.Else-t-next → tie.After-count_left
+to_after_count_left c = c.before.before.before
+
 count_left-requires : tie.Need-count_left-requires
 count_left-requires c κs = search rules
 
@@ -53,7 +57,7 @@ write_left-requires c κs =
       record {
         has_room = p.2.draftable.room (omega (arith, short.if-t-next.false, p.2.behind));
         fits = λ i l. number_fits n.args.to.layout.format (omega (arith, p.1.few_numbers i l));
-        room = omega (arith, short.if-t-next.false, counted n.before.before.before.before);
+        room = omega (arith, short.if-t-next.false, counted (to_after_count_left n.before));
       },
     )
 

@@ -15,6 +15,10 @@ use Rattle.strategy.proofs.NextPair.{choosable, next-format, next-readable, next
 use Rattle.strategy.proofs.walk.draft_next.Statement.{statement}
 use Rattle.strategy.proofs.walk.draft_next.Tie as tie
 
+-- places in the code, each from a later one
+abbrev to_else_is_existential_d : tie.After-draft_pair → tie.Else-is_existential-d
+to_else_is_existential_d c = c.before.before.before
+
 next_function-n-requires : tie.Need-next_function-n-requires
 next_function-n-requires c κs =
     let p = c.requires in
@@ -87,7 +91,7 @@ returns c =
     let h = a.requires.0.held in
     let e = n.next_function-n.ensures in
     let d = pair.draft_pair.ensures in (
-      subst (Drafted a.args.d.to.layout a.args.out.now _ a.args.d.to.at _) (own-next h e (side_of a.args.d) (own side.before.before.before.before.before)) d,
+      subst (Drafted a.args.d.to.layout a.args.out.now _ a.args.d.to.at _) (own-next h e (side_of a.args.d) (own (to_else_is_existential_d side.before.before))) d,
       omega (arith, d.next_row, few_rows h e),
     )
 

@@ -16,6 +16,25 @@ use Rattle.strategy.proofs.Walking.{never_ended}
 use Rattle.strategy.proofs.walk.open_turn.Statement.{statement}
 use Rattle.strategy.proofs.walk.open_turn.Tie as tie
 
+-- places in the code, each from a later one
+abbrev to_after_slice_known_5_1 : tie.After-out-1 → tie.After-slice_known-5-1
+to_after_slice_known_5_1 c = c.before.before.before
+
+abbrev to_after_draft_next_arg_3_1 : tie.After-slice_known-5-1 → tie.After-draft_next-arg-3-1
+to_after_draft_next_arg_3_1 c = c.before.before.before
+
+abbrev to_after_sheet_length_need : tie.After-draft_next-arg-3-1 → tie.After-sheet_length-need
+to_after_sheet_length_need c = c.before.before.before
+
+abbrev to_after_shorter_room : tie.After-take_step-arg-3-1 → tie.After-shorter-room
+to_after_shorter_room c = c.before.before.before
+
+abbrev to_after_second_2_1 : tie.After-slice_known-10-1 → tie.After-second-2-1
+to_after_second_2_1 c = c.before.before.before
+
+abbrev to_after_take_step_k : tie.After-second-2-1 → tie.After-take_step-k
+to_after_take_step_k c = c.before.before.before
+
 sheet_length-need-requires : tie.Need-sheet_length-need-requires
 sheet_length-need-requires c κs = few_rows c.requires.0.run
 
@@ -67,7 +86,14 @@ same_room c =
     let behind = drop n.sheet_length-need.result a.second.now in
     c.shorter-room.ensures ∙
     ap (min (length a.first.now))
-    (length-append part behind ∙ omega (arith, d.draft_next-at.auto.part, part_length n.before.before.before.before.before.before.before.before.before.before.before, enough n.before.before.before.before.before.before.before.before.before.before.before, length-drop n.sheet_length-need.result a.second.now))
+    (length-append part behind ∙ omega (
+      arith,
+      d.draft_next-at.auto.part,
+      part_length (to_after_sheet_length_need (to_after_draft_next_arg_3_1 (to_after_slice_known_5_1 n.before.before))),
+      enough
+          (to_after_sheet_length_need (to_after_draft_next_arg_3_1 (to_after_slice_known_5_1 n.before.before))),
+      length-drop n.sheet_length-need.result a.second.now,
+    ))
 
 take_step-k-requires : tie.Need-take_step-k-requires
 take_step-k-requires c κs =
@@ -97,10 +123,11 @@ enum_known-k-in-Stopped-1 c = search rules
 -- the step, once it is known
 stepped : (c : tie.After-take_step-k) (r : Step) → c.take_step-k.result ≡ r →
     let a = c.args in
-    Stepped (room a.first.now a.second.now) a.s a.first.now (second_now c.before.before.before.before) c.take_step-k.new.first c.take_step-k.new.second r
+    Stepped (room a.first.now a.second.now) a.s a.first.now (second_now (to_after_shorter_room c.before)) c.take_step-k.new.first c.take_step-k.new.second r
 stepped c r e =
     let a = c.args in
-    subst₂ (λ m r. Stepped m a.s a.first.now (second_now c.before.before.before.before) c.take_step-k.new.first c.take_step-k.new.second r) (same_room c.before.before.before.before) e c.take_step-k.ensures
+    subst₂ (λ m r. Stepped m a.s a.first.now (second_now (to_after_shorter_room c.before)) c.take_step-k.new.first c.take_step-k.new.second r) (same_room (to_after_shorter_room c.before)) e
+    c.take_step-k.ensures
 
 shape_of-first-in-Next : tie.Need-shape_of-first-in-Next
 shape_of-first-in-Next c = search rules
@@ -118,7 +145,7 @@ returns-in-Next : tie.Need-returns-in-Next
 returns-in-Next c =
     let t = c in
     let d = t in
-    (stepped t.before.before.before.before.before.before.before _ c.in-Next.is, d.draft_next-at.ensures.0, d.draft_next-at.ensures.1)
+    (stepped (to_after_take_step_k (to_after_second_2_1 t.before)) _ c.in-Next.is, d.draft_next-at.ensures.0, d.draft_next-at.ensures.1)
 
 shape_of-first-in-Ended : tie.Need-shape_of-first-in-Ended
 shape_of-first-in-Ended c = search rules
@@ -137,7 +164,7 @@ returns-in-Ended c =
     let t = c in
     let a = t in
     absurd
-    (never_ended a.args.s a.requires.0.run.held a.requires.1 (verdict_of c.in-Ended.verdict) (stepped t.before.before.before.before.before.before.before _ c.in-Ended.is).0)
+    (never_ended a.args.s a.requires.0.run.held a.requires.1 (verdict_of c.in-Ended.verdict) (stepped (to_after_take_step_k (to_after_second_2_1 t.before)) _ c.in-Ended.is).0)
 
 shape_of-first-in-Stopped : tie.Need-shape_of-first-in-Stopped
 shape_of-first-in-Stopped c = search rules
@@ -154,7 +181,7 @@ shape_of-out-in-Stopped c = search rules
 returns-in-Stopped : tie.Need-returns-in-Stopped
 returns-in-Stopped c =
     let t = c in
-    absurd (t.requires.0.never_stops c.in-Stopped.x (stepped t.before.before.before.before.before.before.before _ c.in-Stopped.is).0)
+    absurd (t.requires.0.never_stops c.in-Stopped.x (stepped (to_after_take_step_k (to_after_second_2_1 t.before)) _ c.in-Stopped.is).0)
 
 pub open_turn_spec : {M : Type 1} → statement M
 open_turn_spec =

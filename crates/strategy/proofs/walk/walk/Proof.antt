@@ -27,6 +27,39 @@ invariant-loop-first first₀ second₀ out₀ exists t s₀ at₀ ends₀ first
 abbrev decreases-loop-first : tie.decreases-loop-first
 decreases-loop-first first₀ second₀ out₀ exists t s₀ at₀ ends₀ first second out s at ends = s.sheet.variables
 
+-- places in the code, each from a later one
+abbrev to_at_loop_first : tie.After-ends-1 invariant-loop-first decreases-loop-first → tie.At-loop-first invariant-loop-first decreases-loop-first
+to_at_loop_first c = c.before.before.before
+
+abbrev to_after_second_1 : tie.After-out-1 invariant-loop-first decreases-loop-first → tie.After-second-1 invariant-loop-first decreases-loop-first
+to_after_second_1 c = c.before.before.before
+
+abbrev to_after_take_turn_k : tie.After-second-1 invariant-loop-first decreases-loop-first → tie.After-take_turn-k invariant-loop-first decreases-loop-first
+to_after_take_turn_k c = c.before.before.before
+
+abbrev to_after_slice_known_in_loop_first_3_1 : tie.After-draft_left-arg-in-Decided-1 invariant-loop-first decreases-loop-first → tie.After-slice_known-in-loop-first-3-1 invariant-loop-first
+    decreases-loop-first
+to_after_slice_known_in_loop_first_3_1 c = c.before.before.before
+
+abbrev to_after_slice_known_in_loop_first_2_1 : tie.After-slice_known-in-loop-first-3-1 invariant-loop-first decreases-loop-first → tie.After-slice_known-in-loop-first-2-1 invariant-loop-first
+    decreases-loop-first
+to_after_slice_known_in_loop_first_2_1 c = c.before.before.before
+
+abbrev to_after_first_1 : tie.After-slice_known-in-loop-first-2-1 invariant-loop-first decreases-loop-first → tie.After-first-1 invariant-loop-first decreases-loop-first
+to_after_first_1 c = c.before.before.before
+
+abbrev to_after_ends_1 : tie.After-first-1 invariant-loop-first decreases-loop-first → tie.After-ends-1 invariant-loop-first decreases-loop-first
+to_after_ends_1 c = c.before.before.before
+
+abbrev to_after_draft_left_arg_1 : tie.After-out-in-Decided-1 invariant-loop-first decreases-loop-first → tie.After-draft_left-arg-1 invariant-loop-first decreases-loop-first
+to_after_draft_left_arg_1 c = c.before.before.before
+
+abbrev to_after_out_1 : tie.After-draft_left-arg-1 invariant-loop-first decreases-loop-first → tie.After-out-1 invariant-loop-first decreases-loop-first
+to_after_out_1 c = c.before.before.before
+
+abbrev to_in_Decided : tie.After-draft_left invariant-loop-first decreases-loop-first → tie.In-Decided invariant-loop-first decreases-loop-first
+to_in_Decided c = c.before.before.before
+
 -- the row that is written next, at each turn
 abbrev here : tie.At-loop-first invariant-loop-first decreases-loop-first → Draft
 here c = let d = c.args.d in record { exists = d.exists; to = record { layout = d.to.layout; at = c.loop-first.at } }
@@ -65,7 +98,7 @@ take_turn-k-requires c κs =
     let a = l in
     let u = l.loop-first.invariant in
     let r = a.requires.run in (
-      subst (λ m. TurnReady m l.loop-first.s (here l.before.before.before.before) l.loop-first.first l.loop-first.second l.loop-first.out) (same_room l.before.before.before.before)
+      subst (λ m. TurnReady m l.loop-first.s (here (to_at_loop_first l.before)) l.loop-first.first l.loop-first.second l.loop-first.out) (same_room (to_at_loop_first l.before))
           (record {
             run =
                 record {
@@ -75,7 +108,7 @@ take_turn-k-requires c κs =
                   few = u.0.turn.few;
                 };
             never_stops = walking_on u.0 a.requires.ends;
-            draft = draft l.before.before.before.before;
+            draft = draft (to_at_loop_first l.before);
           }),
       omega (arith, u.3),
     )
@@ -87,13 +120,13 @@ enum_told-1 c = search rules
 turned : (c : tie.After-take_turn-k invariant-loop-first decreases-loop-first) (r : Turn) → c.take_turn-k.result ≡ r →
     let l = c in
     let a = l.args in
-    Turned (room a.first.now a.second.now) l.loop-first.s (here l.before.before.before.before.before) l.loop-first.first c.take_turn-k.new.first l.loop-first.out c.take_turn-k.new.out r
+    Turned (room a.first.now a.second.now) l.loop-first.s (here (to_at_loop_first l.before.before)) l.loop-first.first c.take_turn-k.new.first l.loop-first.out c.take_turn-k.new.out r
 turned c r e =
     let l = c in
     let a = l.args in
     subst₂
-    (λ m r. Turned m l.loop-first.s (here l.before.before.before.before.before) l.loop-first.first c.take_turn-k.new.first l.loop-first.out c.take_turn-k.new.out r)
-    (sym (same_room l.before.before.before.before.before)) e c.take_turn-k.ensures
+    (λ m r. Turned m l.loop-first.s (here (to_at_loop_first l.before.before)) l.loop-first.first c.take_turn-k.new.first l.loop-first.out c.take_turn-k.new.out r)
+    (sym (same_room (to_at_loop_first l.before.before))) e c.take_turn-k.ensures
 
 -- the sheet is decided, and the buffers are as they were
 still : (c : tie.In-Decided invariant-loop-first decreases-loop-first) →
@@ -106,7 +139,7 @@ still c =
     let t = c in
     let l = t in
     let a = l.args in
-    let k = turned t.before.before.before.before.before.before.before.before Decided c.in-Decided.is in
+    let k = turned (to_after_take_turn_k (to_after_second_1 t.before.before)) Decided c.in-Decided.is in
     subst₂
     (λ b out. Walking (room a.first.now a.second.now) (winner a.d.exists) a.d.to.layout a.start l.loop-first.s a.first.now b
     a.out.now out a.d.to.at l.loop-first.at)
@@ -121,7 +154,8 @@ draft_left-requires c κs =
     let h = (still told.before.before).turn.held in (
       readable h,
       (bound h).numbered,
-      subst (λ n. DraftReady l.loop-first.s.sheet a.d.to.layout n l.loop-first.at) (sym t.take_turn-k.auto.out) (draft l.before.before.before.before.before.before.before.before.before.before.before.before.before.before.before),
+      subst (λ n. DraftReady l.loop-first.s.sheet a.d.to.layout n l.loop-first.at) (sym t.take_turn-k.auto.out)
+          (draft (to_at_loop_first (to_after_ends_1 (to_after_first_1 (to_after_slice_known_in_loop_first_2_1 (to_after_slice_known_in_loop_first_3_1 l)))))),
     )
 
 shape_of-first-in-Decided : tie.Need-shape_of-first-in-Decided invariant-loop-first decreases-loop-first
@@ -146,10 +180,10 @@ returns-in-Decided c =
     let t = told in
     let l = t in
     let a = l.args in
-    let k = turned t.before.before.before.before.before.before.before.before.before.before.before.before.before Decided told.in-Decided.is in
+    let k = turned (to_after_take_turn_k (to_after_second_1 (to_after_out_1 (to_after_draft_left_arg_1 t.before)))) Decided told.in-Decided.is in
     let e = ends_decided (room a.first.now a.second.now) l.loop-first.s t.take_turn-k.new.first
     (subst (λ b. verdict (matrix_in l.loop-first.s.sheet b) ≡ some k.0.0) (sym k.1) k.0.1) in
-    record { drafted = walking-last (still told.before.before.before.before.before) e d.draft_left.ensures; shows = walking-shows (still told.before.before.before.before.before) e }
+    record { drafted = walking-last (still (to_in_Decided told.before.before)) e d.draft_left.ensures; shows = walking-shows (still (to_in_Decided told.before.before)) e }
 
 enum_known-k : tie.Need-enum_known-k invariant-loop-first decreases-loop-first
 enum_known-k c = search rules
@@ -157,13 +191,13 @@ enum_known-k c = search rules
 loop-first-smaller : tie.Need-loop-first-smaller invariant-loop-first decreases-loop-first
 loop-first-smaller c =
     let t = c in
-    omega (arith, (turned t.before.before.before.before.before.before.before.before _ c.in-Next.is).0.2)
+    omega (arith, (turned (to_after_take_turn_k (to_after_second_1 t.before.before)) _ c.in-Next.is).0.2)
 
 loop-first-preserved : tie.Need-loop-first-preserved invariant-loop-first decreases-loop-first
 loop-first-preserved c =
     let t = c in
     let u = t.loop-first.invariant in
-    let k = turned t.before.before.before.before.before.before.before.before _ c.in-Next.is in (
+    let k = turned (to_after_take_turn_k (to_after_second_1 t.before.before)) _ c.in-Next.is in (
       walking_next u.0 k.0 t.take_turn-k.auto.first k.1 k.2,
       t.take_turn-k.auto.second ∙ u.1,
       t.take_turn-k.auto.out ∙ u.2,

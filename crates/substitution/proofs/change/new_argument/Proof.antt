@@ -11,13 +11,20 @@ use borrow.Author.Rules.{rules}
 use Rattle.substitution.proofs.change.new_argument.Statement.{statement}
 use Rattle.substitution.proofs.change.new_argument.Tie as tie
 
+-- places in the code, each from a later one
+abbrev to_after_argument_at_v : tie.After-entry-e → tie.After-argument_at-v
+to_after_argument_at_v c = c.before.before.before
+
+abbrev to_start : tie.After-argument_at-v → tie.Start
+to_start c = c.before.before.before
+
 abbrev here : tie.Start → Row
 here a = get_or (rows_in a.args.s a.args.b.now) a.args.r (row 0 0)
 
-chosen : (c : tie.After-entry-e) → chosen_row c.args.table.now (here c.before.before.before.before.before.before) ≡ true
+chosen : (c : tie.After-entry-e) → chosen_row c.args.table.now (here (to_start (to_after_argument_at_v c))) ≡ true
 chosen c = row_changes _ _ c.is_changed.ensures (ap not c.if-not-is_changed.false)
 
-entry_is : (c : tie.After-entry-e) → c.entry-e.result ≡ entry c.args.table.now (here c.before.before.before.before.before.before).argument
+entry_is : (c : tie.After-entry-e) → c.entry-e.result ≡ entry c.args.table.now (here (to_start (to_after_argument_at_v c))).argument
 entry_is c = c.entry-e.ensures ∙ ap (entry c.args.table.now) c.argument_at-v.ensures.0
 
 argument_at-v-requires : tie.Need-argument_at-v-requires
@@ -31,7 +38,7 @@ returns-then-not-is_changed c =
     let asked = c in
     let a = asked in
     asked.argument_at-v.ensures.0 ∙
-    ap (λ (r : Row). r.argument) (row_stays a.args.table.now (here a.before.before.before.before.before) asked.is_changed.ensures (ap not c.if-not-is_changed.true))
+    ap (λ (r : Row). r.argument) (row_stays a.args.table.now (here (to_start a.before.before)) asked.is_changed.ensures (ap not c.if-not-is_changed.true))
 
 entry-e-requires : tie.Need-entry-e-requires
 entry-e-requires c κs = search rules
@@ -40,14 +47,17 @@ returns-then-e-lt-NUMBERS : tie.Need-returns-then-e-lt-NUMBERS
 returns-then-e-lt-NUMBERS c =
     let read = c in
     let a = read in
-    ap (λ (r : Row). r.argument) (row-renamed a.args.table.now (here a.before.before.before.before.before.before.before) (chosen read.before) {k = (here a.before.before.before.before.before.before.before).kind} refl (entry_is read.before) (omega arith))
+    ap (λ (r : Row). r.argument)
+    (row-renamed a.args.table.now (here (to_start (to_after_argument_at_v a.before))) (chosen read.before) {k = (here (to_start (to_after_argument_at_v a.before))).kind} refl
+    (entry_is read.before) (omega arith))
 
 returns : tie.Need-returns
 returns c =
     let read = c in
     let a = read in
     ap (λ (r : Row). r.argument)
-    (row_put a.args.table.now (here a.before.before.before.before.before.before.before) (chosen read.before) {k = (here a.before.before.before.before.before.before.before).kind} refl (entry_is read.before) c.if-e-lt-NUMBERS.false refl)
+    (row_put a.args.table.now (here (to_start (to_after_argument_at_v a.before))) (chosen read.before) {k = (here (to_start (to_after_argument_at_v a.before))).kind} refl (entry_is read.before)
+    c.if-e-lt-NUMBERS.false refl)
 
 pub new_argument_spec : {M : Type 1} → statement M
 new_argument_spec =

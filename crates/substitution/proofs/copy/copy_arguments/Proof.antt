@@ -21,6 +21,22 @@ invariant-loop-r b s table out₀ f w from to r₀ out r = Changed (row_argument
 abbrev decreases-loop-r : tie.decreases-loop-r
 decreases-loop-r b s table out₀ f w from to r₀ out r = to - r
 
+-- places in the code, each from a later one
+abbrev to_after_copy_bytes : tie.At-loop-r invariant-loop-r decreases-loop-r → tie.After-copy_bytes invariant-loop-r decreases-loop-r
+to_after_copy_bytes c = c.before.before.before
+
+abbrev to_start : tie.After-slice_known-1 invariant-loop-r decreases-loop-r → tie.Start invariant-loop-r decreases-loop-r
+to_start c = c.before.before.before
+
+abbrev to_after_slice_known_1 : tie.After-struct_known-1 invariant-loop-r decreases-loop-r → tie.After-slice_known-1 invariant-loop-r decreases-loop-r
+to_after_slice_known_1 c = c.before.before.before
+
+abbrev to_after_new_argument : tie.After-slice_known-in-loop-r-1 invariant-loop-r decreases-loop-r → tie.After-new_argument invariant-loop-r decreases-loop-r
+to_after_new_argument c = c.before.before.before
+
+abbrev to_at_loop_r : tie.After-new_argument invariant-loop-r decreases-loop-r → tie.At-loop-r invariant-loop-r decreases-loop-r
+to_at_loop_r c = c.before.before.before
+
 -- the bytes of the arguments are within the source
 source_within : (a : tie.Start invariant-loop-r decreases-loop-r)
     → argument_place a.args.s a.args.span.from + width a.args.s * extent a.args.span ≤ length a.args.b.now
@@ -63,7 +79,7 @@ here c =
     let k = m.requires.0.between in
     let less : at.loop-r.r - m.args.span.from < extent m.args.span =
     omega (arith, c.loop-r-test.true, at.loop-r.invariant.begun, k.start, k.end) in
-    omega (arith, room m.before.before.before.before, next_row m.width-w.result less)
+    omega (arith, room (to_after_copy_bytes m.before), next_row m.width-w.result less)
 
 width-w-requires : tie.Need-width-w-requires invariant-loop-r decreases-loop-r
 width-w-requires c κs = tt
@@ -71,7 +87,7 @@ width-w-requires c κs = tt
 argument_place-requires : tie.Need-argument_place-requires invariant-loop-r decreases-loop-r
 argument_place-requires c κs =
     let a = c in
-    omega (arith, source_within a.before.before.before.before, a.well_formed)
+    omega (arith, source_within (to_start a.before), a.well_formed)
 
 overflow_sub-span : tie.Need-overflow_sub-span invariant-loop-r decreases-loop-r
 overflow_sub-span c = c.requires.0.within.ordered
@@ -80,14 +96,14 @@ overflow_mul-w : tie.Need-overflow_mul-w invariant-loop-r decreases-loop-r
 overflow_mul-w c =
     let w = c in
     let a = w in
-    rw w.width-w.ensures.0 (record { fits = omega (arith, source_within a.before.before.before.before.before.before, a.well_formed) })
+    rw w.width-w.ensures.0 (record { fits = omega (arith, source_within (to_start (to_after_slice_known_1 a)), a.well_formed) })
 
 copy_bytes-requires : tie.Need-copy_bytes-requires invariant-loop-r decreases-loop-r
 copy_bytes-requires c κs =
     let at = c in
     let w = at in
     let a = w in (
-      rw (at.argument_place.ensures, w.width-w.ensures.0) (source_within a.before.before.before.before.before.before.before),
+      rw (at.argument_place.ensures, w.width-w.ensures.0) (source_within (to_start (to_after_slice_known_1 a.before))),
       rw w.width-w.ensures.0 a.requires.1,
     )
 
@@ -129,7 +145,7 @@ loop-r-preserved c =
     let m = at in
     let w = m.width-w in
     let place = w.result * (at.loop-r.r - m.args.span.from) in
-    arguments-next m.requires.0 w.result (room m.before.before.before.before.before.before.before.before.before) at.loop-r.invariant turn.loop-r-test.true new.new_argument.ensures put.put_number.auto.b
+    arguments-next m.requires.0 w.result (room (to_after_copy_bytes (to_at_loop_r (to_after_new_argument m)))) at.loop-r.invariant turn.loop-r-test.true new.new_argument.ensures put.put_number.auto.b
     (put.put_number.ensures ∙
     ap (λ v. take place at.loop-r.out ++ digits v new.new_argument.result ++ drop (place + v) at.loop-r.out) (sym w.ensures.0))
 
@@ -141,7 +157,7 @@ returns c =
     let m = c in
     let a = m in
     let w = m.width-w in
-    arguments-all a.requires.0 w.result _ (as_they_are m.before.before.before.before) c.loop-r-test.false c.loop-r.invariant ∙
+    arguments-all a.requires.0 w.result _ (as_they_are (to_after_copy_bytes m.before)) c.loop-r-test.false c.loop-r.invariant ∙
     ap (λ v. row_arguments v (copy_in a.args.s a.args.b.now a.args.table.now a.args.span) ++ drop (v * extent a.args.span) a.args.out.now)
     w.ensures.0
 

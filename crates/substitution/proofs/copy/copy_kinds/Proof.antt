@@ -19,6 +19,10 @@ invariant-loop-r b s table out₀ from to r₀ out r = Changed row_kinds (r₀ -
 abbrev decreases-loop-r : tie.decreases-loop-r
 decreases-loop-r b s table out₀ from to r₀ out r = to - r
 
+-- places in the code, each from a later one
+abbrev to_after_copy_bytes : tie.At-loop-r invariant-loop-r decreases-loop-r → tie.After-copy_bytes invariant-loop-r decreases-loop-r
+to_after_copy_bytes c = c.before.before.before
+
 -- the kinds are moved as they are
 as_they_are : (c : tie.After-copy_bytes invariant-loop-r decreases-loop-r)
     → c.copy_bytes.new.out ≡
@@ -70,7 +74,7 @@ bounds-out-r c =
     let turn = c in
     let at = turn in
     let w = at.requires.0.between in
-    omega (arith, turn.loop-r-test.true, at.loop-r.invariant.begun, at.loop-r.invariant.same_length, room at.before.before.before.before.before, w.start, w.end)
+    omega (arith, turn.loop-r-test.true, at.loop-r.invariant.begun, at.loop-r.invariant.same_length, room (to_after_copy_bytes at.before.before), w.start, w.end)
 
 overflow_add-r : tie.Need-overflow_add-r invariant-loop-r decreases-loop-r
 overflow_add-r c = omega arith
@@ -82,7 +86,7 @@ loop-r-preserved : tie.Need-loop-r-preserved invariant-loop-r decreases-loop-r
 loop-r-preserved c =
     let turn = c in
     let at = turn in
-    kinds_next at.requires.0 (room at.before.before.before.before.before) at.loop-r.invariant turn.loop-r-test.true c.new_kind.ensures
+    kinds_next at.requires.0 (room (to_after_copy_bytes at.before.before)) at.loop-r.invariant turn.loop-r-test.true c.new_kind.ensures
 
 shape_of-out : tie.Need-shape_of-out invariant-loop-r decreases-loop-r
 shape_of-out c = c.loop-r.invariant.same_length ∙ c.copy_bytes.auto.out
@@ -90,7 +94,7 @@ shape_of-out c = c.loop-r.invariant.same_length ∙ c.copy_bytes.auto.out
 returns : tie.Need-returns invariant-loop-r decreases-loop-r
 returns c =
     let done = c in
-    kinds_all done.requires.0 _ (as_they_are done.before.before.before.before) c.loop-r-test.false c.loop-r.invariant
+    kinds_all done.requires.0 _ (as_they_are (to_after_copy_bytes done.before)) c.loop-r-test.false c.loop-r.invariant
 
 pub copy_kinds_spec : {M : Type 1} → statement M
 copy_kinds_spec =

@@ -18,6 +18,22 @@ use borrow.Author.Rules.{rules}
 use Rattle.substitution.proofs.write.write_copy.Statement.{statement}
 use Rattle.substitution.proofs.write.write_copy.Tie as tie
 
+-- places in the code, each from a later one
+abbrev to_after_kind_place_kinds : tie.After-copy_kinds → tie.After-kind_place-kinds
+to_after_kind_place_kinds c = c.before.before.before
+
+abbrev to_after_slice_known_1 : tie.After-kind_place-kinds → tie.After-slice_known-1
+to_after_slice_known_1 c = c.before.before.before
+
+abbrev to_start : tie.After-slice_known-1 → tie.Start
+to_start c = c.before.before.before
+
+abbrev to_after_copy_kinds : tie.After-copy_arguments-arg-1 → tie.After-copy_kinds
+to_after_copy_kinds c = c.before.before.before
+
+abbrev to_after_copy_arguments_arg_1 : tie.After-slice_known-3-1 → tie.After-copy_arguments-arg-1
+to_after_copy_arguments_arg_1 c = c.before.before.before
+
 -- the rows that are written
 abbrev new : tie.Start → List Row
 new a = copy_in a.args.s a.args.b.now a.args.table.now a.args.span
@@ -41,17 +57,26 @@ mid c =
     let d = c.args.out.now in
     take (kinds_at c) d ++ (c.copy_kinds.new.out ++ drop (length d - kinds_at c) (drop (kinds_at c) d))
 
-kinds_written : (c : tie.After-copy_kinds) → mid c ≡ spliced (kinds_at c) (row_kinds (new c.before.before.before.before.before.before.before.before.before)) c.args.out.now
+kinds_written : (c : tie.After-copy_kinds) → mid c ≡ spliced (kinds_at c) (row_kinds (new (to_start (to_after_slice_known_1 (to_after_kind_place_kinds c))))) c.args.out.now
 kinds_written c =
     let a = c in
-    lent a.args.out.now (row_kinds (new a.before.before.before.before.before.before.before.before.before)) (kinds_at c) (extent a.args.span) (length-row_kinds (new a.before.before.before.before.before.before.before.before.before) ∙ length_new a.before.before.before.before.before.before.before.before.before) c.copy_kinds.ensures
+    lent a.args.out.now (row_kinds (new (to_start (to_after_slice_known_1 (to_after_kind_place_kinds a))))) (kinds_at c) (extent a.args.span)
+    (length-row_kinds (new (to_start (to_after_slice_known_1 (to_after_kind_place_kinds a)))) ∙ length_new (to_start (to_after_slice_known_1 (to_after_kind_place_kinds a)))) c.copy_kinds.ensures
 
 length_mid : (c : tie.After-copy_kinds) → length (mid c) ≡ length c.args.out.now
 length_mid c =
     let a = c in
     ap length (kinds_written c) ∙
-    length-spliced (kinds_at c) (row_kinds (new a.before.before.before.before.before.before.before.before.before)) a.args.out.now
-    (omega (arith, c.kind_place-kinds.ensures, length-row_kinds (new a.before.before.before.before.before.before.before.before.before), length_new a.before.before.before.before.before.before.before.before.before, a.requires.0.room.holds, a.requires.2))
+    length-spliced (kinds_at c) (row_kinds (new (to_start (to_after_slice_known_1 (to_after_kind_place_kinds a))))) a.args.out.now
+    (omega (
+      arith,
+      c.kind_place-kinds.ensures,
+      length-row_kinds (new (to_start (to_after_slice_known_1 (to_after_kind_place_kinds a)))),
+      length_new
+          (to_start (to_after_slice_known_1 (to_after_kind_place_kinds a))),
+      a.requires.0.room.holds,
+      a.requires.2,
+    ))
 
 changed_span-changed-requires : tie.Need-changed_span-changed-requires
 changed_span-changed-requires c κs = search rules
@@ -62,7 +87,7 @@ kind_place-kinds-requires c κs = search rules
 argument_place-arguments-requires : tie.Need-argument_place-arguments-requires
 argument_place-arguments-requires c κs =
     let a = c in
-    omega (arith, output_within a.before.before.before.before.before.before, a.well_formed)
+    omega (arith, output_within (to_start (to_after_slice_known_1 a)), a.well_formed)
 
 slice_bounds-copy_kinds-count : tie.Need-slice_bounds-copy_kinds-count
 slice_bounds-copy_kinds-count c = search rules
@@ -79,12 +104,12 @@ copy_kinds-requires c κs = search rules
 slice_bounds-copy_arguments-count : tie.Need-slice_bounds-copy_arguments-count
 slice_bounds-copy_arguments-count c =
     let kinds = c in
-    omega (arith, length_mid kinds.before.before, kinds.argument_place-arguments.ensures, output_within kinds.before.before.before.before.before.before.before.before.before.before.before)
+    omega (arith, length_mid kinds.before.before, kinds.argument_place-arguments.ensures, output_within (to_start (to_after_slice_known_1 (to_after_kind_place_kinds kinds.before.before))))
 
 slice_bounds-copy_arguments-start : tie.Need-slice_bounds-copy_arguments-start
 slice_bounds-copy_arguments-start c =
     let kinds = c in
-    omega (arith, length_mid kinds.before.before, kinds.argument_place-arguments.ensures, output_within kinds.before.before.before.before.before.before.before.before.before.before.before)
+    omega (arith, length_mid kinds.before.before, kinds.argument_place-arguments.ensures, output_within (to_start (to_after_slice_known_1 (to_after_kind_place_kinds kinds.before.before))))
 
 slice_bounds-copy_arguments-end : tie.Need-slice_bounds-copy_arguments-end
 slice_bounds-copy_arguments-end c = search rules
@@ -102,7 +127,7 @@ copy_arguments-requires c κs =
         length-take-le (length part - p) (drop p part) (omega (arith, length-drop p part)),
         length_mid kinds.before.before.before,
         at.argument_place-arguments.ensures,
-        output_within a.before.before.before.before.before.before.before.before.before.before.before.before,
+        output_within (to_start (to_after_slice_known_1 (to_after_kind_place_kinds (to_after_copy_kinds a)))),
       ),
     )
 
@@ -126,10 +151,15 @@ returns c =
     let span = a.args.span in
     let w = width s in
     let bytes : (i : ℕ) → get_or b i 0 < 256 = λ i. (at.shared_slice_known-1.given i).fits in (
-      copied-laid a.args.out.now a.requires.0 a.args.to.at (new a.before.before.before.before.before.before.before.before.before.before.before.before.before.before.before.before) (copied-fits s b bytes a.args.table.now span.from span.to)
-          (extent span) (length_new a.before.before.before.before.before.before.before.before.before.before.before.before.before.before.before.before) a.requires.2 at.kind_place-kinds.ensures at.argument_place-arguments.ensures (kinds_written kinds.before.before.before.before.before.before.before)
-          (lent (mid kinds.before.before.before.before.before.before.before) (row_arguments w (new a.before.before.before.before.before.before.before.before.before.before.before.before.before.before.before.before)) at.argument_place-arguments.result (w * extent span)
-          (length-row_arguments w (new a.before.before.before.before.before.before.before.before.before.before.before.before.before.before.before.before) ∙ ap (λ n. w * n) (length_new a.before.before.before.before.before.before.before.before.before.before.before.before.before.before.before.before)) arguments.copy_arguments.ensures),
+      copied-laid a.args.out.now a.requires.0 a.args.to.at (new (to_start (to_after_slice_known_1 (to_after_kind_place_kinds (to_after_copy_kinds (to_after_copy_arguments_arg_1 a.before))))))
+          (copied-fits s b bytes a.args.table.now span.from span.to)
+          (extent span) (length_new (to_start (to_after_slice_known_1 (to_after_kind_place_kinds (to_after_copy_kinds (to_after_copy_arguments_arg_1 a.before)))))) a.requires.2
+          at.kind_place-kinds.ensures at.argument_place-arguments.ensures (kinds_written (to_after_copy_kinds (to_after_copy_arguments_arg_1 kinds.before)))
+          (lent (mid (to_after_copy_kinds (to_after_copy_arguments_arg_1 kinds.before)))
+          (row_arguments w (new (to_start (to_after_slice_known_1 (to_after_kind_place_kinds (to_after_copy_kinds (to_after_copy_arguments_arg_1 a.before)))))))
+          at.argument_place-arguments.result (w * extent span)
+          (length-row_arguments w (new (to_start (to_after_slice_known_1 (to_after_kind_place_kinds (to_after_copy_kinds (to_after_copy_arguments_arg_1 a.before)))))) ∙ ap (λ n. w * n)
+          (length_new (to_start (to_after_slice_known_1 (to_after_kind_place_kinds (to_after_copy_kinds (to_after_copy_arguments_arg_1 a.before))))))) arguments.copy_arguments.ensures),
       refl,
     )
 

@@ -13,6 +13,19 @@ use borrow.Author.Rules.{rules}
 use Rattle.substitution.proofs.write.write_rows.Statement.{statement}
 use Rattle.substitution.proofs.write.write_rows.Tie as tie
 
+-- places in the code, each from a later one
+abbrev to_start : tie.After-t-1 → tie.Start
+to_start c = c.before.before.before
+
+abbrev to_after_argument_place_arguments : tie.After-write_bytes → tie.After-argument_place-arguments
+to_after_argument_place_arguments c = c.before.before.before
+
+abbrev to_after_t_1 : tie.After-argument_place-arguments → tie.After-t-1
+to_after_t_1 c = c.before.before.before
+
+abbrev to_after_write_bytes : tie.After-argument_place → tie.After-write_bytes
+to_after_write_bytes c = c.before.before.before
+
 -- the bytes of the arguments are within the source, and have their place in the output
 source_within : (a : tie.Start)
     → argument_place a.args.s a.args.span.from + width a.args.s * extent a.args.span ≤ length a.args.b.now
@@ -31,7 +44,7 @@ kind_place-kinds-requires c κs = search rules
 argument_place-arguments-requires : tie.Need-argument_place-arguments-requires
 argument_place-arguments-requires c κs =
     let a = c in
-    omega (arith, output_within a.before.before.before.before.before, a.well_formed)
+    omega (arith, output_within (to_start a.before.before), a.well_formed)
 
 kind_place-requires : tie.Need-kind_place-requires
 kind_place-requires c κs = search rules
@@ -48,7 +61,7 @@ write_bytes-requires c κs =
 argument_place-requires : tie.Need-argument_place-requires
 argument_place-requires c κs =
     let a = c in
-    omega (arith, source_within a.before.before.before.before.before.before.before.before.before.before.before, a.well_formed)
+    omega (arith, source_within (to_start (to_after_t_1 (to_after_argument_place_arguments a.before.before))), a.well_formed)
 
 width-requires : tie.Need-width-requires
 width-requires c κs = search rules
@@ -56,7 +69,7 @@ width-requires c κs = search rules
 overflow_mul-width : tie.Need-overflow_mul-width
 overflow_mul-width c =
     let a = c in
-    rw c.width.ensures.0 (omega (arith, source_within a.before.before.before.before.before.before.before.before.before.before.before.before.before, a.well_formed))
+    rw c.width.ensures.0 (omega (arith, source_within (to_start (to_after_t_1 (to_after_argument_place_arguments (to_after_write_bytes a.before)))), a.well_formed))
 
 write_bytes-requires-2 : tie.Need-write_bytes-requires-2
 write_bytes-requires-2 c κs =
@@ -64,9 +77,14 @@ write_bytes-requires-2 c κs =
     let read = sized in
     let first = read in
     let places = first in (
-      rw (read.argument_place.ensures, sized.width.ensures.0) (source_within places.before.before.before.before.before.before.before.before.before.before.before.before.before.before),
+      rw (read.argument_place.ensures, sized.width.ensures.0) (source_within (to_start (to_after_t_1 (to_after_argument_place_arguments (to_after_write_bytes places.before.before))))),
       rw sized.width.ensures.0
-          (omega (arith, output_within places.before.before.before.before.before.before.before.before.before.before.before.before.before.before, first.write_bytes.auto.out, places.argument_place-arguments.ensures)),
+          (omega (
+            arith,
+            output_within (to_start (to_after_t_1 (to_after_argument_place_arguments (to_after_write_bytes places.before.before)))),
+            first.write_bytes.auto.out,
+            places.argument_place-arguments.ensures,
+          )),
     )
 
 overflow_add-result : tie.Need-overflow_add-result

@@ -19,6 +19,22 @@ invariant-loop-link b s links members x link₀ link = Seek links members link�
 abbrev decreases-loop-link : tie.decreases-loop-link
 decreases-loop-link b s links members x link₀ link = entry_of link
 
+-- places in the code, each from a later one
+abbrev to_after_member : tie.Then-literal_of invariant-loop-link decreases-loop-link → tie.After-member invariant-loop-link decreases-loop-link
+to_after_member c = c.before.before.before
+
+abbrev to_after_shared_slice_known_3_1 : tie.After-member invariant-loop-link decreases-loop-link → tie.After-shared_slice_known-3-1 invariant-loop-link decreases-loop-link
+to_after_shared_slice_known_3_1 c = c.before.before.before
+
+abbrev to_start : tie.After-shared_slice_known-3-1 invariant-loop-link decreases-loop-link → tie.Start invariant-loop-link decreases-loop-link
+to_start c = c.before.before.before
+
+abbrev to_in_Member : tie.After-literal_of invariant-loop-link decreases-loop-link → tie.In-Member invariant-loop-link decreases-loop-link
+to_in_Member c = c.before.before.before
+
+abbrev to_after_member_from_else_literal_of : tie.Else-literal_of invariant-loop-link decreases-loop-link → tie.After-member invariant-loop-link decreases-loop-link
+to_after_member_from_else_literal_of c = c.before.before.before
+
 abbrev rows_of : tie.Start invariant-loop-link decreases-loop-link → List Row
 rows_of a = rows_in a.args.s a.args.b.now
 
@@ -52,10 +68,11 @@ returns-then-literal_of : tie.Need-returns-then-literal_of invariant-loop-link d
 returns-then-literal_of c =
     let r = c in
     let l = r in
-    seek_found (rows_of l.before.before.before.before.before.before.before.before.before) _ l.loop-link.invariant r.in-Member.is (row_is r.before.before) (sym c.literal_of.ensures ∙ c.if-literal_of.true)
+    seek_found (rows_of (to_start (to_after_shared_slice_known_3_1 (to_after_member l)))) _ l.loop-link.invariant r.in-Member.is (row_is r.before.before)
+    (sym c.literal_of.ensures ∙ c.if-literal_of.true)
 
 behind-link-requires : tie.Need-behind-link-requires invariant-loop-link decreases-loop-link
-behind-link-requires c κs = (here c.before.before.before.before).in_links
+behind-link-requires c κs = (here (to_in_Member c.before)).in_links
 
 loop-link-smaller : tie.Need-loop-link-smaller invariant-loop-link decreases-loop-link
 loop-link-smaller c =
@@ -68,7 +85,8 @@ loop-link-preserved c =
     let f = c in
     let r = f in
     let l = r in
-    seek_more (rows_of l.before.before.before.before.before.before.before.before.before.before) _ l.loop-link.invariant c.behind-link.result r.in-Member.is (row_is r.before.before.before)
+    seek_more (rows_of (to_start (to_after_shared_slice_known_3_1 (to_after_member_from_else_literal_of l.before)))) _ l.loop-link.invariant c.behind-link.result r.in-Member.is
+    (row_is r.before.before.before)
     (sym c.if-literal_of.false ∙ f.literal_of.ensures) c.behind-link.ensures
 
 enum_told-1 : tie.Need-enum_told-1 invariant-loop-link decreases-loop-link
@@ -77,7 +95,7 @@ enum_told-1 c = search rules
 returns : tie.Need-returns invariant-loop-link decreases-loop-link
 returns c =
     let l = c in
-    seek_end (rows_of l.before.before.before.before.before) _ l.loop-link.invariant c.in_default.is
+    seek_end (rows_of (to_start l.before.before)) _ l.loop-link.invariant c.in_default.is
 
 pub find_spec : {M : Type 1} → statement M
 find_spec =

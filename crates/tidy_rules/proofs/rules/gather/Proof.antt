@@ -25,6 +25,61 @@ invariant-loop-left b₀ w heads₀ links₀ members₀ known s at₀ run₀ n�
 abbrev decreases-loop-left : tie.decreases-loop-left
 decreases-loop-left b₀ w heads₀ links₀ members₀ known s at₀ run₀ n₀ hash₀ left₀ b heads links members at run n hash left = total w.sheet - at
 
+-- places in the code, each from a later one
+abbrev to_at_loop_left : tie.After-large invariant-loop-left decreases-loop-left → tie.At-loop-left invariant-loop-left decreases-loop-left
+to_at_loop_left c = c.before.before.before
+
+abbrev to_after_extent_at : tie.After-judge-arg-in-loop-left-2-1 invariant-loop-left decreases-loop-left → tie.After-extent_at invariant-loop-left decreases-loop-left
+to_after_extent_at c = c.before.before.before
+
+abbrev to_after_splice_at_left : tie.After-extent_at invariant-loop-left decreases-loop-left → tie.After-splice_at-left invariant-loop-left decreases-loop-left
+to_after_splice_at_left c = c.before.before.before
+
+abbrev to_after_slice_known_in_loop_left_1 : tie.After-judge-arg-in-loop-left-1 invariant-loop-left decreases-loop-left → tie.After-slice_known-in-loop-left-1 invariant-loop-left decreases-loop-left
+to_after_slice_known_in_loop_left_1 c = c.before.before.before
+
+abbrev to_after_splice_at_arg_1 : tie.After-slice_known-in-loop-left-1 invariant-loop-left decreases-loop-left → tie.After-splice_at-arg-1 invariant-loop-left decreases-loop-left
+to_after_splice_at_arg_1 c = c.before.before.before
+
+abbrev to_in_loop_left : tie.After-splice_at-arg-1 invariant-loop-left decreases-loop-left → tie.In-loop-left invariant-loop-left decreases-loop-left
+to_in_loop_left c = c.before.before.before
+
+abbrev to_after_slice_known_in_loop_left_3_1 : tie.After-members-1 invariant-loop-left decreases-loop-left → tie.After-slice_known-in-loop-left-3-1 invariant-loop-left decreases-loop-left
+to_after_slice_known_in_loop_left_3_1 c = c.before.before.before
+
+abbrev to_after_b_in_loop_left_1 : tie.After-slice_known-in-loop-left-3-1 invariant-loop-left decreases-loop-left → tie.After-b-in-loop-left-1 invariant-loop-left decreases-loop-left
+to_after_b_in_loop_left_1 c = c.before.before.before
+
+abbrev to_after_judge_arg_in_loop_left_2_1 : tie.After-b-in-loop-left-1 invariant-loop-left decreases-loop-left → tie.After-judge-arg-in-loop-left-2-1 invariant-loop-left decreases-loop-left
+to_after_judge_arg_in_loop_left_2_1 c = c.before.before.before
+
+abbrev to_after_slice_known_in_loop_left_4_1 : tie.In_default invariant-loop-left decreases-loop-left → tie.After-slice_known-in-loop-left-4-1 invariant-loop-left decreases-loop-left
+to_after_slice_known_in_loop_left_4_1 c = c.before.before.before
+
+abbrev to_after_heads_1 : tie.After-slice_known-in-loop-left-4-1 invariant-loop-left decreases-loop-left → tie.After-heads-1 invariant-loop-left decreases-loop-left
+to_after_heads_1 c = c.before.before.before
+
+abbrev to_after_judge : tie.After-heads-1 invariant-loop-left decreases-loop-left → tie.After-judge invariant-loop-left decreases-loop-left
+to_after_judge c = c.before.before.before
+
+abbrev to_after_judge_arg_in_loop_left_1 : tie.After-judge invariant-loop-left decreases-loop-left → tie.After-judge-arg-in-loop-left-1 invariant-loop-left decreases-loop-left
+to_after_judge_arg_in_loop_left_1 c = c.before.before.before
+
+abbrev to_after_members_1 : tie.After-hop invariant-loop-left decreases-loop-left → tie.After-members-1 invariant-loop-left decreases-loop-left
+to_after_members_1 c = c.before.before.before
+
+abbrev to_after_slice_known_in_loop_left_4_1_from_in_Members : tie.In-Members invariant-loop-left decreases-loop-left → tie.After-slice_known-in-loop-left-4-1 invariant-loop-left decreases-loop-left
+to_after_slice_known_in_loop_left_4_1_from_in_Members c = c.before.before.before
+
+abbrev to_after_members_1_from_after_hash_with_hash : tie.After-hash_with-hash invariant-loop-left decreases-loop-left → tie.After-members-1 invariant-loop-left decreases-loop-left
+to_after_members_1_from_after_hash_with_hash c = c.before.before.before
+
+abbrev to_after_hash_with_hash : tie.After-b-in-loop-left-2-1 invariant-loop-left decreases-loop-left → tie.After-hash_with-hash invariant-loop-left decreases-loop-left
+to_after_hash_with_hash c = c.before.before.before
+
+abbrev to_in_Members : tie.After-join_at-run invariant-loop-left decreases-loop-left → tie.In-Members invariant-loop-left decreases-loop-left
+to_in_Members c = c.before.before.before
+
 room : (i : tie.At-loop-left invariant-loop-left decreases-loop-left) → Room i.args.w.sheet (length i.loop-left.b)
 room i = room_as i.loop-left.invariant.3 i.requires.room
 
@@ -82,7 +137,7 @@ splice_at-left-requires c κs =
     let i = l in
     let a = i in
     let few = gather_few i.loop-left.invariant.0 a.requires.there in
-    (room i.before.before.before.before, a.requires.counted, (turn l.before.before.before).row_within, l.loop-left-test.true, omega (arith, few.1, a.requires.tables.countable), c.large.ensures.1)
+    (room (to_at_loop_left i.before), a.requires.counted, (turn l.before.before.before).row_within, l.loop-left-test.true, omega (arith, few.1, a.requires.tables.countable), c.large.ensures.1)
 
 extent_at-requires : tie.Need-extent_at-requires invariant-loop-left decreases-loop-left
 extent_at-requires c κs =
@@ -101,10 +156,11 @@ judge-requires c κs =
     let v = l.loop-left.invariant in
     let a = l in
     record {
-      room = room_there p.before.before.before.before.before.before.before;
+      room = room_there (to_after_splice_at_left (to_after_extent_at p.before));
       counted = a.requires.counted;
       tables = tables_as v.4 v.5 v.6 a.requires.tables;
-      behind = face_behind (faced p.before.before.before.before.before.before.before) a.requires.there (known_is p.before.before.before.before.before.before.before) (fit l.before.before.before.before.before.before.before.before.before.before.before) (omega (arith, v.2)) v.1;
+      behind = face_behind (faced (to_after_splice_at_left (to_after_extent_at p.before))) a.requires.there (known_is (to_after_splice_at_left (to_after_extent_at p.before)))
+          (fit (to_in_loop_left (to_after_splice_at_arg_1 (to_after_slice_known_in_loop_left_1 l.before.before)))) (omega (arith, v.2)) v.1;
     }
 
 enum_known-count : tie.Need-enum_known-count invariant-loop-left decreases-loop-left
@@ -121,7 +177,12 @@ hop-requires c κs =
     let l = p in
     let a = l in (
       room_as (j.judge.auto.b ∙ p.splice_at-left.auto.b ∙ l.loop-left.invariant.3) a.requires.room,
-      gather_owed (faced p.before.before.before.before.before.before.before.before.before.before.before.before.before.before.before.before.before) a.requires.there (known_is p.before.before.before.before.before.before.before.before.before.before.before.before.before.before.before.before.before) (fit l.before.before.before.before.before.before.before.before.before.before.before.before.before.before.before.before.before.before.before.before.before) j.judge.ensures.0
+      gather_owed (faced (to_after_splice_at_left (to_after_extent_at (to_after_judge_arg_in_loop_left_2_1 (to_after_b_in_loop_left_1 (to_after_slice_known_in_loop_left_3_1 p.before.before))))))
+          a.requires.there (known_is
+          (to_after_splice_at_left (to_after_extent_at (to_after_judge_arg_in_loop_left_2_1 (to_after_b_in_loop_left_1 (to_after_slice_known_in_loop_left_3_1 p.before.before))))))
+          (fit (to_in_loop_left
+          (to_after_splice_at_arg_1
+          (to_after_slice_known_in_loop_left_1 (to_after_judge_arg_in_loop_left_1 (to_after_judge (to_after_heads_1 (to_after_slice_known_in_loop_left_4_1 l)))))))) j.judge.ensures.0
           j.extent_at.ensures.0,
     )
 
@@ -151,7 +212,14 @@ returns-in_default c =
     let e = c in
     let j = e in
     let p = j in (
-      gather_found (faced p.before.before.before.before.before.before.before.before.before.before.before.before.before.before.before.before.before.before) (known_is p.before.before.before.before.before.before.before.before.before.before.before.before.before.before.before.before.before.before) (fit p.before.before.before.before.before.before.before.before.before.before.before.before.before.before.before.before.before.before.before.before.before.before) j.judge.ensures.0 e.in_default.is
+      gather_found (faced (to_after_splice_at_left
+          (to_after_extent_at (to_after_judge_arg_in_loop_left_2_1 (to_after_b_in_loop_left_1 (to_after_slice_known_in_loop_left_3_1 (to_after_members_1 p)))))))
+          (known_is (to_after_splice_at_left
+          (to_after_extent_at (to_after_judge_arg_in_loop_left_2_1 (to_after_b_in_loop_left_1 (to_after_slice_known_in_loop_left_3_1 (to_after_members_1 p)))))))
+          (fit (to_in_loop_left
+          (to_after_splice_at_arg_1
+          (to_after_slice_known_in_loop_left_1 (to_after_judge_arg_in_loop_left_1 (to_after_judge (to_after_heads_1 (to_after_slice_known_in_loop_left_4_1 p.before))))))))
+          j.judge.ensures.0 e.in_default.is
           j.extent_at.ensures.0 c.hop.ensures,
       leaves_decided,
     )
@@ -164,8 +232,21 @@ hash_with-hash-requires c κs =
     let l = j in
     let v = l.loop-left.invariant in
     let t = l.requires.tables in
-    let few = j.judge.ensures.1.few _ m.in-Members.is in
-    (v.8, omega (arith, v.2, v.6, j.judge.auto.members, (turn l.before.before.before.before.before.before.before.before.before.before.before.before.before.before.before.before.before.before.before.before.before).row_within, t.members_fit), few)
+    let few = j.judge.ensures.1.few _ m.in-Members.is in (
+      v.8,
+      omega (
+        arith,
+        v.2,
+        v.6,
+        j.judge.auto.members,
+        (turn (to_in_loop_left
+            (to_after_splice_at_arg_1
+            (to_after_slice_known_in_loop_left_1
+            (to_after_judge_arg_in_loop_left_1 (to_after_judge (to_after_heads_1 (to_after_slice_known_in_loop_left_4_1_from_in_Members l)))))))).row_within,
+        t.members_fit,
+      ),
+      few,
+    )
 
 join_at-run-requires : tie.Need-join_at-run-requires invariant-loop-left decreases-loop-left
 join_at-run-requires c κs =
@@ -173,11 +254,14 @@ join_at-run-requires c κs =
     let p = j in
     let l = p in
     let a = l in
-    let t = turn_there p.before.before.before.before.before.before.before.before.before.before.before.before.before.before.before.before.before.before.before in
+    let t = turn_there (to_after_splice_at_left
+    (to_after_extent_at (to_after_judge_arg_in_loop_left_2_1 (to_after_b_in_loop_left_1 (to_after_slice_known_in_loop_left_3_1 (to_after_members_1_from_after_hash_with_hash p.before)))))) in
     let s = j.extent_at.ensures.0 in (
       room_as (j.judge.auto.b ∙ p.splice_at-left.auto.b ∙ l.loop-left.invariant.3) a.requires.room,
       a.requires.counted,
-      face_ordered (faced p.before.before.before.before.before.before.before.before.before.before.before.before.before.before.before.before.before.before.before) a.requires.there,
+      face_ordered (faced (to_after_splice_at_left
+          (to_after_extent_at (to_after_judge_arg_in_loop_left_2_1 (to_after_b_in_loop_left_1 (to_after_slice_known_in_loop_left_3_1 (to_after_members_1_from_after_hash_with_hash p.before)))))))
+          a.requires.there,
       omega (arith, s, t.some_rows),
       omega (arith, s, t.inside),
     )
@@ -185,7 +269,9 @@ join_at-run-requires c κs =
 loop-left-smaller : tie.Need-loop-left-smaller invariant-loop-left decreases-loop-left
 loop-left-smaller c =
     let j = c in
-    let t = turn_there j.before.before.before.before.before.before.before.before.before.before.before.before.before.before.before.before.before.before.before.before.before.before in
+    let t = turn_there (to_after_splice_at_left
+    (to_after_extent_at (to_after_judge_arg_in_loop_left_2_1
+    (to_after_b_in_loop_left_1 (to_after_slice_known_in_loop_left_3_1 (to_after_members_1_from_after_hash_with_hash (to_after_hash_with_hash j.before))))))) in
     omega (arith, t.some_rows, t.inside, j.extent_at.ensures.0)
 
 loop-left-preserved : tie.Need-loop-left-preserved invariant-loop-left decreases-loop-left
@@ -200,14 +286,44 @@ loop-left-preserved c =
     let s = j.extent_at.ensures.0 in
     let told = m.in-Members.is in
     let g = j.judge.ensures in (
-      gather_more (faced p.before.before.before.before.before.before.before.before.before.before.before.before.before.before.before.before.before.before.before.before.before.before) (known_is p.before.before.before.before.before.before.before.before.before.before.before.before.before.before.before.before.before.before.before.before.before.before) (fit l.before.before.before.before.before.before.before.before.before.before.before.before.before.before.before.before.before.before.before.before.before.before.before.before.before.before) g.0 told s d.join_at-run.ensures,
+      gather_more (faced (to_after_splice_at_left
+          (to_after_extent_at (to_after_judge_arg_in_loop_left_2_1
+          (to_after_b_in_loop_left_1 (to_after_slice_known_in_loop_left_3_1 (to_after_members_1_from_after_hash_with_hash (to_after_hash_with_hash p.before))))))))
+          (known_is (to_after_splice_at_left
+          (to_after_extent_at (to_after_judge_arg_in_loop_left_2_1
+          (to_after_b_in_loop_left_1 (to_after_slice_known_in_loop_left_3_1 (to_after_members_1_from_after_hash_with_hash (to_after_hash_with_hash p.before))))))))
+          (fit (to_in_loop_left
+          (to_after_splice_at_arg_1
+          (to_after_slice_known_in_loop_left_1
+          (to_after_judge_arg_in_loop_left_1
+          (to_after_judge (to_after_heads_1 (to_after_slice_known_in_loop_left_4_1_from_in_Members (to_in_Members l.before.before))))))))) g.0 told s
+          d.join_at-run.ensures,
       g.1.linked _ told,
-      omega (arith, g.1.few _ told, v.2, (turn_there p.before.before.before.before.before.before.before.before.before.before.before.before.before.before.before.before.before.before.before.before.before.before).some_rows, s),
+      omega (
+        arith,
+        g.1.few _ told,
+        v.2,
+        (turn_there (to_after_splice_at_left
+            (to_after_extent_at (to_after_judge_arg_in_loop_left_2_1
+            (to_after_b_in_loop_left_1 (to_after_slice_known_in_loop_left_3_1 (to_after_members_1_from_after_hash_with_hash (to_after_hash_with_hash p.before)))))))).some_rows,
+        s,
+      ),
       d.join_at-run.auto.b ∙ j.judge.auto.b ∙ p.splice_at-left.auto.b ∙ v.3,
       j.judge.auto.heads ∙ v.4,
       j.judge.auto.links ∙ v.5,
       j.judge.auto.members ∙ v.6,
-      gather_hashed (faced p.before.before.before.before.before.before.before.before.before.before.before.before.before.before.before.before.before.before.before.before.before.before) l.requires.there (known_is p.before.before.before.before.before.before.before.before.before.before.before.before.before.before.before.before.before.before.before.before.before.before) (fit l.before.before.before.before.before.before.before.before.before.before.before.before.before.before.before.before.before.before.before.before.before.before.before.before.before.before) g.0 told v.7 q.hash_with-hash.ensures.0,
+      gather_hashed (faced (to_after_splice_at_left
+          (to_after_extent_at (to_after_judge_arg_in_loop_left_2_1
+          (to_after_b_in_loop_left_1 (to_after_slice_known_in_loop_left_3_1 (to_after_members_1_from_after_hash_with_hash (to_after_hash_with_hash p.before)))))))) l.requires.there
+          (known_is (to_after_splice_at_left
+          (to_after_extent_at (to_after_judge_arg_in_loop_left_2_1
+          (to_after_b_in_loop_left_1 (to_after_slice_known_in_loop_left_3_1 (to_after_members_1_from_after_hash_with_hash (to_after_hash_with_hash p.before))))))))
+          (fit (to_in_loop_left
+          (to_after_splice_at_arg_1
+          (to_after_slice_known_in_loop_left_1
+          (to_after_judge_arg_in_loop_left_1
+          (to_after_judge (to_after_heads_1 (to_after_slice_known_in_loop_left_4_1_from_in_Members (to_in_Members l.before.before))))))))) g.0 told v.7
+          q.hash_with-hash.ensures.0,
       q.hash_with-hash.ensures.1,
     )
 

@@ -19,6 +19,55 @@ use borrow.Author.Rules.{rules}
 use Rattle.tidy_rules.proofs.rules.judge_literal.Statement.{statement}
 use Rattle.tidy_rules.proofs.rules.judge_literal.Tie as tie
 
+-- places in the code, each from a later one
+abbrev to_after_bucket_of : tie.In-Member → tie.After-bucket_of
+to_after_bucket_of c = c.before.before.before
+
+abbrev to_after_struct_known_1 : tie.After-bucket_of → tie.After-struct_known-1
+to_after_struct_known_1 c = c.before.before.before
+
+abbrev to_after_slice_known_3_1 : tie.After-struct_known-1 → tie.After-slice_known-3-1
+to_after_slice_known_3_1 c = c.before.before.before
+
+abbrev to_start : tie.After-slice_known-3-1 → tie.Start
+to_start c = c.before.before.before
+
+abbrev to_in_Member : tie.After-kind_at → tie.In-Member
+to_in_Member c = c.before.before.before
+
+abbrev to_in_default : tie.After-add-arg-in_default-2-1 → tie.In_default
+to_in_default c = c.before.before.before
+
+abbrev to_after_bucket_of_from_in_default : tie.In_default → tie.After-bucket_of
+to_after_bucket_of_from_in_default c = c.before.before.before
+
+abbrev to_after_heads_1 : tie.After-slice_known-in_default-2-1 → tie.After-heads-1
+to_after_heads_1 c = c.before.before.before
+
+abbrev to_after_add_arg_in_default_2_1 : tie.After-heads-1 → tie.After-add-arg-in_default-2-1
+to_after_add_arg_in_default_2_1 c = c.before.before.before
+
+abbrev to_after_links_1 : tie.After-slice_known-in_default-3-1 → tie.After-links-1
+to_after_links_1 c = c.before.before.before
+
+abbrev to_after_add : tie.After-links-1 → tie.After-add
+to_after_add c = c.before.before.before
+
+abbrev to_after_add_arg_in_default_1 : tie.After-add → tie.After-add-arg-in_default-1
+to_after_add_arg_in_default_1 c = c.before.before.before
+
+abbrev to_after_find : tie.After-add-arg-in_default-1 → tie.After-find
+to_after_find c = c.before.before.before
+
+abbrev to_after_literal_hash_p : tie.After-find → tie.After-literal_hash-p
+to_after_literal_hash_p c = c.before.before.before
+
+abbrev to_after_kind_at : tie.After-set_row-arg-1 → tie.After-kind_at
+to_after_kind_at c = c.before.before.before
+
+abbrev to_after_set_row_arg_1 : tie.After-slice_known-5-1 → tie.After-set_row-arg-1
+to_after_set_row_arg_1 c = c.before.before.before
+
 inside : (a : tie.Start) → a.args.c.at < total a.args.s
 inside a = omega (arith, stands_within a.requires.0.behind.standing.stands, length-rows_in a.args.b.now a.requires.0.room)
 
@@ -41,7 +90,7 @@ start_is f =
 -- one is
 found_there : (m : tie.In-Member)
     → Found m.args.c.before
-    (Test (rows_of m.before.before.before.before.before.before.before.before.before.before.before.before) m.args.members.now m.argument_at-x.result)
+    (Test (rows_of (to_start (to_after_slice_known_3_1 (to_after_struct_known_1 (to_after_bucket_of m))))) m.args.members.now m.argument_at-x.result)
     m.in-Member.i
 found_there m =
     let f = m in
@@ -54,13 +103,14 @@ row_is r = r.row_of-r.ensures ∙ ap row_of r.member.ensures.0
 kind_is : (k : tie.After-kind_at) →
     let m = k in
     let a = m in
-    k.kind_at.result ≡ (at_row (rows_of a.before.before.before.before.before.before.before.before.before.before.before.before.before.before.before) (row_of (get_or a.args.members.now m.in-Member.i 0))).kind
+    k.kind_at.result ≡ (at_row (rows_of (to_start (to_after_slice_known_3_1 (to_after_struct_known_1 (to_after_bucket_of (to_in_Member a))))))
+    (row_of (get_or a.args.members.now m.in-Member.i 0))).kind
 kind_is k =
     let r = k in
-    k.kind_at.ensures ∙ ap (λ p. (at_row (rows_of r.before.before.before.before.before.before.before.before.before.before.before.before.before.before.before) p).kind) (row_is r.before)
+    k.kind_at.ensures ∙ ap (λ p. (at_row (rows_of (to_start (to_after_slice_known_3_1 (to_after_struct_known_1 (to_after_bucket_of (to_in_Member r)))))) p).kind) (row_is r.before)
 
 argument_at-x-requires : tie.Need-argument_at-x-requires
-argument_at-x-requires c κs = (c.requires.0.room, inside c.before.before.before.before)
+argument_at-x-requires c κs = (c.requires.0.room, inside (to_start c.before))
 
 overflow_sub-c : tie.Need-overflow_sub-c
 overflow_sub-c c = search rules
@@ -79,8 +129,12 @@ first-start-requires c κs =
     let a = c in
     let k = c.bucket_of in
     let t = a.requires.0.tables in
-    let behind = a.requires.0.behind in
-    (omega (arith, k.ensures.1, t.all_heads), omega (arith, inside a.before.before.before.before.before.before.before.before.before, t.members_fit, behind.few), behind.linked.heads k.result k.ensures.1)
+    let behind = a.requires.0.behind in (
+      omega (arith, k.ensures.1, t.all_heads),
+      omega (arith, inside (to_start (to_after_slice_known_3_1 (to_after_struct_known_1 a))), t.members_fit, behind.few),
+      behind.linked.heads k.result
+          k.ensures.1,
+    )
 
 find-requires : tie.Need-find-requires
 find-requires c κs =
@@ -93,9 +147,9 @@ find-requires c κs =
         bucket_of = f.bucket_of.result;
         linked = a.requires.0.behind.linked;
         starts = f.first-start.ensures;
-        links_fit = omega (arith, inside a.before.before.before.before.before.before.before.before.before.before, a.requires.0.tables.links_fit, a.requires.0.behind.few);
-        members_fit = omega (arith, inside a.before.before.before.before.before.before.before.before.before.before, a.requires.0.tables.members_fit, a.requires.0.behind.few);
-        places = λ j l. omega (arith, members-within a.requires.0.behind.laid a.requires.0.behind.noted j l, inside a.before.before.before.before.before.before.before.before.before.before);
+        links_fit = omega (arith, inside (to_start (to_after_slice_known_3_1 (to_after_struct_known_1 a.before))), a.requires.0.tables.links_fit, a.requires.0.behind.few);
+        members_fit = omega (arith, inside (to_start (to_after_slice_known_3_1 (to_after_struct_known_1 a.before))), a.requires.0.tables.members_fit, a.requires.0.behind.few);
+        places = λ j l. omega (arith, members-within a.requires.0.behind.laid a.requires.0.behind.noted j l, inside (to_start (to_after_slice_known_3_1 (to_after_struct_known_1 a.before))));
       },
     )
 
@@ -108,8 +162,10 @@ enum_told-1 c = search rules
 member_of-requires : tie.Need-member_of-requires
 member_of-requires c κs =
     let g = c in
-    let a = g in
-    (omega (arith, inside a.before.before.before.before.before.before.before.before.before.before.before.before.before.before.before, a.requires.0.tables.countable), g.literal_hash-p.ensures.1)
+    let a = g in (
+      omega (arith, inside (to_start (to_after_slice_known_3_1 (to_after_struct_known_1 (to_after_bucket_of_from_in_default (to_in_default a))))), a.requires.0.tables.countable),
+      g.literal_hash-p.ensures.1,
+    )
 
 add-requires : tie.Need-add-requires
 add-requires c κs =
@@ -118,9 +174,9 @@ add-requires c κs =
     let few = a.requires.0.behind.few in (
       record {
         all_heads = t.all_heads;
-        links_fit = omega (arith, inside a.before.before.before.before.before.before.before.before.before.before.before.before.before.before.before.before, t.links_fit, few);
-        members_fit = omega (arith, inside a.before.before.before.before.before.before.before.before.before.before.before.before.before.before.before.before, t.members_fit, few);
-        countable = omega (arith, inside a.before.before.before.before.before.before.before.before.before.before.before.before.before.before.before.before, t.countable, few);
+        links_fit = omega (arith, inside (to_start (to_after_slice_known_3_1 (to_after_struct_known_1 (to_after_bucket_of_from_in_default (to_in_default a.before))))), t.links_fit, few);
+        members_fit = omega (arith, inside (to_start (to_after_slice_known_3_1 (to_after_struct_known_1 (to_after_bucket_of_from_in_default (to_in_default a.before))))), t.members_fit, few);
+        countable = omega (arith, inside (to_start (to_after_slice_known_3_1 (to_after_struct_known_1 (to_after_bucket_of_from_in_default (to_in_default a.before))))), t.countable, few);
       },
       c.member_of.ensures.1,
       a.requires.0.behind.linked,
@@ -129,7 +185,13 @@ add-requires c κs =
 overflow_add-result : tie.Need-overflow_add-result
 overflow_add-result c =
     let a = c in
-    omega (arith, inside a.before.before.before.before.before.before.before.before.before.before.before.before.before.before.before.before.before.before.before.before.before.before.before, a.requires.0.tables.countable, a.requires.0.behind.few)
+    omega (
+      arith,
+      inside (to_start
+          (to_after_slice_known_3_1 (to_after_struct_known_1 (to_after_bucket_of_from_in_default (to_in_default (to_after_add_arg_in_default_2_1 (to_after_heads_1 a.before.before))))))),
+      a.requires.0.tables.countable,
+      a.requires.0.behind.few,
+    )
 
 shape_of-b-in_default : tie.Need-shape_of-b-in_default
 shape_of-b-in_default c = search rules
@@ -151,9 +213,18 @@ returns-in_default c =
     let g = f in
     let a = g in (
       (λ o from before done after laid noted two front x back h _.
-          judged-new a.requires.1 g.argument_at-x.ensures.0 laid noted h o (hash_is g.before.before.before.before.before.before.before.before.before.before.before.before.before.before.before)
-          (unfound (bucket g.literal_hash-p.result) f.find.ensures a.requires.0.behind.linked (start_is f.before.before.before.before.before.before.before.before.before.before.before.before) e.in_default.is)
-          d.member_of.ensures.0 d.add.ensures.0 (omega (arith, inside a.before.before.before.before.before.before.before.before.before.before.before.before.before.before.before.before.before.before.before.before.before.before.before, a.requires.0.tables.members_fit, a.requires.0.behind.few))),
+          judged-new a.requires.1 g.argument_at-x.ensures.0 laid noted h o (hash_is (to_after_literal_hash_p (to_after_find (to_after_add_arg_in_default_1 (to_after_add (to_after_links_1 g))))))
+          (unfound (bucket g.literal_hash-p.result) f.find.ensures a.requires.0.behind.linked (start_is (to_after_find (to_after_add_arg_in_default_1 (to_after_add (to_after_links_1 f)))))
+          e.in_default.is)
+          d.member_of.ensures.0 d.add.ensures.0
+          (omega (
+            arith,
+            inside
+                (to_start (to_after_slice_known_3_1
+                (to_after_struct_known_1 (to_after_bucket_of_from_in_default (to_in_default (to_after_add_arg_in_default_2_1 (to_after_heads_1 a.before.before))))))),
+            a.requires.0.tables.members_fit,
+            a.requires.0.behind.few,
+          ))),
       linked-members d.add.ensures.1 (omega arith),
     )
 
@@ -161,7 +232,7 @@ member-requires : tie.Need-member-requires
 member-requires c κs =
     let m = c in
     let a = m in
-    omega (arith, (found_there m).within, inside a.before.before.before.before.before.before.before.before.before.before.before.before, a.requires.0.tables.members_fit, a.requires.0.behind.few)
+    omega (arith, (found_there m).within, inside (to_start (to_after_slice_known_3_1 (to_after_struct_known_1 (to_after_bucket_of a)))), a.requires.0.tables.members_fit, a.requires.0.behind.few)
 
 row_of-r-requires : tie.Need-row_of-r-requires
 row_of-r-requires c κs = search rules
@@ -170,8 +241,16 @@ kind_at-requires : tie.Need-kind_at-requires
 kind_at-requires c κs =
     let r = c in
     let m = r in
-    let a = m in
-    (a.requires.0.room, omega (arith, row_is r, inside a.before.before.before.before.before.before.before.before.before.before.before.before.before.before, members-within a.requires.0.behind.laid a.requires.0.behind.noted m.in-Member.i (found_there m.before.before).within))
+    let a = m in (
+      a.requires.0.room,
+      omega (
+        arith,
+        row_is r,
+        inside (to_start (to_after_slice_known_3_1 (to_after_struct_known_1 (to_after_bucket_of a.before.before)))),
+        members-within a.requires.0.behind.laid
+            a.requires.0.behind.noted m.in-Member.i (found_there m.before.before).within,
+      ),
+    )
 
 shape_of-b-then-kind_at-c : tie.Need-shape_of-b-then-kind_at-c
 shape_of-b-then-kind_at-c c = search rules
@@ -191,7 +270,7 @@ returns-then-kind_at-c c =
     let m = k in
     let g = m in
     let a = g in
-    let i = found_there m.before.before.before.before.before in (
+    let i = found_there (to_in_Member m.before.before) in (
       (λ o from before done after laid noted two front x back h _.
           judged-opposite a.requires.1 g.argument_at-x.ensures.0 laid noted h o i.within i.passes
           (λ z. c.if-kind_at-c.true (kind_is k.before.before ∙ z))),
@@ -200,8 +279,12 @@ returns-then-kind_at-c c =
 
 set_row-requires : tie.Need-set_row-requires
 set_row-requires c κs =
-    let a = c in
-    (a.requires.0.room, inside a.before.before.before.before.before.before.before.before.before.before.before.before.before.before.before.before.before.before, omega (arith, inside a.before.before.before.before.before.before.before.before.before.before.before.before.before.before.before.before.before.before, a.requires.0.counted))
+    let a = c in (
+      a.requires.0.room,
+      inside (to_start (to_after_slice_known_3_1 (to_after_struct_known_1 (to_after_bucket_of (to_in_Member (to_after_kind_at a)))))),
+      omega
+          (arith, inside (to_start (to_after_slice_known_3_1 (to_after_struct_known_1 (to_after_bucket_of (to_in_Member (to_after_kind_at a)))))), a.requires.0.counted),
+    )
 
 shape_of-b : tie.Need-shape_of-b
 shape_of-b c = search rules
@@ -223,10 +306,10 @@ returns c =
     let m = k in
     let g = m in
     let a = g in
-    let i = found_there m.before.before.before.before.before.before.before.before.before in (
+    let i = found_there (to_in_Member (to_after_kind_at (to_after_set_row_arg_1 m))) in (
       (λ o from before done after laid noted two front x back h _.
           judged-again a.requires.1 g.argument_at-x.ensures.0 laid noted h o i.within i.passes
-          (sym (kind_is k.before.before.before.before.before.before) ∙ t.if-kind_at-c.false) w.set_row.ensures.0 two),
+          (sym (kind_is (to_after_kind_at (to_after_set_row_arg_1 k))) ∙ t.if-kind_at-c.false) w.set_row.ensures.0 two),
       linked-members a.requires.0.behind.linked (omega arith),
     )
 

@@ -19,6 +19,52 @@ use borrow.Author.Rules.{rules}
 use Rattle.tidy_rules.proofs.rules.judge_operator.Statement.{statement}
 use Rattle.tidy_rules.proofs.rules.judge_operator.Tie as tie
 
+-- places in the code, each from a later one
+abbrev to_after_slice_known_3_1 : tie.Else-decides_at → tie.After-slice_known-3-1
+to_after_slice_known_3_1 c = c.before.before.before
+
+abbrev to_start : tie.After-slice_known-3-1 → tie.Start
+to_start c = c.before.before.before
+
+abbrev to_else_decides_at : tie.After-bucket_of → tie.Else-decides_at
+to_else_decides_at c = c.before.before.before
+
+abbrev to_in_default : tie.After-add-arg-in_default-2-1 → tie.In_default
+to_in_default c = c.before.before.before
+
+abbrev to_after_bucket_of : tie.In_default → tie.After-bucket_of
+to_after_bucket_of c = c.before.before.before
+
+abbrev to_after_slice_known_in_default_1 : tie.After-members-1 → tie.After-slice_known-in_default-1
+to_after_slice_known_in_default_1 c = c.before.before.before
+
+abbrev to_after_add_arg_in_default_2_1 : tie.After-slice_known-in_default-1 → tie.After-add-arg-in_default-2-1
+to_after_add_arg_in_default_2_1 c = c.before.before.before
+
+abbrev to_after_heads_1 : tie.After-slice_known-in_default-2-1 → tie.After-heads-1
+to_after_heads_1 c = c.before.before.before
+
+abbrev to_after_add_arg_in_default_1 : tie.After-heads-1 → tie.After-add-arg-in_default-1
+to_after_add_arg_in_default_1 c = c.before.before.before
+
+abbrev to_after_find_duplicate : tie.After-add-arg-in_default-1 → tie.After-find_duplicate
+to_after_find_duplicate c = c.before.before.before
+
+abbrev to_after_member_of_m : tie.After-find_duplicate → tie.After-member_of-m
+to_after_member_of_m c = c.before.before.before
+
+abbrev to_after_bucket_of_from_in_Member : tie.In-Member → tie.After-bucket_of
+to_after_bucket_of_from_in_Member c = c.before.before.before
+
+abbrev to_in_Member : tie.After-set_row → tie.In-Member
+to_in_Member c = c.before.before.before
+
+abbrev to_after_set_row_arg_1 : tie.After-slice_known-5-1 → tie.After-set_row-arg-1
+to_after_set_row_arg_1 c = c.before.before.before
+
+abbrev to_after_find_duplicate_from_after_set_row_arg_1 : tie.After-set_row-arg-1 → tie.After-find_duplicate
+to_after_find_duplicate_from_after_set_row_arg_1 c = c.before.before.before
+
 inside : (a : tie.Start) → a.args.c.at < total a.args.s
 inside a = omega (arith, stands_within a.requires.0.behind.standing.stands, length-rows_in a.args.b.now a.requires.0.room)
 
@@ -37,12 +83,12 @@ member_is : (m : tie.After-member_of-m) →
     m.member_of-m.result ≡ member_of a.args.c.at (hash_of a.args.c.known)
 member_is m = m.member_of-m.ensures.0 ∙ ap (member_of m.args.c.at) m.hash_of.ensures.0
 
-own : (m : tie.After-member_of-m) → Member (rows_of m.before.before.before.before.before.before.before.before) m.member_of-m.result
+own : (m : tie.After-member_of-m) → Member (rows_of (to_start (to_after_slice_known_3_1 m.before.before))) m.member_of-m.result
 own m =
     let a = m in
     let g = a.requires.0.behind.standing in
-    let u = one a.before.before.before.before.before.before.before.before g.segment g.stands in
-    said-member a.args.c.known g.segment u.tree (member_is m) g.stands (above a.before.before.before.before.before.before.before.before g.segment g.stands) a.requires.0.behind.says u.is
+    let u = one (to_start (to_after_slice_known_3_1 a.before.before)) g.segment g.stands in
+    said-member a.args.c.known g.segment u.tree (member_is m) g.stands (above (to_start (to_after_slice_known_3_1 a.before.before)) g.segment g.stands) a.requires.0.behind.says u.is
 
 start_is : (f : tie.After-find_duplicate) →
     let m = f in
@@ -56,7 +102,7 @@ start_is f =
 decides_at-requires : tie.Need-decides_at-requires
 decides_at-requires c κs =
     let a = c in
-    (a.requires.0.room, inside a.before.before.before.before, a.requires.1)
+    (a.requires.0.room, inside (to_start a.before), a.requires.1)
 
 shape_of-b-then-decides_at : tie.Need-shape_of-b-then-decides_at
 shape_of-b-then-decides_at c = search rules
@@ -75,7 +121,7 @@ hash_of-requires c κs = search rules
 member_of-m-requires : tie.Need-member_of-m-requires
 member_of-m-requires c κs =
     let a = c in
-    (omega (arith, inside a.before.before.before.before.before.before.before, a.requires.0.tables.countable), c.hash_of.ensures.1)
+    (omega (arith, inside (to_start (to_after_slice_known_3_1 a.before)), a.requires.0.tables.countable), c.hash_of.ensures.1)
 
 bucket_of-requires : tie.Need-bucket_of-requires
 bucket_of-requires c κs = search rules
@@ -86,7 +132,7 @@ first-start-requires c κs =
     let k = c.bucket_of in
     let t = a.requires.0.tables in
     let behind = a.requires.0.behind in
-    (omega (arith, k.ensures.1, t.all_heads), omega (arith, inside a.before.before.before.before.before.before.before.before.before, t.members_fit, behind.few), behind.linked.heads k.result k.ensures.1)
+    (omega (arith, k.ensures.1, t.all_heads), omega (arith, inside (to_start (to_after_slice_known_3_1 (to_else_decides_at a))), t.members_fit, behind.few), behind.linked.heads k.result k.ensures.1)
 
 find_duplicate-requires : tie.Need-find_duplicate-requires
 find_duplicate-requires c κs =
@@ -102,9 +148,9 @@ find_duplicate-requires c κs =
               bucket_of = f.bucket_of.result;
               linked = a.requires.0.behind.linked;
               starts = f.first-start.ensures;
-              links_fit = omega (arith, inside a.before.before.before.before.before.before.before.before.before.before, a.requires.0.tables.links_fit, a.requires.0.behind.few);
-              members_fit = omega (arith, inside a.before.before.before.before.before.before.before.before.before.before, a.requires.0.tables.members_fit, a.requires.0.behind.few);
-              places = λ j l. omega (arith, members-within a.requires.0.behind.laid a.requires.0.behind.noted j l, inside a.before.before.before.before.before.before.before.before.before.before);
+              links_fit = omega (arith, inside (to_start (to_after_slice_known_3_1 (to_else_decides_at a.before))), a.requires.0.tables.links_fit, a.requires.0.behind.few);
+              members_fit = omega (arith, inside (to_start (to_after_slice_known_3_1 (to_else_decides_at a.before))), a.requires.0.tables.members_fit, a.requires.0.behind.few);
+              places = λ j l. omega (arith, members-within a.requires.0.behind.laid a.requires.0.behind.noted j l, inside (to_start (to_after_slice_known_3_1 (to_else_decides_at a.before))));
             };
         lives = λ j l. member_at a.requires.0.behind.laid a.requires.0.behind.noted j l;
       },
@@ -126,9 +172,9 @@ add-requires c κs =
     let few = a.requires.0.behind.few in (
       record {
         all_heads = t.all_heads;
-        links_fit = omega (arith, inside a.before.before.before.before.before.before.before.before.before.before.before.before.before.before.before, t.links_fit, few);
-        members_fit = omega (arith, inside a.before.before.before.before.before.before.before.before.before.before.before.before.before.before.before, t.members_fit, few);
-        countable = omega (arith, inside a.before.before.before.before.before.before.before.before.before.before.before.before.before.before.before, t.countable, few);
+        links_fit = omega (arith, inside (to_start (to_after_slice_known_3_1 (to_else_decides_at (to_after_bucket_of (to_in_default a))))), t.links_fit, few);
+        members_fit = omega (arith, inside (to_start (to_after_slice_known_3_1 (to_else_decides_at (to_after_bucket_of (to_in_default a))))), t.members_fit, few);
+        countable = omega (arith, inside (to_start (to_after_slice_known_3_1 (to_else_decides_at (to_after_bucket_of (to_in_default a))))), t.countable, few);
       },
       m.member_of-m.ensures.1,
       a.requires.0.behind.linked,
@@ -137,7 +183,13 @@ add-requires c κs =
 overflow_add-result : tie.Need-overflow_add-result
 overflow_add-result c =
     let a = c in
-    omega (arith, inside a.before.before.before.before.before.before.before.before.before.before.before.before.before.before.before.before.before.before.before.before.before.before, a.requires.0.tables.countable, a.requires.0.behind.few)
+    omega (
+      arith,
+      inside (to_start
+          (to_after_slice_known_3_1 (to_else_decides_at (to_after_bucket_of (to_in_default (to_after_add_arg_in_default_2_1 (to_after_slice_known_in_default_1 a.before))))))),
+      a.requires.0.tables.countable,
+      a.requires.0.behind.few,
+    )
 
 shape_of-b-in_default : tie.Need-shape_of-b-in_default
 shape_of-b-in_default c = search rules
@@ -159,13 +211,24 @@ returns-in_default c =
     let t = m in
     let a = t in (
       (λ o e from before done after laid noted two front x back h w.
-          let u = one a.before.before.before.before.before.before.before.before.before.before.before.before.before.before.before.before.before.before.before.before.before.before x h in
-          let l = above a.before.before.before.before.before.before.before.before.before.before.before.before.before.before.before.before.before.before.before.before.before.before x h in
-          let duplicates = f.find_duplicate.ensures (said-member a.args.c.known x u.tree (member_is m.before.before.before.before.before.before.before.before.before.before.before.before.before.before) h l w u.is) in
+          let u = one (to_start
+          (to_after_slice_known_3_1 (to_else_decides_at (to_after_bucket_of (to_in_default (to_after_add_arg_in_default_2_1 (to_after_slice_known_in_default_1 a.before))))))) x h in
+          let l = above (to_start
+          (to_after_slice_known_3_1 (to_else_decides_at (to_after_bucket_of (to_in_default (to_after_add_arg_in_default_2_1 (to_after_slice_known_in_default_1 a.before))))))) x h in
+          let duplicates = f.find_duplicate.ensures
+          (said-member a.args.c.known x u.tree (member_is (to_after_member_of_m (to_after_find_duplicate (to_after_add_arg_in_default_1 (to_after_heads_1 m.before.before))))) h l w u.is) in
           operator_new laid noted h u.is o (sym (t.decides_at.ensures (live done) front x back h w o e) ∙ t.if-decides_at.false)
-          (member_is m.before.before.before.before.before.before.before.before.before.before.before.before.before.before ∙ ap (member_of a.args.c.at) (said-hash a.args.c.known x l w u.is))
-          (unfound (bucket m.member_of-m.result) duplicates a.requires.0.behind.linked (start_is f.before.before.before.before.before.before.before.before.before.before.before) d.in_default.is)
-          d.add.ensures.0 (omega (arith, inside a.before.before.before.before.before.before.before.before.before.before.before.before.before.before.before.before.before.before.before.before.before.before, a.requires.0.tables.members_fit, a.requires.0.behind.few))),
+          (member_is (to_after_member_of_m (to_after_find_duplicate (to_after_add_arg_in_default_1 (to_after_heads_1 m.before.before)))) ∙ ap (member_of a.args.c.at)
+          (said-hash a.args.c.known x l w u.is))
+          (unfound (bucket m.member_of-m.result) duplicates a.requires.0.behind.linked (start_is (to_after_find_duplicate (to_after_add_arg_in_default_1 (to_after_heads_1 f.before.before))))
+          d.in_default.is)
+          d.add.ensures.0 (omega (
+            arith,
+            inside (to_start
+                (to_after_slice_known_3_1 (to_else_decides_at (to_after_bucket_of (to_in_default (to_after_add_arg_in_default_2_1 (to_after_slice_known_in_default_1 a.before))))))),
+            a.requires.0.tables.members_fit,
+            a.requires.0.behind.few,
+          ))),
       linked-members d.add.ensures.1 (omega arith),
     )
 
@@ -173,7 +236,7 @@ returns-in_default c =
 argument_at-rows-requires : tie.Need-argument_at-rows-requires
 argument_at-rows-requires c κs =
     let a = c in
-    (a.requires.0.room, inside a.before.before.before.before.before.before.before.before.before.before.before.before)
+    (a.requires.0.room, inside (to_start (to_after_slice_known_3_1 (to_else_decides_at (to_after_bucket_of_from_in_Member a)))))
 
 set_row-requires : tie.Need-set_row-requires
 set_row-requires c κs =
@@ -181,10 +244,10 @@ set_row-requires c κs =
     let a = v in
     let g = a.requires.0.behind.standing in
     let r = stands_row g.stands in
-    let size = operator_size g.segment (above a.before.before.before.before.before.before.before.before.before.before.before.before.before.before g.segment g.stands) in
+    let size = operator_size g.segment (above (to_start (to_after_slice_known_3_1 (to_else_decides_at (to_after_bucket_of_from_in_Member a.before.before)))) g.segment g.stands) in
     let rows = length-rows_in a.args.b.now a.requires.0.room in (
       a.requires.0.room,
-      inside a.before.before.before.before.before.before.before.before.before.before.before.before.before.before,
+      inside (to_start (to_after_slice_known_3_1 (to_else_decides_at (to_after_bucket_of_from_in_Member a.before.before)))),
       omega (arith, v.argument_at-rows.ensures.0, ap (λ (q : Row). q.argument) r, size, stands_within g.stands, rows, a.requires.0.counted),
     )
 
@@ -210,14 +273,15 @@ returns c =
     let t = m in
     let a = t in (
       (λ o k from before done after laid noted two front x back h says.
-          let u = one a.before.before.before.before.before.before.before.before.before.before.before.before.before.before.before.before.before x h in
-          let l = above a.before.before.before.before.before.before.before.before.before.before.before.before.before.before.before.before.before x h in
-          let duplicates = f.find_duplicate.ensures (said-member a.args.c.known x u.tree (member_is m.before.before.before.before.before.before.before.before.before) h l says u.is) in
-          let i = found (bucket m.member_of-m.result) duplicates a.requires.0.behind.linked (start_is f.before.before.before.before.before.before) e.in-Member.is in
+          let u = one (to_start (to_after_slice_known_3_1 (to_else_decides_at (to_after_bucket_of_from_in_Member (to_in_Member a.before.before))))) x h in
+          let l = above (to_start (to_after_slice_known_3_1 (to_else_decides_at (to_after_bucket_of_from_in_Member (to_in_Member a.before.before))))) x h in
+          let duplicates = f.find_duplicate.ensures
+          (said-member a.args.c.known x u.tree (member_is (to_after_member_of_m (to_after_find_duplicate_from_after_set_row_arg_1 (to_after_set_row_arg_1 m)))) h l says u.is) in
+          let i = found (bucket m.member_of-m.result) duplicates a.requires.0.behind.linked (start_is (to_after_find_duplicate_from_after_set_row_arg_1 (to_after_set_row_arg_1 f))) e.in-Member.is in
           operator_again laid noted h u.is o (sym (t.decides_at.ensures (live done) front x back h says o k) ∙ t.if-decides_at.false)
-          i.within (row-said a.args.c.known (member_is m.before.before.before.before.before.before.before.before.before)) i.passes
+          i.within (row-said a.args.c.known (member_is (to_after_member_of_m (to_after_find_duplicate_from_after_set_row_arg_1 (to_after_set_row_arg_1 m))))) i.passes
           (w.set_row.ensures.0 ∙
-          ap (λ m. set (rows_of a.before.before.before.before.before.before.before.before.before.before.before.before.before.before.before.before.before) a.args.c.at (row 0 m))
+          ap (λ m. set (rows_of (to_start (to_after_slice_known_3_1 (to_else_decides_at (to_after_bucket_of_from_in_Member (to_in_Member a.before.before)))))) a.args.c.at (row 0 m))
           (v.argument_at-rows.ensures.0 ∙ ap (λ (q : Row). q.argument) (stands_row h) ∙ operator_size x l))),
       linked-members a.requires.0.behind.linked (omega arith),
     )

@@ -9,6 +9,10 @@ use borrow.Author.Rules.{rules}
 use Rattle.tidying.proofs.operator.conclude.Statement.{statement}
 use Rattle.tidying.proofs.operator.conclude.Tie as tie
 
+-- places in the code, each from a later one
+abbrev to_after_row_of_child : tie.After-b-then-left-eq1-1 → tie.After-row_of-child
+to_after_row_of_child c = c.before.before.before
+
 -- the arguments, seen from the branches of a lone child and of more
 hollow-requires : tie.Need-hollow-requires
 hollow-requires c κs = search rules
@@ -61,7 +65,7 @@ returns-then-left-eq1 : tie.Need-returns-then-left-eq1
 returns-then-left-eq1 c =
     let got = c in
     let test = got in
-    (concludes_one test.requires.there.members_fit test.if-left-eq1.true (row_is got.before.before.before.before) c.set_row.ensures.0, λ j l. refl)
+    (concludes_one test.requires.there.members_fit test.if-left-eq1.true (row_is (to_after_row_of_child got.before)) c.set_row.ensures.0, λ j l. refl)
 
 overflow_sub-end : tie.Need-overflow_sub-end
 overflow_sub-end c = search rules

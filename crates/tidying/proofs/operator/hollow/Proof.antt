@@ -9,6 +9,10 @@ use borrow.Author.Rules.{rules}
 use Rattle.tidying.proofs.operator.hollow.Statement.{statement}
 use Rattle.tidying.proofs.operator.hollow.Tie as tie
 
+-- places in the code, each from a later one
+abbrev to_after_known_of : tie.After-set_row-then-r-end → tie.After-known_of
+to_after_known_of c = c.before.before.before
+
 overflow_sub-end : tie.Need-overflow_sub-end
 overflow_sub-end c = search rules
 
@@ -68,7 +72,7 @@ returns-then-r-end c =
     let k = test in
     let first = k in
     let a = first in (
-      hollows_long a.args.known.now first.set_row.ensures.0 (entry_is k.before.before.before.before.before) (omega arith) second.set_row-then-r-end.ensures.0 test.if-r-end.true,
+      hollows_long a.args.known.now first.set_row.ensures.0 (entry_is (to_after_known_of k.before.before)) (omega arith) second.set_row-then-r-end.ensures.0 test.if-r-end.true,
       behind-set a.args.known.now _ refl,
     )
 

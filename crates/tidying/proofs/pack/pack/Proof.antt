@@ -18,6 +18,10 @@ invariant-loop-at b₀ s known at₀ to₀ b at to = Pack (rows_in s b₀) (rows
 abbrev decreases-loop-at : tie.decreases-loop-at
 decreases-loop-at b₀ s known at₀ to₀ b at to = total s - at
 
+-- places in the code, each from a later one
+abbrev to_in_loop_at : tie.After-put_live-to invariant-loop-at decreases-loop-at → tie.In-loop-at invariant-loop-at decreases-loop-at
+to_in_loop_at c = c.before.before.before
+
 loop-at-init : tie.Need-loop-at-init invariant-loop-at decreases-loop-at
 loop-at-init c = (pack_none c.requires.1, refl)
 
@@ -57,7 +61,7 @@ loop-at-smaller c =
     let stepped = c in
     let t = stepped in
     let l = t in
-    let safe = pack-safe l.loop-at.invariant.0 t.loop-at-test.true (counted t.before.before.before.before.before) l.requires.1 in
+    let safe = pack-safe l.loop-at.invariant.0 t.loop-at-test.true (counted (to_in_loop_at t.before.before)) l.requires.1 in
     omega (arith, t.loop-at-test.true, stepped.stride_at-step.ensures.0, safe.0)
 
 loop-at-preserved : tie.Need-loop-at-preserved invariant-loop-at decreases-loop-at
@@ -67,7 +71,7 @@ loop-at-preserved c =
     let t = stepped in
     let l = t in
     let i = l.loop-at.invariant in (
-      pack-more i.0 t.loop-at-test.true (counted t.before.before.before.before.before) l.requires.1 stepped.stride_at-step.ensures.0 put.put_live-to.ensures,
+      pack-more i.0 t.loop-at-test.true (counted (to_in_loop_at t.before.before)) l.requires.1 stepped.stride_at-step.ensures.0 put.put_live-to.ensures,
       put.put_live-to.auto.b ∙ i.1,
     )
 

@@ -10,6 +10,13 @@ use borrow.Author.Rules.{rules}
 use Rattle.tidying.proofs.tables.tidy_by.Statement.{statement}
 use Rattle.tidying.proofs.tables.tidy_by.Tie as tie
 
+-- places in the code, each from a later one
+abbrev to_after_seal_arg_1 : tie.After-slice_known-10-1 → tie.After-seal-arg-1
+to_after_seal_arg_1 c = c.before.before.before
+
+abbrev to_after_pack_rows : tie.After-seal-arg-1 → tie.After-pack-rows
+to_after_pack_rows c = c.before.before.before
+
 -- the rows tidied, and the arguments
 tidy_each-requires : tie.Need-tidy_each-requires
 tidy_each-requires c κs =
@@ -49,7 +56,7 @@ seal-requires c κs =
     (room_as (same packed.before.before.before) packed.requires.0.room, packed.pack-rows.ensures.0, quantifiers packed.before.before.before)
 
 overflow_sub-result : tie.Need-overflow_sub-result
-overflow_sub-result c = quantifiers c.before.before.before.before.before.before.before
+overflow_sub-result c = quantifiers (to_after_pack_rows (to_after_seal_arg_1 c.before))
 
 shape_of-b : tie.Need-shape_of-b
 shape_of-b c = search rules
@@ -70,7 +77,7 @@ returns c =
     let tidied = packed in
     let a = tidied in
     let p = packed.pack-rows.ensures in
-    leaves a.args.b.now a.requires.0 packed.pack-rows.new.b tidied.tidy_each.ensures p.1 p.0 (same packed.before.before.before.before.before.before.before) sealed.seal.ensures.0
+    leaves a.args.b.now a.requires.0 packed.pack-rows.new.b tidied.tidy_each.ensures p.1 p.0 (same (to_after_pack_rows (to_after_seal_arg_1 packed.before))) sealed.seal.ensures.0
 
 pub tidy_by_spec : {M : Type 1} → statement M
 tidy_by_spec =

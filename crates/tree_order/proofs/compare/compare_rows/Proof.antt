@@ -14,6 +14,17 @@ invariant-loop-j first s at second t to n j₀ j = Locked s first at t second to
 abbrev decreases-loop-j : tie.decreases-loop-j
 decreases-loop-j first s at second t to n j₀ j = n - j
 
+-- places in the code, each from a later one
+abbrev to_after_shared_slice_known_in_loop_j_2_1 : tie.Then-not-is_same invariant-loop-j decreases-loop-j → tie.After-shared_slice_known-in-loop-j-2-1 invariant-loop-j decreases-loop-j
+to_after_shared_slice_known_in_loop_j_2_1 c = c.before.before.before
+
+abbrev to_at_loop_j : tie.After-shared_slice_known-in-loop-j-2-1 invariant-loop-j decreases-loop-j → tie.At-loop-j invariant-loop-j decreases-loop-j
+to_at_loop_j c = c.before.before.before
+
+abbrev to_after_shared_slice_known_in_loop_j_2_1_from_else_not_is_same : tie.Else-not-is_same invariant-loop-j decreases-loop-j → tie.After-shared_slice_known-in-loop-j-2-1 invariant-loop-j
+    decreases-loop-j
+to_after_shared_slice_known_in_loop_j_2_1_from_else_not_is_same c = c.before.before.before
+
 within_left : (c : tie.At-loop-j invariant-loop-j decreases-loop-j) → c.loop-j.j < c.shorter-n.result → c.loop-j.j < length c.args.at.now
 within_left c h = omega (arith, c.shorter-n.ensures)
 
@@ -65,7 +76,8 @@ returns-then-not-is_same c =
     let head = inside in
     let a = head.args in
     let test = inside.loop-j-test.true in
-    locked_differ a.s a.first.now a.at.now a.t a.second.now a.to.now head.loop-j.j (within_left head.before.before.before.before.before.before test) (within_right head.before.before.before.before.before.before test)
+    locked_differ a.s a.first.now a.at.now a.t a.second.now a.to.now head.loop-j.j (within_left (to_at_loop_j (to_after_shared_slice_known_in_loop_j_2_1 head)) test)
+    (within_right (to_at_loop_j (to_after_shared_slice_known_in_loop_j_2_1 head)) test)
     head.loop-j.invariant c.compare_row-o.ensures (sym c.is_same.ensures ∙ c.if-not-is_same.true)
 
 overflow_add-j : tie.Need-overflow_add-j invariant-loop-j decreases-loop-j
@@ -80,8 +92,9 @@ loop-j-preserved c =
     let head = inside in
     let a = head.args in
     let test = inside.loop-j-test.true in
-    locked_on a.s a.first.now a.at.now a.t a.second.now a.to.now head.loop-j.j (omega arith) (within_left head.before.before.before.before.before.before test)
-    (within_right head.before.before.before.before.before.before test) head.loop-j.invariant c.compare_row-o.ensures (sym c.is_same.ensures ∙ c.if-not-is_same.false)
+    locked_on a.s a.first.now a.at.now a.t a.second.now a.to.now head.loop-j.j (omega arith) (within_left (to_at_loop_j (to_after_shared_slice_known_in_loop_j_2_1_from_else_not_is_same head)) test)
+    (within_right (to_at_loop_j (to_after_shared_slice_known_in_loop_j_2_1_from_else_not_is_same head)) test) head.loop-j.invariant c.compare_row-o.ensures
+    (sym c.is_same.ensures ∙ c.if-not-is_same.false)
 
 returns : tie.Need-returns invariant-loop-j decreases-loop-j
 returns c =

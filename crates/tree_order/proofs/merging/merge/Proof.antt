@@ -12,6 +12,10 @@ invariant-loop-m b s ends at spare₀ m₀ spare m = Merging s b ends at m₀ sp
 abbrev decreases-loop-m : tie.decreases-loop-m
 decreases-loop-m b s ends at spare₀ m₀ spare m = m.lefts + m.rights
 
+-- places in the code, each from a later one
+abbrev to_after_loop_m : tie.After-at-1 invariant-loop-m decreases-loop-m → tie.After-loop-m invariant-loop-m decreases-loop-m
+to_after_loop_m c = c.before.before.before
+
 -- the head of the loop, from a turn and from its end
 loop-m-init : tie.Need-loop-m-init invariant-loop-m decreases-loop-m
 loop-m-init c =
@@ -68,7 +72,7 @@ returns c =
     let ended = c in
     let head = ended in
     let a = head in
-    merging_end a.args.s a.args.b.now a.args.ends.now a.args.at.now a.args.start (done ended.before.before.before.before) a.requires.3 head.loop-m.invariant c.copy_entries.ensures
+    merging_end a.args.s a.args.b.now a.args.ends.now a.args.at.now a.args.start (done (to_after_loop_m ended.before)) a.requires.3 head.loop-m.invariant c.copy_entries.ensures
 
 pub merge_spec : {M : Type 1} → statement M
 merge_spec =

@@ -14,6 +14,19 @@ use borrow.Author.Rules.{rules}
 use Rattle.tree_order.proofs.merging.turn.Statement.{statement}
 use Rattle.tree_order.proofs.merging.turn.Tie as tie
 
+-- places in the code, each from a later one
+abbrev to_then_from_left : tie.After-copy_first-n → tie.Then-from_left
+to_then_from_left c = c.before.before.before
+
+abbrev to_after_copy_first_n : tie.After-struct_known-1 → tie.After-copy_first-n
+to_after_copy_first_n c = c.before.before.before
+
+abbrev to_else_from_left : tie.After-copy_first-n-2 → tie.Else-from_left
+to_else_from_left c = c.before.before.before
+
+abbrev to_after_copy_first_n_2 : tie.After-struct_known-2-1 → tie.After-copy_first-n-2
+to_after_copy_first_n_2 c = c.before.before.before
+
 left_stays : (c : tie.Then-from_left) → c.args.m.left < length c.args.at.now
 left_stays c =
     let a = c in
@@ -97,13 +110,13 @@ copy_first-n-requires c κs =
     (left_room c.before.before refl)
 
 overflow_add-result : tie.Need-overflow_add-result
-overflow_add-result c = omega (arith, (left_next c.before.before.before.before.before (left_size c.before.before)).is_within)
+overflow_add-result c = omega (arith, (left_next (to_then_from_left c.before.before) (left_size c.before.before)).is_within)
 
 overflow_sub-result : tie.Need-overflow_sub-result
 overflow_sub-result c = omega (arith, c.requires.2)
 
 overflow_add-result-then-from_left : tie.Need-overflow_add-result-then-from_left
-overflow_add-result-then-from_left c = omega (arith, left_room c.before.before.before.before.before.before.before (left_size c.before.before.before.before))
+overflow_add-result-then-from_left c = omega (arith, left_room (to_then_from_left (to_after_copy_first_n c.before)) (left_size (to_after_copy_first_n c.before)))
 
 shape_of-spare-then-from_left : tie.Need-shape_of-spare-then-from_left
 shape_of-spare-then-from_left c = search rules
@@ -115,7 +128,7 @@ returns-then-from_left c =
     let a = chosen in
     let n = moved.copy_first-n.result in
     turned_left a.requires.0 a.args.at.now a.args.m a.requires.1 a.requires.2 a.args.spare.now moved.copy_first-n.new.spare a.requires.3
-    (left_next chosen.before.before.before.before.before.before.before (left_size moved.before.before.before.before)) (sym chosen.takes_left-from_left.ensures ∙ chosen.if-from_left.true)
+    (left_next (to_then_from_left (to_after_copy_first_n chosen.before)) (left_size (to_after_copy_first_n moved.before))) (sym chosen.takes_left-from_left.ensures ∙ chosen.if-from_left.true)
     (moved.copy_first-n.ensures.1 ∙
     ap (λ l. take a.args.m.to a.args.spare.now ++ take n l ++ drop (a.args.m.to + n) a.args.spare.now)
     (suffix a.args.at.now a.args.m.left))
@@ -139,13 +152,13 @@ copy_first-n-requires-2 c κs =
     (right_room c.before.before refl)
 
 overflow_add-result-2 : tie.Need-overflow_add-result-2
-overflow_add-result-2 c = omega (arith, (right_next c.before.before.before.before.before (right_size c.before.before)).is_within)
+overflow_add-result-2 c = omega (arith, (right_next (to_else_from_left c.before.before) (right_size c.before.before)).is_within)
 
 overflow_sub-result-2 : tie.Need-overflow_sub-result-2
-overflow_sub-result-2 c = omega (arith, right_some c.before.before.before.before.before.before)
+overflow_sub-result-2 c = omega (arith, right_some (to_else_from_left (to_after_copy_first_n_2 c)))
 
 overflow_add-result-3 : tie.Need-overflow_add-result-3
-overflow_add-result-3 c = omega (arith, right_room c.before.before.before.before.before.before.before (right_size c.before.before.before.before))
+overflow_add-result-3 c = omega (arith, right_room (to_else_from_left (to_after_copy_first_n_2 c.before)) (right_size (to_after_copy_first_n_2 c.before)))
 
 shape_of-spare : tie.Need-shape_of-spare
 shape_of-spare c = search rules
@@ -157,7 +170,7 @@ returns c =
     let a = chosen in
     let n = moved.copy_first-n-2.result in
     turned_right a.requires.0 a.args.at.now a.args.m a.requires.1 a.requires.2 a.args.spare.now moved.copy_first-n-2.new.spare a.requires.3
-    (right_next chosen.before.before.before.before.before.before.before (right_size moved.before.before.before.before)) (late chosen.before.before.before.before.before.before.before)
+    (right_next (to_else_from_left (to_after_copy_first_n_2 chosen.before)) (right_size (to_after_copy_first_n_2 moved.before))) (late (to_else_from_left (to_after_copy_first_n_2 chosen.before)))
     (moved.copy_first-n-2.ensures.1 ∙
     ap (λ l. take a.args.m.to a.args.spare.now ++ take n l ++ drop (a.args.m.to + n) a.args.spare.now)
     (suffix a.args.at.now a.args.m.right))
