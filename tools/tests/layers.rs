@@ -82,9 +82,8 @@ fn crates_list_what_they_name() {
     for (i, line) in lines.iter().enumerate() {
         let text = text_of(&line.name);
         for listed in &line.listed {
-            // What is no crate is a library of the toolchain, and rt refuses any other.
-            let higher = lines[i..].iter().any(|other| other.name == *listed);
-            assert!(!higher, "{}: {listed} is not a crate above it", line.name);
+            let lower = lines[..i].iter().any(|other| other.name == *listed);
+            assert!(lower, "{}: {listed} is not a crate above it", line.name);
             let told = line.comment.contains(&format!(" {listed}: "));
             assert!(
                 told || names(&text, listed),

@@ -13,7 +13,7 @@ abbrev pub outcome_answer : Stepped → Answer Copies
 outcome_answer (Refused number place) = refused number place
 outcome_answer (Copied end count lowest) = accepted (record { new_length = end; copied = count; lowest = lowest })
 
--- The answer in full, and what the output then holds; the call of demand 3, `outer-call`, answers with the new length alone.
+-- The answer in full, and what the output then holds; the call of demand 3, `outer_call`, answers with the new length alone.
 pub record OuterWritten : Type 0 where
   pub answer : Answer Copies
   pub output : Bytes

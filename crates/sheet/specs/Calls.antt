@@ -65,7 +65,7 @@ copies_all F (c ∷ cs) h =
 unfoldable pub copies_made : Format → Bytes → List Call → ℕ
 copies_made F b cs = copies_all F cs (record { sheet = b; accepted_calls = 0 })
 
--- no call of the list is one block out: Settle, Expand and Execute alone, which make no copies (`no_Copies`)
+-- no call of the list is one block out: Settle, Expand and Execute alone, which make no copies (`no_copies`)
 unfoldable pub none_outer : List Call → Bool
 none_outer [] = true
 none_outer (settle x out ∷ cs) = none_outer cs

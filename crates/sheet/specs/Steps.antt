@@ -21,7 +21,7 @@ abbrev pub single : Operation → ℕ → Bytes → Call
 single settling x out = settle x out
 single expanding x out = expand x out
 
--- a step's single call with an output of n bytes; no answer and no sheet held depends on what these bytes are (`same_answer`, `same-held`)
+-- a step's single call with an output of n bytes; no answer and no sheet held depends on what these bytes are (`same_answer`, `same_held`)
 abbrev pub call_of : ℕ → Step → Call
 call_of n s = single s.operation s.variable (replicate n 0)
 

@@ -1,3 +1,3 @@
--- What the functions of tidiness promise one another. A reader believes `is-tidy` and `first-fault` of crate `formula`
+-- What the functions of tidiness promise one another. A reader believes `is_tidy` and `first_fault` of crate `formula`
 -- alone: the definitions here are proved to come to the same.
 pub mod Faults
