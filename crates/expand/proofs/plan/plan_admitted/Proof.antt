@@ -96,10 +96,11 @@ returns-in-Inside c =
     let told = d in
     let a = told in
     let k = price (to_in_Inside (to_after_next_in_Inside_1 told.before)) in
-    let v = surveyed.survey_draft.ensures _ (drafted (to_after_draft_d d.before.before)) in (
+    let e = to_after_draft_d d.before.before in
+    let v = surveyed.survey_draft.ensures _ (drafted e) in (
       refl,
       planned a.requires.0 (inside (to_in_Inside (to_after_next_in_Inside_1 told.before))).1 (inside (to_in_Inside (to_after_next_in_Inside_1 told.before))).0
-          (prepared k (rw d.draft-d.ensures at v)),
+          (prepared k (simp e.draft-d.ensures at v)),
     )
 
 pub plan_admitted_spec : {M : Type 1} → statement M
