@@ -4,8 +4,8 @@
 usage: python3 tools/port/respell.py [--check] [FOLDER]
 
 FOLDER has crates/; without it, it is the repository that the script lies in. Run once, right after port.py. Functions of src/, exported C names,
-strings, inputs and outputs are left alone: only names that a file of specs/ or proofs/ defines are turned, where they stand as whole words in
-.rt and .antt files.
+inputs and outputs are left alone: only names that a file of specs/ or proofs/ defines are turned, where they stand as whole words in .rt and
+.antt files. It doesn't tell strings from code; the one string that it turned, in the test program, was put back by hand.
 
 - A definition, a field, a constructor: snake case, `left-in` to `left_in`; with a capital, camel case, `Goes-to` to `GoesTo`.
 - A lemma, a definition of proofs/: a dash stays only between two names or at an operator, as in `bind-expand` and `length-++`.
