@@ -31,10 +31,8 @@ pub fn count(set: &[u64]) -> usize
     ensures { result ≡ size set.now }
 {
     let mut sum: usize = 0;
-    let mut i: usize = 0;
-    while i < set.len() {
-        sum += u64::count_ones(set[i]) as usize;
-        i += 1;
+    for word in set {
+        sum += word.count_ones() as usize;
     }
     sum
 }
@@ -44,14 +42,12 @@ pub fn lowest(set: &[u64]) -> usize
     requires { length set.now ≤ 17 }
     ensures { IsLowest set.now result }
 {
-    let mut i: usize = 0;
-    while i < set.len() {
-        if set[i] != 0 {
-            return 64 * i + u64::trailing_zeros(set[i]) as usize;
+    for (i, word) in set.iter().enumerate() {
+        if *word != 0 {
+            return 64 * i + word.trailing_zeros() as usize;
         }
-        i += 1;
     }
-    64 * i
+    64 * set.len()
 }
 
 // The lowest number that is in two sets and not in a third, or 64 times the words if there is none.
@@ -59,15 +55,13 @@ pub fn lowest_left(first: &[u64], second: &[u64], taken: &[u64]) -> usize
     requires { (length first.now ≤ 17) × (length second.now ≡ length first.now) × (length taken.now ≡ length first.now) }
     ensures { IsFirst (left_in first.now second.now taken.now) (64 * length first.now) result }
 {
-    let mut i: usize = 0;
-    while i < first.len() {
-        let word = first[i] & second[i] & !taken[i];
-        if word != 0 {
-            return 64 * i + u64::trailing_zeros(word) as usize;
+    for i in 0..first.len() {
+        let left = first[i] & second[i] & !taken[i];
+        if left != 0 {
+            return 64 * i + left.trailing_zeros() as usize;
         }
-        i += 1;
     }
-    64 * i
+    64 * first.len()
 }
 
 // Makes `set` the numbers that are in both of the others.
@@ -76,9 +70,7 @@ pub fn intersect(first: &[u64], second: &[u64], set: &mut [u64])
     ensures set_len_unchanged { length set.new ≡ length set.old }
     ensures by_index { (v : ℕ) → holds set.new v ≡ (holds first.now v && holds second.now v) }
 {
-    let mut i: usize = 0;
-    while i < set.len() {
+    for i in 0..set.len() {
         set[i] = first[i] & second[i];
-        i += 1;
     }
 }
