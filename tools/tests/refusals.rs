@@ -25,9 +25,31 @@ fn refusals_in(text: &str, before: &str, between: &str) -> Vec<(String, u8)> {
     text.lines().filter_map(named).collect()
 }
 
+/// A variant's name in capitals: `TooShort` is `TOO_SHORT`.
+fn in_capitals(variant: &str) -> String {
+    let mut name = String::new();
+    for letter in variant.chars() {
+        if letter.is_ascii_uppercase() && !name.is_empty() {
+            name.push('_');
+        }
+        name.push(letter.to_ascii_uppercase());
+    }
+    name
+}
+
+/// The variants of `Refusal`, in their order, and the numbers that its method gives them.
+fn refusals_in_code() -> Vec<(String, u8)> {
+    let numbered = |line: &str| {
+        let (pattern, number) = line.trim().strip_prefix("Refusal::")?.split_once(" => ")?;
+        let variant = pattern.split('(').next()?;
+        Some((in_capitals(variant), number.strip_suffix(',')?.parse().ok()?))
+    };
+    read("crates/rows/src/refusals.rt").lines().filter_map(numbered).collect()
+}
+
 #[test]
 fn refusals_have_one_name_and_one_number() {
-    let code = refusals("crates/rows/src/refusals.rt", "pub const ", ": usize = ");
+    let code = refusals_in_code();
     assert!(code.iter().map(|refusal| refusal.1).eq(1..=29));
     assert_eq!(refusals("crates/sheet/specs/Refusals.antt", "", " = "), code);
     let header = read("include/plumanchor.h");

@@ -13,8 +13,7 @@ use lib.Seq.{get_or-set_same, get_or-set_other}
 use borrow.Author.Tests.{eqb-true, eqb-false, eq-eqb, ne_eqb, ltb-true, ltb-false}
 use Rattle.formula.proofs.Booleans.{by_cases}
 use Rattle.buckets.specs.Chains.{entry_of, BUCKETS, bucket, last, Head, Linked, Passed}
-use Rattle.buckets.specs.declared.Link.{Link}
-use Rattle.buckets.specs.declared.Link.TheVariants.{End, Member}
+use Rattle.std.specs.Prelude.{Option, Some, None}
 
 -- both outcomes of a test
 decide : {A : Type 0} (a b : ℕ) → (a ≡ b → A) → ((a ≡ b → ⊥) → A) → A
@@ -24,13 +23,13 @@ decide {A} a b f g =
     (λ e. g (eqb-false a b e))
 
 -- a link by its entry
-same_link : (l r : Link) → entry_of l ≡ entry_of r → l ≡ r
-same_link End End e = refl
-same_link End (Member j) e = absurd (omega arith)
-same_link (Member i) End e = absurd (omega arith)
-same_link (Member i) (Member j) e = ap Member (omega arith)
+same_link : (l r : Option ℕ) → entry_of l ≡ entry_of r → l ≡ r
+same_link None None e = refl
+same_link None (Some j) e = absurd (omega arith)
+same_link (Some i) None e = absurd (omega arith)
+same_link (Some i) (Some j) e = ap Some (omega arith)
 
-last_here : (M : List ℕ) (k n : ℕ) → bucket (get_or M n 0) ≡ k → last M k (suc n) ≡ Member n
+last_here : (M : List ℕ) (k n : ℕ) → bucket (get_or M n 0) ≡ k → last M k (suc n) ≡ Some n
 unfolding last
 last_here M k n e = rw (eq-eqb (bucket (get_or M n 0)) k e)
 
@@ -46,17 +45,17 @@ last_within M k (suc n) =
     (λ e. omega (arith, ap entry_of (last-before M k n e), last_within M k n))
 
 -- it is a member of the bucket
-pub last_in : (M : List ℕ) (k n : ℕ) {i : ℕ} → last M k n ≡ Member i → bucket (get_or M i 0) ≡ k
+pub last_in : (M : List ℕ) (k n : ℕ) {i : ℕ} → last M k n ≡ Some i → bucket (get_or M i 0) ≡ k
 unfolding last
 last_in M k zero l = absurd (omega (arith, ap entry_of l))
 last_in M k (suc n) {i} l =
     decide (bucket (get_or M n 0)) k (λ e. ap (λ (j : ℕ). bucket (get_or M j 0)) (same (sym l ∙ last_here M k n e)) ∙ e)
     (λ e. last_in M k n (sym (last-before M k n e) ∙ l))
   where
-    same : Member i ≡ Member n → i ≡ n
+    same : Some i ≡ Some n → i ≡ n
     same e = cc
 
-less_or_same : {A : Type 0} (j n : ℕ) → j < suc n → (j ≡ n → A) → (j < n → A) → A
+pub less_or_same : {A : Type 0} (j n : ℕ) → j < suc n → (j ≡ n → A) → (j < n → A) → A
 less_or_same j n l f g = decide j n f (λ e. g (omega arith))
 
 -- and none stands behind it
@@ -75,25 +74,22 @@ unfolding last
 last_set M k n m zero l = refl
 last_set M k n m (suc i) l =
     let same : get_or (set M n m) i 0 ≡ get_or M i 0 = get_or-set_other M n i m 0 (λ e. omega arith) in
-    ap (λ (x : ℕ). cond (eqb (bucket x) k) (Member i) (last (set M n m) k i)) same ∙
-    ap (λ (r : Link). cond (eqb (bucket (get_or M i 0)) k) (Member i) r) (last_set M k n m i (omega arith))
+    ap (λ (x : ℕ). cond (eqb (bucket x) k) (Some i) (last (set M n m) k i)) same ∙
+    ap (λ (r : Option ℕ). cond (eqb (bucket (get_or M i 0)) k) (Some i) r) (last_set M k n m i (omega arith))
 
 -- first
 
 module _ (M : List ℕ) (k n : ℕ) {h : ℕ} (s : Head M k n h) where
-  pub first_none : h ≡ 0 → End ≡ last M k n
-  first_none e = ⊎_elim (λ z. sym z) (λ z. sym (same_link (last M k n) End (z ∙ e))) s
-
   module _ {i : ℕ} (is : h ≡ suc i) where
-    pub first_above : n ≤ i → End ≡ last M k n
+    pub first_above : n ≤ i → None ≡ last M k n
     first_above l = ⊎_elim (λ z. sym z) (λ z. absurd (omega (arith, last_within M k n))) s
 
-    pub first_other : (bucket (get_or M i 0) ≡ k → ⊥) → End ≡ last M k n
-    first_other d = ⊎_elim (λ z. sym z) (λ z. absurd (d (last_in M k n (same_link (last M k n) (Member i) (z ∙ is))))) s
+    pub first_other : (bucket (get_or M i 0) ≡ k → ⊥) → None ≡ last M k n
+    first_other d = ⊎_elim (λ z. sym z) (λ z. absurd (d (last_in M k n (same_link (last M k n) (Some i) (z ∙ is))))) s
 
-    pub first-right : i < n → bucket (get_or M i 0) ≡ k → Member i ≡ last M k n
+    pub first-right : i < n → bucket (get_or M i 0) ≡ k → Some i ≡ last M k n
     first-right l e =
-        ⊎_elim (λ z. absurd (omega (arith, last_covers M k n i l e, ap entry_of z))) (λ z. sym (same_link (last M k n) (Member i) (z ∙ is))) s
+        ⊎_elim (λ z. absurd (omega (arith, last_covers M k n i l e, ap entry_of z))) (λ z. sym (same_link (last M k n) (Some i) (z ∙ is))) s
 
 -- add
 
@@ -143,7 +139,7 @@ module _ (m : ℕ) {H L M H' L' M' : List ℕ} {n f : ℕ} (lk : Linked H L M n)
 
 -- a walk along a chain
 
-pub passed_none : {M : List ℕ} {n k : ℕ} {r : Link} {Test : ℕ → Type 0} → r ≡ last M k n → Passed M n k Test r
+pub passed_none : {M : List ℕ} {n k : ℕ} {r : Option ℕ} {Test : ℕ → Type 0} → r ≡ last M k n → Passed M n k Test r
 passed_none {M} {n} {k} e =
     record {
       within = omega (arith, ap entry_of e, last_within M k n);
@@ -152,7 +148,7 @@ passed_none {M} {n} {k} e =
     }
 
 -- the walk is at a member
-module _ {H L M : List ℕ} {n i : ℕ} {l : Link} (lk : Linked H L M n) (within : entry_of l ≤ n) (told : l ≡ Member i) (r : Link)
+module _ {H L M : List ℕ} {n i : ℕ} {l : Option ℕ} (lk : Linked H L M n) (within : entry_of l ≤ n) (told : l ≡ Some i) (r : Option ℕ)
     (r-is : entry_of r ≡ get_or L i 0) where
   there : i < n
   there = omega (arith, within, ap entry_of told)

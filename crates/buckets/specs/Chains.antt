@@ -1,13 +1,11 @@
 -- Chains of members in one bucket: which member comes next, and when tables have it.
 -- Assumes nothing.
-use Rattle.std.specs.Prelude.{◌≡◌, cond, List, ◌⊎◌, ℕ, zero, suc, ◌/◌, ◌%◌, ◌≤◌, ◌<◌, eqb, length, get_or}
-use Rattle.buckets.specs.declared.Link.{Link}
-use Rattle.buckets.specs.declared.Link.TheVariants.{End, Member}
+use Rattle.std.specs.Prelude.{◌≡◌, cond, List, ◌⊎◌, ℕ, zero, suc, ◌/◌, ◌%◌, ◌≤◌, ◌<◌, eqb, length, get_or, Option, Some, None}
 
--- a link as a table's entry: 0 at a chain's end, else one more than the member's number
-abbrev pub entry_of : Link → ℕ
-entry_of End = 0
-entry_of (Member i) = suc i
+-- a link, to a member by its number or to none at a chain's end, as a table's entry: 0 at the end, else one more than the member's number
+abbrev pub entry_of : Option ℕ → ℕ
+entry_of None = 0
+entry_of (Some i) = suc i
 
 -- how many buckets there are
 abbrev pub BUCKETS : ℕ
@@ -18,13 +16,13 @@ abbrev pub bucket : ℕ → ℕ
 bucket m = m / 8 % BUCKETS
 
 -- the last of the first n members that is in bucket k, the end if none is
-unfoldable pub last : List ℕ → ℕ → ℕ → Link
-last M k zero = End
-last M k (suc n) = cond (eqb (bucket (get_or M n 0)) k) (Member n) (last M k n)
+unfoldable pub last : List ℕ → ℕ → ℕ → Option ℕ
+last M k zero = None
+last M k (suc n) = cond (eqb (bucket (get_or M n 0)) k) (Some n) (last M k n)
 
 -- an entry of a table of heads is the last member of its bucket, if the bucket has one
 abbrev pub Head : List ℕ → ℕ → ℕ → ℕ → Type 0
-Head M k n h = (last M k n ≡ End) ⊎ (entry_of (last M k n) ≡ h)
+Head M k n h = (last M k n ≡ None) ⊎ (entry_of (last M k n) ≡ h)
 
 -- tables that are long enough for n members
 pub record Room (H L M : List ℕ) (n : ℕ) : Type 0 where
@@ -40,7 +38,7 @@ pub record Linked (H L M : List ℕ) (n : ℕ) : Type 0 where
   pub links : (i : ℕ) → i < n → get_or L i 0 ≡ entry_of (last M (bucket (get_or M i 0)) i)
 
 -- a walk along a chain has come to a link: the members of the bucket that it has passed, those with higher numbers, don't pass the test
-pub record Passed (M : List ℕ) (n k : ℕ) (Test : ℕ → Type 0) (l : Link) : Type 0 where
+pub record Passed (M : List ℕ) (n k : ℕ) (Test : ℕ → Type 0) (l : Option ℕ) : Type 0 where
   pub within : entry_of l ≤ n
-  pub here : (i : ℕ) → l ≡ Member i → bucket (get_or M i 0) ≡ k
+  pub here : (i : ℕ) → l ≡ Some i → bucket (get_or M i 0) ≡ k
   pub failed : (j : ℕ) → entry_of l ≤ j → j < n → bucket (get_or M j 0) ≡ k → Test j → ⊥

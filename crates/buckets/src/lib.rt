@@ -12,44 +12,29 @@ pub mod hash;
 // How many buckets there are: a table of heads has an entry for each.
 pub const BUCKETS: usize = 1024;
 
-// A link of a chain: to the member of this number, or to none at its end.
-#[derive(Clone, Copy)]
-pub enum Link {
-    End,
-    Member(usize),
-}
-
-// A number of 16 bits as a `usize`, and below it one of 32.
-pub fn small(x: u16) -> usize
-    ensures { (result ≡ x) × (result < 2 ^ 16) }
-{
-    x as usize
-}
-
+// A number of 32 bits as a `usize`.
 pub fn large(x: u32) -> usize
     ensures { (result ≡ x) × (result < 2 ^ 32) }
 {
     x as usize
 }
 
-// The link that an entry of a table means: 0 is the end, any other number is one more than the member's number.
-pub fn link_of(entry: usize) -> Link
+// The link that an entry of a table means, to a member by its number or to none: 0 is the chain's end, any other number is one more than the
+// member's number.
+pub fn link_of(entry: usize) -> Option<usize>
     ensures { entry_of result ≡ entry }
 {
-    if entry == 0 {
-        return Link::End;
-    }
-    Link::Member(entry - 1)
+    entry.checked_sub(1)
 }
 
 // The entry that means a link.
-pub fn entry_of(l: Link) -> usize
+pub fn entry_of(l: Option<usize>) -> usize
     requires { entry_of l < 65536 }
     ensures { result ≡ entry_of l }
 {
     match l {
-        Link::End => 0,
-        Link::Member(i) => i + 1,
+        None => 0,
+        Some(i) => i + 1,
     }
 }
 
@@ -62,28 +47,26 @@ pub fn bucket_of(m: usize) -> usize
 }
 
 // The last of the first `n` members that is in bucket `k`.
-pub fn first(heads: &[u16], members: &[u32], n: usize, k: usize) -> Link
+pub fn first(heads: &[u16], members: &[u32], n: usize, k: usize) -> Option<usize>
     requires { (k < length heads.now) × (n ≤ length members.now) × Head members.now k n (get_or heads.now k 0) }
     ensures { result ≡ last members.now k n }
 {
-    let Link::Member(i) = link_of(small(heads[k])) else {
-        return Link::End;
-    };
+    let i = link_of(usize::from(heads[k]))?;
     if n <= i {
-        return Link::End;
+        return None;
     }
     if bucket_of(member(members, i)) != k {
-        return Link::End;
+        return None;
     }
-    Link::Member(i)
+    Some(i)
 }
 
 // The last member before member `i` that is in the same bucket.
-pub fn behind(links: &[u16], i: usize) -> Link
+pub fn behind(links: &[u16], i: usize) -> Option<usize>
     requires { i < length links.now }
     ensures { entry_of result ≡ get_or links.now i 0 }
 {
-    link_of(small(links[i]))
+    link_of(usize::from(links[i]))
 }
 
 // Member `i`.
@@ -102,5 +85,5 @@ pub fn add(heads: &mut [u16], links: &mut [u16], members: &mut [u32], n: usize, 
     let k = bucket_of(m);
     links[n] = entry_of(first(heads, members, n, k)) as u16;
     members[n] = m as u32;
-    heads[k] = entry_of(Link::Member(n)) as u16;
+    heads[k] = entry_of(Some(n)) as u16;
 }

@@ -12,19 +12,21 @@ ghost use Rattle.capi_certify.specs.Packed.{side_numbered, packed_certified};
 ghost use Rattle.capi_certify.specs.Told.{ToldCertify};
 
 use certify::Certified;
-use packing::pack;
+use packing::{pack, pack_refusal};
 use rows::Format;
+use rows::refusals::Refusal;
 
 pub mod clausing;
 
 // What Certify answers: refusal number and place; or the verdict; or the word 2 and how many steps are valid.
-fn pack_certified(answer: Certified) -> u64
+#[tactic(auto, unfolding(crate::specs::Packed::packed_certified))]
+fn pack_certified(answer: Result<Certified, Refusal>) -> u64
     ensures { result ≡ packed_certified (certified_answer answer) }
 {
     match answer {
-        Certified::Certain(verdict) => pack(0, verdict as usize, 0, 0),
-        Certified::Uncertain(step) => pack(0, 2, 0, step as u64),
-        Certified::Refused(number, place) => pack(number, 0, place, 0),
+        Ok(Certified::Certain(verdict)) => pack(0, verdict as usize, 0, 0),
+        Ok(Certified::Uncertain(step)) => pack(0, 2, 0, step as u64),
+        Err(refusal) => pack_refusal(refusal),
     }
 }
 

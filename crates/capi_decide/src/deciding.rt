@@ -9,23 +9,27 @@ ghost use Rattle.capi_decide.specs.Packed.{packed_decided};
 ghost use Rattle.capi_decide.specs.Returned.{allowed, leaves, packed_deciding};
 ghost use Rattle.capi_decide.specs.Told.{ToldDecide};
 
-use decide::DecideAnswer;
-use packing::{pack, word_for};
+use decide::search::{Decision, Outcome};
+use packing::{pack, pack_refusal, word_for};
 use rows::Format;
 use rows::fit::shorter;
+use rows::refusals::Refusal;
 
 // The largest budget.
 const MOST_RUNS: usize = 4294967295;
 
 // What Decide answers: refusal number and place; or a word and the number of runs.
-fn pack_decided(answer: DecideAnswer) -> u64
+#[tactic(auto, unfolding(crate::specs::Packed::packed_decided))]
+fn pack_decided(answer: Result<Decision, Refusal>) -> u64
     ensures { result ≡ packed_decided (answer_of answer) }
 {
     match answer {
-        DecideAnswer::Refused(number, place) => pack(number, 0, place, 0),
-        DecideAnswer::Ended(verdict, runs) => pack(0, word_for(verdict), 0, runs as u64),
-        DecideAnswer::NoPlace(runs) => pack(0, 2, 0, runs as u64),
-        DecideAnswer::Spent(runs) => pack(0, 3, 0, runs as u64),
+        Ok(d) => match d.outcome {
+            Outcome::Decided(verdict) => pack(0, word_for(verdict), 0, d.runs as u64),
+            Outcome::NoPlace => pack(0, 2, 0, d.runs as u64),
+            Outcome::Spent => pack(0, 3, 0, d.runs as u64),
+        },
+        Err(refusal) => pack_refusal(refusal),
     }
 }
 

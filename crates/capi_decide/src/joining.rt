@@ -7,28 +7,28 @@ ghost use Rattle.join.specs.Answers.{known_in, join_answer};
 ghost use Rattle.capi_decide.specs.Packed.{known_word, packed_joined};
 ghost use Rattle.capi_decide.specs.Told.{ToldJoin};
 
-use join::{JoinAnswer, Known};
-use packing::pack;
+use packing::{pack, pack_refusal};
 use rows::Format;
+use rows::refusals::Refusal;
 
 // The word of what is known: 1 true, 0 false, 2 unknown.
-fn word_for(known: Known) -> usize
+fn word_for(known: Option<bool>) -> usize
     ensures { result ≡ known_word (known_in known) }
 {
     match known {
-        Known::False => 0,
-        Known::True => 1,
-        Known::Unknown => 2,
+        Some(value) => value as usize,
+        None => 2,
     }
 }
 
 // What Join answers: refusal number and place, or the word.
-fn pack_joined(answer: JoinAnswer) -> u64
+#[tactic(auto, unfolding(crate::specs::Packed::packed_joined))]
+fn pack_joined(answer: Result<Option<bool>, Refusal>) -> u64
     ensures { result ≡ packed_joined (join_answer answer) }
 {
     match answer {
-        JoinAnswer::Refused(number, place) => pack(number, 0, place, 0),
-        JoinAnswer::Joined(known) => pack(0, word_for(known), 0, 0),
+        Ok(known) => pack(0, word_for(known), 0, 0),
+        Err(refusal) => pack_refusal(refusal),
     }
 }
 

@@ -9,8 +9,8 @@ ghost use Rattle.capi_strategy.specs.Claims.{side_of_kind, packed_claimed};
 ghost use Rattle.capi_strategy.specs.Returned.{packed_claiming};
 ghost use Rattle.capi_strategy.specs.Told.{ToldClaim};
 
-use claim::{Claimed, Side};
-use packing::pack;
+use claim::{ClaimRefusal, Side};
+use packing::{pack, pack_refusal};
 use rows::Format;
 
 // A side by its quantifier's kind, as a sheet has it: 1 exists, any other for all.
@@ -24,12 +24,15 @@ fn named_side(kind: usize) -> Side
 }
 
 // What Claim answers: refusal number, the sheet refused as the word, and place; or the length of the claim's sheet.
-fn pack_claimed(answer: Claimed) -> u64
+#[tactic(auto, unfolding(crate::specs::Claims::packed_claimed))]
+fn pack_claimed(answer: Result<usize, ClaimRefusal>) -> u64
     ensures { result ≡ packed_claimed (claimed_answer answer) }
 {
     match answer {
-        Claimed::Refused(which, number, place) => pack(number, which, place, 0),
-        Claimed::Written(length) => pack(0, 0, 0, length as u64),
+        Ok(length) => pack(0, 0, 0, length as u64),
+        Err(ClaimRefusal::Output(refusal)) => pack_refusal(refusal),
+        Err(ClaimRefusal::Sheet(refusal)) => pack(refusal.number(), 1, refusal.place(), 0),
+        Err(ClaimRefusal::Strategy(refusal)) => pack(refusal.number(), 2, refusal.place(), 0),
     }
 }
 

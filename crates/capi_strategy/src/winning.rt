@@ -6,8 +6,9 @@ ghost use Rattle.rows.specs.Formats.{format_of};
 ghost use Rattle.strategy.specs.Answers.{strategy_told};
 ghost use Rattle.capi_strategy.specs.Strategies.{packed_counts, packed_strategy, all_left, packed_winning, ToldStrategy};
 
-use packing::{pack, word_for};
+use packing::{pack_refusal, word_for};
 use rows::Format;
+use rows::refusals::Refusal;
 use strategy::StrategyAnswer;
 
 // A word, two counts and a value in one number.
@@ -22,24 +23,25 @@ fn pack_counts(word: usize, settled: usize, expanded: usize, last: usize) -> u64
 }
 
 // What Strategy answers: refusal number and place; or a word, the counts and a value. A strategy that is too long has the verdict's word and 3.
-fn pack_strategy(answer: StrategyAnswer) -> u64
+#[tactic(auto, unfolding(crate::specs::Strategies::packed_strategy))]
+fn pack_strategy(answer: Result<StrategyAnswer, Refusal>) -> u64
     ensures { result ≡ packed_strategy (strategy_told answer) }
 {
     match answer {
-        StrategyAnswer::Refused(number, place) => pack(number, 0, place, 0),
-        StrategyAnswer::Stopped(x, settled, expanded) => pack_counts(2, settled, expanded, x),
-        StrategyAnswer::Written(verdict, settled, expanded, length) => pack_counts(
+        Ok(StrategyAnswer::Stopped(x, settled, expanded)) => pack_counts(2, settled, expanded, x),
+        Ok(StrategyAnswer::Written(verdict, settled, expanded, length)) => pack_counts(
             word_for(verdict),
             settled,
             expanded,
             length,
         ),
-        StrategyAnswer::TooLong(verdict, settled, expanded, rows) => pack_counts(
+        Ok(StrategyAnswer::TooLong(verdict, settled, expanded, rows)) => pack_counts(
             3 + word_for(verdict),
             settled,
             expanded,
             rows,
         ),
+        Err(refusal) => pack_refusal(refusal),
     }
 }
 

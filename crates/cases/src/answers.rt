@@ -1,13 +1,13 @@
 // What a line contains for each kind of answer.
 use crate::outputs::{print_reached, print_short, print_sum};
-use checking::{Checked, Written};
-use expand::quote::Quoted;
 use force::{Forced, Outcome, Turn};
 use guards::Guarded;
 use printing::{print_count, print_number};
-use rows::Format;
+use rows::refusals::Refusal;
+use rows::{Format, Layout};
 use solve::Solved;
-use sort_compare::compare::Compared;
+use sort_compare::compare::CompareRefusal;
+use std::cmp::Ordering;
 use std::io;
 use std::io::Write;
 use trial::Tried;
@@ -15,20 +15,20 @@ use trial::Tried;
 // Longer than any output: no sheet is written.
 const NO_SHEET: usize = 65536;
 
-pub fn print_refused<W: Write>(to: &mut W, number: usize, place: usize) -> io::Result<()> {
+pub fn print_refused<W: Write>(to: &mut W, refusal: Refusal) -> io::Result<()> {
     to.write_all(b" refused")?;
-    print_number(to, number)?;
-    print_number(to, place)
+    print_number(to, refusal.number())?;
+    print_number(to, refusal.place())
 }
 
-pub fn print_checked<W: Write>(to: &mut W, answer: Checked) -> io::Result<()> {
+pub fn print_checked<W: Write>(to: &mut W, answer: Result<Layout, Refusal>) -> io::Result<()> {
     match answer {
-        Checked::Accepted(s) => {
+        Ok(s) => {
             to.write_all(b" accepted")?;
             print_number(to, s.variables)?;
             print_number(to, s.nodes)
         }
-        Checked::Refused(number, place) => print_refused(to, number, place),
+        Err(refusal) => print_refused(to, refusal),
     }
 }
 
@@ -40,54 +40,56 @@ fn print_verdict<W: Write>(to: &mut W, verdict: bool) -> io::Result<()> {
     }
 }
 
-pub fn print_tried<W: Write>(to: &mut W, answer: Tried) -> io::Result<()> {
+pub fn print_tried<W: Write>(to: &mut W, answer: Result<Tried, Refusal>) -> io::Result<()> {
     match answer {
-        Tried::Answered(verdict, leaves) => {
-            print_verdict(to, verdict)?;
-            print_count(to, leaves)
+        Ok(t) => {
+            print_verdict(to, t.verdict)?;
+            print_count(to, t.leaves)
         }
-        Tried::Refused(number, place) => print_refused(to, number, place),
+        Err(refusal) => print_refused(to, refusal),
     }
 }
 
 // Writes the kinds of Part's rows.
 pub fn print_kinds<W: Write>(to: &mut W, kinds: &[u8]) -> io::Result<()> {
-    let mut i = 0;
-    while i < kinds.len() {
-        print_number(to, rows::from_byte(kinds[i]))?;
-        i += 1;
+    for kind in kinds {
+        print_number(to, usize::from(*kind))?;
     }
     Ok(())
 }
 
-pub fn print_written<W: Write>(to: &mut W, answer: Written, out: &[u8]) -> io::Result<()> {
+pub fn print_written<W: Write>(
+    to: &mut W,
+    answer: Result<usize, Refusal>,
+    out: &[u8],
+) -> io::Result<()> {
     match answer {
-        Written::Accepted(length) => {
+        Ok(length) => {
             to.write_all(b" accepted")?;
             print_number(to, length)?;
             print_sum(to, out)?;
             print_short(to, out, length)
         }
-        Written::Refused(number, place) => {
-            print_refused(to, number, place)?;
+        Err(refusal) => {
+            print_refused(to, refusal)?;
             print_sum(to, out)
         }
     }
 }
 
-pub fn print_quoted<W: Write>(to: &mut W, answer: Quoted) -> io::Result<()> {
+pub fn print_quoted<W: Write>(to: &mut W, answer: Result<usize, Refusal>) -> io::Result<()> {
     match answer {
-        Quoted::Rows(count) => {
+        Ok(count) => {
             to.write_all(b" rows")?;
             print_number(to, count)
         }
-        Quoted::Refused(number, place) => print_refused(to, number, place),
+        Err(refusal) => print_refused(to, refusal),
     }
 }
 
 pub fn print_solved<W: Write>(
     to: &mut W,
-    answer: Solved,
+    answer: Result<Solved, Refusal>,
     f: Format,
     first: &[u8],
     second: &[u8],
@@ -121,16 +123,16 @@ fn print_outcome<W: Write>(to: &mut W, outcome: Outcome) -> io::Result<()> {
 
 pub fn print_forced<W: Write>(
     to: &mut W,
-    answer: Forced,
+    answer: Result<Forced, Refusal>,
     first: &[u8],
     second: &[u8],
 ) -> io::Result<()> {
     match answer {
-        Forced::Refused(number, place) => print_refused(to, number, place)?,
-        Forced::Answered(turn, outcome) => {
-            print_turn(to, turn)?;
-            print_outcome(to, outcome)?;
+        Ok(panel) => {
+            print_turn(to, panel.turn)?;
+            print_outcome(to, panel.outcome)?;
         }
+        Err(refusal) => print_refused(to, refusal)?,
     }
     print_sum(to, first)?;
     print_sum(to, second)
@@ -139,26 +141,26 @@ pub fn print_forced<W: Write>(
 // The answer, a sum over each buffer, and the kept children's sheet if it is short.
 pub fn print_guarded<W: Write>(
     to: &mut W,
-    answer: Guarded,
+    answer: Result<Guarded, Refusal>,
     out: &[u8],
     first: &[u8],
     second: &[u8],
 ) -> io::Result<()> {
     let mut kept = NO_SHEET;
     match answer {
-        Guarded::Refused(number, place) => print_refused(to, number, place)?,
-        Guarded::Stopped(x, settled, expanded) => {
+        Err(refusal) => print_refused(to, refusal)?,
+        Ok(Guarded::Stopped(x, settled, expanded)) => {
             to.write_all(b" stopped")?;
             print_number(to, settled)?;
             print_number(to, expanded)?;
             print_number(to, x)?;
         }
-        Guarded::True(settled, expanded) => {
+        Ok(Guarded::True(settled, expanded)) => {
             to.write_all(b" true")?;
             print_number(to, settled)?;
             print_number(to, expanded)?;
         }
-        Guarded::Kept(length, stops) => {
+        Ok(Guarded::Kept(length, stops)) => {
             to.write_all(b" kept")?;
             print_number(to, length)?;
             print_number(to, stops)?;
@@ -171,20 +173,23 @@ pub fn print_guarded<W: Write>(
     print_short(to, out, kept)
 }
 
+fn print_misfit<W: Write>(to: &mut W, refusal: Refusal, which: usize) -> io::Result<()> {
+    print_refused(to, refusal)?;
+    print_number(to, which)
+}
+
 pub fn print_compared<W: Write>(
     to: &mut W,
-    answer: Compared,
+    answer: Result<Ordering, CompareRefusal>,
     first: &[u8],
     second: &[u8],
 ) -> io::Result<()> {
     match answer {
-        Compared::Refused(which, number, place) => {
-            print_refused(to, number, place)?;
-            print_number(to, which)?;
-        }
-        Compared::Before => to.write_all(b" before")?,
-        Compared::Equal => to.write_all(b" equal")?,
-        Compared::After => to.write_all(b" after")?,
+        Ok(Ordering::Less) => to.write_all(b" before")?,
+        Ok(Ordering::Equal) => to.write_all(b" equal")?,
+        Ok(Ordering::Greater) => to.write_all(b" after")?,
+        Err(CompareRefusal::First(refusal)) => print_misfit(to, refusal, 1)?,
+        Err(CompareRefusal::Second(refusal)) => print_misfit(to, refusal, 2)?,
     }
     print_sum(to, first)?;
     print_sum(to, second)

@@ -1,24 +1,29 @@
 // The step one block out (N6).
 use crate::answers::print_refused;
 use crate::outputs::{print_short, print_sum};
-use outer::Stepped;
+use outer::Copied;
 use printing::print_number;
 use rows::Format;
+use rows::refusals::Refusal;
 use std::io;
 use std::io::Write;
 
-fn print_copied<W: Write>(to: &mut W, answer: Stepped, out: &[u8]) -> io::Result<()> {
+fn print_copied<W: Write>(
+    to: &mut W,
+    answer: Result<Copied, Refusal>,
+    out: &[u8],
+) -> io::Result<()> {
     match answer {
-        Stepped::Copied(length, copied, lowest) => {
+        Ok(c) => {
             to.write_all(b" accepted")?;
-            print_number(to, length)?;
-            print_number(to, copied)?;
-            print_number(to, lowest)?;
+            print_number(to, c.length)?;
+            print_number(to, c.copied)?;
+            print_number(to, c.lowest)?;
             print_sum(to, out)?;
-            print_short(to, out, length)
+            print_short(to, out, c.length)
         }
-        Stepped::Refused(number, place) => {
-            print_refused(to, number, place)?;
+        Err(refusal) => {
+            print_refused(to, refusal)?;
             print_sum(to, out)
         }
     }

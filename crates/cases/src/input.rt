@@ -74,12 +74,10 @@ fn run_calls<R: Read, W: Write>(
     calls: usize,
 ) -> io::Result<bool> {
     let mut space = [0u8; ROOM];
-    let mut left = calls;
-    while 0 < left {
+    for _ in 0..calls {
         if !next_call(from, to, sheet, &mut space)? {
             return Ok(false);
         }
-        left -= 1;
     }
     Ok(true)
 }
@@ -103,12 +101,10 @@ fn next_case<R: Read, W: Write>(from: &mut R, to: &mut W, space: &mut [u8]) -> i
 
 // Goes through the cases, 4,096 at most.
 pub fn run_cases<R: Read, W: Write>(from: &mut R, to: &mut W, space: &mut [u8]) -> io::Result<()> {
-    let mut cases: usize = 0;
-    while cases < 4096 {
+    for _ in 0..4096 {
         if !next_case(from, to, space)? {
             return Ok(());
         }
-        cases += 1;
     }
     Ok(())
 }

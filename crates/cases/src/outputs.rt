@@ -14,20 +14,14 @@ const SHORT: usize = 64;
 
 // Fills an output, so that it is not clean before a call.
 pub fn fill(out: &mut [u8]) {
-    let mut i = 0;
-    while i < out.len() {
-        out[i] = FILLING;
-        i += 1;
-    }
+    out.fill(FILLING);
 }
 
 // A sum that depends on each byte and on its place.
 fn sum(bytes: &[u8]) -> usize {
     let mut so_far = 0;
-    let mut i = 0;
-    while i < bytes.len() {
-        so_far = (257 * so_far + rows::from_byte(bytes[i])) % 65521;
-        i += 1;
+    for byte in bytes {
+        so_far = (257 * so_far + usize::from(*byte)) % 65521;
     }
     so_far
 }
@@ -39,20 +33,16 @@ pub fn print_sum<W: Write>(to: &mut W, out: &[u8]) -> io::Result<()> {
 
 fn print_hexadecimal<W: Write>(to: &mut W, bytes: &[u8]) -> io::Result<()> {
     to.write_all(b" sheet")?;
-    let mut i = 0;
-    while i < bytes.len() {
-        write!(to, " {:02x}", rows::from_byte(bytes[i]))?;
-        i += 1;
+    for byte in bytes {
+        write!(to, " {byte:02x}")?;
     }
     Ok(())
 }
 
 // Writes a short sheet of this length from the front of the output.
 pub fn print_short<W: Write>(to: &mut W, out: &[u8], length: usize) -> io::Result<()> {
-    if length <= SHORT {
-        if length <= out.len() {
-            print_hexadecimal(to, &out[..length])?;
-        }
+    if length <= SHORT && length <= out.len() {
+        print_hexadecimal(to, &out[..length])?;
     }
     Ok(())
 }

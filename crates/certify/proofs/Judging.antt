@@ -1,12 +1,11 @@
 -- A sheet that Check accepts can be judged, and what Certify answers follows from what Check answers and from the steps.
 -- Assumes nothing.
 use mathlib.Core.Path.{◌≡◌, sym, ap, ◌∙◌}
-use mathlib.Core.Bool.{true}
 use mathlib.Core.List.{List}
 use Prim.Native.Nat.{ℕ, ◌<◌}
 use native.Mathlib.Omega.{arith}
 use lib.ListN.{length, get_or}
-use Rattle.formula.specs.Tree.{Op, Prefix, Formula, distinct}
+use Rattle.formula.specs.Tree.{Op, Formula, distinct}
 use Rattle.formula.specs.Certificates.{Certified, certified}
 use Rattle.sheet.specs.Format as sheet
 use Rattle.sheet.specs.Format.{Bytes, row}

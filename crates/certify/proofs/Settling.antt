@@ -2,15 +2,15 @@
 -- at the other; and the walk over the initial steps.
 -- Assumes nothing.
 use mathlib.Core.Path.{◌≡◌, refl, sym, ap, ap₂, ◌∙◌, fun_ext}
-use mathlib.Core.Bool.{Bool, true, false, not, ◌&&◌, cond, beq}
+use mathlib.Core.Bool.{Bool, true, false, not, cond, beq}
 use mathlib.Core.List.{List}
 use Prim.Native.Nat.{ℕ, zero, suc, ◌+◌, ◌*◌, ◌/◌, ◌%◌, ◌≤◌, ◌<◌}
 use native.Mathlib.Decide.{dec_lt}
 use native.Mathlib.Omega.{arith}
-use lib.Dec.{eqb, ltb}
+use lib.Dec.{eqb}
 use borrow.Author.Tests.{lt-ltb, le-ltb}
-use Rattle.formula.specs.Tree.{Op, and, or, Tree, lit, node, Forest, ∅, ◌▸◌, Literals}
-use Rattle.formula.specs.Truth.{unit, join}
+use Rattle.formula.specs.Tree.{Op, and, or, Tree, lit, node, Forest, ∅, ◌▸◌}
+use Rattle.formula.specs.Truth.{join}
 use Rattle.formula.specs.Certificates.{Literal, Constraint, holds, needed, settles, settles_each}
 use Rattle.sets.specs.Sets as sets
 use Rattle.sets.specs.Sets.{IsFirst}
@@ -26,15 +26,6 @@ literal s x = record { sign = s; variable = x }
 module _ (marks : List ℕ) (s : Bool) (x : ℕ) where
   pub unmarked_beyond : 2048 ≤ x → false ≡ marked marks s x
   unmarked_beyond h = rw (le-ltb x 2048 h)
-
-  pub marked_positive : (r : Bool) → s ≡ true → x < 2048 → r ≡ sets.holds marks (2 * x) → r ≡ marked marks s x
-  marked_positive r e h t = t ∙ rw (e, lt-ltb x 2048 h) (ap (sets.holds marks) (same x))
-    where
-      same : (x : ℕ) → 2 * x ≡ 2 * x + 0
-      same x = omega arith
-
-  pub marked-negative : (r : Bool) → s ≡ false → x < 2048 → r ≡ sets.holds marks (2 * x + 1) → r ≡ marked marks s x
-  marked-negative r e h t = t ∙ rw (e, lt-ltb x 2048 h)
 
 -- a set of a constraint's codes marks its literals
 module _ (marks : List ℕ) (D : Constraint) (codes-are : (c : ℕ) → sets.holds marks c ≡ holds D (coded c))

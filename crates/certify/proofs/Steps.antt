@@ -3,7 +3,7 @@
 use mathlib.Core.Path.{◌≡◌, refl, sym, ap, ap₂, ◌∙◌}
 use mathlib.Core.Bool.{Bool, true, false, not, ◌&&◌, cond}
 use mathlib.Core.List.{List, [], ◌∷◌, ◌++◌, map}
-use mathlib.Core.Option.{Option, none, some}
+use mathlib.Core.Option.{none, some}
 use Prim.Native.Nat.{ℕ, zero, suc, ◌+◌, ◌-◌, ◌/◌, ◌≤◌, ◌<◌}
 use native.Mathlib.Nat.{add-zero, zero-add}
 use native.Mathlib.Decide.{dec_lt}
@@ -12,9 +12,9 @@ use lib.Dec.{eqb, ltb, leb}
 use lib.ListN.{length, get_elem?, length-map}
 use lib.Seq.{length-slice}
 use borrow.Author.Tests.{lt-ltb, le-ltb, eq-eqb, ne_eqb, leb-true, leb-false, not-true, not-false}
-use Rattle.formula.specs.Tree.{Op, Formula}
+use Rattle.formula.specs.Tree.{Formula}
 use Rattle.formula.specs.Truth.{unit}
-use Rattle.formula.specs.Certificates.{Constraint, Inference, is_valid, derives, follows, resolvent, valid_steps, ends_empty, Certified, certain, uncertain, certified}
+use Rattle.formula.specs.Certificates.{Constraint, is_valid, derives, follows, resolvent, valid_steps, ends_empty, certain, uncertain, certified}
 use Rattle.sets.specs.Sets.{IsFirst}
 use Rattle.sheet.specs.Certificates.{literal_of, coded, code_of, head_word, reason_of, step_words, step_constraint, steps_from, steps_said, side_for}
 use Rattle.sheet.proofs.Certificates.{length_steps}

@@ -29,13 +29,7 @@ fn is_marked(marks: &[u64], x: usize, positive: bool) -> bool
     requires { Wide marks.now }
     ensures { result ≡ marked marks.now positive x }
 {
-    if 2048 <= x {
-        return false;
-    }
-    if positive {
-        return sets::holds(marks, 2 * x);
-    }
-    sets::holds(marks, 2 * x + 1)
+    x < 2048 && sets::holds(marks, 2 * x + usize::from(!positive))
 }
 
 // The value of row `i`, a literal or an operator that has no child.
@@ -95,14 +89,12 @@ fn next_initial(heads: &[u32], from: usize, end: usize) -> usize
     requires { (from ≤ end) × (4 * end ≤ length heads.now) }
     ensures { NextInitial heads.now from end result }
 {
-    let mut k = from;
-    while k < end {
+    for k in from..end {
         if head_word(heads, k, 0) == 0 {
             return k;
         }
-        k += 1;
     }
-    k
+    end
 }
 
 // The first initial step of a claim's that doesn't settle the matrix, or the number of steps.

@@ -23,9 +23,7 @@ pub fn fill_ranks(sheet: &[u8], s: Layout, existential: bool, ranks: &mut [u16])
     requires { Readable s sheet.now × Numbered s sheet.now × Unranked ranks.old }
     ensures { Ranked (quantifier_for existential) (prefix_in s sheet.now) ranks.new }
 {
-    let mut i = s.variables;
-    while 0 < i {
-        i -= 1;
+    for i in (0..s.variables).rev() {
         let x = bound_at(sheet, s, i);
         ranks[x] = rank_of(i, is_existential(sheet, s, i) == existential);
     }

@@ -1,17 +1,17 @@
 -- The numbers bound: their order is nothing to the tests, and a table that marks them.
 -- Assumes nothing.
 use mathlib.Core.Path.{◌≡◌, refl, sym, ap, ◌∙◌}
-use mathlib.Core.Bool.{Bool, true, false, not, ◌||◌}
+use mathlib.Core.Bool.{Bool, true, false, ◌||◌}
 use mathlib.Core.List.{List, [], ◌∷◌, ◌++◌}
-use Prim.Native.Nat.{ℕ, zero, suc, ◌≤◌, ◌<◌}
+use Prim.Native.Nat.{ℕ, zero, suc, ◌<◌}
 use native.Mathlib.Omega.{arith}
 use lib.Dec.{eqb}
 use lib.ListN.{get_or, set, replicate, length-set, length-replicate}
 use lib.Seq.{get_or-set_same, get_or-set_other}
-use borrow.Author.Tests.{eqb-true, eqb-false, le-leb, lt-leb}
+use borrow.Author.Tests.{eqb-true, eqb-false}
 use Rattle.sheet.specs.Format.{Format, Row}
 use Rattle.sheet.specs.Check.{member, quantifier_tests, arguments}
-use Rattle.checking.specs.Inner.Stages.{Marks, unbound}
+use Rattle.checking.specs.Inner.Stages.{Marks}
 use Rattle.formula.proofs.Booleans.{or_swap}
 
 -- one more row at the end binds the same numbers as one more in front
@@ -56,9 +56,3 @@ marks_more table bound x small m =
 pub marks_same : {table : List Bool} {bound bound' : List ℕ} → ((x : ℕ) → member x bound ≡ member x bound') → Marks table bound
     → Marks table bound'
 marks_same h m = record { entries = m.entries; entry = λ x. m.entry x ∙ h x }
-
-pub unbound_operator : (table : List Bool) (r : Row) → 4 < r.kind → unbound table r ≡ false
-unbound_operator table r h = rw (lt-leb r.kind 4 h)
-
-pub unbound-literal : (table : List Bool) (r : Row) → r.kind ≤ 4 → unbound table r ≡ not (get_or table r.argument false)
-unbound-literal table r h = rw (le-leb r.kind 4 h)

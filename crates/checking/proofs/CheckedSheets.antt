@@ -5,6 +5,7 @@ use mathlib.Core.Bool.{Bool, true, false}
 use Prim.Native.Nat.{ℕ, ◌≤◌}
 use native.Mathlib.Omega.{arith}
 use lib.ListN.{length}
+use Rattle.std.specs.Prelude.{Result, Ok, Err}
 use Rattle.sheet.specs.Format as sheet
 use Rattle.sheet.specs.Format.{Bytes, sheet_length, variables, nodes}
 use Rattle.sheet.specs.Sheet.{formula}
@@ -17,30 +18,19 @@ use Rattle.rows.specs.declared.Format.{Format}
 use Rattle.rows.specs.declared.Layout.{Layout}
 use Rattle.rows.proofs.Formulas.{formula_read, accepted_readable}
 use Rattle.rows.proofs.Limits.{limits}
-use Rattle.checking.specs.declared.Checked.{Checked}
-use Rattle.checking.specs.declared.Checked.TheVariants.{Accepted, Refused}
-use Rattle.checking.specs.Answers.{checked_as, checked_answer}
+use Rattle.rows.specs.Refusals.{refused_by}
+use Rattle.rows.specs.declared.refusals.Refusal.{Refusal}
+use Rattle.checking.specs.Answers.{checked_answer}
 use Rattle.checking.specs.Sheets.{Sheet}
 use Rattle.checking.specs.Inner.Stages.{Sized, sizes, size_answer}
 use Rattle.checking.proofs.Tests.{never_both}
 
-pub never_accepted : {B : Type 0} {k p : ℕ} {s : Layout} → Refused k p ≡ Accepted s → B
-never_accepted h = let z : ◌≡◌ {A = ℕ} 0 1 = cc in absurd (omega arith)
+-- what an answer says of the layout or of the refusal in it
+pub accepted_as : {x : Answer Sizes} {s : Layout} {r : Result Layout Refusal} → r ≡ Ok s → checked_answer r ≡ x → accepted (sizes s) ≡ x
+accepted_as told h = sym (ap checked_answer told) ∙ h
 
--- an answer with the format taken off
-pub answer_as : (f : Format) (x : Answer Sizes) → checked_answer (checked_as f x) ≡ x
-answer_as f (accepted z) = refl
-answer_as f (refused n p) = refl
-
-pub accepted_as : (f : Format) (x : Answer Sizes) {s : Layout} {r : Checked} → r ≡ Accepted s → r ≡ checked_as f x
-    → (accepted (sizes s) ≡ x) × (s.format ≡ f)
-accepted_as f (accepted z) {s} told h =
-    let e : s ≡ record { format = f; variables = z.variables; nodes = z.nodes } = cc in
-    (ap (λ t. accepted (sizes t)) e, ap (λ (t : Layout). t.format) e)
-accepted_as f (refused n p) told h = let z : ◌≡◌ {A = ℕ} 0 1 = cc in absurd (omega arith)
-
-pub refused_as : (f : Format) (x : Answer Sizes) {k p : ℕ} {r : Checked} → r ≡ Refused k p → r ≡ checked_as f x → refused k p ≡ x
-refused_as f x told h = sym (ap checked_answer told) ∙ ap checked_answer h ∙ answer_as f x
+pub refused_as : {x : Answer Sizes} {e : Refusal} {r : Result Layout Refusal} → r ≡ Err e → checked_answer r ≡ x → refused_by e ≡ x
+refused_as told h = sym (ap checked_answer told) ∙ h
 
 -- v and n are the sheet's sizes, and they are right
 pub record RightSizes (F : sheet.Format) (b : Bytes) (v n : ℕ) : Type 0 where
@@ -90,29 +80,30 @@ module _ (f : Format) (b : Bytes) (s : Layout) where
           few_rows = omega (arith, (limits f).few_variables, (limits f).few_nodes, r.few_variables, r.few_nodes);
         }
 
+-- the layout that the size tests alone accept
+module _ {f : Format} (b : Bytes) {s : Layout} (told : accepted (sizes s) ≡ size_answer f b) (same : s.format ≡ f) where
+  pub read_own : s ≡ layout_of f b
+  read_own = right-layout f b s same (accepted_sizes f b s told)
+
+  pub read_sized : Sized s (length b)
+  read_sized = right-sized f b s same (accepted_sizes f b s told)
+
 -- an accepted sheet: every test passes, and the layout is the sheet's own
-pub sheet_checked : {f : Format} {b : Bytes} {s : Layout} {r : Checked} → r ≡ Accepted s → r ≡ checked_as f (check (format_of f) b)
-    → Sheet f b s
+pub sheet_checked : {f : Format} {b : Bytes} {s : Layout} → accepted (sizes s) ≡ check (format_of f) b → s.format ≡ f → Sheet f b s
 unfolding check
-sheet_checked {f} {b} {s} told h =
+sheet_checked {f} {b} {s} told same =
     let F = format_of f in
-    let a = accepted_as f (check F b) told h in
-    let p = accepted_passes (check_tests F b) (sizes (layout_of f b)) (sizes s) (sym a.0) in
-    record { tests_pass = p.0; layout_is = right-layout f b s a.1 (right_sizes f b s (passed F b p.0).sizes p.1) }
+    let p = accepted_passes (check_tests F b) (sizes (layout_of f b)) (sizes s) (sym told) in
+    record { tests_pass = p.0; layout_is = right-layout f b s same (right_sizes f b s (passed F b p.0).sizes p.1) }
 
 -- a refused one
-pub sheet_refused : (f : Format) (b : Bytes) {k p : ℕ} {r : Checked} → r ≡ Refused k p → r ≡ checked_as f (check (format_of f) b)
-    → refused k p ≡ check (format_of f) b
-sheet_refused f b told h = refused_as f (check (format_of f) b) told h
-
-pub refused_sheet : (f : Format) (b : Bytes) {k p : ℕ} {r : Checked} → r ≡ Refused k p → r ≡ checked_as f (check (format_of f) b)
-    → passes (check_tests (format_of f) b) ≡ false
+pub refused_sheet : (f : Format) (b : Bytes) {k p : ℕ} → refused k p ≡ check (format_of f) b → passes (check_tests (format_of f) b) ≡ false
 unfolding check
-refused_sheet f b {k} {p} told h = go (passes (check_tests (format_of f) b)) refl
+refused_sheet f b told = go (passes (check_tests (format_of f) b)) refl
   where
     go : (t : Bool) → passes (check_tests (format_of f) b) ≡ t → t ≡ false
-    go true e = never_both (sheet_refused f b told h ∙ answer-passes (check_tests (format_of f) b) (sizes (layout_of f b)) e)
-    go false e = refl
+    go true q = never_both (told ∙ answer-passes (check_tests (format_of f) b) (sizes (layout_of f b)) q)
+    go false q = refl
 
 module _ {f : Format} {b : Bytes} {s : Layout} (h : Sheet f b s) where
   pub sheet_format : s.format ≡ f

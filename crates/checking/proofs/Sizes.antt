@@ -20,6 +20,10 @@ pub record SizesRead (F : sheet.Format) (b : Bytes) (v n : ℕ) : Type 0 where
   pub variables_read : v ≡ variables F b
   pub nodes_read : n ≡ nodes F b
 
+pub sizes_read : (f : Format) (b : Bytes) {v n : ℕ} → header (format_of f) ≤ length b → v ≡ variables (format_of f) b → n ≡ nodes (format_of f) b
+    → SizesRead (format_of f) b v n
+sizes_read f b long vs ns = record { long_enough = long; variables_read = vs; nodes_read = ns }
+
 module _ (f : Format) (b : Bytes) where
   abbrev F : sheet.Format
   F = format_of f

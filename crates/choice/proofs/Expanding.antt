@@ -1,12 +1,12 @@
 -- The turns of the walk for the next variable to expand, through the innermost block from the last row on.
 -- Assumes nothing.
 use mathlib.Core.Path.{◌≡◌, refl, sym, ap, ◌∙◌, subst}
-use mathlib.Core.Bool.{Bool, true, false, ◌&&◌, ◌||◌, cond, or-false}
+use mathlib.Core.Bool.{Bool, true, false, ◌&&◌, ◌||◌, cond}
 use mathlib.Core.Option.{Option, some}
 use Prim.Native.Nat.{ℕ, suc, ◌≤◌, ◌<◌}
 use native.Mathlib.Omega.{arith}
 use lib.Dec.{eqb, ltb}
-use borrow.Author.Tests.{le-ltb, eq-eqb, ne_eqb, le-leb, lt-leb}
+use borrow.Author.Tests.{le-leb, lt-leb}
 use Rattle.formula.specs.Tree.{of}
 use Rattle.formula.specs.Expand.{innermost, raw_rows}
 use Rattle.formula.specs.Solve.{those, earlier, least, cheaper, cheapest}
@@ -17,21 +17,14 @@ use Rattle.rows.proofs.Formulas.{length_prefix}
 use Rattle.prefixes.specs.Places.{binding_in, block_start}
 use Rattle.prefixes.proofs.Places.{prefix_row, no_rows}
 use Rattle.relevance.specs.Raw.{presence, grown_by}
-use Rattle.relevance.specs.declared.variable.Presence.{Presence}
+use Rattle.std.specs.Prelude.{Option as OptionOf}
+use Rattle.subtrees.specs.declared.relevant.Relevant.{Relevant}
 use Rattle.relevance.proofs.Growth.{raw_rows_by}
 use Rattle.polarity.specs.Value.{Bound}
 use Rattle.choice.specs.Settling.{Unsettled}
 use Rattle.choice.specs.Expanding.{ExpandHere, ToExpand, cheapest_from, priced_in, beats, cheaper_of}
 use Rattle.relevance.specs.declared.variable.Candidate.{Candidate}
 use Rattle.choice.proofs.Rows.{block_within, place_in, innermost-row, least-row, those-behind}
-
--- beats
-
-pub beats_tie : (r q : Candidate) → r.raw ≡ q.raw → ltb r.variable q.variable ≡ beats r q
-beats_tie r q e = sym (rw (le-ltb r.raw q.raw (omega (arith, e)), eq-eqb r.raw q.raw e))
-
-pub beats_else : (r q : Candidate) → (r.raw ≡ q.raw → ⊥) → ltb r.raw q.raw ≡ beats r q
-beats_else r q e = sym (rw (ne_eqb r.raw q.raw e) (or-false (ltb r.raw q.raw)))
 
 -- `best` is the choice among the rows from row i on, which are in the innermost block
 pub record Pricing (s : Layout) (b : Bytes) (i : ℕ) (best : Candidate) : Type 0 where
@@ -41,7 +34,7 @@ pub record Pricing (s : Layout) (b : Bytes) (i : ℕ) (best : Candidate) : Type 
 
 module _ {s : Layout} (b : Bytes) (ok : Readable s b) where
   -- the part and the raw rows of a row's variable
-  pub priced_as : (i : ℕ) {x : ℕ} {part : Presence} {raw : ℕ} → x ≡ (binding_in s b i).variable
+  pub priced_as : (i : ℕ) {x : ℕ} {part : OptionOf Relevant} {raw : ℕ} → x ≡ (binding_in s b i).variable
       → part ≡ presence (of x) (matrix_in s b) → raw ≡ grown_by s.nodes part
       → ◌≡◌ {A = Candidate} (record { row = i; variable = x; relevant = part; raw = raw }) (priced_in s b i)
   priced_as i {x} here is e =

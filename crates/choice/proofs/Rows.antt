@@ -1,13 +1,13 @@
 -- A prefix of distinct numbers by its rows: each variable's row, what may be done with it, and the choice among the rows from one on.
 -- Assumes nothing.
 use mathlib.Core.Path.{◌≡◌, refl, ap, ◌∙◌}
-use mathlib.Core.Bool.{Bool, true, false, not, cond}
+use mathlib.Core.Bool.{Bool, true, false, cond}
 use mathlib.Core.List.{[], ◌∷◌}
 use Prim.Native.Nat.{ℕ, zero, suc, ◌≤◌, ◌<◌}
 use native.Mathlib.Omega.{arith}
 use lib.Dec.{leb}
 use lib.ListN.{length, drop}
-use Rattle.formula.specs.Tree.{Binding, Prefix, distinct}
+use Rattle.formula.specs.Tree.{Binding, Prefix}
 use Rattle.formula.specs.Settle.{settling, may_settle}
 use Rattle.formula.specs.Expand.{all_of, innermost}
 use Rattle.formula.specs.Solve.{those, earlier, least}

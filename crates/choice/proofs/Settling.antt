@@ -4,6 +4,7 @@ use mathlib.Core.Path.{◌≡◌, refl, sym, ap, ap₂, ◌∙◌, subst}
 use mathlib.Core.Bool.{Bool, true, false, cond, false≢true}
 use mathlib.Core.List.{List, [], ◌∷◌, ◌++◌, append-nil}
 use mathlib.Core.Option.{Option, none, some}
+use Rattle.std.specs.Prelude.{Option as OptionOf, Some, None}
 use Prim.Native.Nat.{ℕ, suc, min, ◌≤◌, ◌<◌}
 use native.Mathlib.Omega.{arith}
 use lib.Dec.{ltb}
@@ -19,22 +20,10 @@ use Rattle.rows.specs.Formulas.{prefix_in, formula_in, Readable}
 use Rattle.rows.specs.declared.Layout.{Layout}
 use Rattle.rows.proofs.Formulas.{length_prefix}
 use Rattle.prefixes.specs.Places.{place, binding_at, binding_in}
-use Rattle.polarity.specs.Value.{value_of, settling_in, Bound}
-use Rattle.polarity.specs.declared.value.Settling.{Settling}
-use Rattle.polarity.specs.declared.value.Settling.TheVariants.{Take, Not}
+use Rattle.polarity.specs.Value.{settling_in, Bound}
 use Rattle.choice.specs.Settling.{SettleOf, SettlesBefore, ToSettle, lowest_before, is_lower}
 use Rattle.choice.specs.declared.settle.SettleChoice.{SettleChoice}
-use Rattle.choice.specs.declared.settle.SettleChoice.TheVariants.{Settle, Nothing}
 use Rattle.choice.proofs.Rows.{place_in, may_settle-row}
-
--- is-lower, case by case
-
-module _ {best : SettleChoice} where
-  pub lower_none : (x : ℕ) → best ≡ Nothing → false ≡ is_lower best x
-  lower_none x e = sym (ap (λ (s : SettleChoice). is_lower s x) e)
-
-  pub lower_test : (x : ℕ) {j y : ℕ} {d : Bool} → best ≡ Settle j y d → ltb y x ≡ is_lower best x
-  lower_test x e = sym (ap (λ (s : SettleChoice). is_lower s x) e)
 
 -- the lowest of a list's numbers, with one more behind them
 
@@ -79,25 +68,17 @@ lowest-behind P p z {m} t =
     go true = least-behind (those P p) z.variable
     go false = ap (least ltb) (append-nil (those P p))
 
--- the choice among the rows before row i
-pub record Choosing (s : Layout) (b : Bytes) (i : ℕ) (best : SettleChoice) : Type 0 where
-  pub within : i ≤ s.variables
-  pub chosen : SettlesBefore i s b best
-
-pub settle_start : (s : Layout) (b : Bytes) → Choosing s b 0 Nothing
+-- no row is passed
+pub settle_start : (s : Layout) (b : Bytes) → SettlesBefore 0 s b None
 unfolding lowest_before those least
-settle_start s b = record { within = omega arith; chosen = refl }
+settle_start s b = refl
 
-pub settle_on : {s : Layout} {b : Bytes} {i j : ℕ} {best : SettleChoice} → i < s.variables → j ≡ suc i → SettlesBefore (suc i) s b best
-    → Choosing s b j best
-settle_on {s} {b} {i} {j} {best} h next c =
-    record { within = omega arith; chosen = subst (λ k. SettlesBefore k s b best) (sym next) c }
-
-pub settle_all : {s : Layout} (b : Bytes) → Readable s b → {i : ℕ} {best : SettleChoice} → s.variables ≤ i → Choosing s b i best → ToSettle s b best
+pub settle_all : {s : Layout} (b : Bytes) → Readable s b → {i : ℕ} (best : OptionOf SettleChoice) → s.variables ≤ i → SettlesBefore i s b best
+    → ToSettle s b best
 unfolding lowest lowest_before formula_in
-settle_all {s} b ok {i} {best} h c =
+settle_all {s} b ok {i} best h c =
     subst (λ p. SettleOf s b (least ltb (those (λ x. is_some (may_settle x (formula_in s b))) p)) best)
-    (take_all i (prefix_in s b) (omega (arith, length_prefix b ok))) c.chosen
+    (take_all i (prefix_in s b) (omega (arith, length_prefix b ok))) c
 
 module _ {s : Layout} (b : Bytes) (ok : Readable s b) (bound : Bound s b) where
   -- by whether row i's variable may be settled
@@ -113,49 +94,42 @@ module _ {s : Layout} (b : Bytes) (ok : Readable s b) (bound : Bound s b) where
       lowest-behind P (take i (prefix_in s b)) (binding_in s b i) (ap is_some (may_settle-row b ok bound i h ∙ sym e))
 
   -- a lower number was chosen
-  pub settle_lower : (i : ℕ) (best : SettleChoice) (x : ℕ) → i < s.variables → x ≡ (binding_in s b i).variable
+  pub settle_lower : (i : ℕ) (best : OptionOf SettleChoice) (x : ℕ) → i < s.variables → x ≡ (binding_in s b i).variable
       → is_lower best x ≡ true → SettlesBefore i s b best → SettlesBefore (suc i) s b best
   unfolding earlier
-  settle_lower i Nothing x h same low c = absurd (false≢true low)
-  settle_lower i (Settle j y d) x h same low c =
+  settle_lower i None x h same low c = absurd (false≢true low)
+  settle_lower i (Some r) x h same low c =
       record { is_lowest = lowest-row i (settling_in s b i) h refl ∙ go (is_some (settling_in s b i)); inside = c.inside; at_row = c.at_row; value_is = c.value_is }
     where
-      stays : earlier ltb (binding_in s b i).variable (lowest_before i (formula_in s b)) ≡ some y
+      stays : earlier ltb (binding_in s b i).variable (lowest_before i (formula_in s b)) ≡ some r.variable
       stays =
-          ap₂ (earlier ltb) (sym same) c.is_lowest ∙ ap (λ (m : Bool). some (cond m y x)) low
+          ap₂ (earlier ltb) (sym same) c.is_lowest ∙ ap (λ (m : Bool). some (cond m r.variable x)) low
 
       go : (m : Bool)
-          → cond m (earlier ltb (binding_in s b i).variable (lowest_before i (formula_in s b))) (lowest_before i (formula_in s b)) ≡ some y
+          → cond m (earlier ltb (binding_in s b i).variable (lowest_before i (formula_in s b))) (lowest_before i (formula_in s b)) ≡ some r.variable
       go true = stays
       go false = c.is_lowest
 
-  pub settle_none : (i : ℕ) (r : Settling) (best : SettleChoice) → i < s.variables
-      → value_of r ≡ settling_in s b i
-      → r ≡ Not → SettlesBefore i s b best
+  pub settle_none : (i : ℕ) (best : OptionOf SettleChoice) → i < s.variables → none ≡ settling_in s b i → SettlesBefore i s b best
       → SettlesBefore (suc i) s b best
   unfolding is_some
-  settle_none i r best h e not c =
-      subst (λ o. SettleOf s b o best) (sym (lowest-row i none h (sym (ap value_of not) ∙ e))) c
+  settle_none i best h e c = subst (λ o. SettleOf s b o best) (sym (lowest-row i none h e)) c
 
   -- none was chosen, or a number that is not lower
-  pub settle_one : (i : ℕ) (r : Settling) (best : SettleChoice) (x : ℕ) (c : Bool) → i < s.variables
-      → value_of r ≡ settling_in s b i
-      → r ≡ Take c → x ≡ (binding_in s b i).variable
-      → is_lower best x ≡ false → SettlesBefore i s b best
-      → SettlesBefore (suc i) s b (Settle i x c)
+  pub settle_one : (i : ℕ) (best : OptionOf SettleChoice) (x : ℕ) (c : Bool) → i < s.variables → some c ≡ settling_in s b i
+      → x ≡ (binding_in s b i).variable → is_lower best x ≡ false → SettlesBefore i s b best
+      → SettlesBefore (suc i) s b (Some (record { row = i; variable = x; value = c }))
   unfolding is_some earlier
-  settle_one i r best x c h e take same high held =
+  settle_one i best x c h e same high held =
       record {
         is_lowest =
-            lowest-row i (some c) h (sym (ap value_of take) ∙ e) ∙
-            ap (λ y. earlier ltb y (lowest_before i (formula_in s b))) (sym same) ∙
+            lowest-row i (some c) h e ∙ ap (λ y. earlier ltb y (lowest_before i (formula_in s b))) (sym same) ∙
             by best (lowest_before i (formula_in s b)) high held;
         inside = h;
         at_row = sym (ap (λ y. place y (prefix_in s b)) same ∙ place_in b ok bound i h);
-        value_is =
-            ap (λ y. may_settle y (formula_in s b)) same ∙ may_settle-row b ok bound i h ∙ sym e ∙ ap value_of take;
+        value_is = ap (λ y. may_settle y (formula_in s b)) same ∙ may_settle-row b ok bound i h ∙ sym e;
       }
     where
-      by : (best : SettleChoice) (o : Option ℕ) → is_lower best x ≡ false → SettleOf s b o best → earlier ltb x o ≡ some x
-      by Nothing o high k = ap (earlier ltb x) k
-      by (Settle j y d) o high k = ap (earlier ltb x) k.is_lowest ∙ ap (λ (m : Bool). some (cond m y x)) high
+      by : (best : OptionOf SettleChoice) (o : Option ℕ) → is_lower best x ≡ false → SettleOf s b o best → earlier ltb x o ≡ some x
+      by None o high k = ap (earlier ltb x) k
+      by (Some r) o high k = ap (earlier ltb x) k.is_lowest ∙ ap (λ (m : Bool). some (cond m r.variable x)) high

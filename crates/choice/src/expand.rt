@@ -29,8 +29,8 @@ pub fn price_row(
     Candidate {
         row: i,
         variable: x,
-        relevant: relevant,
-        raw: raw,
+        relevant,
+        raw,
     }
 }
 
@@ -38,10 +38,7 @@ pub fn price_row(
 fn is_cheaper(best: Candidate, own: Candidate) -> bool
     ensures { result ≡ beats best own }
 {
-    if best.raw == own.raw {
-        return best.variable < own.variable;
-    }
-    best.raw < own.raw
+    (best.raw, best.variable) < (own.raw, own.variable)
 }
 
 // The cheaper of the two.
@@ -61,10 +58,9 @@ pub fn choose_expand(b: &[u8], s: Layout, ends: &[u16], ranges: &[u16], next: &[
     ensures { ToExpand s b.now result }
 {
     let from = block_start(b, s);
-    let mut i = s.variables - 1;
-    let mut best = price_row(b, s, ends, ranges, next, i);
-    while from < i {
-        i -= 1;
+    let last = s.variables - 1;
+    let mut best = price_row(b, s, ends, ranges, next, last);
+    for i in (from..last).rev() {
         best = cheaper_of(best, price_row(b, s, ends, ranges, next, i));
     }
     best

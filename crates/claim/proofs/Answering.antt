@@ -27,11 +27,16 @@ use Rattle.rows.specs.declared.Layout.{Layout}
 use Rattle.rows.specs.declared.Format.{Format}
 use Rattle.rows.proofs.Limits.{limits}
 use Rattle.checking.specs.Sheets.{Sheet}
-use Rattle.checking.proofs.CheckedSheets.{sheet_format, sheet-formula_in, sheet_right}
+use Rattle.checking.proofs.CheckedSheets.{accepted_as, sheet_checked, sheet_format, sheet-formula_in, sheet_right}
 use Rattle.pair_tests.specs.Pairs.{side, pairs_in, Paired}
 use Rattle.pair_tests.proofs.Stands.{counted}
-use Rattle.claim.specs.declared.plan.ClaimPlan as plan
-use Rattle.claim.specs.declared.plan.ClaimPlan.{ClaimPlan}
+use Rattle.std.specs.Prelude.{Result, Ok, Err}
+use Rattle.std.specs.Result.{MatchResult, IfOk}
+use Rattle.std.proofs.lemmas.Result.{IfOk-at_ok}
+use Rattle.rows.specs.Refusals.{number_of, place_of}
+use Rattle.rows.specs.declared.refusals.Refusal.{Refusal}
+use Rattle.checking.specs.Answers.{checked_answer}
+use Rattle.claim.specs.declared.ClaimRefusal.{ClaimRefusal}
 use Rattle.claim.specs.declared.write.Strategy.{Strategy}
 use Rattle.claim.specs.Inner.Plans.{ClaimPlanned, ClaimPlans, ClaimFitting}
 use Rattle.claim.specs.Inner.Writing.{claimed, Claimable}
@@ -128,16 +133,36 @@ module _ {b : Bytes} {s : Layout} {d : Bytes} {r : Strategy} {cuts : List ℕ} (
           sym
           (claim_accepted F b q d out h.first.tests_pass h.second.tests_pass h.same_prefix g h.are_read covering ordered fit)
 
+-- what an answer says once its refusal has been put down to one of the three
+
+pub kept_told : {T : Type 0} (r : Result T Refusal) (s : T) → MatchResult r (λ t. ◌≡◌ {A = Result T ClaimRefusal} (Ok s) (Ok t)) (λ e. ⊥) → r ≡ Ok s
+kept_told {T} (Ok t) s d = ap Ok (sym (same s t d))
+  where
+    same : (x y : T) → ◌≡◌ {A = Result T ClaimRefusal} (Ok x) (Ok y) → x ≡ y
+    same x y e = cc
+kept_told (Err e) s d = absurd d
+
+pub turned_told : {T : Type 0} (F : Refusal → ClaimRefusal) (r : Result T Refusal) (x : ClaimRefusal)
+    → MatchResult r (λ t. ◌≡◌ {A = Result T ClaimRefusal} (Err x) (Ok t)) (λ e. x ≡ F e) → (e : Refusal) × (r ≡ Err e) × (x ≡ F e)
+turned_told F (Ok t) x d = cc
+turned_told F (Err e) x d = (e, refl, d)
+
+pub kept_sheet : (f : Format) (b : Bytes) (r : Result Layout Refusal) (s : Layout) → checked_answer r ≡ check (format_of f) b
+    → IfOk r (λ t. t.format ≡ f) → MatchResult r (λ t. ◌≡◌ {A = Result Layout ClaimRefusal} (Ok s) (Ok t)) (λ e. ⊥) → Sheet f b s
+kept_sheet f b r s told same d =
+    let e = kept_told r s d in
+    sheet_checked (accepted_as e told) (IfOk-at_ok (λ (t : Layout). t.format ≡ f) e same)
+
 -- what was planned
 
-pub plan_refused : (f : Format) (b : Bytes) (exists : Bool) (d : Bytes) (t : Layout) (cuts : List ℕ) {r : ClaimPlan} {n i : ℕ}
-    → r ≡ plan.TheVariants.Refused n i → ClaimPlans f b exists d t cuts r → (out : Bytes)
-    → record { answer = claim_refused 2 n i; output = out } ≡ claim_call (format_of f) b (side exists) d out
-plan_refused f b exists d t cuts {r} {n} {i} e h out =
-    refused_call (format_of f) b (side exists) d out 2 n i (subst (ClaimPlans f b exists d t cuts) e h out)
+pub plan_refused : (f : Format) (b : Bytes) (exists : Bool) (d : Bytes) (t : Layout) (cuts : List ℕ) {r : Result ℕ Refusal} {e : Refusal}
+    → r ≡ Err e → ClaimPlans f b exists d t cuts r → (out : Bytes)
+    → record { answer = claim_refused 2 (number_of e) (place_of e); output = out } ≡ claim_call (format_of f) b (side exists) d out
+plan_refused f b exists d t cuts {r} {e} told h out =
+    refused_call (format_of f) b (side exists) d out 2 (number_of e) (place_of e) (subst (ClaimPlans f b exists d t cuts) told h out)
 
-pub plan_claims : {f : Format} {b : Bytes} {exists : Bool} {d : Bytes} {t : Layout} {cuts : List ℕ} {r : ClaimPlan} {n : ℕ}
-    → r ≡ plan.TheVariants.Claims n → ClaimPlans f b exists d t cuts r → ClaimPlanned f b exists d t cuts n
+pub plan_claims : {f : Format} {b : Bytes} {exists : Bool} {d : Bytes} {t : Layout} {cuts : List ℕ} {r : Result ℕ Refusal} {n : ℕ}
+    → r ≡ Ok n → ClaimPlans f b exists d t cuts r → ClaimPlanned f b exists d t cuts n
 plan_claims {f} {b} {exists} {d} {t} {cuts} e h = subst (ClaimPlans f b exists d t cuts) e h
 
 module _ {b : Bytes} {s : Layout} {exists : Bool} {d : Bytes} {t : Layout} {cuts : List ℕ} {n : ℕ} (x : Sheet s.format b s) (y : Sheet s.format d t)

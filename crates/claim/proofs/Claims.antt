@@ -7,7 +7,7 @@ use Prim.Native.Nat.{ℕ, suc, ◌+◌, ◌*◌, ◌-◌, ◌≤◌}
 use native.Mathlib.Omega.{arith}
 use lib.ListN.{length}
 use lib.Seq.{slice}
-use Rattle.formula.specs.Tree.{and, Quantifier, dual, Tree, lit, node, ∅, ◌▸◌, Prefix, rows, count}
+use Rattle.formula.specs.Tree.{Quantifier, dual, Tree, lit, node, ∅, ◌▸◌, Prefix, rows, count}
 use Rattle.formula.specs.Strategy.{Pairs}
 use Rattle.formula.specs.Claim.{negated, broken, all_rows, claim}
 use Rattle.formula.proofs.Forests.{count-rows}

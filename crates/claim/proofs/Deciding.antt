@@ -45,8 +45,8 @@ use Rattle.reduce.specs.Inner.Places.{Numbered}
 use Rattle.pair_tests.specs.Pairs.{side, is_read, pairs_in, pair_cuts, Paired}
 use Rattle.pair_tests.specs.Levels.{fault_in}
 use Rattle.pair_tests.proofs.Stands.{counted}
-use Rattle.claim.specs.declared.plan.ClaimPlan as plan
-use Rattle.claim.specs.declared.plan.ClaimPlan.{ClaimPlan}
+use Rattle.std.specs.Prelude.{Result, Ok, Err}
+use Rattle.rows.specs.declared.refusals.Refusal.{Refusal}
 use Rattle.claim.specs.Inner.Plans.{same_row, PairsPass, PairPlans, ClaimPlans}
 use Rattle.claim.specs.Inner.Writing.{Source}
 
@@ -326,12 +326,12 @@ module _ {f : Format} {b d : Bytes} {s t : Layout} (x : Sheet f b s) (y : Sheet 
           ap₂ (claim_refused 2) number place
       refuse true true c o {n} {i} h out = let z : ◌≡◌ {A = ℕ} 0 1 = cc in absurd (omega arith)
 
-      pub plan-pairs : (r : ClaimPlan) (cuts : List ℕ) (n : ℕ) → n ≡ length (pairs_in t d) → take (suc n) cuts ≡ pair_cuts 1 (pairs_in t d) → PairPlans t d exists r
+      pub plan-pairs : (r : Result ℕ Refusal) (cuts : List ℕ) (n : ℕ) → n ≡ length (pairs_in t d) → take (suc n) cuts ≡ pair_cuts 1 (pairs_in t d) → PairPlans t d exists r
           → ClaimPlans f b exists d t cuts r
       unfolding pair_tests answer
-      plan-pairs (plan.TheVariants.Refused n i) cuts k len c h =
+      plan-pairs (Err e) cuts k len c h =
           λ out. refuse (is_covering (side exists) (prefix_in t d) (pairs_in t d)) (in_order (side exists) (prefix_in t d) (pairs_in t d)) refl refl h out
-      plan-pairs (plan.TheVariants.Claims m) cuts n len c h =
+      plan-pairs (Ok m) cuts n len c h =
           record {
             same_prefix = plan-prefix;
             are_read = are_read;

@@ -69,9 +69,11 @@ module _ {s : Layout} (b : Bytes) (ok : Readable s b) (kind : ℕ) (t : Layout) 
           same_length = e ∙ w.same_length;
         }
 
-    pub quantified-all : s.variables ≤ i → Laid t old out 0 i (map (of_kind kind) (prefix_in s b))
+    pub quantified-all : s.variables ≤ i → Laid t old out 0 s.variables (map (of_kind kind) (prefix_in s b))
     quantified-all h =
-        laid_to (ap (map (of_kind kind)) (take_all i (prefix_in s b) (omega (arith, length_prefix b ok)))) w.so_far
+        let end : i ≡ s.variables = omega (arith, w.within) in
+        subst (λ n. Laid t old out 0 n (map (of_kind kind) (prefix_in s b))) end
+        (laid_to (ap (map (of_kind kind)) (take_all i (prefix_in s b) (omega (arith, length_prefix b ok)))) w.so_far)
 
 -- the rows of a span before row r are written
 

@@ -12,28 +12,29 @@ ghost use Rattle.pair_tests.specs.Pairs.{side};
 ghost use Rattle.claim.specs.Answers.{claimed_with, side_of};
 ghost use Rattle.claim.specs.Inner.Plans.{ClaimFitting};
 
-use crate::plan::{ClaimPlan, plan_claim};
+use crate::plan::plan_claim;
 use crate::write::{Strategy, claim_into};
-use checking::{Checked, check};
+use checking::check;
 use rows::fit::fits;
-use rows::refusals::NO_ROOM;
+use rows::refusals::Refusal;
 use rows::{Format, Layout, ROWS};
 
 pub mod plan;
 pub mod write;
 
 // The side whose strategy it is.
-#[derive(Clone, Copy)]
+#[derive(Clone, Copy, PartialEq, Eq, Debug)]
 pub enum Side {
     Exists,
     ForAll,
 }
 
-// Refused for the first sheet (1), the strategy's (2) or the output (0) with number and place; or the length of the claim's sheet.
-#[derive(Clone, Copy)]
-pub enum Claimed {
-    Refused(usize, usize, usize),
-    Written(usize),
+// A refusal of the output, of the first sheet, or of the strategy's.
+#[derive(Clone, Copy, PartialEq, Eq, Debug)]
+pub enum ClaimRefusal {
+    Output(Refusal),
+    Sheet(Refusal),
+    Strategy(Refusal),
 }
 
 fn is_exists(s: Side) -> bool
@@ -53,53 +54,48 @@ fn claim_planned(
     strategy: Strategy,
     cuts: &[u16],
     out: &mut [u8],
-) -> Claimed
+) -> Result<usize, ClaimRefusal>
     requires { ClaimFitting b.now s d.now strategy cuts.now }
     ensures { claimed_with result out.new ≡ claim_call (format_in s) b.now (side strategy.exists) d.now out.old }
 {
-    let f = s.format;
     let t = strategy.layout;
-    if !fits(f, s.variables, s.nodes + 2 * t.nodes - 1, out.len()) {
-        return Claimed::Refused(0, NO_ROOM, 0);
+    if !fits(s.format, s.variables, s.nodes + 2 * t.nodes - 1, out.len()) {
+        return Err(ClaimRefusal::Output(Refusal::NoRoom));
     }
-    Claimed::Written(claim_into(b, s, d, strategy, cuts, out))
+    Ok(claim_into(b, s, d, strategy, cuts, out))
 }
 
 // Claims by two sheets that Check accepts, of these layouts.
-fn claim_checked(b: &[u8], s: Layout, d: &[u8], t: Layout, exists: bool, out: &mut [u8]) -> Claimed
+fn claim_checked(
+    b: &[u8],
+    s: Layout,
+    d: &[u8],
+    t: Layout,
+    exists: bool,
+    out: &mut [u8],
+) -> Result<usize, ClaimRefusal>
     requires { Sheet s.format b.now s × Sheet s.format d.now t }
     ensures { claimed_with result out.new ≡ claim_call (format_in s) b.now (side exists) d.now out.old }
 {
     let mut cuts = [0u16; ROWS];
-    let p = plan_claim(b, s, d, t, exists, &mut cuts);
-    match p {
-        ClaimPlan::Refused(number, place) => Claimed::Refused(2, number, place),
-        ClaimPlan::Claims(n) => {
-            let strategy = Strategy {
-                layout: t,
-                exists: exists,
-            };
-            claim_planned(b, s, d, strategy, &cuts[..n + 1], out)
-        }
-    }
+    let n = plan_claim(b, s, d, t, exists, &mut cuts).map_err(ClaimRefusal::Strategy)?;
+    let strategy = Strategy { layout: t, exists };
+    claim_planned(b, s, d, strategy, &cuts[..n + 1], out)
 }
 
 // Writes the claim that the strategy's sheet wins for a side of the sheet `b` to the front of `out`, with zeros behind it, and returns its
 // length; or refuses a sheet or the output, and alters nothing.
-pub fn claim(sheet: &[u8], f: Format, side: Side, strategy: &[u8], out: &mut [u8]) -> Claimed
+pub fn claim(
+    sheet: &[u8],
+    f: Format,
+    side: Side,
+    strategy: &[u8],
+    out: &mut [u8],
+) -> Result<usize, ClaimRefusal>
     ensures out_after { claimed_with result out.new ≡ claim_call (format_of f) sheet.now (side_of side) strategy.now out.old }
     ensures truthful_claim { TruthfulClaim (format_of f) sheet.now (side_of side) strategy.now (claimed_with result out.new) }
 {
-    let exists = is_exists(side);
-    let c = check(sheet, f);
-    match c {
-        Checked::Refused(number, place) => Claimed::Refused(1, number, place),
-        Checked::Accepted(s) => {
-            let d = check(strategy, f);
-            match d {
-                Checked::Refused(number, place) => Claimed::Refused(2, number, place),
-                Checked::Accepted(t) => claim_checked(sheet, s, strategy, t, exists, out),
-            }
-        }
-    }
+    let s = check(sheet, f).map_err(ClaimRefusal::Sheet)?;
+    let t = check(strategy, f).map_err(ClaimRefusal::Strategy)?;
+    claim_checked(sheet, s, strategy, t, is_exists(side), out)
 }

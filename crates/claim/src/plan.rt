@@ -16,17 +16,10 @@ use pair_tests::form::read_pairs;
 use pair_tests::levels::find_fault;
 use prefixes::{bound_at, is_existential};
 use reduce::places::fill_places;
-use rows::refusals::{NOT_A_STRATEGY, READS_BEYOND};
+use rows::refusals::Refusal;
 use rows::{Layout, NUMBERS, ROWS};
 use subtrees::ends::fill_ends;
 use subtrees::nodes::children_at;
-
-// A refusal's number and place; or how many pairs there are.
-#[derive(Clone, Copy)]
-pub enum ClaimPlan {
-    Refused(usize, usize),
-    Claims(usize),
-}
 
 // Whether row `i` is the same in two prefixes.
 fn is_same_row(b: &[u8], s: Layout, d: &[u8], t: Layout, i: usize) -> bool
@@ -47,12 +40,10 @@ fn is_same_prefix(b: &[u8], s: Layout, d: &[u8], t: Layout) -> bool
     if s.variables != t.variables {
         return false;
     }
-    let mut i: usize = 0;
-    while i < s.variables {
+    for i in 0..s.variables {
         if !is_same_row(b, s, d, t, i) {
             return false;
         }
-        i += 1;
     }
     true
 }
@@ -68,22 +59,20 @@ fn read_form(b: &[u8], s: Layout, cuts: &mut [u16]) -> bool
     read_pairs(b, s, &ends, cuts)
 }
 
-// Decides on pairs: 26 they don't cover exactly the side's variables, 27 one reads what it may not.
-fn plan_pairs(b: &[u8], s: Layout, exists: bool, cuts: &[u16]) -> ClaimPlan
+// Decides on pairs: 26 they don't cover exactly the side's variables, 27 one reads what it may not; else how many there are.
+fn plan_pairs(b: &[u8], s: Layout, exists: bool, cuts: &[u16]) -> Result<usize, Refusal>
     requires { Numbered s b.now × Paired s b.now cuts.now }
     ensures { PairPlans s b.now exists result }
 {
-    let v = s.variables;
     let mut places = [0u16; NUMBERS];
     fill_places(b, s, &mut places);
     if !covers(b, s, exists, &places, cuts) {
-        return ClaimPlan::Refused(NOT_A_STRATEGY, 0);
+        return Err(Refusal::NotAStrategy);
     }
-    let fault = find_fault(b, s, exists, &places, cuts);
-    if 0 < fault {
-        return ClaimPlan::Refused(READS_BEYOND, v + fault);
+    if let Some(fault) = find_fault(b, s, exists, &places, cuts) {
+        return Err(Refusal::ReadsBeyond(s.variables + fault));
     }
-    ClaimPlan::Claims(cuts.len() - 1)
+    Ok(cuts.len() - 1)
 }
 
 // Decides on the sheet `d` of a strategy for the sheet `b`, both of which Check accepts; `cuts` gets the rows of its pairs.
@@ -94,15 +83,15 @@ pub fn plan_claim(
     t: Layout,
     exists: bool,
     cuts: &mut [u16],
-) -> ClaimPlan
+) -> Result<usize, Refusal>
     requires { Sheet s.format b.now s × Sheet s.format d.now t × (length cuts.old ≡ ROWS) }
     ensures { ClaimPlans s.format b.now exists d.now t cuts.new result }
 {
     if !is_same_prefix(b, s, d, t) {
-        return ClaimPlan::Refused(NOT_A_STRATEGY, 0);
+        return Err(Refusal::NotAStrategy);
     }
     if !read_form(d, t, cuts) {
-        return ClaimPlan::Refused(NOT_A_STRATEGY, 0);
+        return Err(Refusal::NotAStrategy);
     }
     let n = children_at(d, t, 0);
     plan_pairs(d, t, exists, &cuts[..n + 1])

@@ -50,13 +50,11 @@ fn write_quantifiers(b: &[u8], s: Layout, kind: u8, out: &mut [u8], t: Layout) -
     requires { Source s b.now × CopyReady s b.now t out.old × (s.variables ≤ total t) }
     ensures { Laid t out.old out.new 0 result (map (of_kind kind) (prefix_in s b.now)) }
 {
-    let v = s.variables;
-    let mut i: usize = 0;
-    while i < v {
+    for i in 0..s.variables {
         let here = Target { layout: t, at: i };
-        i = write_row(out, here, kind, bound_at(b, s, i));
+        write_row(out, here, kind, bound_at(b, s, i));
     }
-    i
+    s.variables
 }
 
 // The kind that a row has in a negated copy.
@@ -81,15 +79,11 @@ fn write_negated(b: &[u8], s: Layout, span: Span, out: &mut [u8], to: Target) ->
     ensures { Laid to.layout out.old out.new to.at result (map negated_row (slice span.from span.to (rows_in s b.now))) }
 {
     let t = to.layout;
-    let end = span.to;
     let mut at = to.at;
-    let mut r = span.from;
-    while r < end {
-        let here = Target { layout: t, at: at };
+    for r in span.from..span.to {
+        let here = Target { layout: t, at };
         let kind = negated_kind(kind_at(b, s, r));
-        let argument = argument_at(b, s, r);
-        at = write_row(out, here, kind, argument);
-        r += 1;
+        at = write_row(out, here, kind, argument_at(b, s, r));
     }
     at
 }
@@ -101,7 +95,7 @@ fn write_head(out: &mut [u8], to: Target, kind: u8, literal: u8, x: usize) -> us
 {
     let t = to.layout;
     let at = write_row(out, to, kind, 2);
-    let below = Target { layout: t, at: at };
+    let below = Target { layout: t, at };
     write_row(out, below, literal, x)
 }
 
@@ -139,15 +133,13 @@ fn write_pairs(b: &[u8], s: Layout, kind: u8, cuts: &[u16], out: &mut [u8], to: 
     let t = to.layout;
     let v = s.variables;
     let mut at = to.at;
-    let mut j: usize = 0;
-    while j + 1 < cuts.len() {
+    for j in 0..cuts.len() - 1 {
         let function = Span {
-            from: v + cuts[j] as usize + 2,
-            to: v + cuts[j + 1] as usize,
+            from: v + usize::from(cuts[j]) + 2,
+            to: v + usize::from(cuts[j + 1]),
         };
-        let here = Target { layout: t, at: at };
+        let here = Target { layout: t, at };
         at = write_pair(b, s, kind, function, out, here);
-        j += 1;
     }
     at
 }
@@ -172,7 +164,7 @@ fn write_front(
     let top = write_quantifiers(b, s, quantifier_for(exists), out, t);
     let root = Target { layout: t, at: top };
     let at = write_row(out, root, operator_for(exists), children);
-    let below = Target { layout: t, at: at };
+    let below = Target { layout: t, at };
     write_rows(b, s, matrix, out, below)
 }
 

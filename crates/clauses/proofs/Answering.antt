@@ -1,19 +1,19 @@
 -- The answer of Clauses from what is surveyed and written.
 -- Assumes nothing.
-use mathlib.Core.Path.{◌≡◌, refl, sym, ap, ap₂, ◌∙◌, subst}
+use mathlib.Core.Path.{◌≡◌, sym, ap, ap₂, ◌∙◌}
 use mathlib.Core.Bool.{Bool, true, false}
 use mathlib.Core.List.{List, []}
 use Prim.Native.Nat.{ℕ, ◌+◌, ◌-◌, ◌≤◌, ◌<◌}
 use native.Mathlib.Omega.{arith}
 use lib.ListN.{length}
 use borrow.Author.Tests.{lt-ltb, le-ltb}
-use Rattle.formula.specs.Tree.{Formula, rows}
+use Rattle.formula.specs.Tree.{Formula}
 use Rattle.formula.specs.Outer.{unused}
-use Rattle.formula.specs.Clausal.{conjuncts, named_all, too_few_names, clausal}
+use Rattle.formula.specs.Clausal.{conjuncts, named_all, too_few_names}
 use Rattle.sheet.specs.Format as sheets
 use Rattle.sheet.specs.Format.{Bytes}
 use Rattle.sheet.specs.Sheet.{formula, sheet}
-use Rattle.sheet.specs.Check.{Answer, refused, accepted, answer, check_tests, check}
+use Rattle.sheet.specs.Check.{refused, accepted, answer, check_tests, check}
 use Rattle.sheet.specs.Operations.{Written, padded}
 use Rattle.sheet.specs.Strategy.{fits_output}
 use Rattle.sheet.specs.Clauses.{clauses_of, clauses_tests, clauses_call}
@@ -24,10 +24,9 @@ use Rattle.sheet.proofs.Accepted.{accepted_within, accepted_variables}
 use Rattle.sheet.proofs.Clauses.{clauses_18, clauses-13, clauses-none}
 use Rattle.rows.specs.Formats.{format_of}
 use Rattle.rows.specs.Layouts.{format_in}
-use Rattle.rows.specs.Formulas.{matrix_in, formula_in}
+use Rattle.rows.specs.Formulas.{formula_in}
 use Rattle.rows.specs.declared.Format.{Format}
 use Rattle.rows.specs.declared.Layout.{Layout}
-use Rattle.rows.proofs.Limits.{limits}
 use Rattle.checking.specs.Sheets.{Sheet}
 use Rattle.checking.proofs.CheckedSheets.{sheet_format, sheet-formula_in, sheet_right, sheet_readable}
 use Rattle.clauses.specs.declared.survey.Size.{Size}

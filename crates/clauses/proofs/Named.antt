@@ -3,14 +3,14 @@
 use mathlib.Core.Path.{◌≡◌, refl, sym, ap, ap₂, ◌∙◌}
 use mathlib.Core.Bool.{Bool, true, false}
 use mathlib.Core.List.{List, [], ◌∷◌, ◌++◌, append_assoc, map, map-append}
-use Prim.Native.Nat.{ℕ, zero, suc, ◌+◌, ◌*◌, ◌≤◌}
+use Prim.Native.Nat.{ℕ, suc, ◌+◌, ◌*◌, ◌≤◌}
 use native.Mathlib.Nat.{add-zero, add_assoc}
 use native.Mathlib.Omega.{arith}
 use lib.ListN.{length, get_or, drop, length-append}
 use lib.Seq.{drop_at, drop-drop, get_or-drop}
 use Rattle.formula.specs.Tree.{Op, and, or, Tree, lit, node, Forest, ∅, ◌▸◌, ◌⧺◌, rows, rows_all, count}
 use Rattle.formula.specs.Clausal.{operators, operators_all, name, names, implies, defined, defined_all, conjunct, named, named_all, clauses}
-use Rattle.formula.proofs.Forests.{⧺-assoc, ⧺-none, count-⧺, rows-⧺}
+use Rattle.formula.proofs.Forests.{⧺-assoc, count-⧺, rows-⧺}
 use Rattle.subtrees.specs.Subtrees.{kids}
 use Rattle.subtrees.proofs.Forest.{rows-kids}
 use Rattle.clauses.specs.Inner.Named.{named_by, names_from, unit_clause, own_clauses, defined_at, defined_from, clauses_from, clauses_left}

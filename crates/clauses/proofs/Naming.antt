@@ -1,11 +1,11 @@
 -- The turns of giving out the names.
 -- Assumes nothing.
 use mathlib.Core.Path.{◌≡◌, refl, sym, ap, ap₂, ◌∙◌}
-use mathlib.Core.List.{List, [], ◌∷◌, ◌++◌, map}
-use Prim.Native.Nat.{ℕ, suc, ◌+◌, ◌-◌, ◌≤◌, ◌<◌}
+use mathlib.Core.List.{List, ◌∷◌, ◌++◌, map}
+use Prim.Native.Nat.{ℕ, suc, ◌-◌, ◌≤◌, ◌<◌}
 use native.Mathlib.Omega.{arith}
 use lib.ListN.{length, get_or, take, drop, set, length-append, length-set, take-append-drop, drop_of_length-le}
-use lib.Seq.{take-suc-set, append_snoc, drop-set-lt, drop-cons, take_all, take_at, length-take-le}
+use lib.Seq.{take-suc-set, append_snoc, drop-set-lt, drop-cons, take_at, length-take-le}
 use Rattle.renaming.specs.Numbers.{free, NextFree}
 use Rattle.renaming.proofs.Renumbering.{found_within, given}
 

@@ -1,7 +1,7 @@
 -- The sheet of the clauses: its names, its sizes, and the rows that make it.
 -- Assumes nothing.
 use mathlib.Core.Path.{◌≡◌, refl, sym, ap, ap₂, ◌∙◌, subst, fun_ext}
-use mathlib.Core.Bool.{true, false}
+use mathlib.Core.Bool.{true}
 use mathlib.Core.List.{List, [], ◌∷◌, ◌++◌, map, map-append, append_assoc}
 use Prim.Native.Nat.{ℕ, zero, suc, ◌+◌, ◌*◌, ◌≤◌, ◌<◌}
 use native.Mathlib.Omega.{arith}
@@ -43,7 +43,7 @@ use Rattle.substitution.proofs.Splice.{laid_on, laid-all}
 use Rattle.clauses.proofs.Tables.{replicate_at}
 use Rattle.clauses.specs.declared.survey.Size.{Size}
 use Rattle.clauses.specs.Inner.Named.{clauses_from, marks_conjuncts, first_conjunct}
-use Rattle.clauses.specs.Inner.Survey.{Surveyed, Clausable}
+use Rattle.clauses.specs.Inner.Survey.{Clausable}
 use Rattle.clauses.proofs.Named.{named-clauses, map-marks_conjuncts}
 use Rattle.clauses.proofs.Walking.{walking_first}
 use Rattle.clauses.proofs.Surveying.{all_clauses}

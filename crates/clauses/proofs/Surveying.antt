@@ -1,14 +1,14 @@
 -- The turns of the survey: what is counted so far and what is left make the whole.
 -- Assumes nothing.
-use mathlib.Core.Path.{◌≡◌, refl, sym, ap, ap₂, ◌∙◌, subst}
+use mathlib.Core.Path.{◌≡◌, refl, sym, ap, ap₂, ◌∙◌}
 use mathlib.Core.Bool.{Bool}
 use mathlib.Core.List.{List, [], ◌∷◌, ◌++◌, append-nil}
-use Prim.Native.Nat.{ℕ, suc, ◌+◌, ◌*◌, ◌≤◌, ◌<◌}
+use Prim.Native.Nat.{ℕ, suc, ◌+◌, ◌≤◌, ◌<◌}
 use native.Mathlib.Nat.{add-zero}
 use native.Mathlib.Omega.{arith}
 use lib.ListN.{length, take, drop, set, length-set}
 use lib.Seq.{take-suc-set, append_snoc, length-take-le, drop_at}
-use Rattle.formula.specs.Tree.{and, or, Tree, lit, node, Forest, ∅, ◌▸◌, ◌⧺◌, rows, rows_all, count}
+use Rattle.formula.specs.Tree.{and, or, Tree, lit, node, Forest, ∅, ◌⧺◌, rows, rows_all, count}
 use Rattle.formula.specs.Clausal.{operators, operators_all, conjuncts, named_all}
 use Rattle.formula.proofs.Forests.{count-⧺, rows-⧺, count-rows}
 use Rattle.sheet.specs.Format.{Bytes}
@@ -16,7 +16,6 @@ use Rattle.rows.specs.Formulas.{matrix_in, Readable}
 use Rattle.rows.specs.declared.Layout.{Layout}
 use Rattle.rows.proofs.Formulas.{rows-nodes}
 use Rattle.subtrees.specs.Subtrees.{subtree_in}
-use Rattle.clauses.specs.declared.survey.Size.{Size}
 use Rattle.clauses.specs.Inner.Named.{own_clauses, defined_from, clauses_from, clauses_left, marks, next_name, marks_conjuncts, marks_left, first_conjunct}
 use Rattle.clauses.specs.Inner.Survey.{Surveyed}
 use Rattle.clauses.proofs.Named.{few_clauses}

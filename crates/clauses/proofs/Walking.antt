@@ -1,18 +1,18 @@
 -- The walk over the rows of a matrix, with the next conjunct's row: the trees left of the conjunct it is in, and the conjuncts behind.
 -- Assumes nothing.
-use mathlib.Core.Path.{◌≡◌, refl, sym, ap, ap₂, ◌∙◌, subst}
+use mathlib.Core.Path.{◌≡◌, refl, sym, ap, ap₂, ◌∙◌}
 use mathlib.Core.Bool.{Bool, true, false, cond}
 use mathlib.Core.List.{List, ◌∷◌}
 use Prim.Native.Nat.{ℕ, suc, ◌+◌, ◌≤◌, ◌<◌}
 use native.Mathlib.Omega.{arith}
 use lib.Dec.{eqb}
-use lib.ListN.{get_or, length, drop}
+use lib.ListN.{get_or, length}
 use lib.ListN.{drop_of_length-le}
 use borrow.Author.Tests.{eq-eqb, ne_eqb}
 use Rattle.formula.specs.Tree.{and, or, Tree, lit, node, Forest, ∅, ◌▸◌, ◌⧺◌, rows, rows_all, count}
 use Rattle.formula.specs.Clausal.{operators_all, conjuncts, named_all}
 use Rattle.formula.proofs.Forests.{⧺-assoc, ⧺-none, rows-⧺, rows_positive}
-use Rattle.sheet.specs.Format.{Bytes, Row}
+use Rattle.sheet.specs.Format.{Bytes}
 use Rattle.sheet.specs.Sheet.{trees, root}
 use Rattle.rows.specs.Formulas.{node_rows_in, matrix_in, Readable}
 use Rattle.rows.specs.declared.Layout.{Layout}

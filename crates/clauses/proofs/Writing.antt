@@ -5,7 +5,7 @@ use mathlib.Core.Bool.{Bool, true, false, not}
 use mathlib.Core.List.{List, [], ◌∷◌, ◌++◌, map, append-nil, append_assoc, map-append}
 use native.Mathlib.Numerals.{add-one}
 use lib.Seq.{slice, take_all, take-suc, length-take-le}
-use Prim.Native.Nat.{ℕ, zero, suc, ◌+◌, ◌-◌, ◌≤◌, ◌<◌}
+use Prim.Native.Nat.{ℕ, suc, ◌+◌, ◌-◌, ◌≤◌, ◌<◌}
 use native.Mathlib.Omega.{arith}
 use lib.Dec.{eqb}
 use lib.ListN.{length, get_or, take, length-append, length-map}
@@ -15,7 +15,7 @@ use Rattle.formula.proofs.Forests.{count-rows}
 use Rattle.sheet.specs.Format.{Bytes, Row, row}
 use Rattle.formula.specs.Outer.{existential}
 use Rattle.sheet.specs.Sheet.{binding_row, tree_rows, forest_rows}
-use Rattle.sheet.proofs.Preorder.{forest_rows-⧺, length-forest_rows}
+use Rattle.sheet.proofs.Preorder.{forest_rows-⧺}
 use Rattle.rows.specs.Layouts.{total, rows_in}
 use Rattle.rows.proofs.Formulas.{quantifiers}
 use Rattle.rows.specs.Formulas.{prefix_in, matrix_in, Readable}
@@ -139,10 +139,10 @@ module _ (e : Bool) (n : ℕ) (L : List ℕ) {s : Layout} (b : Bytes) (ok : Read
             length_implied e n 0,
           )
 
-      pub listing-on : {new : Bytes} {next m : ℕ} → Laid t out new at next (child_rows e n (named_by (get_or L r 0) (subtree_in s b r)))
-          → length new ≡ length out → m ≡ left - 1 → Listing e n L s b t old start all new next m (get_or ends r 0)
-      listing-on {new} {next} {m} w same at-m =
-          rw at-m
+      pub listing-on : {new : Bytes} {next m k : ℕ} → Laid t out new at next (child_rows e n (named_by (get_or L r 0) (subtree_in s b r)))
+          → length new ≡ length out → m ≡ left - 1 → k ≡ get_or ends r 0 → Listing e n L s b t old start all new next m k
+      listing-on {new} {next} {m} {k} w same at-m at-k =
+          rw (at-m, at-k)
           (record {
             done = l.done ++ own;
             so_far = laid_on l.so_far w;

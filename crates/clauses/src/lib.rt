@@ -17,9 +17,9 @@ ghost use Rattle.clauses.specs.Inner.Survey.{Clausable};
 use crate::names::{fill_fresh, name_rows};
 use crate::survey::{Size, survey};
 use crate::write::{write_clauses, write_front};
-use checking::{Checked, Written, check};
+use checking::check;
 use rows::fit::fits;
-use rows::refusals::{NO_NUMBERS_LEFT, NO_ROOM};
+use rows::refusals::Refusal;
 use rows::write::seal;
 use rows::{Format, Layout, NUMBERS, ROWS, most_variables};
 use substitution::Target;
@@ -53,13 +53,13 @@ fn clauses_into(
         nodes: size.rows + 1,
     };
     let at = write_front(b, s, &fresh[..count], size.clauses, out, t);
-    let below = Target { layout: t, at: at };
+    let below = Target { layout: t, at };
     write_clauses(b, s, ends, names, out, below);
     seal(out, t, t.variables + t.nodes)
 }
 
 // The clauses of a sheet that Check accepts: 18 fewer numbers are left than names, 13 they don't fit the format's rows or the output.
-fn clauses_checked(b: &[u8], s: Layout, out: &mut [u8]) -> Written
+fn clauses_checked(b: &[u8], s: Layout, out: &mut [u8]) -> Result<usize, Refusal>
     requires { Sheet s.format b.now s }
     ensures { wrote result out.new ≡ clauses_call (format_in s) b.now out.old }
 {
@@ -69,23 +69,20 @@ fn clauses_checked(b: &[u8], s: Layout, out: &mut [u8]) -> Written
     let mut names = [0u16; ROWS];
     let size = survey(b, s, &ends, &mut names);
     if most_variables(f) - s.variables < size.names {
-        return Written::Refused(NO_NUMBERS_LEFT, 0);
+        return Err(Refusal::NoNumbersLeft);
     }
     if !fits(f, s.variables + size.names, size.rows + 1, out.len()) {
-        return Written::Refused(NO_ROOM, 0);
+        return Err(Refusal::NoRoom);
     }
-    Written::Accepted(clauses_into(b, s, &ends, &mut names, size, out))
+    Ok(clauses_into(b, s, &ends, &mut names, size, out))
 }
 
 // Writes an equal question as AND of clauses to the front of `out`, with zeros behind it, and returns its length; or the call is refused
 // with number and place, and `out` is left as it was.
-pub fn clauses(sheet: &[u8], f: Format, out: &mut [u8]) -> Written
+pub fn clauses(sheet: &[u8], f: Format, out: &mut [u8]) -> Result<usize, Refusal>
     ensures out_after { wrote result out.new ≡ clauses_call (format_of f) sheet.now out.old }
     ensures truthful_sheet { TruthfulSheet (format_of f) (truth_of (format_of f) sheet.now) (wrote result out.new) }
 {
-    let c = check(sheet, f);
-    match c {
-        Checked::Refused(number, place) => Written::Refused(number, place),
-        Checked::Accepted(s) => clauses_checked(sheet, s, out),
-    }
+    let s = check(sheet, f)?;
+    clauses_checked(sheet, s, out)
 }

@@ -15,13 +15,11 @@ fn fill_unused(used: &[u64], highest: usize, count: usize, fresh: &mut [u16])
     requires { (length used.now ≡ 17) × (highest ≤ HIGHEST) × (count ≤ length (free used.now highest 1)) × (count ≤ length fresh.old) }
     ensures { fresh.new ≡ take count (free used.now highest 1) ++ drop count fresh.old }
 {
-    let mut from: usize = 1;
-    let mut i: usize = 0;
-    while i < count {
+    let mut from = 1;
+    for i in 0..count {
         let n = next_unused(used, highest, from);
         fresh[i] = n as u16;
         from = n + 1;
-        i += 1;
     }
 }
 
@@ -49,9 +47,7 @@ fn fresh_at(fresh: &[u16], i: usize) -> u16
 pub fn name_rows(fresh: &[u16], names: &mut [u16])
     ensures { names.new ≡ map (λ i. get_or fresh.now i 0) names.old }
 {
-    let mut j: usize = 0;
-    while j < names.len() {
-        names[j] = fresh_at(fresh, names[j] as usize);
-        j += 1;
+    for j in 0..names.len() {
+        names[j] = fresh_at(fresh, usize::from(names[j]));
     }
 }

@@ -36,7 +36,7 @@ pub fn next_conjunct(ends: &[u16], j: usize, conjunct: bool, next: usize) -> usi
     ensures { result ≡ cond conjunct (get_or ends.now j 0) next }
 {
     if conjunct {
-        return ends[j] as usize;
+        return usize::from(ends[j]);
     }
     next
 }
@@ -97,24 +97,22 @@ pub fn survey(b: &[u8], s: Layout, ends: &[u16], names: &mut [u16]) -> Size
     requires { Indexed s b.now ends.now × (s.nodes ≤ length names.old) }
     ensures { Surveyed s b.now names.new result }
 {
-    let n = s.nodes;
-    let mut count: usize = 0;
-    let mut clauses: usize = 0;
-    let mut rows: usize = 0;
-    let mut j = first_conjunct(b, s);
-    let mut next = j;
-    while j < n {
+    let mut count = 0;
+    let mut clauses = 0;
+    let mut rows = 0;
+    let first = first_conjunct(b, s);
+    let mut next = first;
+    for j in first..s.nodes {
         let conjunct = j == next;
         names[j] = count as u16;
         count += own_names(b, s, j, conjunct);
         clauses += own_clauses(b, s, j, conjunct);
         rows += own_rows(b, s, j, conjunct);
         next = next_conjunct(ends, j, conjunct, next);
-        j += 1;
     }
     Size {
         names: count,
-        clauses: clauses,
-        rows: rows,
+        clauses,
+        rows,
     }
 }

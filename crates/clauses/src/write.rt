@@ -63,7 +63,7 @@ fn write_implied(names: &[u16], out: &mut [u8], child: Child) -> usize
         at: child.at,
     };
     let at = write_row(out, to, OR, 2);
-    let below = Target { layout: t, at: at };
+    let below = Target { layout: t, at };
     let operator = child.operator;
     write_row(out, below, NEGATIVE, names[operator] as usize)
 }
@@ -76,7 +76,7 @@ fn write_child(b: &[u8], s: Layout, names: &[u16], out: &mut [u8], child: Child)
 {
     let t = child.layout;
     let at = write_implied(names, out, child);
-    let to = Target { layout: t, at: at };
+    let to = Target { layout: t, at };
     write_name(b, s, names, child.row, out, to)
 }
 
@@ -93,23 +93,20 @@ fn write_below(
     requires row_bound { place.at + length (below_rows names.now place.row (subtree_in s b.now place.row)) ≤ total place.layout }
     ensures { Laid place.layout out.old out.new place.at result (below_rows names.now place.row (subtree_in s b.now place.row)) }
 {
-    let t = place.layout;
-    let operator = place.row;
-    let each = kind_at(b, s, operator) != OR;
+    let each = kind_at(b, s, place.row) != OR;
     let mut at = place.at;
-    let mut left = children_at(b, s, operator);
-    let mut r = operator + 1;
-    while 0 < left {
+    let children = children_at(b, s, place.row);
+    let mut r = place.row + 1;
+    for _ in 0..children {
         let child = Child {
             row: r,
-            operator: operator,
-            each: each,
-            layout: t,
-            at: at,
+            operator: place.row,
+            each,
+            layout: place.layout,
+            at,
         };
         at = write_child(b, s, names, out, child);
-        r = ends[r] as usize;
-        left -= 1;
+        r = usize::from(ends[r]);
     }
     at
 }
@@ -131,7 +128,7 @@ fn write_or(b: &[u8], s: Layout, names: &[u16], out: &mut [u8], place: Place) ->
         return write_row(out, to, OR, children);
     }
     let at = write_row(out, to, OR, children + 1);
-    let below = Target { layout: t, at: at };
+    let below = Target { layout: t, at };
     write_row(out, below, NEGATIVE, names[r] as usize)
 }
 
@@ -174,7 +171,7 @@ fn write_own(
         row: place.row,
         conjunct: place.conjunct,
         layout: t,
-        at: at,
+        at,
     };
     write_below(b, s, ends, names, out, below)
 }
@@ -192,22 +189,19 @@ pub fn write_clauses(
     requires names_bound { to.at + length (clauses_in s b.now names.now) ≤ total to.layout }
     ensures { Laid to.layout out.old out.new to.at result (clauses_in s b.now names.now) }
 {
-    let t = to.layout;
-    let n = s.nodes;
     let mut at = to.at;
-    let mut j = first_conjunct(b, s);
-    let mut next = j;
-    while j < n {
+    let first = first_conjunct(b, s);
+    let mut next = first;
+    for j in first..s.nodes {
         let conjunct = j == next;
         let here = Place {
             row: j,
-            conjunct: conjunct,
-            layout: t,
-            at: at,
+            conjunct,
+            layout: to.layout,
+            at,
         };
         at = write_own(b, s, ends, names, out, here);
         next = next_conjunct(ends, j, conjunct, next);
-        j += 1;
     }
     at
 }
@@ -217,13 +211,13 @@ fn write_bound(fresh: &[u16], out: &mut [u8], to: Target) -> usize
     requires { Room to.layout (length out.old) × (to.at + length fresh.now ≤ total to.layout) }
     ensures { Laid to.layout out.old out.new to.at result (map (row 1) fresh.now) }
 {
-    let t = to.layout;
     let mut at = to.at;
-    let mut i: usize = 0;
-    while i < fresh.len() {
-        let here = Target { layout: t, at: at };
-        at = write_row(out, here, EXISTS, fresh[i] as usize);
-        i += 1;
+    for name in fresh {
+        let here = Target {
+            layout: to.layout,
+            at,
+        };
+        at = write_row(out, here, EXISTS, usize::from(*name));
     }
     at
 }
@@ -251,6 +245,6 @@ pub fn write_front(
         at: bound,
     };
     let at = write_bound(fresh, out, back);
-    let root = Target { layout: t, at: at };
+    let root = Target { layout: t, at };
     write_row(out, root, AND, clauses)
 }

@@ -15,10 +15,9 @@ ghost use Rattle.checking.specs.Answers.{wrote};
 ghost use Rattle.checking.specs.Sheets.{Sheet};
 ghost use Rattle.conversion.specs.Inner.Rows.{RowsFit, Convertible, ConvertReady, room_call};
 
-use checking::{Checked, Written};
 use rows::fit::sheet_length;
 use rows::read::{argument_at, kind_at};
-use rows::refusals::{NO_ROOM, NOT_NARROW};
+use rows::refusals::Refusal;
 use rows::write::{seal, set_row};
 use rows::{Format, Layout, most_nodes, most_variables};
 
@@ -27,13 +26,8 @@ fn convert_rows(sheet: &[u8], s: Layout, out: &mut [u8], t: Layout)
     requires { RowsFit s sheet.now t (length out.old) }
     ensures { rows_in t out.new ≡ rows_in s sheet.now }
 {
-    let end = s.variables + s.nodes;
-    let mut r: usize = 0;
-    while r < end {
-        let kind = kind_at(sheet, s, r);
-        let argument = argument_at(sheet, s, r);
-        set_row(out, t, r, kind, argument);
-        r += 1;
+    for r in 0..s.variables + s.nodes {
+        set_row(out, t, r, kind_at(sheet, s, r), argument_at(sheet, s, r));
     }
 }
 
@@ -43,11 +37,7 @@ pub fn convert(source: &[u8], s: Layout, g: Format, out: &mut [u8]) -> Layout
     ensures out_after { out.new ≡ padded (length out.old) (sheet (format_of g) (formula_in s source.now)) }
     ensures value { result ≡ layout_for g (formula_in s source.now) }
 {
-    let t = Layout {
-        format: g,
-        variables: s.variables,
-        nodes: s.nodes,
-    };
+    let t = Layout { format: g, ..s };
     convert_rows(source, s, out, t);
     seal(out, t, s.variables + s.nodes);
     t
@@ -58,12 +48,10 @@ fn has_above(sheet: &[u8], s: Layout, most: usize) -> bool
     requires { Readable s sheet.now }
     ensures { result ≡ above most (take s.variables (rows_in s sheet.now)) }
 {
-    let mut r: usize = 0;
-    while r < s.variables {
+    for r in 0..s.variables {
         if most < argument_at(sheet, s, r) {
             return true;
         }
-        r += 1;
     }
     false
 }
@@ -75,62 +63,49 @@ fn is_beyond(sheet: &[u8], s: Layout, g: Format) -> bool
     ensures { result ≡ beyond (format_in s) (format_of g) sheet.now }
 {
     let variables = most_variables(g);
-    let nodes = most_nodes(g);
-    if variables < s.variables {
-        return true;
-    }
-    if nodes < s.nodes {
-        return true;
-    }
-    has_above(sheet, s, variables)
+    variables < s.variables || most_nodes(g) < s.nodes || has_above(sheet, s, variables)
 }
 
 // Converts a sheet to the format `g`, within whose limits it is: 13 output shorter than its sheet there.
-fn convert_within(sheet: &[u8], s: Layout, g: Format, out: &mut [u8]) -> Written
+fn convert_within(sheet: &[u8], s: Layout, g: Format, out: &mut [u8]) -> Result<usize, Refusal>
     requires { ConvertReady s sheet.now g }
     ensures { wrote result out.new ≡ room_call (format_in s) (format_of g) sheet.now out.old }
 {
     let length = sheet_length(g, s.variables, s.nodes);
     if out.len() < length {
-        return Written::Refused(NO_ROOM, 0);
+        return Err(Refusal::NoRoom);
     }
     convert(sheet, s, g, out);
-    Written::Accepted(length)
+    Ok(length)
 }
 
 // Writes a narrow sheet's rows as a wide sheet to the front of `out`, with zeros behind it, and returns its length; or refuses the sheet
 // or the output, and alters nothing.
-pub fn to_wide(sheet: &[u8], out: &mut [u8]) -> Written
+pub fn to_wide(sheet: &[u8], out: &mut [u8]) -> Result<usize, Refusal>
     ensures out_after { wrote result out.new ≡ to_wide_call sheet.now out.old }
     ensures truthful_sheet { TruthfulSheet wide (truth_of narrow sheet.now) (wrote result out.new) }
 {
-    let c = checking::check(sheet, Format::Narrow);
-    match c {
-        Checked::Accepted(s) => convert_within(sheet, s, Format::Wide, out),
-        Checked::Refused(number, place) => Written::Refused(number, place),
-    }
+    let s = checking::check(sheet, Format::Narrow)?;
+    convert_within(sheet, s, Format::Wide, out)
 }
 
 // Converts a wide sheet that Check accepts, of this layout, to the narrow format: 24 a number or size above the narrow limits; 13.
-fn to_narrow_checked(sheet: &[u8], s: Layout, out: &mut [u8]) -> Written
+fn to_narrow_checked(sheet: &[u8], s: Layout, out: &mut [u8]) -> Result<usize, Refusal>
     requires { Sheet Wide sheet.now s }
     ensures { wrote result out.new ≡ to_narrow_call sheet.now out.old }
 {
     if is_beyond(sheet, s, Format::Narrow) {
-        return Written::Refused(NOT_NARROW, 0);
+        return Err(Refusal::NotNarrow);
     }
     convert_within(sheet, s, Format::Narrow, out)
 }
 
 // Writes a wide sheet's rows as a narrow sheet to the front of `out`, with zeros behind it, and returns its length; or refuses the sheet
 // or the output, and alters nothing.
-pub fn to_narrow(sheet: &[u8], out: &mut [u8]) -> Written
+pub fn to_narrow(sheet: &[u8], out: &mut [u8]) -> Result<usize, Refusal>
     ensures out_after { wrote result out.new ≡ to_narrow_call sheet.now out.old }
     ensures truthful_sheet { TruthfulSheet narrow (truth_of wide sheet.now) (wrote result out.new) }
 {
-    let c = checking::check(sheet, Format::Wide);
-    match c {
-        Checked::Accepted(s) => to_narrow_checked(sheet, s, out),
-        Checked::Refused(number, place) => Written::Refused(number, place),
-    }
+    let s = checking::check(sheet, Format::Wide)?;
+    to_narrow_checked(sheet, s, out)
 }

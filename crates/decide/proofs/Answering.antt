@@ -77,13 +77,12 @@ module _ {b : Bytes} {s : Layout} (h : Sheet s.format b s) (budget : ℕ) (first
     abbrev zeros : ℕ → Bytes
     zeros n = replicate n 0
 
-    pub decided-call : {d : Decision} → d ≡ found s copied second (length stack) budget → {a : DecideAnswer}
-        → a ≡ decide_answer d.outcome d.runs → {first' second' stack' : Bytes} → first' ≡ zeros (length first)
+    pub decided-call : {d : Decision} → d ≡ found s copied second (length stack) budget → {first' second' stack' : Bytes} → first' ≡ zeros (length first)
         → second' ≡ zeros (length second) → stack' ≡ zeros (length stack)
-        → record { answer = a; first = first'; second = second'; stack = stack' } ≡ decide_call G b budget first second stack
+        → record { answer = decide_answer d.outcome d.runs; first = first'; second = second'; stack = stack' } ≡ decide_call G b budget first second stack
     unfolding decide_call deciding
-    decided-call e {a} k {first'} {second'} {stack'} z₁ z₂ z₃ =
-        ap₂ (λ (x y : Bytes). record { answer = a; first = x; second = y; stack = stack' }) z₁ z₂ ∙
+    decided-call {d} e {first'} {second'} {stack'} z₁ z₂ z₃ =
+        ap₂ (λ (x y : Bytes). record { answer = decide_answer d.outcome d.runs; first = x; second = y; stack = stack' }) z₁ z₂ ∙
         ap₂ (λ (c : DecideAnswer) (x : Bytes). record { answer = c; first = zeros (length first); second = zeros (length second); stack = x })
-        (k ∙ ap (λ (d : Decision). decide_answer d.outcome d.runs) (e ∙ same-search)) z₃ ∙
+        (ap (λ (d : Decision). decide_answer d.outcome d.runs) (e ∙ same-search)) z₃ ∙
         ap (deciding first second stack) (sym passed)

@@ -13,7 +13,7 @@ use Rattle.formula.specs.Solve.{State, End, ended, stopped, Run}
 use Rattle.sheet.specs.Format as sheet
 use Rattle.sheet.specs.Format.{Bytes, number, header, sheet_length, fits, variables, nodes}
 use Rattle.sheet.specs.Sheet.{sheet}
-use Rattle.sheet.specs.Operations.{padded, Solved, is_refused, is_stopped, is_ended, solved, Solving, solving}
+use Rattle.sheet.specs.Operations.{padded, Solved, is_stopped, is_ended, solved, Solving, solving}
 use Rattle.sheet.specs.Limits.{Within}
 use Rattle.sheet.specs.Trace.{room}
 use Rattle.sheet.proofs.RoundTrip.{variables-sheet, nodes-sheet, length-sheet, length-formula_rows}
@@ -71,11 +71,6 @@ unfolding solved
 stopped_end (ended w) s h = let z : ◌≡◌ {A = ℕ} 0 1 = cc in absurd (omega arith)
 stopped_end (stopped y) s {x} h = let k : y ≡ x = cc in ap stopped k
 
-refused_end : (e : End) (s : State) {n i : ℕ} → is_refused n i ≡ solved e s → ⊥
-unfolding solved
-refused_end (ended w) s h = let z : ◌≡◌ {A = ℕ} 0 1 = cc in omega arith
-refused_end (stopped y) s h = let z : ◌≡◌ {A = ℕ} 0 1 = cc in omega arith
-
 module _ {s : Layout} {first second : Bytes} (r : RawReady s first second) {a : Solved} {first' second' : Bytes}
     (ran : record { answer = a; first = first'; second = second' } ≡ raw_call s first second) where
   abbrev F : sheet.Format
@@ -100,9 +95,6 @@ module _ {s : Layout} {first second : Bytes} (r : RawReady s first second) {a : 
 
   pub run_ended : {v : Bool} {n m : ℕ} → a ≡ is_ended v n m → run.end ≡ ended v
   run_ended e = ended_end run.end run.state (sym e ∙ answers)
-
-  pub not_refused : {n i : ℕ} → a ≡ is_refused n i → ⊥
-  not_refused e = refused_end run.end run.state (sym e ∙ answers)
 
   -- the formula reached has its place
   placed : Placed F (room first second) g

@@ -10,39 +10,15 @@ ghost use Rattle.rows.specs.Layouts.{format_in};
 ghost use Rattle.checking.specs.Sheets.{Sheet};
 ghost use Rattle.decide.specs.Answers.{outcome_of, answer_of, decide_left};
 
-use crate::search::{Decision, Outcome, seek};
-use checking::Checked;
+use crate::search::{Decision, seek};
 use rows::bytes::{clear, copy_front};
 use rows::fit::shorter;
-use rows::refusals::NO_ROOM;
+use rows::refusals::Refusal;
 use rows::{Format, Layout};
-use solve::Verdict;
 
 pub mod running;
 pub mod search;
 pub mod waiting;
-
-// Refused with number and place; ended with a verdict, no place left on the stack, or the budget spent, each with the number of runs.
-#[derive(Clone, Copy)]
-pub enum DecideAnswer {
-    Refused(usize, usize),
-    Ended(Verdict, usize),
-    NoPlace(usize),
-    Spent(usize),
-}
-
-// What a search found, as an answer.
-fn answer_for(d: Decision) -> DecideAnswer
-    ensures { answer_of result ≡ decide_answer (outcome_of d.outcome) d.runs }
-{
-    let o = d.outcome;
-    let runs = d.runs;
-    match o {
-        Outcome::Decided(verdict) => DecideAnswer::Ended(verdict, runs),
-        Outcome::NoPlace => DecideAnswer::NoPlace(runs),
-        Outcome::Spent => DecideAnswer::Spent(runs),
-    }
-}
 
 // Decides a sheet that Check accepts, of this layout: 13 a work buffer shorter than the sheet.
 fn decide_checked(
@@ -52,19 +28,19 @@ fn decide_checked(
     first: &mut [u8],
     second: &mut [u8],
     stack: &mut [u8],
-) -> DecideAnswer
+) -> Result<Decision, Refusal>
     requires { Sheet s.format sheet.now s }
     ensures { decide_left result first second stack ≡ decide_call (format_in s) sheet.now budget first.old second.old stack.old }
 {
     if shorter(first.len(), second.len()) < sheet.len() {
-        return DecideAnswer::Refused(NO_ROOM, 0);
+        return Err(Refusal::NoRoom);
     }
     copy_front(sheet, first);
     let d = seek(first, second, stack, s, budget);
     clear(first, 0);
     clear(second, 0);
     clear(stack, 0);
-    answer_for(d)
+    Ok(d)
 }
 
 // Decides a sheet within so many runs of Solve, in two work buffers and with a stack for sheets that wait, each in a place as long as the
@@ -76,13 +52,10 @@ pub fn decide(
     first: &mut [u8],
     second: &mut [u8],
     stack: &mut [u8],
-) -> DecideAnswer
+) -> Result<Decision, Refusal>
     ensures stack_value { decide_left result first second stack ≡ decide_call (format_of f) sheet.now budget first.old second.old stack.old }
     ensures truthful_decide { TruthfulDecide (truth_of (format_of f) sheet.now) (decide_left result first second stack) }
 {
-    let c = checking::check(sheet, f);
-    match c {
-        Checked::Refused(number, place) => DecideAnswer::Refused(number, place),
-        Checked::Accepted(s) => decide_checked(sheet, s, budget, first, second, stack),
-    }
+    let s = checking::check(sheet, f)?;
+    decide_checked(sheet, s, budget, first, second, stack)
 }

@@ -11,7 +11,7 @@ use rows::{Format, Layout};
 use solve::{Solved, Verdict, run_raw};
 
 // How a run ended: with a verdict, or with a sheet of this layout at the front of the first buffer.
-#[derive(Clone, Copy)]
+#[derive(Clone, Copy, PartialEq, Eq, Debug)]
 pub enum Ran {
     Ended(Verdict),
     Stopped(Layout),
@@ -34,11 +34,8 @@ pub fn run_from(first: &mut [u8], second: &mut [u8], s: Layout) -> Ran
     requires { RawReady s first.old second.old }
     ensures { Runs s first.old second.old first.new result }
 {
-    let f = s.format;
-    let r = run_raw(first, second, s);
-    match r {
+    match run_raw(first, second, s) {
         Solved::Ended(verdict, _, _) => Ran::Ended(verdict),
-        Solved::Refused(_number, _) => Ran::Stopped(layout_at(first, f)),
-        Solved::Stopped(_x, _, _) => Ran::Stopped(layout_at(first, f)),
+        Solved::Stopped(_, _, _) => Ran::Stopped(layout_at(first, s.format)),
     }
 }

@@ -18,7 +18,7 @@ use rows::fit::shorter;
 use solve::Verdict;
 
 // A verdict, no place left for a sheet that must wait, or the budget spent.
-#[derive(Clone, Copy)]
+#[derive(Clone, Copy, PartialEq, Eq, Debug)]
 pub enum Outcome {
     Decided(Verdict),
     NoPlace,
@@ -26,7 +26,7 @@ pub enum Outcome {
 }
 
 // What was found, and the number of runs.
-#[derive(Clone, Copy)]
+#[derive(Clone, Copy, PartialEq, Eq, Debug)]
 pub struct Decision {
     pub outcome: Outcome,
     pub runs: usize,
@@ -36,10 +36,7 @@ pub struct Decision {
 fn after_runs(outcome: Outcome, runs: usize) -> Decision
     ensures { decision_of result ≡ record { outcome = outcome_of outcome; runs = runs } }
 {
-    Decision {
-        outcome: outcome,
-        runs: runs,
-    }
+    Decision { outcome, runs }
 }
 
 // The run before a split is counted too.
@@ -47,8 +44,7 @@ fn one_more(d: Decision) -> Decision
     requires { d.runs + 1 < 2 ^ 64 }
     ensures { decision_of result ≡ one_more (decision_of d) }
 {
-    let o = d.outcome;
-    after_runs(o, d.runs + 1)
+    after_runs(d.outcome, d.runs + 1)
 }
 
 // The second half's outcome, and the runs of both.
@@ -56,8 +52,7 @@ fn both(zero: Decision, one: Decision) -> Decision
     requires { zero.runs + one.runs < 2 ^ 64 }
     ensures { decision_of result ≡ both (decision_of zero) (decision_of one) }
 {
-    let o = one.outcome;
-    after_runs(o, zero.runs + one.runs)
+    after_runs(one.outcome, zero.runs + one.runs)
 }
 
 // Whether the first half ends a split of the sheet at the front of `b`: exists at true, for all at false, any where nothing was decided.
@@ -66,12 +61,9 @@ fn ends_early(b: &[u8], t: Layout, zero: Decision) -> bool
     ensures { result ≡ ends_split (owner (prefix_in t b.now)) (outcome_of zero.outcome) }
 {
     let existential = is_existential(b, t, 0);
-    let o = zero.outcome;
-    match o {
-        Outcome::Decided(verdict) => match verdict {
-            Verdict::True => existential,
-            Verdict::False => !existential,
-        },
+    match zero.outcome {
+        Outcome::Decided(Verdict::True) => existential,
+        Outcome::Decided(Verdict::False) => !existential,
         Outcome::NoPlace => true,
         Outcome::Spent => true,
     }

@@ -17,8 +17,7 @@ pub fn set_aside(b: &[u8], t: Layout, place: usize, stack: &mut [u8]) -> bool
     if stack.len() < place {
         return false;
     }
-    let f = t.format;
-    let n = sheet_length(f, t.variables, t.nodes);
+    let n = sheet_length(t.format, t.variables, t.nodes);
     copy_front(&b[..n], stack);
     true
 }
@@ -31,9 +30,8 @@ pub fn write_half(b: &[u8], t: Layout, value: bool, out: &mut [u8]) -> Layout
     let mut table = [0u16; NUMBERS];
     fill(&mut table, bound_at(b, t, 0), value);
     write_settled(b, t, &table, 0, out);
-    let f = t.format;
     Layout {
-        format: f,
+        format: t.format,
         variables: t.variables - 1,
         nodes: t.nodes,
     }

@@ -11,7 +11,7 @@ use lib.ListN.{length, drop, replicate, length-drop, length-replicate}
 use lib.Seq.{drop-drop}
 use borrow.Author.Tests.{eqb-true, lt-ltb, le-leb, lt-leb, leb-true, leb-false}
 use Rattle.formula.specs.Tree.{and, or, Quantifier, same_op, exists, for_all, Tree, Binding, Prefix, binds, quantifier_of}
-use Rattle.formula.specs.Expand.{all_of, after, among, occurs, occurring, later}
+use Rattle.formula.specs.Expand.{all_of, among, occurs, occurring, later}
 use Rattle.formula.specs.Outer.{universal_then_existential, one_block_out, existentials, block}
 use Rattle.formula.proofs.Booleans.{eqb_comm, and_parts, or_cases}
 use Rattle.sheet.specs.Format.{Bytes}
@@ -22,23 +22,10 @@ use Rattle.prefixes.specs.Places.{place, binding_at, binding_in}
 use Rattle.prefixes.proofs.Places.{binds-place, quantifier_of-place, prefix_row, no_rows, after-place}
 use Rattle.sets.specs.Sets.{holds}
 use Rattle.sets.proofs.Members.{holds-none}
-use Rattle.dependence.specs.Blocks.{Numbered, Located, row_test, first_row, WithRow, IsBlock}
+use Rattle.std.specs.Prelude.{Option, Some, None}
+use Rattle.std.specs.Option.{is_some}
+use Rattle.dependence.specs.Blocks.{Numbered, Located, row_test, first_row, FirstFrom, WithRow, IsBlock}
 use Rattle.dependence.specs.declared.Target.{Target}
-
--- row-test
-
-module _ (s : Layout) (b : Bytes) (exist : Bool) (j : ℕ) {m : Bool} (kind : m ≡ same_op exists (binding_in s b j).quantifier) where
-  tested : {e : Bool} → beq m exist ≡ e
-      → row_test exist (matrix_in s b) (binding_in s b j) ≡ (e && occurs (matrix_in s b) (binding_in s b j).variable)
-  tested e =
-      ap (λ (c : Bool). c && occurs (matrix_in s b) (binding_in s b j).variable) (ap (λ (n : Bool). beq n exist) (sym kind) ∙ e)
-
-  pub other_kind : beq m exist ≡ false → false ≡ row_test exist (matrix_in s b) (binding_in s b j)
-  other_kind e = sym (tested e)
-
-  pub its_kind : {r : Bool} → beq m exist ≡ true → r ≡ occurs (matrix_in s b) (binding_in s b j).variable
-      → r ≡ row_test exist (matrix_in s b) (binding_in s b j)
-  its_kind e is = is ∙ sym (tested e)
 
 -- first-row
 
@@ -75,10 +62,18 @@ module _ {s : Layout} (b : Bytes) (ok : Readable s b) {exist : Bool} {from j : �
     pub find_on : {k : ℕ} → w ≡ false → k ≡ suc j → Finding s b exist from k
     find_on e next = rw next (record { after = omega (arith, f.after); within = h; same = omega (arith, looked e) })
 
-  pub find_none : s.variables ≤ j → j ≡ from + first_row exist (matrix_in s b) (drop from (prefix_in s b))
+  pub find_none : s.variables ≤ j → s.variables ≡ from + first_row exist (matrix_in s b) (drop from (prefix_in s b))
   unfolding first_row
   find_none h =
-      omega (arith, f.same, ap (first_row exist (matrix_in s b)) (no_rows b ok j (omega (arith, f.within))))
+      omega (arith, f.same, f.within, ap (first_row exist (matrix_in s b)) (no_rows b ok j (omega (arith, f.within))))
+
+-- whether there is one
+none_found : (s : Layout) (b : Bytes) (exist : Bool) (from : ℕ) (o : Option ℕ) (r : Bool) → FirstFrom s b exist from o → is_some o ≡ not r
+    → r ≡ leb s.variables (from + first_row exist (matrix_in s b) (drop from (prefix_in s b)))
+none_found s b exist from None true h e = sym (le-leb _ _ (omega arith))
+none_found s b exist from (Some j) false h e = sym (lt-leb _ _ (omega arith))
+none_found s b exist from None false h e = cc
+none_found s b exist from (Some j) true h e = cc
 
 -- one-block-out
 
@@ -194,10 +189,11 @@ module _ {s : Layout} (b : Bytes) (ok : Readable s b) {t : Target} (l : Located 
           ap (λ (c : Bool). cond c false (all_of exists (among (occurs (matrix_in s b)) (drop (suc (first_row true (matrix_in s b) behind)) behind))))
           (le-leb (length behind) (first_row true (matrix_in s b) behind) (omega (arith, far, first_is, length-behind))))
 
-      pub out_some : i < s.variables → {next r : ℕ} → next ≡ suc i → r ≡ next + first_row false (matrix_in s b) (drop next p)
-          → leb s.variables r ≡ one_block_out t.variable (formula_in s b)
-      out_some near {next} {r} on is-r =
-          ap₂ leb whole (is-r ∙ ap (λ (j : ℕ). j + first_row false (matrix_in s b) (drop j p)) on) ∙
+      pub out_some : i < s.variables → {next : ℕ} (o : Option ℕ) {r : Bool} → next ≡ suc i → FirstFrom s b false next o → is_some o ≡ not r
+          → r ≡ one_block_out t.variable (formula_in s b)
+      out_some near {next} o {r} on found none =
+          none_found s b false next o r found none ∙
+          ap₂ leb whole (ap (λ (j : ℕ). j + first_row false (matrix_in s b) (drop j p)) on) ∙
           shifted (suc i) (length (drop (suc i) p)) (first_row false (matrix_in s b) (drop (suc i) p)) ∙
           sym (all_exist (matrix_in s b) (drop (suc i) p)) ∙ ap (λ (q : Prefix). all_of exists (among (occurs (matrix_in s b)) q)) (sym rows_on) ∙
           sym

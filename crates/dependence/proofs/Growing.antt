@@ -3,7 +3,8 @@
 use mathlib.Core.Path.{◌≡◌, refl, sym, ◌∙◌, ap, ap₂}
 use mathlib.Core.Bool.{Bool, true, false, not, ◌&&◌, ◌||◌, cond, true≢false, false≢true}
 use mathlib.Core.List.{List, [], ◌∷◌}
-use mathlib.Core.Logic.{inl, inr, ⊎_elim}
+use mathlib.Core.Logic.{⊎_elim}
+use Rattle.std.specs.Prelude.{Some, None}
 use Prim.Native.Nat.{ℕ, zero, suc, ◌-◌, ◌*◌, ◌≤◌, ◌<◌}
 use native.Mathlib.Omega.{arith}
 use lib.Dec.{eqb, ltb}
@@ -18,7 +19,7 @@ use Rattle.formula.proofs.Prefixes.{some_here, some_found}
 use Rattle.sheet.specs.Format.{Bytes}
 use Rattle.rows.specs.Formulas.{formula_in}
 use Rattle.rows.specs.declared.Layout.{Layout}
-use Rattle.sets.specs.Sets.{holds, size, IsFirst, left_in}
+use Rattle.sets.specs.Sets.{holds, size, left_in}
 use Rattle.sets.proofs.Members.{holds-none, size_most, size_more}
 use Rattle.subtrees.specs.Ends.{Indexed}
 use Rattle.occurrences.specs.Chains.{Chain}
@@ -125,11 +126,10 @@ module _ (x : ℕ) (f : Formula) where
     pub of_own : (v : ℕ) → v ≤ 1024 → touches t x v ≡ true → holds found v ≡ true
     pub of_members : (y v : ℕ) → holds set y ≡ true → v ≤ 1024 → touches t y v ≡ true → holds found v ≡ true
 
-  -- a loop that grows it, with `y` the next member to take
-  pub record Closing (bs found set : List ℕ) (y : ℕ) : Type 0 where
+  -- a loop that grows it
+  pub record Closing (bs found set : List ℕ) : Type 0 where
     pub block_is : IsBlock x f bs
     pub growing : Growing found set
-    pub next_is : IsNext bs found set y
 
   pub grow_start : {none found set : List ℕ} → has (of x) t ≡ true → none ≡ replicate 17 0 → set ≡ replicate 17 0
       → Marked (λ v. within (of x) (of v) t) none found → Growing found set
@@ -152,9 +152,9 @@ module _ (x : ℕ) (f : Formula) where
     pub member : depends x f y ≡ true
     pub new : holds set y ≡ false
 
-  pub take_left : {bs found set : List ℕ} {y : ℕ} → Closing bs found set y → y < 1025 → Taken set y
-  take_left {bs} {found} {set} {y} all h =
-      let both = and_parts (holds bs y && holds found y) (not (holds set y)) (all.next_is.is_left h) in
+  pub take_left : {bs found set : List ℕ} {y : ℕ} → Closing bs found set → IsNext bs found set (Some y) → Taken set y
+  take_left {bs} {found} {set} {y} all next =
+      let both = and_parts (holds bs y && holds found y) (not (holds set y)) next.1 in
       let parts = and_parts (holds bs y) (holds found y) both.0 in
       let bound : binds p y ≡ true = sym (all.block_is.is y) ∙ parts.0 in
       record {
@@ -199,9 +199,9 @@ module _ (x : ℕ) (f : Formula) where
       omega (arith, more, most, l, g.words)
 
   -- in the end, what is found of the block
-  pub grow_done : {bs found set last : List ℕ} {y : ℕ} → Closing bs found set y → 1025 ≤ y
+  pub grow_done : {bs found set last : List ℕ} → Closing bs found set → IsNext bs found set None
       → length last ≡ length set → ((v : ℕ) → holds last v ≡ (holds bs v && holds found v)) → Dependents x f last
-  grow_done {bs} {found} {set} {last} {y} all h size both =
+  grow_done {bs} {found} {set} {last} all over size both =
       record {
         words = size ∙ all.growing.words;
         few = λ v e. all.block_is.few v (parts v e).0;
@@ -230,7 +230,7 @@ module _ (x : ℕ) (f : Formula) where
           ⊎_elim
           (λ none. all.growing.of_members w v
           (in_third bs found set w (parts w e).0 (parts w e).1 (none w (all.block_is.few w (parts w e).0))) k q)
-          (λ none. in_third bs bs found v (all.block_is.is v ∙ b) (all.block_is.is v ∙ b) (none v k)) (all.next_is.is_last h)
+          (λ none. in_third bs bs found v (all.block_is.is v ∙ b) (all.block_is.is v ∙ b) (none v k)) over
 
   -- without a literal of x nothing depends on it
   no_stage : has (of x) t ≡ false → (n v : ℕ) → stage t p x n v ≡ false
@@ -256,18 +256,6 @@ module _ (x : ℕ) (f : Formula) where
   unfolding depends
   grow_none {set} h zeros =
       record { words = seventeen zeros; few = λ v. none_in zeros v; is = λ v. no_member zeros v ∙ sym (no_stage h (length p) v) }
-
--- the next number
-
-pub next-none : {bs fs ts : List ℕ} {n r : ℕ} → IsFirst (left_in bs bs fs) n r → 1025 ≤ r → IsNext bs fs ts 1025
-next-none l h = record { is_left = λ k. absurd (omega arith); is_last = λ k. inr (λ v near. l.none_below v (omega (arith, near, h))) }
-
-pub next-left : {bs fs ts : List ℕ} {n r : ℕ} → n ≡ 17 → IsFirst (left_in bs fs ts) (64 * n) r → IsNext bs fs ts r
-next-left size l =
-    record {
-      is_left = λ k. l.is_in (omega (arith, k, size));
-      is_last = λ k. inl (λ v near. l.none_below v (omega (arith, near, k)));
-    }
 
 -- the chain of one variable
 module _ {s : Layout} (b : Bytes) {ranges next : List ℕ} (o : Occurrences s b ranges next) {y : ℕ} (near : y ≤ 1024) where

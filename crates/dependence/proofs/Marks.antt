@@ -166,14 +166,15 @@ relevant_first L M t ts = by (has L t)
     by false = refl
 
 module _ (L : Literals) {s : Layout} {b : Bytes} {ends next : List ℕ} {from k first : ℕ} (begun : Begun L s b ends next from k first) where
-  pub marking_start : (old : List ℕ) → Marking L s b (siblings_in s b from k) old from k first old
-  marking_start old = record { walk = walk_start L begun; same_length = refl; are = λ v h. refl }
+  pub marking_start : (old : List ℕ) {left : ℕ} → left ≡ k → Marking L s b (siblings_in s b from k) old from left first old
+  marking_start old whole = rw whole (record { walk = walk_start L begun; same_length = refl; are = λ v h. refl })
 
-  pub marking_on : {ts : Forest} {old set new : List ℕ} {at left row row' : ℕ} → 0 < left → Marking L s b ts old at left row set
-      → Marked (λ v. ltb row (get_or ends at 0) && literal_in s b v (get_or ends at 0 - at) at) set new → Way next (get_or ends at 0) row row'
-      → Marking L s b ts old (get_or ends at 0) (left - 1) row' new
-  marking_on {ts} {old} {set} {new} {at} {left} {row} {row'} some p m to_end =
-      record {
+  pub marking_on : {ts : Forest} {old set new : List ℕ} {at end left left' row row' : ℕ} → 0 < left → left' ≡ left - 1 → end ≡ get_or ends at 0 → Marking L s b ts old at left row set
+      → Marked (λ v. ltb row end && literal_in s b v (end - at) at) set new → Way next end row row' → Marking L s b ts old end left' row' new
+  marking_on {ts} {old} {set} {new} {at} {end} {left} {left'} {row} {row'} some less is p marked way =
+      let m = rw is at marked in
+      let to_end = rw is at way in
+      rw (less, is) (record {
         walk = walk-next L begun some p.walk to_end;
         same_length = m.same_length ∙ p.same_length;
         are = λ v h. ap (λ (c : Bool). c || has_any (of v) (relevant L others)) (m.is v h ∙ ap (λ (c : Bool). holds set v || c) (child v)) ∙
@@ -181,7 +182,7 @@ module _ (L : Literals) {s : Layout} {b : Bytes} {ends next : List ℕ} {from k 
             ap (λ (c : Bool). holds set v || c)
             (sym (ap (λ (us : Forest). has_any (of v) (relevant L us)) w.split ∙ relevant_first L (of v) (subtree_in s b at) others)) ∙
             p.are v h;
-      }
+      })
     where
       w : Walked s b ends at left
       w = walked L begun some p.walk

@@ -1,6 +1,6 @@
 -- The rows after that of a variable, by the numbers of rows.
 -- Assumes nothing.
-use Rattle.std.specs.Prelude.{◌≡◌, Bool, true, ◌&&◌, ◌||◌, cond, List, [], ◌∷◌, ℕ, suc, ◌≤◌, ◌<◌, eqb, length}
+use Rattle.std.specs.Prelude.{◌≡◌, Bool, true, ◌&&◌, ◌||◌, cond, List, [], ◌∷◌, Option, Some, None, ℕ, suc, ◌+◌, ◌≤◌, ◌<◌, eqb, length, drop}
 use Rattle.std.specs.Bool.{beq}
 use Rattle.formula.specs.Tree.{same_op, exists, Tree, Binding, Prefix, Formula, binds}
 use Rattle.formula.specs.Expand.{occurs}
@@ -31,6 +31,11 @@ row_test exist t z = beq (same_op exists z.quantifier) exist && occurs t z.varia
 unfoldable pub first_row : Bool → Tree → Prefix → ℕ
 first_row exist t [] = 0
 first_row exist t (z ∷ p) = cond (row_test exist t z) 0 (suc (first_row exist t p))
+
+-- the first such row from row `from` on, if there is one
+abbrev pub FirstFrom : Layout → Bytes → Bool → ℕ → Option ℕ → Type 0
+FirstFrom s b exist from None = s.variables ≡ from + first_row exist (matrix_in s b) (drop from (prefix_in s b))
+FirstFrom s b exist from (Some j) = (j < s.variables) × (j ≡ from + first_row exist (matrix_in s b) (drop from (prefix_in s b)))
 
 -- the set with the variable of row j added, if the row is existential and has a literal
 pub record WithRow (s : Layout) (b : Bytes) (j : ℕ) (old new : List ℕ) : Type 0 where

@@ -1,6 +1,6 @@
 -- The variables that depend on x, as a set in words.
 -- Assumes nothing.
-use Rattle.std.specs.Prelude.{◌≡◌, true, false, List, ◌⊎◌, ℕ, ◌+◌, ◌*◌, ◌≤◌, ◌<◌, length, get_or}
+use Rattle.std.specs.Prelude.{◌≡◌, true, false, List, ◌⊎◌, Option, Some, None, ℕ, ◌+◌, ◌*◌, ◌≤◌, ◌<◌, length, get_or}
 use Rattle.formula.specs.Tree.{Formula}
 use Rattle.formula.specs.Outer.{depends}
 use Rattle.sets.specs.Sets.{holds, left_in}
@@ -12,10 +12,10 @@ pub record Dependents (x : ℕ) (f : Formula) (set : List ℕ) : Type 0 where
   pub few : (v : ℕ) → holds set v ≡ true → v ≤ 1024
   pub is : (v : ℕ) → holds set v ≡ depends x f v
 
--- r is a number of the block that is found and not taken; or it is 1,025, and there is no such number, or the whole block is found
-pub record IsNext (bs fs ts : List ℕ) (r : ℕ) : Type 0 where
-  pub is_left : r < 1025 → left_in bs fs ts r ≡ true
-  pub is_last : 1025 ≤ r → ((v : ℕ) → v ≤ 1024 → left_in bs fs ts v ≡ false) ⊎ ((v : ℕ) → v ≤ 1024 → left_in bs bs fs v ≡ false)
+-- a number of the block that is found and not taken; or there is none, or the whole block is found
+abbrev pub IsNext : List ℕ → List ℕ → List ℕ → Option ℕ → Type 0
+IsNext bs fs ts (Some r) = (r < 1025) × (left_in bs fs ts r ≡ true)
+IsNext bs fs ts None = ((v : ℕ) → v ≤ 1024 → left_in bs fs ts v ≡ false) ⊎ ((v : ℕ) → v ≤ 1024 → left_in bs bs fs v ≡ false)
 
 -- the entries of y in the table of first and last literals
 abbrev pub range_at : List ℕ → ℕ → Range

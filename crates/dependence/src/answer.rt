@@ -22,8 +22,5 @@ pub fn lowest_dependent(set: &[u64]) -> usize
     ensures { (x : ℕ) (f : Formula) → Dependents x f set.now → result ≡ lowest_of (dependents x f) }
 {
     let v = lowest(set);
-    if NUMBERS <= v {
-        return 0;
-    }
-    v
+    if v < NUMBERS { v } else { 0 }
 }

@@ -1,11 +1,11 @@
 // The rows with literals after that of a universal variable: whether they are universal rows and then existential ones, and the set of the
 // existential ones. Each is one walk over the prefix; the table of occurrences shows which rows have a literal.
-ghost use Rattle.std.specs.Prelude.{◌≡◌, ◌+◌, ◌≤◌, ◌<◌, length, drop, replicate};
+ghost use Rattle.std.specs.Prelude.{◌≡◌, ◌≤◌, ◌<◌, length, replicate};
 ghost use Rattle.formula.specs.Outer.{one_block_out};
-ghost use Rattle.rows.specs.Formulas.{prefix_in, matrix_in, formula_in, Readable};
+ghost use Rattle.rows.specs.Formulas.{matrix_in, formula_in, Readable};
 ghost use Rattle.prefixes.specs.Places.{binding_in};
 ghost use Rattle.occurrences.specs.Occurrences.{Occurring};
-ghost use Rattle.dependence.specs.Blocks.{Located, Numbered, row_test, first_row, WithRow, IsBlock};
+ghost use Rattle.dependence.specs.Blocks.{Located, Numbered, row_test, FirstFrom, WithRow, IsBlock};
 
 use crate::Target;
 use occurrences::occurs;
@@ -18,26 +18,20 @@ fn is_row(b: &[u8], s: Layout, ranges: &[u16], exists: bool, j: usize) -> bool
     requires { Readable s b.now × Numbered s b.now × Occurring s b.now ranges.now × (j < s.variables) }
     ensures { result ≡ row_test exists (matrix_in s b.now) (binding_in s b.now j) }
 {
-    if is_existential(b, s, j) != exists {
-        return false;
-    }
-    occurs(s, ranges, bound_at(b, s, j))
+    is_existential(b, s, j) == exists && occurs(s, ranges, bound_at(b, s, j))
 }
 
-// The first such row from row `from` on, or V.
-fn find_row(b: &[u8], s: Layout, ranges: &[u16], exists: bool, from: usize) -> usize
+// The first such row from row `from` on, if there is one.
+fn find_row(b: &[u8], s: Layout, ranges: &[u16], exists: bool, from: usize) -> Option<usize>
     requires { Readable s b.now × Numbered s b.now × Occurring s b.now ranges.now × (from ≤ s.variables) }
-    ensures { result ≡ from + first_row exists (matrix_in s b.now) (drop from (prefix_in s b.now)) }
+    ensures { FirstFrom s b.now exists from result }
 {
-    let v = s.variables;
-    let mut j = from;
-    while j < v {
+    for j in from..s.variables {
         if is_row(b, s, ranges, exists, j) {
-            return j;
+            return Some(j);
         }
-        j += 1;
     }
-    j
+    None
 }
 
 // Whether a variable of the prefix is universal, and the later rows with literals are universal ones, then at least one existential one,
@@ -47,15 +41,13 @@ pub fn one_block_out(b: &[u8], ranges: &[u16], t: Target) -> bool
     ensures { result ≡ one_block_out t.variable (formula_in t.layout b.now) }
 {
     let s = t.layout;
-    let row = t.row;
-    if is_existential(b, s, row) {
+    if is_existential(b, s, t.row) {
         return false;
     }
-    let i = find_row(b, s, ranges, true, row + 1);
-    if s.variables <= i {
+    let Some(i) = find_row(b, s, ranges, true, t.row + 1) else {
         return false;
-    }
-    s.variables <= find_row(b, s, ranges, false, i + 1)
+    };
+    find_row(b, s, ranges, false, i + 1).is_none()
 }
 
 // Puts the variable of prefix row `j` into the set, if the row has a literal and is existential.
@@ -73,11 +65,7 @@ pub fn fill_block(b: &[u8], ranges: &[u16], t: Target, set: &mut [u64])
     requires { Readable t.layout b.now × Occurring t.layout b.now ranges.now × Located t.layout b.now t × (set.old ≡ replicate 17 0) }
     ensures { IsBlock t.variable (formula_in t.layout b.now) set.new }
 {
-    let s = t.layout;
-    let v = s.variables;
-    let mut j = t.row + 1;
-    while j < v {
-        add_row(b, s, ranges, j, set);
-        j += 1;
+    for j in t.row + 1..t.layout.variables {
+        add_row(b, t.layout, ranges, j, set);
     }
 }

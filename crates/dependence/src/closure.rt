@@ -22,21 +22,22 @@ fn range_of(ranges: &[u16], y: usize) -> Range
     ensures { result ≡ range_at ranges.now y }
 {
     Range {
-        first: ranges[2 * y] as usize,
-        last: ranges[2 * y + 1] as usize,
+        first: usize::from(ranges[2 * y]),
+        last: usize::from(ranges[2 * y + 1]),
     }
 }
 
-// The lowest number of the block that is found and not yet taken, or `NUMBERS` if there is none. It is `NUMBERS` too if the whole block is
-// found: taking more members would find nothing new.
-fn next_member(block: &[u64], found: &[u64], taken: &[u64]) -> usize
+// The lowest number of the block that is found and not yet taken, if there is one. There is none either if the whole block is found: taking
+// more members would find nothing new.
+fn next_member(block: &[u64], found: &[u64], taken: &[u64]) -> Option<usize>
     requires { (length block.now ≡ 17) × (length found.now ≡ 17) × (length taken.now ≡ 17) }
     ensures { IsNext block.now found.now taken.now result }
 {
     if NUMBERS <= lowest_left(block, block, found) {
-        return NUMBERS;
+        return None;
     }
-    lowest_left(block, found, taken)
+    let v = lowest_left(block, found, taken);
+    if v < NUMBERS { Some(v) } else { None }
 }
 
 // Fills an empty set with the variables that depend on a variable. `found` contains all variables with a literal in the relevant subtree of
@@ -54,21 +55,16 @@ pub fn fill_dependents(
     ensures { Dependents t.variable (formula_in t.layout b.now) set.new }
 {
     let s = t.layout;
-    let x = t.variable;
-    if !occurs(s, ranges, x) {
+    if !occurs(s, ranges, t.variable) {
         return;
     }
     let mut block = [0u64; WORDS];
     fill_block(b, ranges, t, &mut block);
     let mut found = [0u64; WORDS];
-    let own = range_of(ranges, x);
-    mark_relevant(b, s, ends, next, own, &mut found);
-    let mut y = next_member(&block, &found, set);
-    while y < NUMBERS {
+    mark_relevant(b, s, ends, next, range_of(ranges, t.variable), &mut found);
+    while let Some(y) = next_member(&block, &found, set) {
         add(set, y);
-        let range = range_of(ranges, y);
-        mark_relevant(b, s, ends, next, range, &mut found);
-        y = next_member(&block, &found, set);
+        mark_relevant(b, s, ends, next, range_of(ranges, y), &mut found);
     }
     intersect(&block, &found, set);
 }

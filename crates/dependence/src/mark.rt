@@ -18,10 +18,9 @@ fn mark_row(b: &[u8], s: Layout, i: usize, set: &mut [u64])
     ensures { MarkedRow s b.now i set.old set.new }
 {
     let v = literal_at(b, s, i);
-    if NUMBERS <= v {
-        return;
+    if v < NUMBERS {
+        add(set, v);
     }
-    add(set, v);
 }
 
 // Marks the variables of the node rows `from` to `to`.
@@ -29,10 +28,8 @@ fn mark_rows(b: &[u8], s: Layout, from: usize, to: usize, set: &mut [u64])
     requires { Readable s b.now × (from ≤ to) × (to ≤ s.nodes) × (length set.old ≡ 17) }
     ensures { MarkedRows s b.now from to set.old set.new }
 {
-    let mut i = from;
-    while i < to {
+    for i in from..to {
         mark_row(b, s, i, set);
-        i += 1;
     }
 }
 
@@ -52,15 +49,13 @@ fn mark_children(b: &[u8], s: Layout, ends: &[u16], next: &[u16], site: Site, se
     requires { Sited s b.now ends.now next.now site × (length set.old ≡ 17) }
     ensures { MarkedChildren s b.now next.now site set.old set.new }
 {
-    let mut left = children_at(b, s, site.operator);
     let mut at = site.operator + 1;
     let mut row = site.first;
-    while 0 < left {
-        let end = ends[at] as usize;
+    for _ in 0..children_at(b, s, site.operator) {
+        let end = usize::from(ends[at]);
         mark_child(b, s, at, end, row, set);
         row = first_behind(next, row, end);
         at = end;
-        left -= 1;
     }
 }
 
@@ -69,14 +64,14 @@ pub fn mark_relevant(b: &[u8], s: Layout, ends: &[u16], next: &[u16], range: Ran
     requires { Chained s b.now ends.now next.now range.first range.last × (length set.old ≡ 17) }
     ensures { MarkedRelevant s b.now next.now range set.old set.new }
 {
-    let relevant = relevant_subtree(b, s, ends, next, range);
-    if relevant.operator == range.first {
+    let operator = relevant_subtree(b, s, ends, next, range).operator;
+    if operator == range.first {
         mark_row(b, s, range.first, set);
-        return;
+    } else {
+        let site = Site {
+            operator,
+            first: range.first,
+        };
+        mark_children(b, s, ends, next, site, set);
     }
-    let site = Site {
-        operator: relevant.operator,
-        first: range.first,
-    };
-    mark_children(b, s, ends, next, site, set);
 }

@@ -21,7 +21,7 @@ use Rattle.subtrees.specs.Subtrees.{kids, subtree_in, siblings_in, Beside}
 use Rattle.subtrees.proofs.Forest.{rows-kids}
 use Rattle.subtrees.proofs.Siblings.{Walked, Children, siblings-none, subtree_within}
 use Rattle.duplicates.specs.Members.{clash, tree_of, Member, some_member, clashes_with, two_clash, Gathered, Adds}
-use Rattle.duplicates.proofs.Members.{less_or_same}
+use Rattle.buckets.proofs.Chains.{less_or_same}
 
 -- some-two at the end of a list
 two_last : (R : Tree → Tree → Bool) (ts : Forest) (u : Tree) → some_two R (ts ⧺ (u ▸ ∅)) ≡ (some_child (λ t. R t u) ts || some_two R ts)

@@ -4,22 +4,21 @@ use mathlib.Core.Path.{◌≡◌, refl, sym, ap, ap₂, ◌∙◌}
 use mathlib.Core.Bool.{Bool, true, false, ◌||◌, or-false, false≢true}
 use mathlib.Core.Logic.{⊎_elim}
 use mathlib.Core.List.{List}
-use Prim.Native.Nat.{ℕ, zero, suc, ◌+◌, ◌*◌, ◌/◌, ◌%◌, ◌≤◌, ◌<◌}
+use Prim.Native.Nat.{ℕ, zero, suc, ◌+◌, ◌/◌, ◌%◌, ◌≤◌, ◌<◌}
 use native.Mathlib.Numerals.{add-one}
 use native.Mathlib.Omega.{arith}
 use lib.Dec.{eqb}
 use lib.ListN.{length, get_or, set}
 use lib.Seq.{set-get_or}
-use borrow.Author.Tests.{eqb-true, eqb-false}
+use borrow.Author.Tests.{eqb-true}
 use Rattle.formula.specs.Tree.{and, or, Tree, lit, node}
 use Rattle.formula.specs.Tidy.{same_variable, same_tree, duplicate}
 use Rattle.formula.proofs.Booleans.{or-none, or_later, or_cases}
 use Rattle.formula.proofs.Tidy.Same.{same_tree_same, duplicate_same}
 use Rattle.buckets.specs.Chains.{entry_of, BUCKETS, bucket, Room, Linked, Passed}
 use Rattle.buckets.specs.Halves.{hash_of}
-use Rattle.buckets.specs.declared.Link.{Link}
-use Rattle.buckets.specs.declared.Link.TheVariants.{End}
-use Rattle.buckets.proofs.Chains.{linked-none}
+use Rattle.std.specs.Prelude.{Option, None}
+use Rattle.buckets.proofs.Chains.{linked-none, less_or_same}
 use Rattle.buckets.specs.Hashes.{hash}
 use Rattle.buckets.proofs.Hashes.{literal-bucket}
 use Rattle.sheet.specs.Format.{Bytes}
@@ -90,16 +89,6 @@ module _ {s : Layout} {b : Bytes} {m w : ℕ} (p : Member s b m) (q : Member s b
 
 -- some-member
 
-pub less_or_same : {A : Type 0} (j n : ℕ) → j < suc n → (j ≡ n → A) → (j < n → A) → A
-less_or_same {A} j n l f g = go (eqb j n) refl
-  where
-    go : (c : Bool) → eqb j n ≡ c → A
-    go true e = f (eqb-true j n e)
-    go false e = let d = eqb-false j n e in g (below d)
-      where
-        below : (j ≡ n → ⊥) → j < n
-        below d = omega arith
-
 pub member_yes : (P : ℕ → Bool) (M : List ℕ) (n i : ℕ) → i < n → P (get_or M i 0) ≡ true → some_member P M n ≡ true
 unfolding some_member
 member_yes P M zero i l e = absurd (omega arith)
@@ -117,8 +106,8 @@ member_no P M (suc n) h = or-none (by (P (get_or M n 0)) refl) (member_no P M n 
     by false e = refl
 
 -- a chain passed to its end
-pub chain_passed : {s : Layout} {b : Bytes} {M : List ℕ} {n m : ℕ} {l : Link} → Members s b M n → Member s b m
-    → Passed M n (bucket m) (λ j. clashes_with s b m (get_or M j 0) ≡ true) l → l ≡ End → some_member (clashes_with s b m) M n ≡ false
+pub chain_passed : {s : Layout} {b : Bytes} {M : List ℕ} {n m : ℕ} {l : Option ℕ} → Members s b M n → Member s b m
+    → Passed M n (bucket m) (λ j. clashes_with s b m (get_or M j 0) ≡ true) l → l ≡ None → some_member (clashes_with s b m) M n ≡ false
 chain_passed {s} {b} {M} {n} {m} ms w p e =
     member_no (clashes_with s b m) M n (λ j l t. p.failed j (omega (arith, ap entry_of e)) l (buckets_same (ms j l) w t) t)
 

@@ -20,12 +20,6 @@ use Rattle.duplicates.specs.Hashes.{mixes, Mixes, Hashed}
 
 -- hash
 
-pub kind-least : (t : Tree) {k : ℕ} → k ≡ (top t).kind → 3 ≤ k
-kind-least (lit true v) e = omega arith
-kind-least (lit false v) e = omega arith
-kind-least (node and ts) e = omega arith
-kind-least (node or ts) e = omega arith
-
 pub hash-literal : (t : Tree) {k v : ℕ} → k ≡ (top t).kind → v ≡ (top t).argument → k ≤ 4 → literal_mix (4 - k) v ≡ hash t
 unfolding hash
 hash-literal (lit true v) {k} e f h = let one : 4 - k ≡ 1 = omega arith in ap₂ literal_mix one f
@@ -42,18 +36,19 @@ hash_operator (node or ts) e h = ap (λ (k : ℕ). hash_on k ts) e
 
 -- mixes
 
-pub record Mixed (ends hashes : List ℕ) (at left a at' : ℕ) : Type 0 where
+pub record Mixed (ends hashes : List ℕ) (at left left' a at' : ℕ) : Type 0 where
   pub in_ends : at < length ends
   pub in_hashes : at < length hashes
-  pub onward : Mixes ends hashes at' (left - 1)
-  pub same : mixes ends hashes at left a ≡ mixes ends hashes at' (left - 1) (mix a (get_or hashes at 0))
+  pub onward : Mixes ends hashes at' left'
+  pub same : mixes ends hashes at left a ≡ mixes ends hashes at' left' (mix a (get_or hashes at 0))
 
-pub mix_on : (ends hashes : List ℕ) {at left : ℕ} (a : ℕ) → 0 < left → Mixes ends hashes at left → Mixed ends hashes at left a (get_or ends at 0)
+pub mix_on : (ends hashes : List ℕ) {at left left' : ℕ} (a : ℕ) → left ≡ suc left' → Mixes ends hashes at left
+    → Mixed ends hashes at left left' a (get_or ends at 0)
 unfolding mixes
-mix_on ends hashes {at} {left = zero} a h m = absurd (omega arith)
-mix_on ends hashes {at} {left = suc l} a h m =
-    let e : suc l - 1 ≡ l = omega arith in
-    record { in_ends = m.0; in_hashes = m.1; onward = rw e m.2; same = rw e }
+mix_on ends hashes {at} {left = zero} a next m = absurd (omega arith)
+mix_on ends hashes {at} {left = suc l} {left'} a next m =
+    let e : left' ≡ l = omega arith in
+    rw e (record { in_ends = m.0; in_hashes = m.1; onward = m.2; same = refl })
 
 pub mixes-none : (ends hashes : List ℕ) (at : ℕ) {left : ℕ} (a : ℕ) → left ≤ 0 → mixes ends hashes at left a ≡ a
 unfolding mixes

@@ -15,12 +15,10 @@ fn mix_siblings(ends: &[u16], hashes: &[u16], from: usize, count: usize, start: 
     ensures { (result ≡ mixes ends.now hashes.now from count start) × (result < 65536) }
 {
     let mut at = from;
-    let mut left = count;
     let mut h = start;
-    while 0 < left {
-        h = mixed(h, hashes[at] as usize);
-        at = ends[at] as usize;
-        left -= 1;
+    for _ in 0..count {
+        h = mixed(h, usize::from(hashes[at]));
+        at = usize::from(ends[at]);
     }
     h
 }
@@ -33,9 +31,9 @@ fn hash_at(b: &[u8], s: Layout, ends: &[u16], hashes: &[u16], i: usize) -> usize
     let kind = kind_at(b, s, i);
     let argument = argument_at(b, s, i);
     if kind <= rows::NEGATIVE {
-        return literal_hash((rows::NEGATIVE - kind) as usize, argument);
+        return literal_hash(usize::from(rows::NEGATIVE - kind), argument);
     }
-    mix_siblings(ends, hashes, i + 1, argument, kind as usize)
+    mix_siblings(ends, hashes, i + 1, argument, usize::from(kind))
 }
 
 // Fills the table of hashes.
@@ -43,9 +41,7 @@ pub fn fill_hashes(b: &[u8], s: Layout, ends: &[u16], hashes: &mut [u16])
     requires { Indexed s b.now ends.now × (s.nodes ≤ length hashes.old) }
     ensures { Hashed s b.now hashes.new 0 }
 {
-    let mut i = s.nodes;
-    while 0 < i {
-        i -= 1;
+    for i in (0..s.nodes).rev() {
         hashes[i] = hash_at(b, s, ends, hashes, i) as u16;
     }
 }

@@ -12,7 +12,7 @@ ghost use Rattle.duplicates.specs.Hashes.{Hashed};
 ghost use Rattle.duplicates.specs.Members.{clash, same_top, tree_of, Member, Members, some_member, clashes_with, two_clash, Gathered, Adds};
 
 use buckets::half::{hash_of, member_of, row_of};
-use buckets::{Link, add, behind, bucket_of, first, member, small};
+use buckets::{add, behind, bucket_of, first, member};
 use rows::Layout;
 use subtrees::nodes::{argument_at, children_at, kind_at};
 
@@ -23,10 +23,7 @@ fn differ(b: &[u8], s: Layout, i: usize, j: usize) -> bool
     requires { Readable s b.now × (i < s.nodes) × (j < s.nodes) }
     ensures { result ≡ not (same_top (subtree_in s b.now i) (subtree_in s b.now j)) }
 {
-    if kind_at(b, s, i) != kind_at(b, s, j) {
-        return true;
-    }
-    argument_at(b, s, i) != argument_at(b, s, j)
+    kind_at(b, s, i) != kind_at(b, s, j) || argument_at(b, s, i) != argument_at(b, s, j)
 }
 
 // Whether the subtrees at node rows `i` and `j` are the same: compared row by row until they end or differ.
@@ -53,10 +50,7 @@ fn same_variable(b: &[u8], s: Layout, i: usize, j: usize) -> bool
     requires { Readable s b.now × (i < s.nodes) × (j < s.nodes) × ((top (subtree_in s b.now i)).kind ≤ 4) }
     ensures { result ≡ same_variable (subtree_in s b.now i) (subtree_in s b.now j) }
 {
-    if rows::NEGATIVE < kind_at(b, s, j) {
-        return false;
-    }
-    argument_at(b, s, i) == argument_at(b, s, j)
+    kind_at(b, s, j) <= rows::NEGATIVE && argument_at(b, s, i) == argument_at(b, s, j)
 }
 
 // Whether two members clash: they are literals of one variable, or equal operators.
@@ -69,10 +63,7 @@ fn members_clash(b: &[u8], s: Layout, m: usize, w: usize) -> bool
     if kind_at(b, s, i) <= rows::NEGATIVE {
         return same_variable(b, s, i, j);
     }
-    if hash_of(m) != hash_of(w) {
-        return false;
-    }
-    same_at(b, s, i, j)
+    hash_of(m) == hash_of(w) && same_at(b, s, i, j)
 }
 
 // Whether a member before member `n` clashes with it.
@@ -82,7 +73,7 @@ fn clashes(b: &[u8], s: Layout, heads: &[u16], links: &[u16], members: &[u32], n
 {
     let m = member(members, n);
     let mut link = first(heads, members, n, bucket_of(m));
-    while let Link::Member(i) = link {
+    while let Some(i) = link {
         if members_clash(b, s, member(members, i), m) {
             return true;
         }
@@ -103,25 +94,22 @@ pub fn some_clash(
     requires { Readable s b.now × Members s b.now members.old count × Room heads.old links.old members.old count }
     ensures { result ≡ two_clash s b.now members.old count }
 {
-    let mut n = 0;
-    while n < count {
+    for n in 0..count {
         if clashes(b, s, heads, links, members, n) {
             return true;
         }
         let m = member(members, n);
         add(heads, links, members, n, m);
-        n += 1;
     }
     false
 }
 
-// Adds the subtree at node row `at` as a member behind the first `n`, and returns how many there are then.
-fn put(b: &[u8], s: Layout, hashes: &[u16], members: &mut [u32], at: usize, n: usize) -> usize
+// Adds the subtree at node row `at` as a member behind the first `n`.
+fn put(b: &[u8], s: Layout, hashes: &[u16], members: &mut [u32], at: usize, n: usize)
     requires { Readable s b.now × (at < s.nodes) × Hashed s b.now hashes.now at × (n < length members.old) }
-    ensures { Adds s b.now (subtree_in s b.now at) members.old n members.new result }
+    ensures { Adds s b.now (subtree_in s b.now at) members.old n members.new (n + 1) }
 {
-    members[n] = member_of(at, small(hashes[at])) as u32;
-    n + 1
+    members[n] = member_of(at, usize::from(hashes[at])) as u32;
 }
 
 // Gathers the children of the subtree at node row `i`, and returns how many there are.
@@ -136,13 +124,11 @@ pub fn gather(
     requires { Indexed s b.now ends.now × (i < s.nodes) × Hashed s b.now hashes.now 0 × (s.nodes ≤ length members.old) }
     ensures { Gathered s b.now members.new result (kids (subtree_in s b.now i)) × (result ≤ s.nodes) }
 {
+    let count = children_at(b, s, i);
     let mut at = i + 1;
-    let mut left = children_at(b, s, i);
-    let mut n = 0;
-    while 0 < left {
-        n = put(b, s, hashes, members, at, n);
-        at = ends[at] as usize;
-        left -= 1;
+    for n in 0..count {
+        put(b, s, hashes, members, at, n);
+        at = usize::from(ends[at]);
     }
-    n
+    count
 }

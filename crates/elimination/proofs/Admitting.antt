@@ -127,9 +127,9 @@ module _ {b : Bytes} {s : Layout} (h : Sheet s.format b s) (x : ℕ) where
     tidy-here = tidy_by t (rows-nodes b (sheet_readable h)) told ∙ ap not (le-ltb fault s.nodes sound)
 
     -- 10 x not in the prefix
-    pub not-bound : {i : ℕ} → i ≡ place x (prefix_in s b) → s.variables ≤ i → refused 10 0 ≡ answer (admission_tests F b x) x
+    pub not-bound : place x (prefix_in s b) ≡ s.variables → refused 10 0 ≡ answer (admission_tests F b x) x
     unfolding answer read_tests
-    not-bound {i} at l =
+    not-bound none =
         rw (
           answered,
           tidy-here,

@@ -19,16 +19,6 @@ use Rattle.elimination.specs.Survey.{Drafts, Surveyed}
 use Rattle.elimination.specs.Expanding.{Priced, draft_of, Prepared}
 use Rattle.elimination.specs.declared.survey.Survey.{Survey}
 
--- the joint
-
-pub joins_or : (o : Op) → same_op exists o ≡ true → 6 ≡ operator_kind o
-joins_or and h = absurd (false≢true h)
-joins_or or h = refl
-
-pub joins_and : (o : Op) → same_op exists o ≡ false → 5 ≡ operator_kind o
-joins_and and h = refl
-joins_and or h = absurd (true≢false h)
-
 module _ {s : Layout} {b : Bytes} {ends ranges next : List ℕ} {c : Candidate} (k : Priced s b ends ranges next c) where
   abbrev x : ℕ
   x = c.variable

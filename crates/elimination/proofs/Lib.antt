@@ -1,5 +1,6 @@
 -- Laws for callers.
 pub mod Admitting
+pub mod Refusing
 pub mod Surveying
 pub mod Expansions
 pub mod RawSheets

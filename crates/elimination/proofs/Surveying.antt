@@ -5,8 +5,9 @@ use mathlib.Core.Bool.{Bool, true, false, cond, true≢false, false≢true}
 use mathlib.Core.List.{List}
 use Prim.Native.Nat.{ℕ, suc, ◌+◌, ◌≤◌, ◌<◌}
 use native.Mathlib.Omega.{arith}
-use lib.ListN.{length, get_or, take, drop, length-append}
+use lib.ListN.{length, take, drop, length-append}
 use lib.Seq.{take_at}
+use Rattle.std.specs.Prelude.{Option, Some, None}
 use Rattle.formula.specs.Tree.{Tree, Literals, rows, has}
 use Rattle.formula.specs.Expand.{raw_rows}
 use Rattle.sheet.specs.Format.{Bytes}
@@ -20,8 +21,6 @@ use Rattle.subtrees.specs.Parts.{relevant_subtree}
 use Rattle.relevance.specs.Raw.{presence, grown_by, copied}
 use Rattle.relevance.specs.Walks.{Sited, IsCuts}
 use Rattle.subtrees.specs.declared.relevant.Relevant.{Relevant}
-use Rattle.relevance.specs.declared.variable.Presence.{Presence}
-use Rattle.relevance.specs.declared.variable.Presence.TheVariants.{Absent, Present}
 use Rattle.relevance.proofs.Growth.{raw_rows_by}
 use Rattle.relevance.proofs.Descent.{placed, operator_before}
 use Rattle.raw.specs.declared.expand.Expansion.{Expansion}
@@ -30,36 +29,36 @@ use Rattle.elimination.specs.declared.survey.Draft.{Draft}
 
 -- presence
 
-is_present : Presence → Bool
-is_present Absent = false
-is_present (Present p) = true
+is_present : Option Relevant → Bool
+is_present None = false
+is_present (Some p) = true
 
-the_part : Relevant → Presence → Relevant
-the_part d Absent = d
-the_part d (Present p) = p
+the_part : Relevant → Option Relevant → Relevant
+the_part d None = d
+the_part d (Some p) = p
 
 module _ (L : Literals) (t : Tree) where
-  told_absent : Absent ≡ presence L t → has L t ≡ false
+  told_absent : None ≡ presence L t → has L t ≡ false
   unfolding presence is_present
   told_absent e = by (has L t) refl e
     where
-      by : (c : Bool) → has L t ≡ c → Absent ≡ cond c (Present (relevant_subtree L 0 t)) Absent → has L t ≡ false
+      by : (c : Bool) → has L t ≡ c → None ≡ cond c (Some (relevant_subtree L 0 t)) None → has L t ≡ false
       by true h e = absurd (false≢true (ap is_present e))
       by false h e = h
 
-  told_present : {p : Relevant} → Present p ≡ presence L t → (has L t ≡ true) × (p ≡ relevant_subtree L 0 t)
+  told_present : {p : Relevant} → Some p ≡ presence L t → (has L t ≡ true) × (p ≡ relevant_subtree L 0 t)
   unfolding presence is_present the_part
   told_present {p} e = by (has L t) refl e
     where
-      by : (c : Bool) → has L t ≡ c → Present p ≡ cond c (Present (relevant_subtree L 0 t)) Absent
+      by : (c : Bool) → has L t ≡ c → Some p ≡ cond c (Some (relevant_subtree L 0 t)) None
           → (has L t ≡ true) × (p ≡ relevant_subtree L 0 t)
       by true h e = (h, ap (the_part p) e)
       by false h e = absurd (true≢false (ap is_present e))
 
 -- how many rows the raw sheet can have
-grown_most : (n : ℕ) (p : Presence) → grown_by n p ≤ n + copied p + 2
-grown_most n Absent = omega arith
-grown_most n (Present p) = by p.all
+grown_most : (n : ℕ) (p : Option Relevant) → grown_by n p ≤ n + copied p + 2
+grown_most n None = omega arith
+grown_most n (Some p) = by p.all
   where
     by : (c : Bool) → n + (p.rows + cond c 1 2) ≤ n + p.rows + 2
     by true = omega arith
@@ -85,7 +84,7 @@ module _ {L : Literals} {s : Layout} {b : Bytes} {ends next : List ℕ} {d : Dra
   abbrev t : Tree
   t = matrix_in s b
 
-  operator_in : {p : Relevant} → Present p ≡ presence L t → p.operator < s.nodes
+  operator_in : {p : Relevant} → Some p ≡ presence L t → p.operator < s.nodes
   operator_in e =
       let found = told_present L t e in
       let here = k.chain found.0 in
@@ -98,16 +97,16 @@ module _ {L : Literals} {s : Layout} {b : Bytes} {ends next : List ℕ} {d : Dra
   pub ended : Ended ends d.relevant
   ended = by d.relevant k.part_is
     where
-      by : (p : Presence) → p ≡ presence L t → Ended ends p
-      by Absent e = tt
-      by (Present p) e =
+      by : (p : Option Relevant) → p ≡ presence L t → Ended ends p
+      by None e = tt
+      by (Some p) e =
           (omega (arith, operator_in e, k.indexed.readable.few_nodes), omega (arith, operator_in e, k.indexed.holds))
 
   outlined : {e : Expansion} → e ≡ outline_of s ends d → Outlined L s b d e
   outlined is = rw is (by d.relevant k.part_is)
     where
-      by : (p : Presence) → p ≡ presence L t → Outlined L s b d (outline_by s ends d p)
-      by Absent e =
+      by : (p : Option Relevant) → p ≡ presence L t → Outlined L s b d (outline_by s ends d p)
+      by None e =
           record {
             row_is = refl;
             joint_is = refl;
@@ -117,7 +116,7 @@ module _ {L : Literals} {s : Layout} {b : Bytes} {ends next : List ℕ} {d : Dra
             end_is = λ h. absurd (false≢true h);
             present = λ h. absurd (true≢false h);
           }
-      by (Present p) e =
+      by (Some p) e =
           record {
             row_is = refl;
             joint_is = refl;

@@ -1,6 +1,6 @@
 -- Where the copies of an expansion go ("Expand x"): what is found before the raw sheet is written, for any set of literals.
 -- Assumes nothing.
-use Rattle.std.specs.Prelude.{◌≡◌, Bool, true, false, List, ℕ, suc, ◌+◌, ◌≤◌, ◌<◌, length, get_or, take}
+use Rattle.std.specs.Prelude.{◌≡◌, Bool, true, false, List, ℕ, suc, ◌+◌, ◌≤◌, ◌<◌, length, get_or, take, Option, Some, None}
 use Rattle.formula.specs.Tree.{Literals, rows, has}
 use Rattle.formula.specs.Expand.{raw_rows}
 use Rattle.sheet.specs.Format.{Bytes}
@@ -13,8 +13,6 @@ use Rattle.subtrees.specs.Cuts.{cuts}
 use Rattle.subtrees.specs.Parts.{relevant_subtree}
 use Rattle.relevance.specs.Raw.{presence}
 use Rattle.subtrees.specs.declared.relevant.Relevant.{Relevant}
-use Rattle.relevance.specs.declared.variable.Presence.{Presence}
-use Rattle.relevance.specs.declared.variable.Presence.TheVariants.{Absent, Present}
 use Rattle.raw.specs.declared.expand.Expansion.{Expansion}
 use Rattle.elimination.specs.declared.survey.Draft.{Draft}
 use Rattle.elimination.specs.declared.survey.Survey.{Survey}
@@ -24,18 +22,18 @@ abbrev pub draft_layout : Layout → Draft → ℕ → Layout
 draft_layout s d n = record { format = s.format; variables = d.variables; nodes = n }
 
 -- a table of ends has an entry for the relevant subtree
-abbrev pub Ended : List ℕ → Presence → Type 0
-Ended ends Absent = Unit {0}
-Ended ends (Present p) = (p.operator < 65536) × (p.operator < length ends)
+abbrev pub Ended : List ℕ → Option Relevant → Type 0
+Ended ends None = Unit {0}
+Ended ends (Some p) = (p.operator < 65536) × (p.operator < length ends)
 
 -- the expansion by whether a literal occurs, the relevant subtree and the row behind it
 abbrev pub expansion : Layout → Draft → Bool → Relevant → ℕ → Expansion
 expansion s d occurs p end =
     record { occurs = occurs; relevant = p; end = end; row = d.row; joint = d.joint; layout = draft_layout s d d.raw }
 
-abbrev pub outline_by : Layout → List ℕ → Draft → Presence → Expansion
-outline_by s ends d Absent = expansion s d false (record { operator = 0; all = true; rows = 0; children = 0 }) 0
-outline_by s ends d (Present p) = expansion s d true p (get_or ends p.operator 0)
+abbrev pub outline_by : Layout → List ℕ → Draft → Option Relevant → Expansion
+outline_by s ends d None = expansion s d false (record { operator = 0; all = true; rows = 0; children = 0 }) 0
+outline_by s ends d (Some p) = expansion s d true p (get_or ends p.operator 0)
 
 abbrev pub outline_of : Layout → List ℕ → Draft → Expansion
 outline_of s ends d = outline_by s ends d d.relevant

@@ -4,9 +4,8 @@ ghost use Rattle.rows.specs.Tables.{ROWS};
 ghost use Rattle.checking.specs.Sheets.{Sheet};
 ghost use Rattle.elimination.specs.Admission.{Admits};
 
-use checking::Checked;
 use prefixes::find_variable;
-use rows::refusals::{NOT_IN_PREFIX, NOT_TIDY};
+use rows::refusals::Refusal;
 use rows::{Format, Layout};
 use subtrees::ends::fill_ends;
 use tidiness::first_fault;
@@ -18,42 +17,36 @@ pub struct Binding {
     pub variable: usize,
 }
 
-// A refusal's number and place; or the sheet's layout and the variable with its row.
-#[derive(Clone, Copy)]
-pub enum Admission {
-    Refused(usize, usize),
-    Admitted(Layout, Binding),
-}
-
-// Decides on a sheet that Check accepts.
-fn admit_checked(sheet: &[u8], s: Layout, x: usize, ends: &mut [u16]) -> Admission
+// Decides on a sheet that Check accepts, and finds the variable with its row.
+fn admit_checked(
+    sheet: &[u8],
+    s: Layout,
+    x: usize,
+    ends: &mut [u16],
+) -> Result<(Layout, Binding), Refusal>
     requires { Sheet s.format sheet.now s × (ROWS ≤ length ends.old) }
     ensures { Admits s.format sheet.now x ends.new result }
 {
     fill_ends(sheet, s, ends);
     let fault = first_fault(sheet, s, ends);
     if fault < s.nodes {
-        return Admission::Refused(NOT_TIDY, s.variables + fault);
+        return Err(Refusal::NotTidy(s.variables + fault));
     }
-    let i = find_variable(sheet, s, x);
-    if s.variables <= i {
-        return Admission::Refused(NOT_IN_PREFIX, 0);
-    }
-    let z = Binding {
-        row: i,
-        variable: x,
-    };
-    Admission::Admitted(s, z)
+    let row = find_variable(sheet, s, x).ok_or(Refusal::NotInPrefix)?;
+    Ok((s, Binding { row, variable: x }))
 }
 
-// Decides tests 1 to 10 for the variable `x` of a sheet, and fills the table of ends of one that passes.
-pub fn admit(sheet: &[u8], f: Format, x: usize, ends: &mut [u16]) -> Admission
+// Decides tests 1 to 10 for the variable `x` of a sheet, and fills the table of ends of one that passes: the sheet's layout, and the
+// variable with its row.
+pub fn admit(
+    sheet: &[u8],
+    f: Format,
+    x: usize,
+    ends: &mut [u16],
+) -> Result<(Layout, Binding), Refusal>
     requires { ROWS ≤ length ends.old }
     ensures { Admits f sheet.now x ends.new result }
 {
-    let c = checking::check(sheet, f);
-    match c {
-        Checked::Refused(number, place) => Admission::Refused(number, place),
-        Checked::Accepted(s) => admit_checked(sheet, s, x, ends),
-    }
+    let s = checking::check(sheet, f)?;
+    admit_checked(sheet, s, x, ends)
 }

@@ -22,10 +22,7 @@ fn joint_at(b: &[u8], s: Layout, i: usize) -> u8
     requires { Readable s b.now × (i < s.variables) }
     ensures { result ≡ operator_kind (binding_in s b.now i).quantifier }
 {
-    if is_existential(b, s, i) {
-        return OR;
-    }
-    AND
+    if is_existential(b, s, i) { OR } else { AND }
 }
 
 // What is expanded of a variable whose relevant subtree and price are known; `ranges` has the row of its first literal.
@@ -33,10 +30,9 @@ pub fn draft(b: &[u8], s: Layout, ranges: &[u16], c: Candidate) -> Draft
     requires { Readable s b.now × (c.row < s.variables) × (c.variable ≤ HIGHEST) × (length ranges.now ≡ 2 * NUMBERS) }
     ensures { result ≡ draft_of s b.now ranges.now c }
 {
-    let relevant = c.relevant;
     Draft {
-        relevant: relevant,
-        first: ranges[2 * c.variable] as usize,
+        relevant: c.relevant,
+        first: usize::from(ranges[2 * c.variable]),
         raw: c.raw,
         row: c.row,
         variables: s.variables - 1,

@@ -28,9 +28,10 @@ fn entries_for(x: usize) -> usize
     ensures { (x < result) × (result ≤ NUMBERS) }
 {
     if x < FEW_NUMBERS {
-        return FEW_NUMBERS;
+        FEW_NUMBERS
+    } else {
+        NUMBERS
     }
-    NUMBERS
 }
 
 // Writes the settled sheet to the front of `out`, with zeros behind it, and returns its layout.
@@ -45,9 +46,8 @@ pub fn settle_into(b: &[u8], s: Layout, p: Put, out: &mut [u8]) -> Layout
     let changes = &mut table[..entries];
     fill(changes, p.variable, p.value);
     write_settled(b, s, changes, p.row, out);
-    let f = s.format;
     let raw = Layout {
-        format: f,
+        format: s.format,
         variables: s.variables - 1,
         nodes: s.nodes,
     };

@@ -6,7 +6,6 @@ ghost use Rattle.elimination.specs.Survey.{outline_of, Ended, Drafted, Surveys};
 use raw::expand::Expansion;
 use relevance::Site;
 use relevance::cuts::fill_cuts;
-use relevance::variable::Presence;
 use rows::Layout;
 use subtrees::relevant::Relevant;
 
@@ -14,7 +13,7 @@ use subtrees::relevant::Relevant;
 // where: the prefix row that goes, how many variables the raw sheet has, and the kind of the operator that joins the copies.
 #[derive(Clone, Copy)]
 pub struct Draft {
-    pub relevant: Presence,
+    pub relevant: Option<Relevant>,
     pub first: usize,
     pub raw: usize,
     pub row: usize,
@@ -34,15 +33,13 @@ fn outline(s: Layout, ends: &[u16], d: Draft) -> Expansion
     requires { Ended ends.now d.relevant }
     ensures { result ≡ outline_of s ends.now d }
 {
-    let format = s.format;
     let layout = Layout {
-        format: format,
+        format: s.format,
         variables: d.variables,
         nodes: d.raw,
     };
-    let found = d.relevant;
-    match found {
-        Presence::Absent => {
+    match d.relevant {
+        None => {
             let none = Relevant {
                 operator: 0,
                 all: true,
@@ -55,21 +52,17 @@ fn outline(s: Layout, ends: &[u16], d: Draft) -> Expansion
                 end: 0,
                 row: d.row,
                 joint: d.joint,
-                layout: layout,
+                layout,
             }
         }
-        Presence::Present(relevant) => {
-            let operator = relevant.operator;
-            let end = ends[operator] as usize;
-            Expansion {
-                occurs: true,
-                relevant: relevant,
-                end: end,
-                row: d.row,
-                joint: d.joint,
-                layout: layout,
-            }
-        }
+        Some(relevant) => Expansion {
+            occurs: true,
+            relevant,
+            end: usize::from(ends[relevant.operator]),
+            row: d.row,
+            joint: d.joint,
+            layout,
+        },
     }
 }
 
@@ -93,6 +86,8 @@ pub fn survey_draft(
         operator: e.relevant.operator,
         first: d.first,
     };
-    let k = fill_cuts(b, s, ends, next, site, cuts);
-    Survey { cuts: k, to: e }
+    Survey {
+        cuts: fill_cuts(b, s, ends, next, site, cuts),
+        to: e,
+    }
 }

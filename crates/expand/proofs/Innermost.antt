@@ -1,15 +1,15 @@
 -- The walk over the rows after that of x: none so far is in the way.
 -- Assumes nothing.
 use mathlib.Core.Path.{◌≡◌, refl, sym, ap, ap₂, ◌∙◌}
-use mathlib.Core.Bool.{Bool, true, false, not, ◌&&◌, cond, beq}
+use mathlib.Core.Bool.{Bool, true, false, not, ◌&&◌, cond}
 use mathlib.Core.List.{◌∷◌}
 use Prim.Native.Nat.{ℕ, suc, ◌+◌, ◌≤◌, ◌<◌}
 use native.Mathlib.Numerals.{add-one}
 use native.Mathlib.Omega.{arith}
 use lib.ListN.{length, drop}
 use borrow.Author.Tests.{lt-ltb}
-use Rattle.formula.specs.Tree.{and, Quantifier, same_op, exists, Binding, Prefix, quantifier_of}
-use Rattle.formula.specs.Expand.{all_of, after, among, occurs, occurring, later, innermost}
+use Rattle.formula.specs.Tree.{Quantifier, same_op, Binding, Prefix, quantifier_of}
+use Rattle.formula.specs.Expand.{all_of, among, occurs, occurring, later, innermost}
 use Rattle.sheet.specs.Format.{Bytes}
 use Rattle.rows.specs.Formulas.{prefix_in, matrix_in, formula_in, Readable}
 use Rattle.rows.specs.declared.Layout.{Layout}
@@ -18,7 +18,6 @@ use Rattle.prefixes.specs.Places.{place, binding_at, binding_in}
 use Rattle.prefixes.proofs.Places.{binds-place, quantifier_of-place, prefix_row, no_rows, after-place}
 use Rattle.elimination.specs.Steps.{Named}
 use Rattle.expand.specs.Inner.Block.{in_the_way}
-use Rattle.formula.proofs.Booleans.{same_op-exists}
 
 -- one row more
 all_of-row : (q : Quantifier) (P : ℕ → Bool) (z : Binding) (p : Prefix)
@@ -84,19 +83,3 @@ module _ {s : Layout} (b : Bytes) (ok : Readable s b) where
         (innermost-row n ∙ c.same ∙
         ap (λ (l : Prefix). all_of (binding_in s b i).quantifier (among (occurs (matrix_in s b)) l))
         (no_rows b ok j (omega (arith, c.within))))
-
--- in-the-way
-
-module _ (s : Layout) (b : Bytes) (i j : ℕ) {m n : Bool} (of-i : m ≡ same_op exists (binding_in s b i).quantifier)
-    (of-j : n ≡ same_op exists (binding_in s b j).quantifier) where
-  compared : {e : Bool} → beq m n ≡ e
-      → in_the_way s b i j ≡ (not e && occurs (matrix_in s b) (binding_in s b j).variable)
-  compared h =
-      ap (λ (e : Bool). not e && occurs (matrix_in s b) (binding_in s b j).variable)
-      (same_op-exists (binding_in s b i).quantifier (binding_in s b j).quantifier ∙ ap₂ beq (sym of-i) (sym of-j) ∙ h)
-
-  pub same_kind : beq m n ≡ true → false ≡ in_the_way s b i j
-  same_kind h = sym (compared h)
-
-  pub other_kind : {r : Bool} → beq m n ≡ false → r ≡ occurs (matrix_in s b) (binding_in s b j).variable → r ≡ in_the_way s b i j
-  other_kind h e = e ∙ sym (compared h)

@@ -1,3 +1,2 @@
--- Quote's answer. Expand's and Execute's contracts need no definition of their own.
-pub mod Answers
+-- Expand's, Execute's and Quote's contracts need no definition of their own.
 pub mod Inner

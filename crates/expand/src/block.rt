@@ -18,10 +18,7 @@ fn is_in_the_way(b: &[u8], s: Layout, ranges: &[u16], i: usize, j: usize) -> boo
     requires { Readable s b.now × Numbered s b.now × Occurring s b.now ranges.now × (i < s.variables) × (j < s.variables) }
     ensures { result ≡ in_the_way s b.now i j }
 {
-    if is_existential(b, s, i) == is_existential(b, s, j) {
-        return false;
-    }
-    occurs(s, ranges, bound_at(b, s, j))
+    is_existential(b, s, i) != is_existential(b, s, j) && occurs(s, ranges, bound_at(b, s, j))
 }
 
 // Whether a variable of the prefix is in the innermost block.
@@ -29,14 +26,10 @@ pub fn is_innermost(b: &[u8], s: Layout, ranges: &[u16], z: Binding) -> bool
     requires { Readable s b.now × Numbered s b.now × Occurring s b.now ranges.now × Named s b.now z.variable z.row }
     ensures { result ≡ innermost z.variable (formula_in s b.now) }
 {
-    let i = z.row;
-    let v = s.variables;
-    let mut j = i + 1;
-    while j < v {
-        if is_in_the_way(b, s, ranges, i, j) {
+    for j in z.row + 1..s.variables {
+        if is_in_the_way(b, s, ranges, z.row, j) {
             return false;
         }
-        j += 1;
     }
     true
 }

@@ -13,14 +13,8 @@ use occurrences::fill_occurrences;
 use relevance::variable::Candidate;
 use rows::Layout;
 
-// Outside the innermost block; or inside, with the relevant subtree and the raw sheet's node rows.
-#[derive(Clone, Copy)]
-pub enum Price {
-    Outside,
-    Inside(Candidate),
-}
-
-// The price of a variable of the prefix. Both tables are filled.
+// The price of a variable of the prefix: its relevant subtree and the raw sheet's node rows; or none, outside the innermost block. Both
+// tables are filled.
 pub fn find_price(
     sheet: &[u8],
     s: Layout,
@@ -28,14 +22,14 @@ pub fn find_price(
     z: Binding,
     ranges: &mut [u16],
     next: &mut [u16],
-) -> Price
+) -> Option<Candidate>
     requires indexed { Indexed s sheet.now ends.now × Bound s sheet.now × Named s sheet.now z.variable z.row }
     requires ranges_len { (length ranges.old ≡ 2 * NUMBERS) × (s.nodes ≤ length next.old) }
     ensures { Prices s sheet.now z ranges.new next.new result }
 {
     fill_occurrences(sheet, s, ranges, next);
     if !is_innermost(sheet, s, ranges, z) {
-        return Price::Outside;
+        return None;
     }
-    Price::Inside(price_row(sheet, s, ends, ranges, next, z.row))
+    Some(price_row(sheet, s, ends, ranges, next, z.row))
 }

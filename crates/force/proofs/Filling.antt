@@ -1,6 +1,6 @@
 -- Filling the table of moves: what is left to put in.
 -- Assumes nothing.
-use mathlib.Core.Path.{◌≡◌, sym, ap, ap₂, ◌∙◌}
+use mathlib.Core.Path.{◌≡◌, sym, ap, ap₂, ◌∙◌, subst}
 use mathlib.Core.Bool.{Bool}
 use mathlib.Core.List.{List, [], ◌∷◌, ◌++◌}
 use Prim.Native.Nat.{ℕ, suc, ◌+◌, ◌≤◌, ◌<◌}
@@ -46,12 +46,11 @@ module _ (p : Prefix) (vs : Bytes) (c : Bool) where
         long = ap length n ∙ length-set t x _ ∙ s.long;
       }
 
-  pub filled-all : {t new : List ℕ} {i x : ℕ} → length vs < length p → length vs ≤ i → x ≡ (binding_at p i).variable
+  pub filled-all : {t new : List ℕ} {i x : ℕ} → length vs < length p → length vs ≤ i → x ≡ (binding_at p (length vs)).variable
       → new ≡ set t x (put_entry c) → Filled p vs c t i → new ≡ moves (values_of vs ++ (c ∷ [])) p
   unfolding put_all
   filled-all {t} {new} {i} {x} short h e n s =
-      let last : i ≡ length vs = omega (arith, s.within) in
+      let all = subst (Filled p vs c t) (omega (arith, s.within)) s in
       sym
-      (s.left ∙
-      ap (λ (l : Bytes). put_all (values_of l ++ (c ∷ [])) (drop i p) t) (ap (λ (k : ℕ). drop k vs) last ∙ drop-length vs) ∙
-      one c [] t i (omega arith) ∙ ap (λ (y : ℕ). set t y (put_entry c)) (sym e) ∙ sym n)
+      (all.left ∙ ap (λ (l : Bytes). put_all (values_of l ++ (c ∷ [])) (drop (length vs) p) t) (drop-length vs) ∙
+      one c [] t (length vs) short ∙ ap (λ (y : ℕ). set t y (put_entry c)) (sym e) ∙ sym n)

@@ -7,19 +7,18 @@ use mathlib.Core.List.{List, [], ◌∷◌, ◌++◌}
 use Prim.Native.Nat.{ℕ, ◌+◌, ◌-◌, ◌≤◌, min}
 use native.Mathlib.Nat.{mul-le-mul_left}
 use native.Mathlib.Omega.{arith}
-use lib.ListN.{length, drop, length-append, length-drop, length-map}
+use lib.ListN.{length, length-append, length-drop, length-map}
 use Rattle.formula.specs.Tree.{Prefix, Tree, Formula}
 use Rattle.formula.specs.Solve.{State, End, ended, stopped, solve}
 use Rattle.formula.specs.Force.{given, tried, judged}
 use Rattle.formula.proofs.Force.{prefix_given}
 use Rattle.sheet.specs.Format.{Bytes, Format, row, sheet_length, fits}
 use Rattle.sheet.specs.Sheet.{binding, formula, formula_rows}
-use Rattle.sheet.specs.Operations.{Solved, is_refused, is_stopped, is_ended, solved, Solving, solving}
+use Rattle.sheet.specs.Operations.{Solved, is_stopped, is_ended, solved, Solving, solving}
 use Rattle.sheet.specs.Limits.{Within}
 use Rattle.sheet.specs.Trace.{room}
 use Rattle.sheet.specs.Force.{value_of, values_of}
 use Rattle.sheet.proofs.Accepted.{accepted_within}
-use Rattle.sheet.proofs.Refusals.{solved-not_refused}
 use Rattle.sheet.proofs.Limits.{numbered_at, binds-numbered}
 use Rattle.sheet.proofs.Force.{within-given}
 use Rattle.rows.specs.Layouts.{format_in, width, total, size, rows_in, Room}
@@ -32,25 +31,29 @@ use Rattle.checking.proofs.CheckedSheets.{sheet_right, sheet_readable, sheet-for
 use Rattle.prefixes.specs.Places.{binding_at}
 use Rattle.raw.specs.Formulas.{Raw}
 use Rattle.tidying.proofs.Raw.{few_rows, raw_rows}
+use Rattle.solve.specs.Answers.{solved_answer}
+use Rattle.solve.specs.declared.Solved.{Solved as Ran}
+use Rattle.solve.specs.declared.Solved.TheVariants.{Stopped, Ended}
 use Rattle.solve.specs.Inner.Running.{RawReady, answered, solution, raw_call}
 use Rattle.force.specs.Inner.Moves.{Numbered, moves, behind_raw, layout_behind}
-use Rattle.force.specs.Inner.Judging.{Judgeable}
+use Rattle.force.specs.Inner.Judging.{Judgeable, end_of}
 use Rattle.force.proofs.Tables.{Small, moves-given}
 
 -- the end of a run, from its answer
 
-pub refused_ending : (e : End) (s : State) {x place : ℕ} → is_refused x place ≡ solved e s → stopped x ≡ e
-refused_ending e s h = absurd (solved-not_refused e s (sym h))
-
-pub stopped_ending : (e : End) (s : State) {x settled expanded : ℕ} → is_stopped x settled expanded ≡ solved e s → stopped x ≡ e
+stopped_ending : (e : End) (s : State) {x settled expanded : ℕ} → is_stopped x settled expanded ≡ solved e s → stopped x ≡ e
 unfolding solved
 stopped_ending (ended v) s h = let z : ◌≡◌ {A = ℕ} 0 1 = cc in absurd (omega arith)
 stopped_ending (stopped y) s {x} h = let k : x ≡ y = cc in ap stopped k
 
-pub ended_ending : (e : End) (s : State) {v : Bool} {settled expanded : ℕ} → is_ended v settled expanded ≡ solved e s → ended v ≡ e
+ended_ending : (e : End) (s : State) {v : Bool} {settled expanded : ℕ} → is_ended v settled expanded ≡ solved e s → ended v ≡ e
 unfolding solved
 ended_ending (ended w) s {v} h = let k : v ≡ w = cc in ap ended k
 ended_ending (stopped y) s h = let z : ◌≡◌ {A = ℕ} 0 1 = cc in absurd (omega arith)
+
+pub ending : (r : Ran) (e : End) (s : State) → solved_answer r ≡ solved e s → end_of r ≡ e
+ending (Stopped x settled expanded) e s h = stopped_ending e s h
+ending (Ended v settled expanded) e s h = ended_ending e s h
 
 -- a sheet under values for its first variables
 

@@ -17,27 +17,26 @@ ghost use Rattle.solve.specs.Answers.{verdict_of};
 ghost use Rattle.force.specs.Answers.{turn_of, outcome_of, forcing_of};
 ghost use Rattle.force.specs.Inner.Judging.{Judgeable, outcome_in};
 
-use crate::judge::{Judged, judge};
-use checking::Checked;
+use crate::judge::judge;
 use prefixes::is_existential;
 use rows::bytes::clear;
 use rows::fit::shorter;
-use rows::refusals::{BAD_VALUE, NO_ROOM, TOO_MANY_VALUES};
+use rows::refusals::Refusal;
 use rows::{Format, Layout};
-use solve::Verdict;
+use solve::{Solved, Verdict};
 
 pub mod judge;
 pub mod moves;
 
 // Whose turn is next: the owner of the first row without a value.
-#[derive(Clone, Copy)]
+#[derive(Clone, Copy, PartialEq, Eq, Debug)]
 pub enum Turn {
     Exists,
     ForAll,
 }
 
 // With which values the owner forces the outcome wanted, or the variable at which a value's run stopped.
-#[derive(Clone, Copy)]
+#[derive(Clone, Copy, PartialEq, Eq, Debug)]
 pub enum Outcome {
     Neither,
     Zero,
@@ -46,25 +45,18 @@ pub enum Outcome {
     Stopped(usize),
 }
 
-// Refused with number and place, or the turn and its outcome.
-#[derive(Clone, Copy)]
-pub enum Forced {
-    Refused(usize, usize),
-    Answered(Turn, Outcome),
+// The turn and its outcome.
+#[derive(Clone, Copy, PartialEq, Eq, Debug)]
+pub struct Forced {
+    pub turn: Turn,
+    pub outcome: Outcome,
 }
 
 // Whether every byte is 0 or 1.
 pub fn are_values(values: &[u8]) -> bool
     ensures { result ≡ are_values values.now }
 {
-    let mut i: usize = 0;
-    while i < values.len() {
-        if 1 < values[i] {
-            return false;
-        }
-        i += 1;
-    }
-    true
+    values.iter().all(|v| *v <= 1)
 }
 
 // The owner of prefix row `i`.
@@ -109,20 +101,18 @@ fn try_both(sheet: &[u8], s: Layout, values: &[u8], first: &mut [u8], second: &m
     ensures { outcome_of result ≡ outcome_in s sheet.now values.now (room first.old second.old) }
 {
     let existential = is_existential(sheet, s, values.len());
-    let j = judge(sheet, s, values, false, first, second);
-    match j {
-        Judged::Stopped(x) => Outcome::Stopped(x),
-        Judged::Ended(at_zero) => {
-            let k = judge(sheet, s, values, true, first, second);
-            match k {
-                Judged::Stopped(x) => Outcome::Stopped(x),
-                Judged::Ended(at_one) => outcome_for(
-                    is_wanted(existential, at_zero),
-                    is_wanted(existential, at_one),
-                ),
-            }
-        }
-    }
+    let at_zero = match judge(sheet, s, values, false, first, second) {
+        Solved::Stopped(x, _, _) => return Outcome::Stopped(x),
+        Solved::Ended(verdict, _, _) => verdict,
+    };
+    let at_one = match judge(sheet, s, values, true, first, second) {
+        Solved::Stopped(x, _, _) => return Outcome::Stopped(x),
+        Solved::Ended(verdict, _, _) => verdict,
+    };
+    outcome_for(
+        is_wanted(existential, at_zero),
+        is_wanted(existential, at_one),
+    )
 }
 
 // Answers for a sheet that Check accepts, of this layout: 21 a value isn't 0 or 1, 22 the values are as many as V or more, 13 a work
@@ -133,35 +123,38 @@ fn force_checked(
     values: &[u8],
     first: &mut [u8],
     second: &mut [u8],
-) -> Forced
+) -> Result<Forced, Refusal>
     requires { Sheet s.format sheet.now s }
     ensures { forcing_of result first.new second.new ≡ force_call (format_in s) sheet.now values.now first.old second.old }
 {
     if !are_values(values) {
-        return Forced::Refused(BAD_VALUE, 0);
+        return Err(Refusal::BadValue);
     }
     if s.variables <= values.len() {
-        return Forced::Refused(TOO_MANY_VALUES, 0);
+        return Err(Refusal::TooManyValues);
     }
     if shorter(first.len(), second.len()) < sheet.len() {
-        return Forced::Refused(NO_ROOM, 0);
+        return Err(Refusal::NoRoom);
     }
     let turn = turn_at(sheet, s, values.len());
     let outcome = try_both(sheet, s, values, first, second);
     clear(first, 0);
     clear(second, 0);
-    Forced::Answered(turn, outcome)
+    Ok(Forced { turn, outcome })
 }
 
 // Answers for a sheet, with values for its first variables (a byte each, 0 or 1), whose turn is next and with which values its owner forces
 // the outcome wanted. Both work buffers then hold zeros; refused, they are left as they were.
-pub fn force(sheet: &[u8], f: Format, values: &[u8], first: &mut [u8], second: &mut [u8]) -> Forced
+pub fn force(
+    sheet: &[u8],
+    f: Format,
+    values: &[u8],
+    first: &mut [u8],
+    second: &mut [u8],
+) -> Result<Forced, Refusal>
     ensures second_after { forcing_of result first.new second.new ≡ force_call (format_of f) sheet.now values.now first.old second.old }
     ensures truthful_force { TruthfulForce (format_of f) sheet.now values.now (forcing_of result first.new second.new) }
 {
-    let c = checking::check(sheet, f);
-    match c {
-        Checked::Refused(number, place) => Forced::Refused(number, place),
-        Checked::Accepted(s) => force_checked(sheet, s, values, first, second),
-    }
+    let s = checking::check(sheet, f)?;
+    force_checked(sheet, s, values, first, second)
 }

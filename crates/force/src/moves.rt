@@ -19,12 +19,10 @@ pub fn fill_moves(b: &[u8], s: Layout, values: &[u8], tried: bool, table: &mut [
     ensures { table.new ≡ moves (values_of values.now ++ (tried ∷ [])) (prefix_in s b.now) }
 {
     keep_all(table);
-    let mut i: usize = 0;
-    while i < values.len() {
-        put(table, bound_at(b, s, i), values[i] == 1);
-        i += 1;
+    for (i, value) in values.iter().enumerate() {
+        put(table, bound_at(b, s, i), *value == 1);
     }
-    put(table, bound_at(b, s, i), tried);
+    put(table, bound_at(b, s, values.len()), tried);
 }
 
 // Writes the rows from row `k` on, which is a row of the prefix or the first node row, and returns their layout. One pass writes prefix and
@@ -34,9 +32,8 @@ pub fn write_behind(b: &[u8], s: Layout, table: &[u16], k: usize, out: &mut [u8]
     ensures value { result ≡ layout_behind s k }
     ensures raw { Raw (layout_behind s k) out.old out.new (behind_raw k table.now (formula_in s b.now)) }
 {
-    let f = s.format;
     let t = Layout {
-        format: f,
+        format: s.format,
         variables: s.variables - k,
         nodes: s.nodes,
     };

@@ -34,8 +34,6 @@ use Rattle.guards.proofs.Writing.{part_size}
 -- an answer of a run, in a word
 pub word_says : (a : Solved) (e : End) (s : State) → solved_answer a ≡ solved e s → Says (word_for a) e
 unfolding solved
-word_says (answers.TheVariants.Refused n i) (ended v) s h = let z : ◌≡◌ {A = ℕ} 0 1 = cc in absurd (omega arith)
-word_says (answers.TheVariants.Refused n i) (stopped x) s h = let z : ◌≡◌ {A = ℕ} 0 1 = cc in absurd (omega arith)
 word_says (answers.TheVariants.Stopped y n m) (ended v) s h = let z : ◌≡◌ {A = ℕ} 0 1 = cc in absurd (omega arith)
 word_says (answers.TheVariants.Stopped y n m) (stopped x) s h = (x, refl)
 word_says (answers.TheVariants.Ended verdict.TheVariants.True n m) (ended v) s h = let e : v ≡ true = cc in ap ended e

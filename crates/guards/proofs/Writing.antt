@@ -7,7 +7,6 @@ use native.Mathlib.Nat.{mul-le-mul_left}
 use native.Mathlib.Omega.{arith}
 use lib.ListN.{length, length-append}
 use lib.Seq.{slice, length-slice}
-use Rattle.formula.specs.Tree.{rows}
 use Rattle.formula.specs.Guards.{conjoined}
 use Rattle.sheet.specs.Format.{Bytes, Row, row}
 use Rattle.sheet.specs.Sheet.{binding_row, formula_rows}

@@ -14,10 +14,9 @@ ghost use Rattle.guards.specs.Inner.Sieves.{Siftable, Said, kept_call, found_cal
 
 use crate::selection::{Selection, write_selection};
 use crate::sift::sift;
-use checking::Checked;
 use rows::bytes::{clear, copy_front};
 use rows::fit::shorter;
-use rows::refusals::{NO_ROOM, ROOT_NOT_AND};
+use rows::refusals::Refusal;
 use rows::write::seal;
 use rows::{AND, Format, Layout, ROWS};
 use solve::{Solved, Verdict, run_raw};
@@ -27,11 +26,10 @@ use subtrees::nodes::kind_at;
 pub mod selection;
 pub mod sift;
 
-// Refused with number and place; the initial run's own answer, stopped at a variable or true, with the number settled and the number
-// expanded; or the length of the sheet of the kept children and how many runs stopped.
-#[derive(Clone, Copy)]
+// The initial run's own answer, stopped at a variable or true, with the number settled and the number expanded; or the length of the sheet
+// of the kept children and how many runs stopped.
+#[derive(Clone, Copy, PartialEq, Eq, Debug)]
 pub enum Guarded {
-    Refused(usize, usize),
     Stopped(usize, usize, usize),
     True(usize, usize),
     Kept(usize, usize),
@@ -70,18 +68,15 @@ fn after_run(
     ensures { record { answer = guarded_answer result; output = out.new } ≡ found_call s sheet.now out.old (room first.old second.old) }
 {
     match answer {
-        Solved::Refused(number, place) => Guarded::Refused(number, place),
         Solved::Stopped(x, settled, expanded) => {
             clear(out, 0);
             Guarded::Stopped(x, settled, expanded)
         }
-        Solved::Ended(verdict, settled, expanded) => match verdict {
-            Verdict::True => {
-                clear(out, 0);
-                Guarded::True(settled, expanded)
-            }
-            Verdict::False => keep(sheet, s, out, first, second),
-        },
+        Solved::Ended(Verdict::True, settled, expanded) => {
+            clear(out, 0);
+            Guarded::True(settled, expanded)
+        }
+        Solved::Ended(Verdict::False, _, _) => keep(sheet, s, out, first, second),
     }
 }
 
@@ -102,21 +97,21 @@ fn guards_checked(
     out: &mut [u8],
     first: &mut [u8],
     second: &mut [u8],
-) -> Guarded
+) -> Result<Guarded, Refusal>
     requires { Sheet s.format sheet.now s }
     ensures { leaves result out.new first.new second.new ≡ guards_call (format_in s) sheet.now out.old first.old second.old }
 {
     if kind_at(sheet, s, 0) != AND {
-        return Guarded::Refused(ROOT_NOT_AND, 0);
+        return Err(Refusal::RootNotAnd);
     }
     let work = shorter(first.len(), second.len());
     if shorter(out.len(), work) < sheet.len() {
-        return Guarded::Refused(NO_ROOM, 0);
+        return Err(Refusal::NoRoom);
     }
     let answer = find(sheet, s, out, first, second);
     clear(first, 0);
     clear(second, 0);
-    answer
+    Ok(answer)
 }
 
 // Finds the guards that clash in a sheet. The sheet of those kept stands at the front of `out` with zeros behind it, or `out` is all zeros
@@ -128,13 +123,10 @@ pub fn guards(
     out: &mut [u8],
     first: &mut [u8],
     second: &mut [u8],
-) -> Guarded
+) -> Result<Guarded, Refusal>
     ensures second_after { leaves result out.new first.new second.new ≡ guards_call (format_of f) sheet.now out.old first.old second.old }
     ensures truthful_guards { TruthfulGuards (format_of f) sheet.now (leaves result out.new first.new second.new) }
 {
-    let c = checking::check(sheet, f);
-    match c {
-        Checked::Refused(number, place) => Guarded::Refused(number, place),
-        Checked::Accepted(s) => guards_checked(sheet, s, out, first, second),
-    }
+    let s = checking::check(sheet, f)?;
+    guards_checked(sheet, s, out, first, second)
 }

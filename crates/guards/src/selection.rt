@@ -24,19 +24,19 @@ fn write_kept(b: &[u8], s: Layout, ends: &[u16], kept: &[u16], out: &mut [u8], t
     requires { Copyable s b.now ends.now kept.now to.layout out.old to.at }
     ensures { Laid to.layout out.old out.new to.at result (children_rows s b.now ends.now kept.now) }
 {
-    let t = to.layout;
     let v = s.variables;
     let mut at = to.at;
-    let mut i: usize = 0;
-    while i < kept.len() {
-        let row = kept[i] as usize;
+    for start in kept {
+        let row = usize::from(*start);
         let child = Span {
             from: v + row,
-            to: v + ends[row] as usize,
+            to: v + usize::from(ends[row]),
         };
-        let here = Target { layout: t, at: at };
+        let here = Target {
+            layout: to.layout,
+            at,
+        };
         at = write_rows(b, s, child, out, here);
-        i += 1;
     }
     at
 }

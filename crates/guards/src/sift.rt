@@ -30,17 +30,14 @@ pub struct Sieve {
     pub stops: usize,
 }
 
-// What a run said; a run is never refused.
+// What a run said.
 fn heard(answer: Solved) -> Word
     ensures { result ≡ word_for answer }
 {
     match answer {
-        Solved::Refused(_, _) => Word::Stopped,
         Solved::Stopped(_, _, _) => Word::Stopped,
-        Solved::Ended(verdict, _, _) => match verdict {
-            Verdict::True => Word::True,
-            Verdict::False => Word::False,
-        },
+        Solved::Ended(Verdict::True, _, _) => Word::True,
+        Solved::Ended(Verdict::False, _, _) => Word::False,
     }
 }
 

@@ -12,7 +12,7 @@ use Rattle.formula.specs.Join.{Answer as Known, joined, join_answers}
 use Rattle.sheet.specs.Format as sheet
 use Rattle.sheet.specs.Format.{Bytes, variables}
 use Rattle.sheet.specs.Check.{refused, accepted, check_tests, check}
-use Rattle.sheet.specs.Join.{known_of, answers_of, are_answers, join_tests, join_call}
+use Rattle.sheet.specs.Join.{answers_of, are_answers, join_tests, join_call}
 use Rattle.sheet.proofs.Tests.{refused_first}
 use Rattle.sheet.proofs.Join.{join_22, join-28, join-29, join-accepted}
 use Rattle.rows.specs.Layouts.{format_in}
@@ -71,11 +71,11 @@ module _ {b : Bytes} {s : Layout} (h : Sheet s.format b s) (k : ℕ) (xs : Bytes
             whole : k ≡ k - 0
             whole = omega arith
 
-        pub joined-call : (r : ℕ) → known_of r ≡ joined_from s b xs 0 k → {a : Known} → a ≡ known_of r → accepted a ≡ join_call G b k xs
+        pub joined-call : {a : Known} → a ≡ joined_from s b xs 0 k → accepted a ≡ join_call G b k xs
         unfolding join_answers formula_in
-        joined-call r i f =
+        joined-call f =
             ap accepted
-            (f ∙ i ∙ ap (λ (j : ℕ). joined (take j (prefix_in s b)) (answers_of xs)) whole ∙
+            (f ∙ ap (λ (j : ℕ). joined (take j (prefix_in s b)) (answers_of xs)) whole ∙
             ap (λ (g : Formula). joined (take k g.prefix) (answers_of xs)) (sheet-formula_in h)) ∙
             sym (join-accepted G b k xs h.tests_pass inside count are-good)
           where

@@ -1,16 +1,16 @@
 -- Answers weighed, and those for a row's two values joined.
 -- Assumes nothing.
 use mathlib.Core.Path.{◌≡◌, refl, sym, ap, ap₂, ◌∙◌, subst}
-use mathlib.Core.Bool.{Bool, true, false, ◌&&◌, cond, true≢false}
+use mathlib.Core.Bool.{Bool, true, false, ◌&&◌, cond, beq, true≢false}
 use mathlib.Core.List.{List, [], ◌∷◌}
 use mathlib.Core.Option.{none, some}
 use Prim.Native.Nat.{ℕ, zero, suc, ◌+◌, ◌*◌, ◌-◌, ◌/◌, ◌%◌, ◌^◌, ◌≤◌, ◌<◌}
-use native.Mathlib.Numerals.{add-one}
 use native.Mathlib.Omega.{arith}
 use lib.Dec.{eqb, leb}
+use Rattle.std.specs.List.{list_all}
 use lib.ListN.{length, get_or, take, drop, length-take, length-drop}
-use lib.Seq.{drop-cons, drop-length, take_all}
-use borrow.Author.Tests.{eqb-true, eqb-false, eq-eqb, ne_eqb, leb-true, le-leb, lt-leb}
+use lib.Seq.{drop-cons, take_all}
+use borrow.Author.Tests.{eqb-true, eqb-false, eq-eqb, ne_eqb}
 use Rattle.formula.specs.Tree.{Quantifier, and, or, same_op, exists, Prefix}
 use Rattle.formula.specs.Join.{Answer, if_stops, weigh, joined}
 use Rattle.formula.proofs.Booleans.{and_parts}
@@ -35,39 +35,29 @@ power_double (suc k) h =
 pub power_odd : (n k : ℕ) → 1 ≤ k → n % 2 ≡ 1 → eqb n (2 ^ k) ≡ false
 power_odd n k h o = ne_eqb n (2 ^ k) (λ e. omega (arith, e, o, power_double k h))
 
-pub power_half : (n k : ℕ) → 1 ≤ k → (n % 2 ≡ 1 → ⊥) → eqb (n / 2) (2 ^ (k - 1)) ≡ eqb n (2 ^ k)
-power_half n k h o = by (eqb (n / 2) (2 ^ (k - 1))) refl
+-- j of k halvings are done
+pub power_half : (n : ℕ) {k j : ℕ} → j < k → (n % 2 ≡ 1 → ⊥) → eqb (n / 2) (2 ^ (k - (j + 1))) ≡ eqb n (2 ^ (k - j))
+power_half n {k} {j} h o = ap (λ (m : ℕ). eqb (n / 2) (2 ^ m)) less ∙ by (eqb (n / 2) (2 ^ (k - j - 1))) refl
   where
+    less : k - (j + 1) ≡ k - j - 1
+    less = omega arith
+
     even : n % 2 ≡ 0
     even = omega (arith, o)
 
-    by : (m : Bool) → eqb (n / 2) (2 ^ (k - 1)) ≡ m → m ≡ eqb n (2 ^ k)
-    by true e = sym (eq-eqb n (2 ^ k) (omega (arith, eqb-true (n / 2) (2 ^ (k - 1)) e, even, power_double k h)))
-    by false e = sym (ne_eqb n (2 ^ k) (λ f. eqb-false (n / 2) (2 ^ (k - 1)) e (omega (arith, f, even, power_double k h))))
+    left : 1 ≤ k - j
+    left = omega (arith, h)
 
-pub power_none : (n : ℕ) {k : ℕ} → k ≡ 0 → eqb n 1 ≡ eqb n (2 ^ k)
-power_none n e = ap (λ (j : ℕ). eqb n (2 ^ j)) (sym e)
+    by : (m : Bool) → eqb (n / 2) (2 ^ (k - j - 1)) ≡ m → m ≡ eqb n (2 ^ (k - j))
+    by true e = sym (eq-eqb n (2 ^ (k - j)) (omega (arith, eqb-true (n / 2) (2 ^ (k - j - 1)) e, even, power_double (k - j) left)))
+    by false e = sym (ne_eqb n (2 ^ (k - j)) (λ f. eqb-false (n / 2) (2 ^ (k - j - 1)) e (omega (arith, f, even, power_double (k - j) left))))
 
--- bytes that are answers, one by one: those from byte i on decide
+-- bytes that are answers
 
-module _ (xs : Bytes) {i : ℕ} (h : i < length xs) (e : are_answers (drop i xs) ≡ are_answers xs) where
-  first_answer : are_answers xs ≡ (leb (get_or xs i 0) 2 && are_answers (drop (suc i) xs))
-  unfolding are_answers
-  first_answer = sym e ∙ ap are_answers (drop-cons xs i 0 h)
-
-  pub answer-next : get_or xs i 0 ≤ 2 → are_answers (drop (i + 1) xs) ≡ are_answers xs
-  answer-next l =
-      ap (λ (k : ℕ). are_answers (drop k xs)) (add-one i) ∙
-      sym (first_answer ∙ ap (λ (m : Bool). m && are_answers (drop (suc i) xs)) (le-leb (get_or xs i 0) 2 l))
-
-  pub answer_bad : 2 < get_or xs i 0 → false ≡ are_answers xs
-  answer_bad l = sym (first_answer ∙ ap (λ (m : Bool). m && are_answers (drop (suc i) xs)) (lt-leb (get_or xs i 0) 2 l))
-
-pub answers_all : (xs : Bytes) {i : ℕ} → i ≤ length xs → length xs ≤ i → are_answers (drop i xs) ≡ are_answers xs → true ≡ are_answers xs
+pub answers_all : (xs : Bytes) → list_all (λ a. leb a 2) xs ≡ are_answers xs
 unfolding are_answers
-answers_all xs {i} w h e =
-    let last : i ≡ length xs = omega arith in
-    sym (ap are_answers (ap (λ (k : ℕ). drop k xs) last ∙ drop-length xs)) ∙ e
+answers_all [] = refl
+answers_all (a ∷ xs) = ap (λ (m : Bool). leb a 2 && m) (answers_all xs)
 
 answers_take : (n : ℕ) (xs : Bytes) → are_answers xs ≡ true → are_answers (take n xs) ≡ true
 unfolding are_answers
@@ -93,93 +83,27 @@ known-drop zero xs = refl
 known-drop (suc n) [] = refl
 known-drop (suc n) (a ∷ xs) = known-drop n xs
 
--- two answers
+-- one answer alone, by the quantifier that ends a split at `stop`
 
-abbrev owner_by : ℕ → Quantifier
-owner_by stop = cond (eqb stop 1) or and
+pub stopped : (stop x : Bool) → beq x stop ≡ true → some x ≡ if_stops (cond stop or and) x
+unfolding if_stops
+stopped true true e = refl
+stopped true false e = absurd (true≢false (sym e))
+stopped false true e = absurd (true≢false (sym e))
+stopped false false e = refl
 
-weighed : ℕ → ℕ → ℕ → ℕ
-weighed stop a b = cond (eqb a stop) stop (cond (eqb b stop) stop (cond (eqb a 2) 2 (cond (eqb b 2) 2 (1 - stop))))
-
-abbrev Weighs : ℕ → ℕ → ℕ → ℕ → Type 0
-Weighs stop a b r = (r ≤ 2) × (known_of r ≡ weigh (owner_by stop) (known_of a) (known_of b))
-
-weighs : (stop a b : ℕ) → stop ≤ 1 → a ≤ 2 → b ≤ 2 → Weighs stop a b (weighed stop a b)
-unfolding weighed weigh if_stops
-weighs zero zero zero s h k = (omega arith, refl)
-weighs zero zero (suc zero) s h k = (omega arith, refl)
-weighs zero zero (suc (suc zero)) s h k = (omega arith, refl)
-weighs zero zero (suc (suc (suc b))) s h k = absurd (omega arith)
-weighs zero (suc zero) zero s h k = (omega arith, refl)
-weighs zero (suc zero) (suc zero) s h k = (omega arith, refl)
-weighs zero (suc zero) (suc (suc zero)) s h k = (omega arith, refl)
-weighs zero (suc zero) (suc (suc (suc b))) s h k = absurd (omega arith)
-weighs zero (suc (suc zero)) zero s h k = (omega arith, refl)
-weighs zero (suc (suc zero)) (suc zero) s h k = (omega arith, refl)
-weighs zero (suc (suc zero)) (suc (suc zero)) s h k = (omega arith, refl)
-weighs zero (suc (suc zero)) (suc (suc (suc b))) s h k = absurd (omega arith)
-weighs zero (suc (suc (suc a))) b s h k = absurd (omega arith)
-weighs (suc zero) zero zero s h k = (omega arith, refl)
-weighs (suc zero) zero (suc zero) s h k = (omega arith, refl)
-weighs (suc zero) zero (suc (suc zero)) s h k = (omega arith, refl)
-weighs (suc zero) zero (suc (suc (suc b))) s h k = absurd (omega arith)
-weighs (suc zero) (suc zero) zero s h k = (omega arith, refl)
-weighs (suc zero) (suc zero) (suc zero) s h k = (omega arith, refl)
-weighs (suc zero) (suc zero) (suc (suc zero)) s h k = (omega arith, refl)
-weighs (suc zero) (suc zero) (suc (suc (suc b))) s h k = absurd (omega arith)
-weighs (suc zero) (suc (suc zero)) zero s h k = (omega arith, refl)
-weighs (suc zero) (suc (suc zero)) (suc zero) s h k = (omega arith, refl)
-weighs (suc zero) (suc (suc zero)) (suc (suc zero)) s h k = (omega arith, refl)
-weighs (suc zero) (suc (suc zero)) (suc (suc (suc b))) s h k = absurd (omega arith)
-weighs (suc zero) (suc (suc (suc a))) b s h k = absurd (omega arith)
-weighs (suc (suc stop)) a b s h k = absurd (omega arith)
-
-module _ {stop a b : ℕ} (s : stop ≤ 1) (h : a ≤ 2) (k : b ≤ 2) where
-  weighs_as : {r : ℕ} → weighed stop a b ≡ r → Weighs stop a b r
-  weighs_as e = let w = weighs stop a b s h k in (omega (arith, w.0, e), ap known_of (sym e) ∙ w.1)
-
-  stops_there : a ≡ stop → weighed stop a b ≡ stop
-  unfolding weighed
-  stops_there e = ap (λ (m : Bool). cond m stop (cond (eqb b stop) stop (cond (eqb a 2) 2 (cond (eqb b 2) 2 (1 - stop))))) (eq-eqb a stop e)
-
-  pub first_stops : a ≡ stop → Weighs stop a b stop
-  first_stops e = weighs_as (stops_there e)
-
-  module _ (n : a ≡ stop → ⊥) where
-    after_first : weighed stop a b ≡ cond (eqb b stop) stop (cond (eqb a 2) 2 (cond (eqb b 2) 2 (1 - stop)))
-    unfolding weighed
-    after_first = ap (λ (m : Bool). cond m stop (cond (eqb b stop) stop (cond (eqb a 2) 2 (cond (eqb b 2) 2 (1 - stop))))) (ne_eqb a stop n)
-
-    pub second-stops : b ≡ stop → Weighs stop a b stop
-    second-stops e =
-        weighs_as (after_first ∙ ap (λ (m : Bool). cond m stop (cond (eqb a 2) 2 (cond (eqb b 2) 2 (1 - stop)))) (eq-eqb b stop e))
-
-    module _ (o : b ≡ stop → ⊥) where
-      after-second : weighed stop a b ≡ cond (eqb a 2) 2 (cond (eqb b 2) 2 (1 - stop))
-      after-second = after_first ∙ ap (λ (m : Bool). cond m stop (cond (eqb a 2) 2 (cond (eqb b 2) 2 (1 - stop)))) (ne_eqb b stop o)
-
-      pub first-unknown : a ≡ 2 → Weighs stop a b 2
-      first-unknown e = weighs_as (after-second ∙ ap (λ (m : Bool). cond m 2 (cond (eqb b 2) 2 (1 - stop))) (eq-eqb a 2 e))
-
-      module _ (p : a ≡ 2 → ⊥) where
-        after-known : weighed stop a b ≡ cond (eqb b 2) 2 (1 - stop)
-        after-known = after-second ∙ ap (λ (m : Bool). cond m 2 (cond (eqb b 2) 2 (1 - stop))) (ne_eqb a 2 p)
-
-        pub second-unknown : b ≡ 2 → Weighs stop a b 2
-        second-unknown e = weighs_as (after-known ∙ ap (λ (m : Bool). cond m 2 (1 - stop)) (eq-eqb b 2 e))
-
-        pub both-known : (b ≡ 2 → ⊥) → Weighs stop a b (1 - stop)
-        both-known q = weighs_as (after-known ∙ ap (λ (m : Bool). cond m 2 (1 - stop)) (ne_eqb b 2 q))
+pub left-open : (stop x : Bool) → beq x stop ≡ false → none ≡ if_stops (cond stop or and) x
+unfolding if_stops
+left-open true true e = absurd (true≢false e)
+left-open true false e = refl
+left-open false true e = refl
+left-open false false e = absurd (true≢false e)
 
 -- the owner of a row
 
-pub owner-exists : (q : Quantifier) → same_op exists q ≡ true → or ≡ q
-owner-exists or h = refl
-owner-exists and h = absurd (true≢false (sym h))
-
-pub owner-all : (q : Quantifier) → same_op exists q ≡ false → and ≡ q
-owner-all or h = absurd (true≢false h)
-owner-all and h = refl
+pub owner_is : (q : Quantifier) → cond (same_op exists q) or and ≡ q
+owner_is or = refl
+owner_is and = refl
 
 -- a row, and the answers for its two values
 
@@ -197,18 +121,15 @@ module _ {s : Layout} {b xs : Bytes} {i k : ℕ} (j : Joinable s b xs i k) where
     pub some-answer : 0 < length xs
     some-answer = omega (arith, one)
 
-    pub last-answer : (get_or xs 0 0 ≤ 2) × (known_of (get_or xs 0 0) ≡ joined_from s b xs i k)
-    unfolding joined are_answers
-    last-answer = by xs j.good some-answer
+    pub last-answer : known_of (get_or xs 0 0) ≡ joined_from s b xs i k
+    unfolding joined
+    last-answer = by xs some-answer
       where
-        by : (ys : Bytes) → are_answers ys ≡ true → 0 < length ys
-            → (get_or ys 0 0 ≤ 2) × (known_of (get_or ys 0 0) ≡ joined (take (k - i) (drop i p)) (answers_of ys))
-        by [] h l = absurd (omega arith)
-        by (a ∷ ys) h l =
-            let none : k - i ≡ 0 = omega (arith, e) in (
-              leb-true a 2 (and_parts (leb a 2) (are_answers ys) h).0,
-              ap (λ (n : ℕ). joined (take n (drop i p)) (answers_of (a ∷ ys))) (sym none),
-            )
+        by : (ys : Bytes) → 0 < length ys → known_of (get_or ys 0 0) ≡ joined (take (k - i) (drop i p)) (answers_of ys)
+        by [] l = absurd (omega arith)
+        by (a ∷ ys) l =
+            let none : k - i ≡ 0 = omega (arith, e) in
+            ap (λ (n : ℕ). joined (take n (drop i p)) (answers_of (a ∷ ys))) (sym none)
 
   module _ (n : i ≡ k → ⊥) where
     before : i < k
@@ -275,12 +196,11 @@ module _ {s : Layout} {b xs : Bytes} {i k : ℕ} (j : Joinable s b xs i k) where
           j.inside,
         )
 
-    pub row-joined : {l : ℕ} → l ≡ suc i → {q : Quantifier} → q ≡ (binding_in s b i).quantifier → (u w : ℕ)
-        → known_of u ≡ joined_from s b (take (length xs / 2) xs) l k → known_of w ≡ joined_from s b behind l k
-        → weigh q (known_of u) (known_of w) ≡ joined_from s b xs i k
+    pub row-joined : {l : ℕ} → l ≡ suc i → {q : Quantifier} → q ≡ (binding_in s b i).quantifier → {u w : Answer}
+        → u ≡ joined_from s b (take (length xs / 2) xs) l k → w ≡ joined_from s b behind l k → weigh q u w ≡ joined_from s b xs i k
     unfolding joined
-    row-joined {l} e {q} o u w f g =
-        ap (λ (r : Quantifier). weigh r (known_of u) (known_of w)) o ∙
+    row-joined {l} e {q} o {u} {w} f g =
+        ap (λ (r : Quantifier). weigh r u w) o ∙
         ap₂ (weigh (binding_at p i).quantifier)
         (f ∙ ap (λ (m : ℕ). joined (take (k - m) (drop m p)) (answers_of (take (length xs / 2) xs))) e ∙
         ap (joined rest) (sym (known-take (length xs / 2) xs) ∙ ap (λ (m : ℕ). take m (answers_of xs)) at))
@@ -293,11 +213,3 @@ module _ {s : Layout} {b xs : Bytes} {i k : ℕ} (j : Joinable s b xs i k) where
 
         at : length xs / 2 ≡ 2 ^ length rest
         at = half_is ∙ ap (λ (m : ℕ). 2 ^ m) (sym count-rows)
-
--- a byte as what is known
-
-pub byte_unknown : {a : ℕ} → a ≡ 2 → none ≡ known_of a
-byte_unknown {a} e = sym (ap (λ (m : Bool). cond m none (some (eqb a 1))) (eq-eqb a 2 e))
-
-pub byte_known : {a : ℕ} → (a ≡ 2 → ⊥) → {v : Bool} → eqb a 1 ≡ v → some v ≡ known_of a
-byte_known {a} n e = sym (ap (λ (m : Bool). cond m none (some (eqb a 1))) (ne_eqb a 2 n) ∙ ap some e)

@@ -1,20 +1,17 @@
 -- An answer of Join in its definition's words.
 -- Assumes nothing.
-use Rattle.std.specs.Prelude.{true, false}
+use Rattle.std.specs.Prelude.{Bool, Result, Ok, Err, Option, Some, None}
 use Rattle.std.proofs.Math.Option.{none, some}
 use Rattle.formula.specs.Join.{Answer as Said}
-use Rattle.sheet.specs.Check.{Answer, refused, accepted}
-use Rattle.join.specs.declared.Known.{Known}
-use Rattle.join.specs.declared.Known.TheVariants.{False, True, Unknown}
-use Rattle.join.specs.declared.JoinAnswer.{JoinAnswer}
-use Rattle.join.specs.declared.JoinAnswer.TheVariants.{Refused, Joined}
+use Rattle.sheet.specs.Check.{Answer, accepted}
+use Rattle.rows.specs.Refusals.{refused_by}
+use Rattle.rows.specs.declared.refusals.Refusal.{Refusal}
 
 -- "true, false, unknown"
-abbrev pub known_in : Known → Said
-known_in False = some false
-known_in True = some true
-known_in Unknown = none
+abbrev pub known_in : Option Bool → Said
+known_in (Some value) = some value
+known_in None = none
 
-abbrev pub join_answer : JoinAnswer → Answer Said
-join_answer (Refused number place) = refused number place
-join_answer (Joined a) = accepted (known_in a)
+abbrev pub join_answer : Result (Option Bool) Refusal → Answer Said
+join_answer (Ok a) = accepted (known_in a)
+join_answer (Err e) = refused_by e

@@ -1,7 +1,7 @@
 -- One turn of each loop that builds the tables.
 -- Assumes nothing.
-use mathlib.Core.Path.{◌≡◌, refl, ◌∙◌}
-use mathlib.Core.Bool.{Bool, true, false, not}
+use mathlib.Core.Path.{◌≡◌, ◌∙◌}
+use mathlib.Core.Bool.{not}
 use mathlib.Core.List.{List}
 use Prim.Native.Nat.{ℕ, zero, suc, ◌+◌, ◌≤◌, ◌<◌}
 use native.Mathlib.Decide.{dec_lt}
@@ -9,23 +9,8 @@ use native.Mathlib.Omega.{arith}
 use lib.Dec.{eqb}
 use lib.ListN.{length, get_or, set}
 use lib.Seq.{get_or-set_same, get_or-set_other}
-use borrow.Author.Tests.{lt-ltb, le-ltb}
 use Rattle.sheet.specs.Format.{Row, row}
 use Rattle.jumps.specs.Jumps.{entry, Parent, Parents, past, is_and, Wired, Targets}
-
--- past
-
-pub past_decided : (u : Bool) (e l up : ℕ) → not u ≡ true → up ≡ past u e l up
-past_decided true e l up h = let z : ◌≡◌ {A = ℕ} 0 1 = cc in absurd (omega arith)
-past_decided false e l up h = refl
-
-pub past_child : (u : Bool) (e l up : ℕ) → not u ≡ false → e < l → e ≡ past u e l up
-past_child true e l up h k = rw (lt-ltb e l k)
-past_child false e l up h k = let z : ◌≡◌ {A = ℕ} 0 1 = cc in absurd (omega arith)
-
-pub past-last : (u : Bool) (e l up : ℕ) → l ≤ e → up ≡ past u e l up
-past-last true e l up k = rw (le-ltb e l k)
-past-last false e l up k = refl
 
 -- parent_of: the subtrees between p and i have come to their ends
 
@@ -100,16 +85,3 @@ module _ (R : List Row) (ends high low : List ℕ) (i p k x y : ℕ) (first : 0 
       go q h l (no f) =
           let e : q ≡ i = omega arith in
           rw e wired_new
-
--- the loop's state: as many entries as at first, and all rows before i done
-pub record Wiring (R : List Row) (ends parents₀ high₀ low₀ : List ℕ) (n : ℕ) (parents high low : List ℕ) (i : ℕ) : Type 0 where
-  pub parents_length : length parents ≡ length parents₀
-  pub high_length : length high ≡ length high₀
-  pub low_length : length low ≡ length low₀
-  pub parents_room : n ≤ length parents
-  pub high_room : n ≤ length high
-  pub low_room : n ≤ length low
-  pub started : 0 < i
-  pub within : i ≤ n
-  pub known : Parents ends parents i
-  pub targets : Targets R ends high low i

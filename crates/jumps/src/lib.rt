@@ -14,7 +14,7 @@ use subtrees::nodes::kind_at;
 pub fn to_row(entry: u16) -> usize
     ensures { result ≡ entry }
 {
-    entry as usize
+    usize::from(entry)
 }
 
 // The parent of row `i`: found by going up from the row before it, past every subtree that ends there.
@@ -35,13 +35,7 @@ fn parent_of(ends: &[u16], parents: &[u16], i: usize) -> usize
 fn past(undecided: bool, end: u16, last: u16, up: u16) -> u16
     ensures { result ≡ past undecided end last up }
 {
-    if !undecided {
-        return up;
-    }
-    if end < last {
-        return end;
-    }
-    up
+    if undecided && end < last { end } else { up }
 }
 
 // Gives every row its two targets, the first row first: the root's are the verdicts, a child's are made from its parent's.
@@ -59,8 +53,7 @@ fn wire(
     let n = s.nodes;
     high[0] = n as u16;
     low[0] = (n + 1) as u16;
-    let mut i = 1;
-    while i < n {
+    for i in 1..n {
         let p = parent_of(ends, parents, i);
         parents[i] = p as u16;
         let conjunction = kind_at(sheet, s, p) == rows::AND;
@@ -68,7 +61,6 @@ fn wire(
         let last = ends[p];
         high[i] = past(conjunction, end, last, high[p]);
         low[i] = past(!conjunction, end, last, low[p]);
-        i += 1;
     }
 }
 

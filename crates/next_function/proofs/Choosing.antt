@@ -1,15 +1,16 @@
 -- The variable that is chosen, and the room for its function.
 -- Assumes nothing.
-use mathlib.Core.Path.{◌≡◌, refl, sym, ap, ap₂, ◌∙◌, subst, subst₂}
+use mathlib.Core.Path.{◌≡◌, refl, sym, ap, ap₂, ◌∙◌, subst}
 use mathlib.Core.Bool.{Bool, true, false, ◌&&◌, ◌||◌, cond, true≢false, false≢true}
 use mathlib.Core.List.{List, [], ◌∷◌}
 use mathlib.Core.Option.{Option, none, some}
 use Prim.Native.Nat.{ℕ, ◌-◌, ◌≤◌, ◌<◌}
 use native.Mathlib.Nat.{le_trans}
 use native.Mathlib.Omega.{arith}
-use lib.Dec.{eqb, leb, ltb}
+use lib.Dec.{eqb, ltb}
 use lib.ListN.{length}
 use borrow.Author.Tests.{eqb-true, lt-ltb, le-leb}
+use Rattle.std.specs.Prelude.{Some, None}
 use Rattle.formula.specs.Tree.{Prefix, Formula, of, binds}
 use Rattle.formula.specs.Settle.{may_settle}
 use Rattle.formula.specs.Solve.{those, earlier, least, is_some, lowest, cheapest}
@@ -19,8 +20,8 @@ use Rattle.sheet.proofs.Placed.{sheet_length-least}
 use Rattle.rows.specs.Layouts.{format_in}
 use Rattle.rows.specs.Formulas.{prefix_in, matrix_in, formula_in}
 use Rattle.rows.specs.declared.Layout.{Layout}
-use Rattle.rows.proofs.Formulas.{length_prefix, rows-nodes}
-use Rattle.prefixes.specs.Places.{place, binding_at, binding_in}
+use Rattle.rows.proofs.Formulas.{length_prefix}
+use Rattle.prefixes.specs.Places.{place, binding_at}
 use Rattle.prefixes.proofs.Places.{binds-place, variable-place}
 use Rattle.subtrees.specs.Ends.{Indexed}
 use Rattle.occurrences.specs.Occurrences.{Occurrences}
@@ -28,9 +29,9 @@ use Rattle.subtrees.specs.Parts.{relevant_subtree}
 use Rattle.subtrees.specs.declared.relevant.Relevant.{Relevant}
 use Rattle.relevance.specs.Raw.{presence}
 use Rattle.relevance.specs.declared.variable.Candidate.{Candidate}
-use Rattle.relevance.specs.declared.variable.Presence.TheVariants.{Absent, Present}
 use Rattle.relevance.proofs.Growth.{raw_rows_by}
 use Rattle.choice.specs.Settling.{SettleHere, Unsettled}
+use Rattle.choice.specs.declared.settle.SettleChoice.{SettleChoice}
 use Rattle.choice.specs.Expanding.{ToExpand}
 use Rattle.elimination.specs.Steps.{Named}
 use Rattle.elimination.specs.Expanding.{Priced, Prepared}
@@ -96,11 +97,11 @@ module _ {s : Layout} {b : Bytes} {len : ℕ} (k : Choosable s b len) where
 
   -- Settle
 
-  module _ {i x : ℕ} {c : Bool} (here : SettleHere s b (lowest (formula_in s b)) i x c) where
-    pub settle-named : Named s b x i
+  module _ {r : SettleChoice} (here : SettleHere s b (lowest (formula_in s b)) r) where
+    pub settle-named : Named s b r.variable r.row
     settle-named = named here.inside here.at_row
 
-    pub settle-constant : ByConstant s b (record { row = i; variable = x; value = c }) len
+    pub settle-constant : ByConstant s b (record { row = r.row; variable = r.variable; value = r.value }) len
     settle-constant =
         record {
           from = k.from;
@@ -109,7 +110,7 @@ module _ {s : Layout} {b : Bytes} {len : ℕ} (k : Choosable s b len) where
           has_room = fitting k.from.readable.some_nodes;
         }
 
-    pub settle-move : moved (next_move (formula_in s b)) ≡ x
+    pub settle-move : moved (next_move (formula_in s b)) ≡ r.variable
     unfolding move_by
     settle-move = ap (λ (o : Option ℕ). moved (move_by o (cheapest (formula_in s b)))) here.is_lowest
 
@@ -139,8 +140,8 @@ module _ {s : Layout} {b : Bytes} {len : ℕ} (k : Choosable s b len) where
         let x = c.variable in
         let there = unsettled_occurs x (formula_in s b) unsettled in
         let part = (pr.found (pr.occurs_is ∙ there)).part_is in
-        let is : presence (of x) (matrix_in s b) ≡ Present (relevant_subtree (of x) 0 (matrix_in s b))
-        = ap (λ (m : Bool). cond m (Present (relevant_subtree (of x) 0 (matrix_in s b))) Absent) there in
+        let is : presence (of x) (matrix_in s b) ≡ Some (relevant_subtree (of x) 0 (matrix_in s b))
+        = ap (λ (m : Bool). cond m (Some (relevant_subtree (of x) 0 (matrix_in s b))) None) there in
         omega (arith, (raw_rows_by (of x) b k.from.readable (sym is)).1, ap (λ (q : Relevant). q.rows) part)
 
     pub expand-copy : {table : List ℕ} {w : Survey} → Prepared s b c.variable c.row table w → ByCopy s b c.variable table w len

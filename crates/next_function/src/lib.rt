@@ -9,7 +9,7 @@ ghost use Rattle.choice.specs.Settling.{Unsettled};
 ghost use Rattle.next_function.specs.Next.{Choosable, Answers};
 
 use choice::expand::choose_expand;
-use choice::settle::{SettleChoice, choose_settle};
+use choice::settle::choose_settle;
 use elimination::expanding::draft;
 use elimination::settling::Put;
 use elimination::survey::survey_draft;
@@ -39,11 +39,10 @@ fn expanded_function(b: &[u8], s: Layout, ends: &[u16], out: &mut [u8]) -> NextF
     let mut cuts = [0u16; CUTS];
     let d = draft(b, s, &ranges, c);
     let w = survey_draft(b, s, ends, &next, d, &mut cuts);
-    let sheet = function_into(b, s, c.variable, &cuts, w, out);
     NextFunction {
         row: c.row,
         variable: c.variable,
-        sheet: sheet,
+        sheet: function_into(b, s, c.variable, &cuts, w, out),
     }
 }
 
@@ -52,25 +51,18 @@ pub fn next_function(b: &[u8], s: Layout, ends: &mut [u16], out: &mut [u8]) -> N
     requires { Choosable s b.now (length out.old) × (ROWS ≤ length ends.old) }
     ensures { Answers s b.now (length out.old) result out.new }
 {
-    let f = s.format;
-    let c = choose_settle(b, s, most_variables(f));
-    match c {
-        SettleChoice::Settle(i, x, value) => {
-            let p = Put {
-                row: i,
-                variable: x,
-                value: value,
-            };
-            let sheet = constant_into(b, s, p, out);
-            NextFunction {
-                row: i,
-                variable: x,
-                sheet: sheet,
-            }
-        }
-        SettleChoice::Nothing => {
-            fill_ends(b, s, ends);
-            expanded_function(b, s, ends, out)
-        }
+    if let Some(c) = choose_settle(b, s, most_variables(s.format)) {
+        let p = Put {
+            row: c.row,
+            variable: c.variable,
+            value: c.value,
+        };
+        return NextFunction {
+            row: c.row,
+            variable: c.variable,
+            sheet: constant_into(b, s, p, out),
+        };
     }
+    fill_ends(b, s, ends);
+    expanded_function(b, s, ends, out)
 }

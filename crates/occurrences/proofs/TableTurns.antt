@@ -7,7 +7,7 @@ use Prim.Native.Nat.{ℕ, suc, ◌+◌, ◌*◌, ◌≤◌, ◌<◌}
 use native.Mathlib.Omega.{arith}
 use lib.Dec.{eqb, ltb}
 use lib.ListN.{length, get_or, set, replicate, length-set, length-replicate, get_or-replicate}
-use lib.Seq.{get_or-set_same, get_or-set_other, ext_get_or}
+use lib.Seq.{get_or-set_same, get_or-set_other}
 use borrow.Author.Tests.{ne_eqb, ltb-true, eqb-true, eqb-false}
 use Rattle.formula.specs.Tree.{and, or, Tree, lit, node, of, has, has_any}
 use Rattle.formula.specs.Settle.{is_lit}
@@ -42,38 +42,6 @@ is_variable x t h e = eqb-true (variable_of t) x (sym (literal-variable x t h) �
 
 other_variable : (x : ℕ) (t : Tree) → x ≤ 1024 → is_lit (of x) t ≡ false → variable_of t ≡ x → ⊥
 other_variable x t h e = eqb-false (variable_of t) x (sym (literal-variable x t h) ∙ e)
-
--- fill
-
--- the entries before x are set
-pub record Filling (before : List ℕ) (value : ℕ) (table : List ℕ) (x : ℕ) : Type 0 where
-  pub same_length : length table ≡ length before
-  pub within : x ≤ length before
-  pub filled : (y : ℕ) → y < x → get_or table y 0 ≡ value
-
-pub fill_none : (before : List ℕ) (value : ℕ) → Filling before value before 0
-fill_none before value = record { same_length = refl; within = omega arith; filled = λ y h. absurd (omega arith) }
-
-pub fill-turn : {before : List ℕ} {value : ℕ} {table : List ℕ} {x : ℕ} → x < length table → Filling before value table x
-    → Filling before value (set table x value) (x + 1)
-fill-turn {before} {value} {table} {x} h f =
-    record {
-      same_length = length-set table x value ∙ f.same_length;
-      within = omega (arith, f.same_length);
-      filled = λ y k. go y k (eqb y x) refl;
-    }
-  where
-    go : (y : ℕ) → y < x + 1 → (c : Bool) → eqb y x ≡ c → get_or (set table x value) y 0 ≡ value
-    go y k true e = ap (λ z. get_or (set table x value) z 0) (eqb-true y x e) ∙ get_or-set_same table x value 0 h
-    go y k false e =
-        let other = eqb-false y x e in
-        get_or-set_other table x y value 0 other ∙ f.filled y (omega arith)
-
-pub fill-all : {before : List ℕ} {value : ℕ} {table : List ℕ} {x : ℕ} → length table ≤ x → Filling before value table x
-    → table ≡ replicate (length before) value
-fill-all {before} {value} {table} {x} h f =
-    ext_get_or 0 table (replicate (length before) value) (f.same_length ∙ sym (length-replicate (length before) value))
-    (λ i k. f.filled i (omega arith) ∙ sym (get_or-replicate (length before) i value 0 (omega (arith, f.same_length))))
 
 -- link
 

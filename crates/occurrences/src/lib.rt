@@ -2,7 +2,7 @@
 // of x, 2x + 1 the last one.
 #![tactic(auto)]
 
-ghost use Rattle.std.specs.Prelude.{◌≡◌, ◌*◌, ◌^◌, ◌≤◌, ◌<◌, ltb, length, get_or, set, replicate};
+ghost use Rattle.std.specs.Prelude.{◌≡◌, ◌*◌, ◌^◌, ◌≤◌, ◌<◌, ltb, length, get_or, set};
 ghost use Rattle.rows.specs.Formulas.{Readable};
 ghost use Rattle.rows.specs.Tables.{HIGHEST, NUMBERS};
 ghost use Rattle.subtrees.specs.Subtrees.{subtree_in};
@@ -42,26 +42,13 @@ fn store(table: &mut [u16], i: usize, value: u16)
     table[i] = value;
 }
 
-// Sets every entry of a table.
-fn fill(table: &mut [u16], value: u16)
-    ensures { table.new ≡ replicate (length table.old) value }
-{
-    let mut i: usize = 0;
-    while i < table.len() {
-        table[i] = value;
-        i += 1;
-    }
-}
-
 // The first literal of each variable, and from each literal the next one: one pass from the last row to the first.
 fn link(b: &[u8], s: Layout, ranges: &mut [u16], next: &mut [u16])
     requires { Readable s b.now × (length ranges.old ≡ 2 * NUMBERS) × (s.nodes ≤ length next.old) }
     ensures { Firsts s b.now 0 ranges.new × Nexts s b.now 0 next.new }
 {
-    fill(ranges, s.nodes as u16);
-    let mut i = s.nodes;
-    while 0 < i {
-        i -= 1;
+    ranges.fill(s.nodes as u16);
+    for i in (0..s.nodes).rev() {
         let x = literal_at(b, s, i);
         next[i] = look(ranges, 2 * x);
         store(ranges, 2 * x, i as u16);
@@ -73,11 +60,9 @@ fn mark(b: &[u8], s: Layout, ranges: &mut [u16])
     requires { Readable s b.now × (length ranges.old ≡ 2 * NUMBERS) }
     ensures { Lasts s b.now s.nodes ranges.new × FirstsKept ranges.old ranges.new }
 {
-    let mut i: usize = 0;
-    while i < s.nodes {
+    for i in 0..s.nodes {
         let x = literal_at(b, s, i);
         store(ranges, 2 * x + 1, i as u16);
-        i += 1;
     }
 }
 

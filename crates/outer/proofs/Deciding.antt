@@ -1,7 +1,7 @@
 -- 11 and 18 behind tests 1 to 10, and all that the writing needs.
 -- Assumes nothing.
 use mathlib.Core.Path.{◌≡◌, sym, ap, ap₂, ◌∙◌, subst}
-use mathlib.Core.Bool.{true, false}
+use mathlib.Core.Bool.{Bool, true, false}
 use mathlib.Core.List.{List, [], ◌∷◌, ◌++◌}
 use Prim.Native.Nat.{ℕ, ◌+◌, ◌-◌, ◌≤◌, ◌<◌}
 use native.Mathlib.Omega.{arith}
@@ -39,7 +39,7 @@ use Rattle.renaming.specs.Numbers.{renumbered, copy_tables}
 use Rattle.renaming.proofs.Renumbering.{second_lent}
 use Rattle.renaming.proofs.Depending.{numbers_left, those_same, dependents_whole, renumbered-take, length-renumbered}
 use Rattle.outer.specs.Inner.Draft.{DraftsChosen}
-use Rattle.outer.specs.Inner.OuterPlan.{block_test, plan_tests, OuterPlanned}
+use Rattle.outer.specs.Inner.OuterPlan.{Finds, block_test, plan_tests, OuterPlanned}
 
 abbrev last_tests : Format → Bytes → ℕ → List Test
 last_tests F b x = block_test F b x ∷ numbers_test F b x ∷ []
@@ -95,6 +95,12 @@ module _ {b : Bytes} (t : Target) {ends : List ℕ} (a : Admitted b t.variable t
 
   pub distinct_here : distinct f.prefix ≡ true
   distinct_here = ap (λ (g : Formula). distinct g.prefix) same ∙ (accepted_within F b a.sheet.tests_pass).is_distinct
+
+  -- the depending variables found, counted
+  pub counting : {set : List ℕ} {r : Bool} {n highest : ℕ} → Finds x f set r → r ≡ true
+      → ((y : ℕ) (g : Formula) → distinct g.prefix ≡ true → Dependents y g set → n ≡ length (dependents y g)) → highest ≡ H → Counted b t set n highest
+  counting found e count high =
+      record { out = sym found.0 ∙ e; found = found.1 e; count_is = count x f distinct_here (found.1 e); highest_is = high }
 
   sized : length f.prefix ≡ s.variables
   unfolding formula_in

@@ -7,8 +7,8 @@ use Prim.Native.Nat.{ℕ}
 use lib.ListN.{length}
 use Rattle.sheet.specs.Format.{Bytes}
 use Rattle.sheet.specs.Format as sheet
-use Rattle.sheet.specs.Check.{Answer, refused, accepted, Test, answer}
-use Rattle.sheet.specs.Operations.{Written, write}
+use Rattle.sheet.specs.Check.{Answer, refused, Test, answer}
+use Rattle.sheet.specs.Operations.{write}
 use Rattle.sheet.specs.Outer.{Copied, outer_tests, outer_call, outer_answer}
 use Rattle.sheet.specs.Truthful.{truth_of, TruthfulSheet}
 use Rattle.sheet.proofs.Truthful.{outer_truthful}

@@ -47,9 +47,7 @@ pub fn link_chosen(b: &[u8], s: Layout, table: &[u16], next: &mut [u16]) -> Rang
         first: none,
         last: none,
     };
-    let mut i = none;
-    while 0 < i {
-        i -= 1;
+    for i in (0..none).rev() {
         next[i] = r.first as u16;
         r = with_row(r, none, i, is_chosen(b, s, table, i));
     }

@@ -8,7 +8,7 @@ use crate::chain::link_chosen;
 use dependence::Target;
 use elimination::survey::Draft;
 use relevance::subtree::relevant_subtree;
-use relevance::variable::{Presence, raw_rows_of};
+use relevance::variable::raw_rows_of;
 use rows::AND;
 
 // The draft of an expansion of the literals that a table changes, for a raw sheet with so many variables; the literals are linked in
@@ -27,16 +27,16 @@ pub fn draft_chosen(
     let s = t.layout;
     let r = link_chosen(b, s, table, next);
     let relevant = if r.first < s.nodes {
-        Presence::Present(relevant_subtree(b, s, ends, next, r))
+        Some(relevant_subtree(b, s, ends, next, r))
     } else {
-        Presence::Absent
+        None
     };
     Draft {
-        relevant: relevant,
+        relevant,
         first: r.first,
         raw: raw_rows_of(s.nodes, relevant),
         row: t.row,
-        variables: variables,
+        variables,
         joint: AND,
     }
 }

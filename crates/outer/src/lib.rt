@@ -11,11 +11,11 @@ ghost use Rattle.rows.specs.Layouts.{format_in};
 ghost use Rattle.outer.specs.Answers.{outcome_answer, length_alone, outer_written};
 ghost use Rattle.outer.specs.Inner.OuterPlan.{OuterPlanned, Fitting, copied_formula};
 
-use crate::plan::{Copying, OuterPlan, plan_outer};
+use crate::plan::{Copying, plan_outer};
 use crate::writing::write_outer;
 use relevance::cuts::CUTS;
 use rows::fit::{fits, sheet_length};
-use rows::refusals::NO_ROOM;
+use rows::refusals::Refusal;
 use rows::{Format, NUMBERS};
 use tidying::tidy_in_place;
 
@@ -24,12 +24,12 @@ pub mod draft;
 pub mod plan;
 pub mod writing;
 
-// Refused with number and place; or the new sheet's length, how many variables are copied, and the lowest (old) number among them, 0 if
-// there is none.
-#[derive(Clone, Copy)]
-pub enum Stepped {
-    Refused(usize, usize),
-    Copied(usize, usize, usize),
+// The new sheet's length, how many variables are copied, and the lowest (old) number among them, 0 if there is none.
+#[derive(Clone, Copy, PartialEq, Eq, Debug)]
+pub struct Copied {
+    pub length: usize,
+    pub copied: usize,
+    pub lowest: usize,
 }
 
 // Writes the new sheet to the front of `out`, with zeros behind it, and returns its length.
@@ -42,37 +42,40 @@ fn outer_into(b: &[u8], tables: &[u16], cuts: &[u16], w: Copying, out: &mut [u8]
     let e = w.survey.to;
     write_outer(b, s, tables, &cuts[..w.survey.cuts], e, out);
     let t = tidy_in_place(out, e.layout);
-    let f = t.format;
-    sheet_length(f, t.variables, t.nodes)
+    sheet_length(t.format, t.variables, t.nodes)
 }
 
 // Carries out a plan: 13 the raw sheet doesn't fit; else it is written to `out` and tidied there.
-fn outer_planned(sheet: &[u8], tables: &[u16], cuts: &[u16], w: Copying, out: &mut [u8]) -> Stepped
+fn outer_planned(
+    sheet: &[u8],
+    tables: &[u16],
+    cuts: &[u16],
+    w: Copying,
+    out: &mut [u8],
+) -> Result<Copied, Refusal>
     requires { OuterPlanned sheet.now tables.now cuts.now w }
     ensures { record { answer = outcome_answer result; output = out.new } ≡ outer_written (format_in w.from) sheet.now w.variable out.old }
 {
-    let s = w.from;
-    let f = s.format;
     let raw = w.survey.to.layout;
-    if !fits(f, raw.variables, raw.nodes, out.len()) {
-        return Stepped::Refused(NO_ROOM, 0);
+    if !fits(w.from.format, raw.variables, raw.nodes, out.len()) {
+        return Err(Refusal::NoRoom);
     }
-    let end = outer_into(sheet, tables, cuts, w, out);
-    Stepped::Copied(end, w.copied, w.lowest)
+    Ok(Copied {
+        length: outer_into(sheet, tables, cuts, w, out),
+        copied: w.copied,
+        lowest: w.lowest,
+    })
 }
 
 // Expands the universal variable `x` one block out in a sheet: the new sheet stands at the front of `out` with zeros behind it, and its
 // length, the number of variables copied and the lowest of them are returned; or the call is refused with number and place, and `out`
 // is left as it was. The raw sheet is written to `out` and tidied there.
-pub fn outer(sheet: &[u8], f: Format, x: usize, out: &mut [u8]) -> Stepped
+pub fn outer(sheet: &[u8], f: Format, x: usize, out: &mut [u8]) -> Result<Copied, Refusal>
     ensures out_after { record { answer = outcome_answer result; output = out.new } ≡ outer_written (format_of f) sheet.now x out.old }
     ensures truthful_sheet { TruthfulSheet (format_of f) (truth_of (format_of f) sheet.now) (length_alone (record { answer = outcome_answer result; output = out.new })) }
 {
     let mut tables = [0u16; 2 * NUMBERS];
     let mut cuts = [0u16; CUTS];
-    let p = plan_outer(sheet, f, x, &mut tables, &mut cuts);
-    match p {
-        OuterPlan::Refused(number, place) => Stepped::Refused(number, place),
-        OuterPlan::Copies(w) => outer_planned(sheet, &tables, &cuts, w, out),
-    }
+    let w = plan_outer(sheet, f, x, &mut tables, &mut cuts)?;
+    outer_planned(sheet, &tables, &cuts, w, out)
 }

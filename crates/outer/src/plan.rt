@@ -12,11 +12,11 @@ use dependence::Target;
 use dependence::answer::{count_dependents, lowest_dependent};
 use dependence::block::one_block_out;
 use dependence::closure::fill_dependents;
-use elimination::admission::{Admission, admit};
+use elimination::admission::admit;
 use elimination::survey::{Survey, survey_draft};
 use occurrences::fill_occurrences;
 use renaming::numbers::fill_tables;
-use rows::refusals::{NO_NUMBERS_LEFT, WRONG_BLOCK};
+use rows::refusals::Refusal;
 use rows::{Format, Layout, NUMBERS, ROWS, most_variables};
 use sets::WORDS;
 
@@ -28,13 +28,6 @@ pub struct Copying {
     pub copied: usize,
     pub lowest: usize,
     pub survey: Survey,
-}
-
-// A refusal's number and place; or what is written.
-#[derive(Clone, Copy)]
-pub enum OuterPlan {
-    Refused(usize, usize),
-    Copies(Copying),
 }
 
 // Whether a variable is one block out; if so, an empty set is filled with the variables that depend on it.
@@ -61,20 +54,19 @@ fn plan_admitted(
     ends: &[u16],
     tables: &mut [u16],
     cuts: &mut [u16],
-) -> OuterPlan
+) -> Result<Copying, Refusal>
     requires { Admitted sheet.now t.variable t.layout t.row ends.now × (length tables.old ≡ 2 * NUMBERS) × (ROWS < length cuts.old) }
     ensures { OuterPlans t.layout.format sheet.now t.variable tables.new cuts.new result }
 {
     let s = t.layout;
     let mut set = [0u64; WORDS];
     if !find_dependents(sheet, t, ends, &mut set) {
-        return OuterPlan::Refused(WRONG_BLOCK, 0);
+        return Err(Refusal::WrongBlock);
     }
     let copied = count_dependents(&set);
-    let f = s.format;
-    let highest = most_variables(f);
+    let highest = most_variables(s.format);
     if highest - s.variables < copied {
-        return OuterPlan::Refused(NO_NUMBERS_LEFT, 0);
+        return Err(Refusal::NoNumbersLeft);
     }
     let lowest = lowest_dependent(&set);
     fill_tables(sheet, s, &set, highest, t.variable, tables);
@@ -82,14 +74,13 @@ fn plan_admitted(
     let variables = s.variables - 1 + copied;
     let d = draft_chosen(sheet, t, ends, &tables[NUMBERS..], variables, &mut next);
     let w = survey_draft(sheet, s, ends, &next, d, cuts);
-    let c = Copying {
+    Ok(Copying {
         variable: t.variable,
         from: s,
-        copied: copied,
-        lowest: lowest,
+        copied,
+        lowest,
         survey: w,
-    };
-    OuterPlan::Copies(c)
+    })
 }
 
 // Decides what the step does with `x` in a sheet, whatever the output.
@@ -99,21 +90,16 @@ pub fn plan_outer(
     x: usize,
     tables: &mut [u16],
     cuts: &mut [u16],
-) -> OuterPlan
+) -> Result<Copying, Refusal>
     requires { (length tables.old ≡ 2 * NUMBERS) × (ROWS < length cuts.old) }
     ensures { OuterPlans f sheet.now x tables.new cuts.new result }
 {
     let mut ends = [0u16; ROWS];
-    let a = admit(sheet, f, x, &mut ends);
-    match a {
-        Admission::Refused(number, place) => OuterPlan::Refused(number, place),
-        Admission::Admitted(s, z) => {
-            let t = Target {
-                layout: s,
-                row: z.row,
-                variable: z.variable,
-            };
-            plan_admitted(sheet, t, &ends, tables, cuts)
-        }
-    }
+    let (s, z) = admit(sheet, f, x, &mut ends)?;
+    let t = Target {
+        layout: s,
+        row: z.row,
+        variable: z.variable,
+    };
+    plan_admitted(sheet, t, &ends, tables, cuts)
 }

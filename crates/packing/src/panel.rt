@@ -4,7 +4,8 @@ ghost use Rattle.sheet.specs.Sheet.{quantifier_kind};
 ghost use Rattle.force.specs.Answers.{turn_of, outcome_of, forced_answer};
 ghost use Rattle.packing.specs.Panel.{packed_outcome, packed_forced};
 
-use crate::pack;
+use crate::{pack, pack_refusal};
+use rows::refusals::Refusal;
 
 // A turn by its quantifier's kind: 1 exists, 2 for all.
 fn kind_of(turn: force::Turn) -> usize
@@ -16,6 +17,7 @@ fn kind_of(turn: force::Turn) -> usize
     }
 }
 
+#[tactic(auto, unfolding(crate::specs::Panel::packed_outcome))]
 fn pack_outcome(turn: usize, outcome: force::Outcome) -> u64
     ensures { result ≡ packed_outcome turn (outcome_of outcome) }
 {
@@ -29,11 +31,12 @@ fn pack_outcome(turn: usize, outcome: force::Outcome) -> u64
 }
 
 // What Force answers: refusal number and place; or a word for the outcome, the turn and the variable stopped at.
-pub fn pack_forced(answer: force::Forced) -> u64
+#[tactic(auto, unfolding(crate::specs::Panel::packed_forced))]
+pub fn pack_forced(answer: Result<force::Forced, Refusal>) -> u64
     ensures { result ≡ packed_forced (forced_answer answer) }
 {
     match answer {
-        force::Forced::Refused(number, place) => pack(number, 0, place, 0),
-        force::Forced::Answered(turn, outcome) => pack_outcome(kind_of(turn), outcome),
+        Ok(panel) => pack_outcome(kind_of(panel.turn), panel.outcome),
+        Err(refusal) => pack_refusal(refusal),
     }
 }

@@ -1,34 +1,32 @@
 -- The form of a matrix, child by child.
 -- Assumes nothing.
-use mathlib.Core.Path.{◌≡◌, refl, sym, ap, ◌∙◌}
+use mathlib.Core.Path.{◌≡◌, refl, sym, ap, ◌∙◌, ap₂}
 use mathlib.Core.Bool.{Bool, true, false, true≢false}
-use mathlib.Core.List.{List, [], ◌∷◌, ◌++◌, append-nil}
+use mathlib.Core.List.{List, [], ◌∷◌, ◌++◌}
 use mathlib.Core.Option
 use mathlib.Core.Option.{Option, none, some}
-use Prim.Native.Nat.{ℕ, zero, suc, ◌+◌, ◌-◌, ◌≤◌, ◌<◌}
+use Prim.Native.Nat.{ℕ, suc, ◌+◌, ◌-◌, ◌≤◌, ◌<◌}
 use native.Mathlib.Omega.{arith}
 use lib.Dec.{eqb}
 use lib.ListN.{length, get_or, take, set, length-set}
 use lib.Seq.{take-suc-set, append_snoc, length-take-le}
-use Rattle.formula.specs.Tree.{and, or, Tree, lit, node, Forest, ∅, ◌▸◌, rows, rows_all, count, ◌⧺◌}
+use Rattle.formula.specs.Tree.{and, or, Tree, lit, node, Forest, ∅, ◌▸◌, rows, count, ◌⧺◌}
 use Rattle.formula.specs.Strategy.{Pair, Pairs}
 use Rattle.formula.specs.StrategyMatrix.{strategy_matrix, pair_trees, read_function, read_children, read_pair, and_rest, read_all, pairs_of}
 use Rattle.formula.proofs.Forests.{count-rows}
 use Rattle.formula.proofs.Strategy.Matrix.{matrix_pairs}
-use Rattle.sheet.specs.Format.{Bytes, Row}
+use Rattle.sheet.specs.Format.{Bytes}
 use Rattle.sheet.specs.Sheet.{root}
 use Rattle.rows.specs.Formulas.{matrix_in, Readable}
 use Rattle.rows.specs.declared.Layout.{Layout}
 use Rattle.subtrees.specs.Ends.{Indexed}
 use Rattle.subtrees.specs.Subtrees.{top, kids, forest_in, subtree_in, siblings_in, Beside}
 use Rattle.subtrees.proofs.Forest.{rest}
-use Rattle.subtrees.proofs.Siblings.{Walked, Children, siblings-none, subtree_root, subtree_within, below_row, children_read, walk_on}
+use Rattle.subtrees.proofs.Siblings.{Walked, siblings-none, subtree_root, subtree_within, below_row, children_read, walk_on}
 use Rattle.pair_tests.specs.Pairs.{is_read, pairs_in, pair_cuts}
+use Rattle.pair_tests.proofs.Stands.{length-cuts}
 
 -- one child
-
-not_five : {k : ℕ} → k ≡ 5 → {m : ℕ} → k ≡ m → m ≡ 5
-not_five e h = sym h ∙ e
 
 pub no_and : (t : Tree) → ((top t).kind ≡ 5 → ⊥) → false ≡ is_read (read_pair t)
 unfolding read_pair
@@ -110,11 +108,6 @@ pub record Reading (s : Layout) (b : Bytes) (n : ℕ) (cuts : List ℕ) (at j : 
   pub so_far : (g : Pairs) → read_all (siblings_in s b at (n - j)) ≡ some g → take j cuts ++ pair_cuts at g ≡ pair_cuts 1 (pairs_in s b)
   pub enough : s.nodes ≤ length cuts
 
-length-cuts : (i : ℕ) (g : Pairs) → length (pair_cuts i g) ≡ suc (length g)
-unfolding pair_cuts
-length-cuts i [] = refl
-length-cuts i (c ∷ g) = ap suc (length-cuts (i + (2 + rows c.function)) g)
-
 nothing : {A : Type 0} {B : Type 0} {a : A} {o : Option A} → o ≡ none → o ≡ some a → B
 nothing e h = let z : ◌≡◌ {A = Bool} true false = cc in absurd (true≢false z)
 
@@ -152,7 +145,7 @@ module _ {s : Layout} (b : Bytes) {ends : List ℕ} (e : Indexed s b ends) where
       }
 
   module _ {n at j : ℕ} {cuts : List ℕ} (r : Reading s b n cuts at j) where
-    pub cut_inside : j < length cuts
+    cut_inside : j < length cuts
     cut_inside = omega (arith, r.ahead, r.inside, r.enough)
 
     module _ (h : j < n) where
@@ -212,10 +205,13 @@ module _ {s : Layout} (b : Bytes) {ends : List ℕ} (e : Indexed s b ends) where
       pub reading-all : true ≡ is_read (pairs_of (matrix_in s b))
       reading-all = sym (r.same_form ∙ ap is_read none_left)
 
-      pub cuts-read : take (suc (length (pairs_in s b))) (set cuts j at) ≡ pair_cuts 1 (pairs_in s b)
+      pub cuts-read : take (suc (length (pairs_in s b))) (set cuts n at) ≡ pair_cuts 1 (pairs_in s b)
       unfolding pair_cuts
-      cuts-read = ap (λ m. take m (set cuts j at)) counted ∙ take-suc-set cuts j at cut_inside ∙ all
+      cuts-read = ap₂ (λ m i. take m (set cuts i at)) counted end ∙ take-suc-set cuts j at cut_inside ∙ all
         where
+          end : n ≡ j
+          end = omega (arith, r.within)
+
           all : take j cuts ++ (at ∷ []) ≡ pair_cuts 1 (pairs_in s b)
           all = r.so_far [] none_left
 

@@ -3,39 +3,39 @@
 use mathlib.Core.Path.{◌≡◌, refl, sym, ap, ap₂, ◌∙◌}
 use mathlib.Core.Bool.{Bool, true, false, cond, beq}
 use mathlib.Core.List.{List, [], ◌∷◌, ◌++◌, append-nil, append_assoc}
-use Prim.Native.Nat.{ℕ, zero, suc, max, ◌+◌, ◌-◌, ◌≤◌, ◌<◌}
+use Prim.Native.Nat.{ℕ, suc, max, ◌+◌, ◌-◌, ◌≤◌, ◌<◌}
 use native.Mathlib.Omega.{arith}
-use lib.Dec.{eqb, ltb, leb}
+use lib.Dec.{eqb, ltb}
 use lib.ListN.{length, get_or}
 use lib.Seq.{slice, slice_empty, slice-cons}
 use borrow.Author.Tests.{ltb-true, ltb-false, lt-ltb, le-ltb, le-leb, lt-leb, eq-eqb, ne_eqb}
-use Rattle.formula.specs.Tree.{and, or, Quantifier, same_op, dual, exists, Tree, lit, node, Forest, ∅, ◌▸◌, Prefix, binds}
-use Rattle.formula.specs.Strategy.{owns, before}
+use Rattle.formula.specs.Tree.{and, or, Quantifier, same_op, dual, exists, Tree, lit, node, Forest, ∅, ◌▸◌, Prefix}
+use Rattle.formula.specs.Strategy.{before}
 use Rattle.formula.specs.Inner.Pairs.{position, larger, deepest, deepest_all, level}
 use Rattle.sheet.specs.Format.{Bytes, Row, row}
-use Rattle.sheet.specs.Sheet.{literal_kind, operator_kind, tree_rows, forest_rows}
+use Rattle.sheet.specs.Sheet.{tree_rows, forest_rows}
 use Rattle.rows.specs.Layouts.{total, rows_in, Room}
-use Rattle.rows.specs.Formulas.{prefix_in, Readable}
+use Rattle.rows.specs.Formulas.{prefix_in}
 use Rattle.rows.specs.declared.Layout.{Layout}
 use Rattle.rows.proofs.Layouts.{length-rows_in}
 use Rattle.rows.proofs.Formulas.{length_prefix}
 use Rattle.prefixes.specs.Places.{place, binding_in}
 use Rattle.reduce.specs.Inner.Places.{Placed, row_of, variable_of, Bound}
 use Rattle.pair_tests.specs.Pairs.{side}
-use Rattle.pair_tests.specs.Levels.{level_by, row_level, deepest_row, Standing, Function}
+use Rattle.pair_tests.specs.Levels.{level_by, row_level, deepest_row}
 use Rattle.pair_tests.proofs.Marking.{owner_here}
 
 -- larger
 
-pub larger_second : (a b : ℕ) → a < b → b ≡ larger a b
+larger_second : (a b : ℕ) → a < b → b ≡ larger a b
 unfolding larger
 larger_second a b h = ap (λ m. cond m b a) (sym (lt-ltb a b h))
 
-pub larger_first : (a b : ℕ) → b ≤ a → a ≡ larger a b
+larger_first : (a b : ℕ) → b ≤ a → a ≡ larger a b
 unfolding larger
 larger_first a b h = ap (λ m. cond m b a) (sym (le-ltb a b h))
 
-larger-max : (a b : ℕ) → larger a b ≡ max a b
+pub larger-max : (a b : ℕ) → larger a b ≡ max a b
 larger-max a b = by (ltb a b) refl
   where
     by : (m : Bool) → ltb a b ≡ m → larger a b ≡ max a b
@@ -99,11 +99,6 @@ module _ (d : ℕ → ℕ) {s : Layout} (b : Bytes) (room : Room s (length b)) {
             is ∙ ap₂ larger e (l.so_far ∙ ap (λ j. deepest_row d (slice j to (rows_in s b))) next) ∙
             ap (deepest_row d) (sym (slice-cons i to (rows_in s b) (row 0 0) (omega (arith, l.within)) (omega (arith, length-rows_in b room))));
       }
-
-  pub deepening_all : {n r : ℕ} → r ≤ from → Deepening d (rows_in s b) from to n r → n ≡ deepest_row d (slice from to (rows_in s b))
-  deepening_all {n} {r} h l =
-      let end : r ≡ from = omega (arith, l.start) in
-      l.so_far ∙ ap (λ j. deepest_row d (slice j to (rows_in s b))) end
 
 -- the level of a row
 

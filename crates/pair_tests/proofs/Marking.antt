@@ -1,7 +1,7 @@
 -- Pairs marked from the last to the first, and the rows of a side looked up in the marks.
 -- Assumes nothing.
 use mathlib.Core.Path.{◌≡◌, refl, sym, ap, ap₂, ◌∙◌}
-use mathlib.Core.Bool.{Bool, true, false, not, ◌&&◌, ◌||◌, cond, beq, and-false, or-true, true≢false}
+use mathlib.Core.Bool.{Bool, true, false, not, ◌&&◌, ◌||◌, beq, and-false, or-true, true≢false}
 use mathlib.Core.List.{List, [], ◌∷◌}
 use Prim.Native.Nat.{ℕ, zero, suc, ◌≤◌, ◌<◌}
 use native.Mathlib.Omega.{arith}
@@ -9,7 +9,7 @@ use lib.Dec.{eqb}
 use lib.ListN.{length, get_or, set, drop, replicate, length-set}
 use lib.Seq.{drop-length, get_or-set_same, get_or-set_other}
 use borrow.Author.Tests.{eqb-true, eqb-false, eq-eqb, ltb-true}
-use Rattle.formula.specs.Tree.{and, or, Quantifier, same_op, dual, exists, for_all, Prefix, binds, quantifier_of}
+use Rattle.formula.specs.Tree.{and, or, Quantifier, same_op, exists, Prefix, binds, quantifier_of}
 use Rattle.formula.specs.Strategy.{Pair, Pairs, owns, sets, once, owned_all, set_all, is_covering}
 use Rattle.sheet.specs.Format.{Bytes}
 use Rattle.rows.specs.Formulas.{prefix_in}
@@ -18,7 +18,7 @@ use Rattle.rows.proofs.Formulas.{length_prefix}
 use Rattle.prefixes.specs.Places.{place, binding_at, binding_in}
 use Rattle.prefixes.proofs.Places.{binds-place, quantifier_of-place, prefix_row, no_rows}
 use Rattle.reduce.specs.Inner.Places.{Numbered, Placed, variable_of, Bound}
-use Rattle.pair_tests.specs.Pairs.{side, pairs_in, Marked}
+use Rattle.pair_tests.specs.Pairs.{side, Marked}
 
 -- sides
 
@@ -125,30 +125,7 @@ module _ (q : Quantifier) (p : Prefix) (g : Pairs) where
             get_or-set_other seen x y true false (λ k. eqb-false c.variable y e (sym is ∙ sym k)) ∙ m.marked y ∙
             ap (λ h. sets h y) (sym behind) ∙ ap (λ k. k || sets (drop (suc i) g) y) (sym e)
 
-  pub marking_all : {seen : List Bool} {j : ℕ} → Marking q p g seen j → j ≤ 0 → (true ≡ (owned_all q p g && once g)) × Marked seen g
-  marking_all {seen} {j} m h =
-      let none : j ≡ 0 = omega arith in (
-        sym (ap₂ ◌&&◌ (ap (λ k. owned_all q p (drop k g)) (sym none) ∙ m.owned) (ap (λ k. once (drop k g)) (sym none) ∙ m.met_once)),
-        λ x. m.marked x ∙ ap (λ k. sets (drop k g) x) none,
-      )
-
 -- the rows of the side
-
-pub missing_other : (e f : Bool) (q : Quantifier) (m : Bool) → f ≡ same_op exists q → beq f e ≡ false
-    → not false ≡ (not (same_op (side e) q) || m)
-missing_other e f q m is h = by (same_op (side e) q) refl
-  where
-    by : (k : Bool) → same_op (side e) q ≡ k → true ≡ (not k || m)
-    by true d = absurd (true≢false (sym d ∙ sym (side_is e q) ∙ ap (λ (z : Bool). beq z e) (sym is) ∙ h))
-    by false d = refl
-
-pub missing_own : (e f : Bool) (q : Quantifier) (m : Bool) → f ≡ same_op exists q → beq f e ≡ true
-    → not (not m) ≡ (not (same_op (side e) q) || m)
-missing_own e f q m is h = twice m ∙ ap (λ k. not k || m) (sym (sym (side_is e q) ∙ ap (λ (z : Bool). beq z e) (sym is) ∙ h))
-  where
-    twice : (k : Bool) → not (not k) ≡ k
-    twice true = refl
-    twice false = refl
 
 -- the rows before row i have their pairs
 pub record Covered (q : Quantifier) (g : Pairs) (p : Prefix) (i : ℕ) : Type 0 where
@@ -158,9 +135,6 @@ pub record Covered (q : Quantifier) (g : Pairs) (p : Prefix) (i : ℕ) : Type 0 
 module _ {s : Layout} (b : Bytes) (n : Numbered s b) (q : Quantifier) (g : Pairs) (seen : List Bool) (marked : Marked seen g) where
   abbrev p : Prefix
   p = prefix_in s b
-
-  pub covered_none : Covered q g p 0
-  covered_none = record { within = omega arith; so_far = refl }
 
   module _ {i : ℕ} (c : Covered q g p i) where
     pub covered-all : s.variables ≤ i → true ≡ set_all q g p

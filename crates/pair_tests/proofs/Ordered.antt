@@ -1,7 +1,7 @@
 -- Pairs tested from the last to the first by their levels, and the first that is found at fault.
 -- Assumes nothing.
 use mathlib.Core.Path.{◌≡◌, refl, sym, ap, ap₂, ◌∙◌, fun_ext}
-use mathlib.Core.Bool.{Bool, true, false, not, ◌&&◌, cond, and-false, true≢false}
+use mathlib.Core.Bool.{Bool, true, false, not, ◌&&◌, cond, and-false}
 use mathlib.Core.List.{List, [], ◌∷◌}
 use Prim.Native.Nat.{ℕ, zero, suc, ◌+◌, ◌-◌, ◌≤◌, ◌<◌}
 use native.Mathlib.Omega.{arith}
@@ -9,14 +9,14 @@ use lib.Dec.{eqb, ltb}
 use lib.ListN.{length, get_or, set, drop, length-set}
 use lib.Seq.{drop-length, get_or-set_same, get_or-set_other}
 use borrow.Author.Tests.{eqb-true, eqb-false, eq-eqb, lt-ltb, le-ltb, ne_eqb}
-use Rattle.formula.specs.Tree.{Quantifier, Prefix, Tree, rows}
+use Rattle.formula.specs.Tree.{Quantifier, Prefix, rows}
 use Rattle.formula.specs.Strategy.{Pair, Pairs, reads, beyond, in_order}
-use Rattle.formula.specs.Inner.Pairs.{position, deepest, level, in_levels}
+use Rattle.formula.specs.Inner.Pairs.{deepest, level, in_levels}
 use Rattle.formula.proofs.Strategy.Levels.{in_order_levels}
 use Rattle.sheet.specs.Strategy.{fault_row}
 use Rattle.prefixes.specs.Places.{place}
 use Rattle.pair_tests.specs.Pairs.{pair_cuts}
-use Rattle.pair_tests.specs.Levels.{level_by, deepest_row, fault_in}
+use Rattle.pair_tests.specs.Levels.{level_by, fault_in}
 use Rattle.pair_tests.proofs.Deepest.{position-place}
 
 -- the pair at fault

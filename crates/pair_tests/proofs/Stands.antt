@@ -4,27 +4,25 @@ use mathlib.Core.Path.{◌≡◌, refl, sym, ap, ap₂, ◌∙◌, subst}
 use mathlib.Core.Bool.{Bool, true, false, not}
 use mathlib.Core.List.{List, [], ◌∷◌, ◌++◌, append_assoc, append-nil}
 use Prim.Native.Nat.{ℕ, zero, suc, ◌+◌, ◌-◌, ◌≤◌, ◌<◌}
-use native.Mathlib.Nat.{add_assoc}
-use native.Mathlib.Numerals.{add-one}
 use native.Mathlib.Omega.{arith}
 use lib.ListN.{length, get_or, take, drop, length-append, take-append-drop}
-use lib.Seq.{drop_at, take_at, drop-cons, get_or-drop, get_or-append-add, length-take-le, slice}
+use lib.Seq.{drop_at, take_at, drop-cons, get_or-drop, length-take-le, slice}
 use borrow.Author.Tests.{not-false}
-use Rattle.formula.specs.Tree.{Op, and, or, Tree, lit, node, Forest, ∅, ◌▸◌, Prefix, Formula, Literals, rows, rows_all, count, has, has_any, binds, closed}
+use Rattle.formula.specs.Tree.{and, or, Tree, lit, node, Forest, ∅, ◌▸◌, Prefix, rows, rows_all, count, has, has_any, binds, closed}
 use Rattle.formula.specs.Strategy.{Pair, Pairs}
 use Rattle.formula.specs.StrategyMatrix.{pair_trees, strategy_matrix}
 use Rattle.formula.proofs.Booleans.{or_parts}
 use Rattle.sheet.specs.Format.{Bytes, Row, row, Every}
 use Rattle.sheet.specs.Sheet.{tree_rows, forest_rows}
-use Rattle.sheet.proofs.Preorder.{length-tree_rows, length-forest_rows}
+use Rattle.sheet.proofs.Preorder.{length-tree_rows}
 use Rattle.sheet.proofs.Every.{every-++, every_at}
-use Rattle.rows.specs.Layouts.{total, rows_in}
+use Rattle.rows.specs.Layouts.{rows_in}
 use Rattle.rows.specs.Formulas.{prefix_in, node_rows_in, matrix_in, formula_in, Readable}
 use Rattle.rows.specs.declared.Layout.{Layout}
 use Rattle.rows.proofs.Formulas.{node_row, length-nodes, one_tree, rows-nodes}
 use Rattle.raw.proofs.Source.{nodes_part}
 use Rattle.substitution.specs.declared.Span.{Span}
-use Rattle.reduce.specs.Inner.Places.{row_of, variable_of, Bound}
+use Rattle.reduce.specs.Inner.Places.{Numbered, row_of, Bound}
 use Rattle.pair_tests.specs.Pairs.{pairs_in, pair_cuts, Paired}
 use Rattle.pair_tests.specs.Levels.{Standing, Function}
 
@@ -52,6 +50,13 @@ unfolding pair_cuts
 next_cut [] i j h = absurd (omega arith)
 next_cut (c ∷ g) i zero h = first_cut (i + (2 + rows c.function)) g
 next_cut (c ∷ g) i (suc j) h = next_cut g (i + (2 + rows c.function)) j (omega arith)
+
+cut_least : (g : Pairs) (i j : ℕ) → j ≤ length g → i ≤ get_or (pair_cuts i g) j 0
+unfolding pair_cuts
+cut_least [] i zero h = omega arith
+cut_least [] i (suc j) h = absurd (omega arith)
+cut_least (c ∷ g) i zero h = omega arith
+cut_least (c ∷ g) i (suc j) h = omega (arith, cut_least g (i + (2 + rows c.function)) j (omega arith))
 
 cut_within : (g : Pairs) (i j : ℕ) → j ≤ length g
     → get_or (pair_cuts i g) j 0 + rows_all (pair_trees (drop j g)) ≡ i + rows_all (pair_trees g)
@@ -129,6 +134,10 @@ module _ {s : Layout} (b : Bytes) {cuts : List ℕ} (k : Paired s b cuts) where
   pub counted : length cuts ≡ suc (length (pairs_in s b))
   counted = ap length k.are_cuts ∙ length-cuts 1 (pairs_in s b)
 
+  -- the pair before cut j
+  pub cut_behind : {j : ℕ} → 0 < j → j ≤ length (pairs_in s b) → suc (j - 1) < length cuts
+  cut_behind l m = omega (arith, counted)
+
   nodes_are : node_rows_in s b ≡ (row 6 (count (pair_trees (pairs_in s b))) ∷ []) ++ forest_rows (pair_trees (pairs_in s b))
   unfolding strategy_matrix tree_rows
   nodes_are = sym (one_tree b k.readable) ∙ ap tree_rows k.is_matrix
@@ -155,6 +164,9 @@ module _ {s : Layout} (b : Bytes) {cuts : List ℕ} (k : Paired s b cuts) where
 
     cut-is : (i : ℕ) → get_or cuts i 0 ≡ get_or (pair_cuts 1 (pairs_in s b)) i 0
     cut-is i = ap (λ l. get_or l i 0) k.are_cuts
+
+    pub is_behind_root : 0 < get_or cuts j 0
+    is_behind_root = omega (arith, cut-is j, cut_least (pairs_in s b) 1 j (omega (arith, few)))
 
     pub next_is : get_or cuts (suc j) 0 ≡ get_or cuts j 0 + (2 + rows (get_or (pairs_in s b) j no_pair).function)
     next_is = cut-is (suc j) ∙ next_cut (pairs_in s b) 1 j few ∙ ap (λ m. m + (2 + rows c.function)) (sym (cut-is j))
@@ -186,6 +198,9 @@ module _ {s : Layout} (b : Bytes) {cuts : List ℕ} (k : Paired s b cuts) where
     pub literal-variable : {r x : ℕ} → r ≡ s.variables + (get_or cuts j 0 + 1) → x ≡ (row_of s b r).argument
         → x ≡ (get_or (pairs_in s b) j no_pair).variable
     literal-variable e is = is ∙ ap (λ (x : Row). x.argument) (literal_row e)
+
+    pub literal-few : {r x : ℕ} → Numbered s b → x ≡ (row_of s b r).argument → r ≡ s.variables + (get_or cuts j 0 + 1) → x < 1025
+    literal-few n is e = omega (arith, is, n.few_numbers _ (literal-bound e).is_bound)
 
     module _ {span : Span} (from : span.from ≡ s.variables + (get_or cuts j 0 + 2)) (to : span.to ≡ s.variables + get_or cuts (suc j) 0) where
       pub function-rows : slice span.from span.to (rows_in s b) ≡ tree_rows (get_or (pairs_in s b) j no_pair).function

@@ -18,8 +18,7 @@ fn is_own(b: &[u8], s: Layout, exists: bool, places: &[u16], r: usize) -> bool
     requires { Placed s b.now places.now × Bound s b.now r }
     ensures { result ≡ owns (side exists) (prefix_in s b.now) (variable_of s b.now r) }
 {
-    let i = place_at(b, s, places, r);
-    is_existential(b, s, i) == exists
+    is_existential(b, s, place_at(b, s, places, r)) == exists
 }
 
 // Marks the variables of the pairs, from the last to the first, and returns whether each is of the side and none is met twice.
@@ -35,17 +34,10 @@ fn mark_pairs(
     ensures value { result ≡ (owned_all (side exists) (prefix_in s b.now) (pairs_in s b.now) && once (pairs_in s b.now)) }
     ensures marked { result ≡ true → Marked seen.new (pairs_in s b.now) }
 {
-    let v = s.variables;
-    let mut j = cuts.len() - 1;
-    while 0 < j {
-        j -= 1;
-        let r = v + cuts[j] as usize + 1;
-        let own = is_own(b, s, exists, places, r);
+    for j in (0..cuts.len() - 1).rev() {
+        let r = s.variables + cuts[j] as usize + 1;
         let x = argument_at(b, s, r);
-        if !own {
-            return false;
-        }
-        if seen[x] {
+        if !is_own(b, s, exists, places, r) || seen[x] {
             return false;
         }
         seen[x] = true;
@@ -58,10 +50,7 @@ fn is_missing(b: &[u8], s: Layout, exists: bool, seen: &[bool], i: usize) -> boo
     requires { Numbered s b.now × (length seen.now ≡ NUMBERS) × (i < s.variables) }
     ensures { not result ≡ (not (same_op (side exists) (binding_in s b.now i).quantifier) || get_or seen.now (binding_in s b.now i).variable false) }
 {
-    if is_existential(b, s, i) != exists {
-        return false;
-    }
-    !seen[bound_at(b, s, i)]
+    is_existential(b, s, i) == exists && !seen[bound_at(b, s, i)]
 }
 
 // Whether each row of the side has a pair.
@@ -69,12 +58,10 @@ fn are_marked(b: &[u8], s: Layout, exists: bool, seen: &[bool]) -> bool
     requires { Numbered s b.now × (length seen.now ≡ NUMBERS) × Marked seen.now (pairs_in s b.now) }
     ensures { result ≡ set_all (side exists) (pairs_in s b.now) (prefix_in s b.now) }
 {
-    let mut i: usize = 0;
-    while i < s.variables {
+    for i in 0..s.variables {
         if is_missing(b, s, exists, seen, i) {
             return false;
         }
-        i += 1;
     }
     true
 }
@@ -85,8 +72,5 @@ pub fn covers(b: &[u8], s: Layout, exists: bool, places: &[u16], cuts: &[u16]) -
     ensures { result ≡ is_covering (side exists) (prefix_in s b.now) (pairs_in s b.now) }
 {
     let mut seen = [false; NUMBERS];
-    if !mark_pairs(b, s, exists, places, cuts, &mut seen) {
-        return false;
-    }
-    are_marked(b, s, exists, &seen)
+    mark_pairs(b, s, exists, places, cuts, &mut seen) && are_marked(b, s, exists, &seen)
 }

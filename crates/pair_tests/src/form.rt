@@ -14,13 +14,7 @@ fn is_pair(b: &[u8], s: Layout, i: usize) -> bool
     requires { Readable s b.now × (i < s.nodes) }
     ensures { result ≡ is_read (read_pair (subtree_in s b.now i)) }
 {
-    if kind_at(b, s, i) != AND {
-        return false;
-    }
-    if children_at(b, s, i) != 2 {
-        return false;
-    }
-    kind_at(b, s, i + 1) == POSITIVE
+    kind_at(b, s, i) == AND && children_at(b, s, i) == 2 && kind_at(b, s, i + 1) == POSITIVE
 }
 
 // Whether the matrix is one of pairs. If so, the first entries of `cuts` are the node rows at which they begin, and the row behind them.
@@ -34,15 +28,13 @@ pub fn read_pairs(b: &[u8], s: Layout, ends: &[u16], cuts: &mut [u16]) -> bool
     }
     let n = children_at(b, s, 0);
     let mut at: usize = 1;
-    let mut j: usize = 0;
-    while j < n {
+    for j in 0..n {
         if !is_pair(b, s, at) {
             return false;
         }
         cuts[j] = at as u16;
         at = ends[at] as usize;
-        j += 1;
     }
-    cuts[j] = at as u16;
+    cuts[n] = at as u16;
     true
 }

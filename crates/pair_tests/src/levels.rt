@@ -1,7 +1,6 @@
 // Whether a pair reads what it may not, by one number for each variable: the place of the last row of the other side that it depends on.
-ghost use Rattle.std.specs.Prelude.{◌≡◌, ℕ, length, get_or};
+ghost use Rattle.std.specs.Prelude.{◌≡◌, ℕ, ◌<◌, length, get_or, SomeIff};
 ghost use Rattle.std.proofs.Math.Seq.{slice};
-ghost use Rattle.formula.specs.Inner.Pairs.{larger};
 ghost use Rattle.rows.specs.Layouts.{rows_in};
 ghost use Rattle.rows.specs.Formulas.{prefix_in};
 ghost use Rattle.rows.specs.Tables.{NUMBERS};
@@ -15,16 +14,6 @@ use rows::read::{argument_at, kind_at};
 use rows::{Layout, NEGATIVE, NUMBERS};
 use substitution::Span;
 
-// The larger of two numbers.
-fn larger(a: usize, b: usize) -> usize
-    ensures { result ≡ larger a b }
-{
-    if a < b {
-        return b;
-    }
-    a
-}
-
 // The level of the literal at row `r`, and 0 of an operator.
 fn row_level(b: &[u8], s: Layout, exists: bool, places: &[u16], levels: &[u16], r: usize) -> usize
     requires { Placed s b.now places.now × Standing s b.now r × (length levels.now ≡ NUMBERS) }
@@ -33,9 +22,8 @@ fn row_level(b: &[u8], s: Layout, exists: bool, places: &[u16], levels: &[u16], 
     if NEGATIVE < kind_at(b, s, r) {
         return 0;
     }
-    let entry = levels[argument_at(b, s, r)] as usize;
-    if 0 < entry {
-        return entry - 1;
+    if let Some(level) = usize::from(levels[argument_at(b, s, r)]).checked_sub(1) {
+        return level;
     }
     let i = place_at(b, s, places, r);
     if is_existential(b, s, i) == exists {
@@ -56,17 +44,14 @@ fn deepest_in(
     requires { Placed s b.now places.now × Function s b.now span × (length levels.now ≡ NUMBERS) }
     ensures { result ≡ deepest_row (level_by (side exists) (prefix_in s b.now) levels.now) (slice span.from span.to (rows_in s b.now)) }
 {
-    let from = span.from;
-    let mut deepest = 0;
-    let mut r = span.to;
-    while from < r {
-        r -= 1;
-        deepest = larger(row_level(b, s, exists, places, levels, r), deepest);
+    let mut deepest: usize = 0;
+    for r in (span.from..span.to).rev() {
+        deepest = deepest.max(row_level(b, s, exists, places, levels, r));
     }
     deepest
 }
 
-// The node row of the last pair that reads what it may not, 0 if there is none. `levels` holds zeros at first.
+// The node row of the last pair that reads what it may not, if there is one. `levels` holds zeros at first.
 fn fault_by(
     b: &[u8],
     s: Layout,
@@ -74,34 +59,32 @@ fn fault_by(
     places: &[u16],
     cuts: &[u16],
     levels: &mut [u16],
-) -> usize
+) -> Option<usize>
     requires { Placed s b.now places.now × Paired s b.now cuts.now × ((x : ℕ) → get_or levels.old x 0 ≡ 0) × (length levels.old ≡ NUMBERS) }
-    ensures { result ≡ fault_in (side exists) (prefix_in s b.now) (pairs_in s b.now) }
+    ensures { SomeIff result (0 < fault_in (side exists) (prefix_in s b.now) (pairs_in s b.now)) (fault_in (side exists) (prefix_in s b.now) (pairs_in s b.now)) }
 {
     let v = s.variables;
-    let mut j = cuts.len() - 1;
-    while 0 < j {
-        j -= 1;
+    for j in (0..cuts.len() - 1).rev() {
         let at = cuts[j] as usize;
         let function = Span {
             from: v + at + 2,
             to: v + cuts[j + 1] as usize,
         };
         let level = deepest_in(b, s, exists, places, levels, function);
-        let place = place_at(b, s, places, v + at + 1);
-        let x = argument_at(b, s, v + at + 1);
+        let literal = v + at + 1;
+        let place = place_at(b, s, places, literal);
         if place < level {
-            return at;
+            return Some(at);
         }
-        levels[x] = (level + 1) as u16;
+        levels[argument_at(b, s, literal)] = (level + 1) as u16;
     }
-    0
+    None
 }
 
-// The node row of the last pair that reads what it may not, 0 if there is none.
-pub fn find_fault(b: &[u8], s: Layout, exists: bool, places: &[u16], cuts: &[u16]) -> usize
+// The node row of the last pair that reads what it may not, if there is one.
+pub fn find_fault(b: &[u8], s: Layout, exists: bool, places: &[u16], cuts: &[u16]) -> Option<usize>
     requires { Placed s b.now places.now × Paired s b.now cuts.now }
-    ensures { result ≡ fault_in (side exists) (prefix_in s b.now) (pairs_in s b.now) }
+    ensures { SomeIff result (0 < fault_in (side exists) (prefix_in s b.now) (pairs_in s b.now)) (fault_in (side exists) (prefix_in s b.now) (pairs_in s b.now)) }
 {
     let mut levels = [0u16; NUMBERS];
     fault_by(b, s, exists, places, cuts, &mut levels)

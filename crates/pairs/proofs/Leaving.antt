@@ -13,7 +13,7 @@ use Rattle.rows.specs.Layouts.{total}
 use Rattle.rows.specs.Formulas.{prefix_in, Readable}
 use Rattle.rows.specs.declared.Layout.{Layout}
 use Rattle.substitution.specs.Output.{Laid}
-use Rattle.substitution.proofs.Splice.{none-laid, laid_on}
+use Rattle.substitution.proofs.Splice.{laid_on}
 use Rattle.prefixes.specs.Places.{binding_in}
 use Rattle.prefixes.proofs.Places.{prefix_row, no_rows}
 use Rattle.pairs.specs.Pairs.{row_left, pair_rows}
@@ -28,10 +28,6 @@ pub record Leaving (q : Quantifier) (s : Layout) (b : Bytes) (t : Layout) (old :
   pub same_length : length out ≡ length old
 
 module _ (q : Quantifier) (s : Layout) (b : Bytes) (ok : Readable s b) (t : Layout) (old : Bytes) (start : ℕ) where
-  pub leaving_none : Leaving q s b t old start old start 0
-  leaving_none =
-      record { within = omega arith; done = []; so_far = none-laid t old start; owed = refl; same_length = refl }
-
   pub leaving_all : {out : Bytes} {at i : ℕ} → s.variables ≤ i → Leaving q s b t old start out at i
       → Laid t old out start at (pair_rows (left q (prefix_in s b)))
   leaving_all {out} {at} {i} h r =

@@ -1,16 +1,18 @@
 -- The rows of pairs, one pair after the other, and of a strategy as a whole.
 -- Assumes nothing.
-use mathlib.Core.Path.{◌≡◌, refl, sym, ap, ap₂, ◌∙◌}
+use mathlib.Core.Path.{◌≡◌, refl, sym, ap, ◌∙◌}
 use mathlib.Core.Bool.{Bool, true, false, not, cond, beq}
-use mathlib.Core.List.{List, [], ◌∷◌, ◌++◌, append-nil, append_assoc, map}
-use Prim.Native.Nat.{ℕ, suc, ◌+◌}
+use mathlib.Core.List.{[], ◌∷◌, ◌++◌, append-nil, append_assoc, map}
+use Prim.Native.Nat.{ℕ, suc, ◌+◌, ◌≤◌}
 use native.Mathlib.Omega.{arith}
 use lib.ListN.{length}
-use Rattle.formula.specs.Tree.{Op, and, or, Quantifier, same_op, exists, Tree, lit, node, Forest, ∅, ◌▸◌, constant, Binding, Prefix, count, rows}
+use borrow.Author.Tests.{not-false}
+use mir.Val.{bool_byte}
+use Rattle.formula.specs.Tree.{Op, and, or, Quantifier, same_op, exists, constant, Binding, Prefix, count}
 use Rattle.formula.specs.Strategy.{Pair, Pairs, winner, left}
 use Rattle.formula.specs.StrategyMatrix.{pair_trees, strategy_matrix}
-use Rattle.sheet.specs.Format.{Bytes, Row, row}
-use Rattle.sheet.specs.Sheet.{literal_kind, operator_kind, binding_row, tree_rows, forest_rows, formula_rows}
+use Rattle.sheet.specs.Format.{row}
+use Rattle.sheet.specs.Sheet.{binding_row, tree_rows, formula_rows}
 use Rattle.sheet.specs.Strategy.{strategy_formula}
 use Rattle.pairs.specs.Pairs.{head_rows, one_pair, row_left, pair_rows}
 
@@ -43,23 +45,31 @@ left-next q z p = by (same_op q z.quantifier)
     by true = pair_rows-next c (left q p)
     by false = refl
 
--- one row, if it is of the side or not
-pub other_left : (q : Quantifier) (z : Binding) → same_op q z.quantifier ≡ false → (row_left q z ≡ []) × (0 ≡ length (left q (z ∷ [])))
-unfolding left
-other_left q z h =
-    let c : Pair = record { variable = z.variable; function = constant false } in (
-      ap (λ (m : Bool). cond m (one_pair z.variable (constant false)) []) h,
-      sym (ap (λ (m : Bool). length (cond m (c ∷ []) [])) h),
-    )
+-- whose row it is
+pub side_of : (m : Bool) (o : Op) {e : Bool} → e ≡ same_op exists o → beq e m ≡ same_op (winner m) o
+side_of true and h = ap (λ e. beq e true) h
+side_of true or h = ap (λ e. beq e true) h
+side_of false and h = ap (λ e. beq e false) h
+side_of false or h = ap (λ e. beq e false) h
 
-pub own_left : (q : Quantifier) (z : Binding) → same_op q z.quantifier ≡ true → {x : ℕ} → x ≡ z.variable
-    → (head_rows x ++ (row 6 0 ∷ []) ≡ row_left q z) × (1 ≡ length (left q (z ∷ [])))
-unfolding left tree_rows count
-own_left q z h e =
-    let c : Pair = record { variable = z.variable; function = constant false } in (
-      ap (λ x. row 5 2 ∷ row 3 x ∷ row 6 0 ∷ []) e ∙ sym (ap (λ (m : Bool). cond m (one_pair z.variable (constant false)) []) h),
-      sym (ap (λ (m : Bool). length (cond m (c ∷ []) [])) h),
-    )
+-- one row of the side, and how many it adds to the rows that are left
+pub own_left : (m : Bool) (z : Binding) {e : Bool} → e ≡ same_op exists z.quantifier → not (beq e m) ≡ false → {x : ℕ} → x ≡ z.variable
+    → head_rows x ++ (row 6 0 ∷ []) ≡ row_left (winner m) z
+unfolding tree_rows count
+own_left m z is own e =
+    ap (λ x. row 5 2 ∷ row 3 x ∷ row 6 0 ∷ []) e ∙
+    sym (ap (λ (m : Bool). cond m (one_pair z.variable (constant false)) []) (sym (side_of m z.quantifier is) ∙ not-false _ own))
+
+pub one-left : (q : Quantifier) (z : Binding) → (bool_byte (same_op q z.quantifier) ≡ length (left q (z ∷ []))) × (bool_byte (same_op q z.quantifier) ≤ 1)
+unfolding left
+one-left q z = by (same_op q z.quantifier)
+  where
+    c : Pair
+    c = record { variable = z.variable; function = constant false }
+
+    by : (m : Bool) → (bool_byte m ≡ length (cond m (c ∷ []) [])) × (bool_byte m ≤ 1)
+    by true = (refl, omega arith)
+    by false = (refl, omega arith)
 
 pub length-left : (q : Quantifier) (z : Binding) (p : Prefix) → length (left q (z ∷ p)) ≡ length (left q (z ∷ [])) + length (left q p)
 unfolding left
@@ -71,13 +81,6 @@ length-left q z p = by (same_op q z.quantifier)
     by : (m : Bool) → length (cond m (c ∷ left q p) (left q p)) ≡ length (cond m (c ∷ []) []) + length (left q p)
     by true = omega arith
     by false = omega arith
-
--- whose row it is
-pub side_of : (m : Bool) (o : Op) {e : Bool} → e ≡ same_op exists o → beq e m ≡ same_op (winner m) o
-side_of true and h = ap (λ e. beq e true) h
-side_of true or h = ap (λ e. beq e true) h
-side_of false and h = ap (λ e. beq e false) h
-side_of false or h = ap (λ e. beq e false) h
 
 -- the front and the pairs are the rows of the strategy's formula
 pub count_pairs : (g : Pairs) → count (pair_trees g) ≡ length g

@@ -26,10 +26,8 @@ pub fn write_front(b: &[u8], s: Layout, pairs: usize, out: &mut [u8], t: Layout)
         from: 0,
         to: s.variables,
     };
-    let front = Target { layout: t, at: 0 };
-    let at = write_rows(b, s, prefix, out, front);
-    let root = Target { layout: t, at: at };
-    write_row(out, root, OR, pairs)
+    let at = write_rows(b, s, prefix, out, Target { layout: t, at: 0 });
+    write_row(out, Target { layout: t, at }, OR, pairs)
 }
 
 // Writes the operator of a pair and its variable's literal.
@@ -37,10 +35,8 @@ fn write_head(x: usize, out: &mut [u8], to: Target) -> usize
     requires { Room to.layout (length out.old) × (to.at + 2 ≤ total to.layout) × Fits to.layout x }
     ensures { Laid to.layout out.old out.new to.at result (head_rows x) }
 {
-    let t = to.layout;
     let at = write_row(out, to, AND, 2);
-    let below = Target { layout: t, at: at };
-    write_row(out, below, POSITIVE, x)
+    write_row(out, Target { at, ..to }, POSITIVE, x)
 }
 
 // Writes the pair of `x` and the matrix of a sheet, its function.
@@ -48,14 +44,12 @@ pub fn write_pair(b: &[u8], s: Layout, x: usize, out: &mut [u8], to: Target) -> 
     requires { Readable s b.now × PairReady s b.now to.layout out.old to.at x }
     ensures { Laid to.layout out.old out.new to.at result (one_pair x (matrix_in s b.now)) }
 {
-    let t = to.layout;
     let matrix = Span {
         from: s.variables,
         to: s.variables + s.nodes,
     };
     let at = write_head(x, out, to);
-    let below = Target { layout: t, at: at };
-    write_rows(b, s, matrix, out, below)
+    write_rows(b, s, matrix, out, Target { at, ..to })
 }
 
 // Writes the pair of prefix row `i` with the constant 0, if the row is of the side: exists, or for all.
@@ -67,10 +61,8 @@ fn write_if_left(b: &[u8], s: Layout, exists: bool, i: usize, out: &mut [u8], to
     if is_existential(b, s, i) != exists {
         return to.at;
     }
-    let t = to.layout;
     let at = write_head(bound_at(b, s, i), out, to);
-    let below = Target { layout: t, at: at };
-    write_row(out, below, OR, 0)
+    write_row(out, Target { at, ..to }, OR, 0)
 }
 
 // Writes the pairs of the side's rows that are left, in prefix order, each with the constant 0.
@@ -78,14 +70,9 @@ pub fn write_left(b: &[u8], s: Layout, exists: bool, out: &mut [u8], to: Target)
     requires { Readable s b.now × LeftReady (winner exists) s b.now to.layout out.old to.at }
     ensures { Laid to.layout out.old out.new to.at result (pair_rows (left (winner exists) (prefix_in s b.now))) }
 {
-    let t = to.layout;
-    let v = s.variables;
     let mut at = to.at;
-    let mut i = 0;
-    while i < v {
-        let here = Target { layout: t, at: at };
-        at = write_if_left(b, s, exists, i, out, here);
-        i += 1;
+    for i in 0..s.variables {
+        at = write_if_left(b, s, exists, i, out, Target { at, ..to });
     }
     at
 }
@@ -95,10 +82,7 @@ fn one_if_left(b: &[u8], s: Layout, exists: bool, i: usize) -> usize
     requires { Readable s b.now × (i < s.variables) }
     ensures { (result ≡ length (left (winner exists) (binding_in s b.now i ∷ []))) × (result ≤ 1) }
 {
-    if is_existential(b, s, i) != exists {
-        return 0;
-    }
-    1
+    usize::from(is_existential(b, s, i) == exists)
 }
 
 // How many of the side's rows are left.
@@ -107,9 +91,7 @@ pub fn count_left(b: &[u8], s: Layout, exists: bool) -> usize
     ensures { result ≡ length (left (winner exists) (prefix_in s b.now)) }
 {
     let mut n = 0;
-    let mut i = s.variables;
-    while 0 < i {
-        i -= 1;
+    for i in (0..s.variables).rev() {
         n += one_if_left(b, s, exists, i);
     }
     n

@@ -6,7 +6,6 @@ ghost use Rattle.sheet.specs.Operations.{part_call};
 ghost use Rattle.rows.specs.Formats.{format_of};
 ghost use Rattle.part.specs.Places.{part_place, moved_on};
 
-use checking::Checked;
 use rows::Format;
 use rows::places::kind_place;
 
@@ -16,8 +15,7 @@ pub fn part<'a>(sheet: &'a [u8], f: Format, node: usize) -> &'a [u8]
     ensures result_value_2 { result.now ≡ take (length result.now) (drop (part_place (format_of f) sheet.now node) sheet.now) }
     ensures ref_ptr_value { result.ref_ptr ≡ moved_on (part_place (format_of f) sheet.now node) sheet.entry.ref_ptr }
 {
-    let c = checking::check(sheet, f);
-    let Checked::Accepted(s) = c else {
+    let Ok(s) = checking::check(sheet, f) else {
         return &sheet[0..0];
     };
     if s.nodes <= node {

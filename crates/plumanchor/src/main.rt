@@ -5,7 +5,6 @@ ghost use Rattle.std.specs.Prelude.{OnOk, IfSome, take};
 ghost use Rattle.std.specs.Io.KnownBytes.{Appends};
 ghost use Rattle.plumanchor.specs.Program.{answer_text};
 
-use checking::Checked;
 use rows::Format;
 use std::io;
 use std::io::{Read, Write};
@@ -24,13 +23,10 @@ fn write_answer<W: Write>(to: &mut W, sheet: &[u8]) -> io::Result<()>
 // Writes to standard error what to do with a good sheet of 16-bit numbers. It is never a good wide one, since its N is where a wide sheet
 // has the upper half of V. The line is written by then, so a hint that can't be written is no error.
 fn hint<W: Write>(to: &mut W, input: &[u8]) {
-    match checking::check(input, Format::Narrow) {
-        Checked::Accepted(_) => {
-            let _ = to.write_all(
-                b"plumanchor: this is a sheet of 16-bit numbers; './plumanchor solve --from narrow' solves it\n",
-            );
-        }
-        Checked::Refused(_, _) => {}
+    if checking::check(input, Format::Narrow).is_ok() {
+        let _ = to.write_all(
+            b"plumanchor: this is a sheet of 16-bit numbers; './plumanchor solve --from narrow' solves it\n",
+        );
     }
 }
 

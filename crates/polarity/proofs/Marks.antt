@@ -6,7 +6,6 @@ use mathlib.Core.List.{List}
 use Prim.Native.Nat.{ℕ, zero, suc, ◌+◌, ◌-◌, ◌≤◌, ◌<◌}
 use native.Mathlib.Omega.{arith}
 use lib.Dec.{eqb}
-use mir.Val.{bool_byte}
 use lib.ListN.{length, get_or, set, drop, replicate, length-set, length-drop}
 use lib.Seq.{drop-length, get_or-set_same, get_or-set_other}
 use borrow.Author.Tests.{eqb-true, eqb-false, ne_eqb}
@@ -28,14 +27,6 @@ use Rattle.polarity.specs.Value.{NumberedTo}
 use Rattle.sheet.proofs.Forests.{behind-past}
 
 -- entry_of
-
-pub unit_bit : (u : Bool) → bool_byte u ≡ cond u 1 0
-unit_bit true = refl
-unit_bit false = refl
-
-pub sign_bit : (p : Bool) → bool_byte (not p) ≡ cond p 0 1
-sign_bit true = refl
-sign_bit false = refl
 
 pub unit-bound : (u : Bool) → cond u 1 0 ≤ 1
 unit-bound true = omega arith

@@ -1,7 +1,8 @@
 -- The value that settling puts in, by the signs of a variable's literals ("Settle x").
 -- Assumes nothing.
-use Rattle.std.specs.Prelude.{◌≡◌, Bool, true, false, not, ◌||◌, cond, List, ℕ, ◌≤◌, ◌<◌, eqb, get_or}
-use Rattle.std.proofs.Math.Option.{Option, none, some}
+use Rattle.std.specs.Prelude.{◌≡◌, Bool, true, false, not, ◌||◌, cond, List, ℕ, ◌≤◌, ◌<◌, get_or, Option, Some, None}
+use Rattle.std.proofs.Math.Option as maybe
+use Rattle.std.proofs.Math.Option.{none, some}
 use Rattle.formula.specs.Tree.{Quantifier, exists, for_all, Tree, of_sign, has, distinct}
 use Rattle.formula.specs.Settle.{at_root, value, settling}
 use Rattle.sheet.specs.Format.{Bytes}
@@ -9,8 +10,6 @@ use Rattle.rows.specs.Formulas.{prefix_in, matrix_in}
 use Rattle.rows.specs.declared.Layout.{Layout}
 use Rattle.prefixes.specs.Places.{binding_in}
 use Rattle.polarity.specs.Table.{entry_of}
-use Rattle.polarity.specs.declared.value.Settling.{Settling}
-use Rattle.polarity.specs.declared.value.Settling.TheVariants.{Take, Not}
 use Rattle.polarity.specs.declared.value.Signs.{Signs}
 
 -- the prefix has no number above `most`
@@ -26,16 +25,14 @@ pub record Bound (s : Layout) (b : Bytes) : Type 0 where
   pub is_distinct : distinct (prefix_in s b) ≡ true
   pub numbered : Numbered s b
 
--- the table of values: exists, for all; positive, negative
-abbrev pub quantifier_at : ℕ → Quantifier
-quantifier_at k = cond (eqb k 0) exists for_all
+-- the quantifier, as code has it: whether it is exists
+abbrev pub quantifier_at : Bool → Quantifier
+quantifier_at e = cond e exists for_all
 
-abbrev pub sign_at : ℕ → Bool
-sign_at k = eqb k 0
-
-abbrev pub value_of : Settling → Option Bool
-value_of (Take c) = some c
-value_of Not = none
+-- the code's value, as formulas have it
+abbrev pub value_of : Option Bool → maybe.Option Bool
+value_of (Some c) = some c
+value_of None = none
 
 -- the signs of x: in a matrix, and in a table
 abbrev pub signs_of : ℕ → Tree → Signs
@@ -57,12 +54,12 @@ signs_in signs x =
     }
 
 -- the value for a quantifier and signs, if there is one
-abbrev pub settling_by : Quantifier → Signs → Option Bool
+abbrev pub settling_by : Quantifier → Signs → maybe.Option Bool
 settling_by q g =
     cond (not (g.positive || g.negative)) (some false)
     (cond (not g.negative || g.positive_unit) (some (value q true))
     (cond (not g.positive || g.negative_unit) (some (value q false)) none))
 
 -- the value for the variable of prefix row i, if it may be settled
-abbrev pub settling_in : Layout → Bytes → ℕ → Option Bool
+abbrev pub settling_in : Layout → Bytes → ℕ → maybe.Option Bool
 settling_in s b i = settling (binding_in s b i).quantifier (binding_in s b i).variable (matrix_in s b)

@@ -52,31 +52,17 @@ fn mark_row(b: &[u8], s: Layout, i: usize, unit: bool, signs: &mut [bool]) -> us
     0
 }
 
-// How many subtrees of the current child of the root are owed behind a row, if `left` were owed at it: the row pays for one and adds its
-// children. If none was owed, the row begins a child of the root, and only its own children are owed.
-fn left_behind(left: usize, children: usize) -> usize
-    requires { left + children < 2 ^ 32 }
-    ensures { result ≡ left - 1 + children }
-{
-    if left == 0 {
-        return children;
-    }
-    left - 1 + children
-}
-
 // Fills the table, in which no sign is marked yet. One pass is enough: in preorder a child of the root begins where nothing is owed for the
-// one before. A literal there is a unit literal, and so is a root that is a literal.
+// one before. A literal there is a unit literal, and so is a root that is a literal. Of what is owed, a row pays for one subtree and adds its
+// children; where nothing is owed, it begins a child of the root, and only its own children are owed.
 pub fn fill_signs(b: &[u8], s: Layout, signs: &mut [bool])
     requires { Readable s b.now × Unmarked signs.old × Covers s b.now (length signs.old) }
     ensures { Signed s b.now signs.new }
 {
-    let n = s.nodes;
     mark_row(b, s, 0, true, signs);
-    let mut left = 0;
-    let mut i = 1;
-    while i < n {
+    let mut left: usize = 0;
+    for i in 1..s.nodes {
         let children = mark_row(b, s, i, left == 0, signs);
-        left = left_behind(left, children);
-        i += 1;
+        left = left.saturating_sub(1) + children;
     }
 }

@@ -18,12 +18,11 @@ use Rattle.formula.proofs.Booleans.{same_op_eq, same_op-exists}
 
 -- looking for x from row i on
 pub record Finding (s : Layout) (b : Bytes) (x i : ℕ) : Type 0 where
-  pub within : i ≤ s.variables
   pub same : place x (prefix_in s b) ≡ i + place x (drop i (prefix_in s b))
 
 module _ {s : Layout} (b : Bytes) (ok : Readable s b) where
   pub find_start : (x : ℕ) → Finding s b x 0
-  find_start x = record { within = omega arith; same = omega arith }
+  find_start x = record { same = omega arith }
 
   found_by : (x i : ℕ) {a : ℕ} {e : Bool} → i < s.variables → Finding s b x i → a ≡ (binding_in s b i).variable → eqb a x ≡ e
       → place x (prefix_in s b) ≡ i + cond e 0 (suc (place x (drop (suc i) (prefix_in s b))))
@@ -39,11 +38,11 @@ module _ {s : Layout} (b : Bytes) (ok : Readable s b) where
   pub find_on : (x i : ℕ) {j a : ℕ} → i < s.variables → j ≡ suc i → Finding s b x i → a ≡ (binding_in s b i).variable
       → (a ≡ x → ⊥) → Finding s b x j
   find_on x i {j} {a} h next f r e =
-      rw next (record { within = h; same = omega (arith, found_by x i h f r (ne_eqb a x e)) })
+      rw next (record { same = omega (arith, found_by x i h f r (ne_eqb a x e)) })
 
-  pub find_none : (x i : ℕ) → s.variables ≤ i → Finding s b x i → i ≡ place x (prefix_in s b)
+  pub find_none : (x i : ℕ) → i ≡ s.variables → Finding s b x i → place x (prefix_in s b) ≡ s.variables
   unfolding place
-  find_none x i h f = omega (arith, f.within, f.same, ap (place x) (no_rows b ok i (omega (arith, f.within))))
+  find_none x i h f = omega (arith, h, f.same, ap (place x) (no_rows b ok i h))
 
 -- from row i on all rows are of one kind, existential or not
 pub record Block (s : Layout) (b : Bytes) (exist : Bool) (i : ℕ) : Type 0 where

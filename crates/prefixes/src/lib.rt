@@ -1,7 +1,7 @@
 // The prefix of a sheet by the numbers of its rows: a variable's row, its quantifier, and the innermost block.
 #![tactic(auto)]
 
-ghost use Rattle.std.specs.Prelude.{◌≡◌, ◌^◌, ◌<◌};
+ghost use Rattle.std.specs.Prelude.{◌≡◌, ◌^◌, ◌<◌, IfSome, IfNone};
 ghost use Rattle.formula.specs.Tree.{same_op, exists};
 ghost use Rattle.rows.specs.Formulas.{prefix_in, Readable};
 ghost use Rattle.prefixes.specs.Places.{place, binding_in, block_start};
@@ -25,20 +25,18 @@ pub fn is_existential(b: &[u8], s: Layout, i: usize) -> bool
     kind_at(b, s, i) == EXISTS
 }
 
-// The prefix row of the variable `x`, or V if `x` is not in the prefix.
-pub fn find_variable(b: &[u8], s: Layout, x: usize) -> usize
+// The prefix row of the variable `x`, if it is in the prefix.
+pub fn find_variable(b: &[u8], s: Layout, x: usize) -> Option<usize>
     requires { Readable s b.now }
-    ensures { result ≡ place x (prefix_in s b.now) }
+    ensures row { IfSome result (λ i. (i ≡ place x (prefix_in s b.now)) × (i < s.variables)) }
+    ensures not_in_prefix { IfNone result (place x (prefix_in s b.now) ≡ s.variables) }
 {
-    let v = s.variables;
-    let mut i = 0;
-    while i < v {
+    for i in 0..s.variables {
         if bound_at(b, s, i) == x {
-            return i;
+            return Some(i);
         }
-        i += 1;
     }
-    i
+    None
 }
 
 // The first row of the innermost block: from the last row back for as long as the kinds are equal.
@@ -46,13 +44,12 @@ pub fn block_start(b: &[u8], s: Layout) -> usize
     requires { Readable s b.now × (0 < s.variables) }
     ensures { result ≡ block_start (prefix_in s b.now) }
 {
-    let mut i = s.variables - 1;
-    let exists = is_existential(b, s, i);
-    while 0 < i {
-        if is_existential(b, s, i - 1) != exists {
-            return i;
+    let last = s.variables - 1;
+    let exists = is_existential(b, s, last);
+    for i in (0..last).rev() {
+        if is_existential(b, s, i) != exists {
+            return i + 1;
         }
-        i -= 1;
     }
-    i
+    0
 }

@@ -1,27 +1,27 @@
 -- bind: a word of the quantifier lines a turn.
 -- Assumes nothing.
-use mathlib.Core.Logic.{◌⊎◌, inl, inr}
+use mathlib.Core.Logic.{inl, inr}
 use mathlib.Core.Path.{◌≡◌, refl, sym, ap, ap₂, ◌∙◌, subst}
 use mathlib.Core.Bool.{Bool, true, false, not, ◌&&◌, ◌||◌, cond, false≢true, and-false}
 use mathlib.Core.List.{List, [], ◌∷◌}
 use Prim.Native.Nat.{ℕ, zero, suc, ◌+◌, ◌≤◌, ◌<◌}
 use native.Mathlib.Omega.{arith}
-use lib.Dec.{eqb, leb}
+use lib.Dec.{eqb}
 use lib.ListN.{length, get_or, set, replicate, length-set, length-replicate}
 use lib.Seq.{get_or-set_same, get_or-set_other}
-use borrow.Author.Tests.{eqb-true, eqb-false, eq-eqb, ne_eqb, leb-true}
-use Rattle.formula.specs.Tree.{and, or, Prefix, Binding, binds, distinct}
+use borrow.Author.Tests.{eqb-true, eqb-false, ne_eqb, leb-true}
+use Rattle.formula.specs.Tree.{Prefix, Binding, binds, distinct}
 use Rattle.formula.proofs.Booleans.{and_parts, eqb_comm}
 use Rattle.sheet.specs.Format.{Bytes}
-use Rattle.sheet.specs.Qdimacs.{all, Token, opener, plain, minus, other}
+use Rattle.sheet.specs.Qdimacs.{all, Token}
 use Rattle.sheet.specs.Texts.{up_to}
 use Rattle.words.specs.Numbers.{Capped, largest}
 use Rattle.words.specs.Tokens.{Reads}
 use Rattle.words.specs.declared.token.Token as code
 use Rattle.words.proofs.Classes.{View, view_other, view_exists, view_for_all, view_p, view_cnf, view_zero, view_plain, view_minus}
-use Rattle.qdimacs.specs.Inner.Lists.{State, between, within, ordered, bound_from}
+use Rattle.qdimacs.specs.Inner.Lists.{State, between, ordered, bound_from}
 use Rattle.qdimacs.specs.Inner.Cursor.{tokens_at, state_code, step}
-use Rattle.qdimacs.specs.Inner.Marks.{Listed, bindings_in, found_with, marks_with, Marked, Binds}
+use Rattle.qdimacs.specs.Inner.Marks.{Listed, bindings_in, found_with, marks_with, Binds}
 use Rattle.qdimacs.specs.declared.marks.Bound.{Bound}
 use Rattle.qdimacs.proofs.Next as leads
 use Rattle.qdimacs.proofs.Next.{Next, none, word, next, Led, begins, breaks, goes, led}

@@ -1,29 +1,22 @@
 -- The lines above the header, the header's line, and its words.
 -- Assumes nothing.
-use mathlib.Core.Path.{◌≡◌, refl, sym, ap, ap₂, ◌∙◌, subst}
-use mathlib.Core.Bool.{Bool, true, false, not, ◌&&◌, ◌||◌, cond, false≢true}
-use mathlib.Core.List.{List, [], ◌∷◌, ◌++◌, tail, flat_map, append-nil}
-use Prim.Native.Nat.{ℕ, zero, suc, ◌+◌, ◌-◌, ◌≤◌, ◌<◌}
-use native.Mathlib.Numerals.{add-one}
+use mathlib.Core.Path.{◌≡◌, refl, sym, ap, ◌∙◌, subst}
+use mathlib.Core.Bool.{Bool, true, false, not, ◌&&◌, cond}
+use mathlib.Core.List.{[], ◌∷◌, ◌++◌, flat_map, append-nil}
+use Prim.Native.Nat.{ℕ, suc, ◌+◌, ◌-◌, ◌≤◌, ◌<◌}
 use native.Mathlib.Omega.{arith}
 use lib.Dec.{eqb, ltb}
 use lib.ListN.{length, take, drop, get_or, length-drop, drop_of_length-le}
 use lib.Seq.{drop-drop}
 use borrow.Author.Tests.{eqb-true, eqb-false, eq-eqb, ne_eqb, ltb-true, ltb-false}
-use Rattle.formula.proofs.Booleans.{and_parts}
 use Rattle.sheet.specs.Format.{Bytes}
-use Rattle.sheet.specs.Qdimacs.{split, nonempty, is_nil, all, line_end, lines, words, unsigned, magnitude, is_word, is_comment, from_header, header_of, words_below}
+use Rattle.sheet.specs.Qdimacs.{split, nonempty, is_nil, all, line_end, lines, words, is_comment, from_header, words_below}
 use Rattle.sheet.proofs.Qdimacs.Lists.{split_uncut}
 use Rattle.sheet.proofs.Qdimacs.Words.{words-of-lines, above-header, at_header, last-above, last-header}
-use Rattle.sheet.specs.Texts.{separator, separated, Line, is_skipped, header_words, TextWords}
+use Rattle.sheet.specs.Texts.{separated, Line, is_skipped, header_words, TextWords}
 use Rattle.words.specs.Words.{lead, gap}
-use Rattle.words.specs.Numbers.{Capped, largest}
-use Rattle.words.specs.Tokens.{class_of, first_class, Reads}
-use Rattle.words.specs.declared.token.Token.{Token}
 use Rattle.words.proofs.Words.{lead-within, gap_within, words-gap, gap-lead, words-lead}
-use Rattle.words.proofs.Classes.{View, view_other, view_exists, view_for_all, view_p, view_cnf, view_zero, view_plain, view_minus, tells}
-use Rattle.qdimacs.specs.Inner.Header.{first_line, behind_line, next_line, HeaderAt, unsigned_class, is_header, Heads}
-use Rattle.qdimacs.specs.declared.header.Header.{Header}
+use Rattle.qdimacs.specs.Inner.Header.{first_line, behind_line, next_line, HeaderAt}
 
 -- a line
 

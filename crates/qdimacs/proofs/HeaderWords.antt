@@ -1,23 +1,22 @@
 -- The words of the header, by their classes.
 -- Assumes nothing.
-use mathlib.Core.Path.{◌≡◌, refl, sym, ap, ap₂, ◌∙◌, subst}
-use mathlib.Core.Bool.{Bool, true, false, not, ◌&&◌, ◌||◌, cond, false≢true, and-false}
+use mathlib.Core.Path.{◌≡◌, refl, sym, ap, ◌∙◌, subst}
+use mathlib.Core.Bool.{Bool, true, false, ◌&&◌, ◌||◌, and-false}
 use mathlib.Core.List.{List, [], ◌∷◌, tail}
-use Prim.Native.Nat.{ℕ, zero, suc, ◌+◌, ◌≤◌, ◌<◌}
+use Prim.Native.Nat.{ℕ, suc, ◌≤◌}
 use native.Mathlib.Omega.{arith}
 use lib.Dec.{eqb}
 use lib.ListN.{length, drop, get_or}
 use borrow.Author.Tests.{eqb-true, ne_eqb}
 use Rattle.formula.proofs.Booleans.{and_parts}
 use Rattle.sheet.specs.Format.{Bytes}
-use Rattle.sheet.specs.Qdimacs.{Token, unsigned, magnitude, is_word, header_of}
+use Rattle.sheet.specs.Qdimacs.{Token, magnitude, header_of}
 use Rattle.sheet.specs.Texts.{separated}
 use Rattle.words.specs.Numbers.{Capped, largest}
 use Rattle.words.specs.Tokens.{class_of, first_class, Reads}
 use Rattle.words.specs.declared.token.Token as code
 use Rattle.words.proofs.Classes.{View, view_other, view_exists, view_for_all, view_p, view_cnf, view_zero, view_plain, view_minus, tells}
 use Rattle.qdimacs.specs.Inner.Header.{unsigned_class, is_header, Heads}
-use Rattle.qdimacs.specs.declared.header.Header.{Header}
 
 pub some_class : {k m : ℕ} {t : Token} → View k t m → eqb k 0 ≡ false
 some_class view_other = refl

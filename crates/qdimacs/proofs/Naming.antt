@@ -3,6 +3,7 @@
 use mathlib.Core.Logic.{inl, inr}
 use mathlib.Core.Path.{◌≡◌, refl, sym, ap, ap₂, ◌∙◌, subst}
 use mathlib.Core.Bool.{Bool, true, false, ◌&&◌, ◌||◌, cond}
+use Rattle.std.specs.Int.{from_bool}
 use mathlib.Core.List.{List, [], ◌∷◌, ◌++◌}
 use Prim.Native.Nat.{ℕ, suc, ◌+◌, ◌≤◌, ◌<◌}
 use native.Mathlib.Numerals.{add-one}
@@ -148,7 +149,7 @@ pub free-none : (m : List ℕ) (most : ℕ) → FreeSoFar m most 0 0
 unfolding frees
 free-none m most = record { within = omega arith; so_far = refl; few = omega arith }
 
-pub free_more : {m : List ℕ} {most count x one : ℕ} → FreeSoFar m most count x → x < most → one ≡ cond (eqb (get_or m (x + 1) 0) 2) 1 0
+free_more : {m : List ℕ} {most count x one : ℕ} → FreeSoFar m most count x → x < most → one ≡ cond (eqb (get_or m (x + 1) 0) 2) 1 0
     → FreeSoFar m most (count + one) (x + 1)
 unfolding frees
 free_more {m} {most} {count} {x} {one} h l e =
@@ -168,6 +169,17 @@ free_more {m} {most} {count} {x} {one} h l e =
         go : (b : Bool) → length (frees m x) + cond b 1 0 ≡ length (frees m x ++ cond b (record { quantifier = exists; variable = suc x } ∷ []) [])
         go true = sym (length-append (frees m x) (record { quantifier = exists; variable = suc x } ∷ []))
         go false = sym (length-append (frees m x) [])
+
+-- the mark of x is looked at, and x is one behind the numbers so far
+pub free_next : {m : List ℕ} {most count before one : ℕ} (x y : ℕ) → FreeSoFar m most count before → before + 1 ≡ x → y ≡ x → x ≤ most
+    → one ≡ from_bool (eqb (get_or m x 0) 2) → FreeSoFar m most (count + one) y
+free_next {m} {most} {count} {before} {one} x y h e f l o =
+    subst (FreeSoFar m most (count + one)) (e ∙ sym f)
+    (free_more h (omega (arith, e)) (o ∙ as_number (eqb (get_or m x 0) 2) ∙ ap (λ n. cond (eqb (get_or m n 0) 2) 1 0) (sym e)))
+  where
+    as_number : (b : Bool) → from_bool b ≡ cond b 1 0
+    as_number true = refl
+    as_number false = refl
 
 pub free_all : {m : List ℕ} {most count x : ℕ} → FreeSoFar m most count x → most ≤ x → (count ≡ length (frees m most)) × (count ≤ most)
 free_all {m} {most} {count} {x} h l = (h.so_far ∙ ap (λ n. length (frees m n)) (same h.within l), omega (arith, h.few, h.within))

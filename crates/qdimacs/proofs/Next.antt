@@ -1,24 +1,21 @@
 -- The next word, and where it leads.
 -- Assumes nothing.
-use mathlib.Core.Logic.{◌⊎◌, inl, inr}
-use mathlib.Core.Path.{◌≡◌, refl, sym, ap, ap₂, ◌∙◌, subst}
-use mathlib.Core.Bool.{Bool, true, false, cond, false≢true}
+use mathlib.Core.Path.{◌≡◌, refl, sym, ap, ◌∙◌, subst}
+use mathlib.Core.Bool.{true, false}
 use mathlib.Core.List.{List, [], ◌∷◌, map, tail}
-use Prim.Native.Nat.{ℕ, zero, suc, ◌≤◌, ◌<◌}
+use Prim.Native.Nat.{ℕ, suc, ◌≤◌}
 use native.Mathlib.Omega.{arith}
-use lib.Dec.{eqb}
-use lib.ListN.{length, drop, get_or, drop_of_length-le}
-use Rattle.formula.specs.Tree.{Quantifier, and, or, Binding, Prefix}
+use lib.ListN.{drop, get_or}
+use Rattle.formula.specs.Tree.{Quantifier, and, or}
 use Rattle.sheet.specs.Format.{Bytes}
-use Rattle.sheet.specs.Qdimacs.{split, nonempty, is_nil, magnitude, Token, opener, plain, minus, other, token}
+use Rattle.sheet.specs.Qdimacs.{magnitude, Token, token}
 use Rattle.sheet.specs.Texts.{separated}
 use Rattle.words.specs.Numbers.{Capped, largest}
-use Rattle.words.specs.Tokens.{class_of, first_class, Reads}
+use Rattle.words.specs.Tokens.{first_class, Reads}
 use Rattle.words.specs.declared.token.Token as code
 use Rattle.words.proofs.Classes.{View, view_other, view_exists, view_for_all, view_p, view_cnf, view_zero, view_plain, view_minus, tells}
 use Rattle.qdimacs.specs.Inner.Lists.{State, between, within, ordered, clause_tokens, bound_from}
-use Rattle.qdimacs.specs.Inner.Cursor.{tokens_at, state_code, step, Cuts}
-use Rattle.qdimacs.specs.declared.prefix.Cut.{Cut}
+use Rattle.qdimacs.specs.Inner.Cursor.{tokens_at, state_code, step}
 
 pub data Next (b : Bytes) (at : ℕ) (t : code.Token) : Type 0 where
   none : t.class ≡ 0 → tokens_at b at ≡ [] → tokens_at b t.to ≡ [] → Next b at t

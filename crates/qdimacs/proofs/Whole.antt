@@ -13,7 +13,7 @@ use Rattle.formula.specs.Tree.{exists, Prefix, binds, distinct, rows, rows_all, 
 use Rattle.formula.proofs.Booleans.{and_parts}
 use Rattle.sheet.specs.Format.{Bytes, Format, Row, row, digits, sheet_length, Every}
 use Rattle.sheet.specs.Sheet.{binding_row, tree_rows, forest_rows, formula_rows, row_kinds, row_arguments, sheet}
-use Rattle.sheet.specs.Check.{Answer, refused, accepted}
+use Rattle.sheet.specs.Check.{refused, accepted}
 use Rattle.sheet.specs.Operations.{padded}
 use Rattle.sheet.specs.Qdimacs.{all, is_nil, Token, is_end, absolute, text_header, tokens_below, pieces, ended_lists, open_list}
 use Rattle.sheet.specs.Qdimacs.{in_order, well_listed, numbers_of, bound, clauses, clause_trees, matrix_of, named, is_free, free_up_to, said, qdimacs, qdimacs_call, above_count}

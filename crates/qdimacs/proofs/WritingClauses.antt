@@ -2,13 +2,14 @@
 -- Assumes nothing.
 use mathlib.Core.Path.{◌≡◌, refl, sym, ap, ap₂, ◌∙◌, subst}
 use mathlib.Core.Bool.{Bool, true, false, not, ◌&&◌, cond, false≢true, and-false}
+use Rattle.std.specs.Int.{from_bool}
 use mathlib.Core.List.{List, [], ◌∷◌, ◌++◌, append_assoc, append-nil}
 use Prim.Native.Nat.{ℕ, zero, suc, ◌+◌, ◌≤◌, ◌<◌}
 use native.Mathlib.Omega.{arith}
 use lib.Dec.{eqb, ltb, eqb-suc-zero}
 use lib.ListN.{length, set, length-append}
 use borrow.Author.Tests.{ne_eqb, le-ltb, leb-true}
-use Rattle.formula.specs.Tree.{lit, count}
+use Rattle.formula.specs.Tree.{count}
 use Rattle.formula.proofs.Booleans.{and_parts}
 use Rattle.sheet.specs.Format.{Bytes, Row, row}
 use Rattle.sheet.specs.Sheet.{literal_kind, tree_rows, forest_rows}
@@ -75,15 +76,15 @@ module _ {b : Bytes} {from n at : ℕ} (h : Measured b from n at) {t : code.Toke
       go (none k p q) = absurd (omega (arith, e, k))
       go (word v c p) = omega (arith, h.so_far, ap first_length p, length_end (tokens_at b t.to) v e)
 
-  pub measured_word : {one : ℕ} → at < length b → (t.class ≡ 6 → ⊥) → one ≡ cond (eqb t.class 0) 0 1 → Measured b from (n + one) t.to
+  pub measured_word : {one : ℕ} → at < length b → (t.class ≡ 6 → ⊥) → one ≡ from_bool (not (eqb t.class 0)) → Measured b from (n + one) t.to
   measured_word {one} l e o = go (next r)
     where
       go : Next b at t → Measured b from (n + one) t.to
       go (none k p q) =
-          let z = o ∙ ap (λ j. cond (eqb j 0) 0 1) k in
+          let z = o ∙ ap (λ j. from_bool (not (eqb j 0))) k in
           record { inside = r.inside; so_far = omega (arith, h.so_far, ap first_length (p ∙ sym q)); fewer = omega (arith, h.fewer, r.onward l) }
       go (word v c p) =
-          let z = o ∙ ap (λ b. cond b 0 1) (some_class v) in
+          let z = o ∙ ap (λ b. from_bool (not b)) (some_class v) in
           record {
             inside = r.inside;
             so_far = omega (arith, h.so_far, ap first_length p, length_word (tokens_at b t.to) v e);

@@ -1,7 +1,7 @@
 -- write_free and write_bound: a row a turn.
 -- Assumes nothing.
 use mathlib.Core.Path.{◌≡◌, refl, sym, ap, ap₂, ◌∙◌, subst}
-use mathlib.Core.Bool.{Bool, true, false, ◌&&◌, cond, false≢true}
+use mathlib.Core.Bool.{Bool, true, false, cond, false≢true}
 use mathlib.Core.List.{List, [], ◌∷◌, ◌++◌, map, map-append, append_assoc, append-nil}
 use Prim.Native.Nat.{ℕ, zero, suc, ◌+◌, ◌-◌, ◌≤◌, ◌<◌}
 use native.Mathlib.Numerals.{add-one}
@@ -13,12 +13,9 @@ use Rattle.formula.specs.Tree.{and, or, exists, Quantifier, Binding, Prefix}
 use Rattle.formula.proofs.Booleans.{and_parts}
 use Rattle.sheet.specs.Format.{Bytes, Row, row}
 use Rattle.sheet.specs.Sheet.{binding_row}
-use Rattle.sheet.specs.Qdimacs.{all}
-use Rattle.sheet.specs.Texts.{up_to}
-use Rattle.words.specs.Numbers.{Capped, largest}
 use Rattle.words.specs.Tokens.{Reads}
 use Rattle.words.specs.declared.token.Token as code
-use Rattle.qdimacs.specs.Inner.Lists.{State, between, within, ordered, bound_from}
+use Rattle.qdimacs.specs.Inner.Lists.{between, within, ordered, bound_from}
 use Rattle.qdimacs.specs.Inner.Cursor.{tokens_at, state_code, step}
 use Rattle.qdimacs.specs.Inner.Marks.{Listed, bindings_in, frees}
 use Rattle.qdimacs.specs.Inner.Rows.{spliced}
@@ -111,6 +108,19 @@ module _ {m : List ℕ} {most : ℕ} {rs₀ rs : List Row} {r x : ℕ} (h : Free
       go false q e f =
           subst (λ d. Put rs₀ 0 d new r') (sym (append-nil (map binding_row (frees m x))) ∙ rows_are false q)
           (subst (Put rs₀ 0 (map binding_row (frees m x)) new) (sym f) (subst (λ n. Put rs₀ 0 (map binding_row (frees m x)) n r) (sym e) h.put))
+
+  -- the same of x, which is one behind the numbers so far
+  module _ (y : ℕ) (e : x + 1 ≡ y) where
+    pub free-row_at : y ≤ most → get_or m y 0 ≡ 2 → r < length (frees m most)
+    free-row_at l f = free-row_there (omega (arith, e)) (ap (λ n. get_or m n 0) e ∙ f)
+
+    pub free_written_next : {new : List Row} {r' : ℕ} (z : ℕ) → z ≡ y → y ≤ most → length (frees m most) ≤ length rs₀
+        → new ≡ cond (eqb (get_or m y 0) 2) (set rs r (row 1 y)) rs → r' ≡ cond (eqb (get_or m y 0) 2) (r + 1) r
+        → FreeWritten m most rs₀ new r' z
+    free_written_next {new} {r'} z f l room n k =
+        subst (FreeWritten m most rs₀ new r') (e ∙ sym f)
+        (free_written_more (omega (arith, e)) room (n ∙ ap (λ i. cond (eqb (get_or m i 0) 2) (set rs r (row 1 i)) rs) (sym e))
+        (k ∙ ap (λ i. cond (eqb (get_or m i 0) 2) (r + 1) r) (sym e)))
 
 pub free_written_all : {m : List ℕ} {most : ℕ} {rs₀ rs : List Row} {r x : ℕ} → FreeWritten m most rs₀ rs r x → most ≤ x
     → (rs ≡ spliced rs₀ 0 (map binding_row (frees m most))) × (r ≡ length (frees m most))

@@ -11,9 +11,8 @@ use crate::header::Header;
 use crate::marks::{bind, count_free, name};
 use crate::prefix::prefix_end;
 use crate::write::{write_bound, write_clauses, write_free};
-use checking::Written;
 use rows::fit::sheet_length;
-use rows::refusals::{BAD_LISTS, BEYOND_HEADER, BOUND_TWICE, NO_ROOM, SIZE_OUTSIDE};
+use rows::refusals::Refusal;
 use rows::write::{seal, set_row};
 use rows::{AND, Format, Layout, NUMBERS, most_nodes};
 
@@ -41,7 +40,7 @@ fn write_sheet(b: &[u8], marks: &[u8; NUMBERS], k: Body, out: &mut [u8], s: Layo
 }
 
 // Well listed words: 6 a number bound twice, 2 too many nodes, 13 output shorter than the sheet.
-fn read_scanned(b: &[u8], f: Format, k: Body, out: &mut [u8]) -> Written
+fn read_scanned(b: &[u8], f: Format, k: Body, out: &mut [u8]) -> Result<usize, Refusal>
     requires { Scanned b.now k }
     ensures { CountedAnswers (format_of f) b.now k out.old result out.new }
 {
@@ -50,10 +49,10 @@ fn read_scanned(b: &[u8], f: Format, k: Body, out: &mut [u8]) -> Written
     name(b, k.from, &mut marks);
     let free = count_free(&marks, k.most);
     if bound.twice {
-        return Written::Refused(BOUND_TWICE, 0);
+        return Err(Refusal::BoundTwice(0));
     }
     if most_nodes(f) <= k.words {
-        return Written::Refused(SIZE_OUTSIDE, 0);
+        return Err(Refusal::SizeOutside);
     }
     let s = Layout {
         format: f,
@@ -61,32 +60,32 @@ fn read_scanned(b: &[u8], f: Format, k: Body, out: &mut [u8]) -> Written
         nodes: k.words + 1,
     };
     if out.len() < sheet_length(f, s.variables, s.nodes) {
-        return Written::Refused(NO_ROOM, 0);
+        return Err(Refusal::NoRoom);
     }
-    Written::Accepted(write_sheet(b, &marks, k, out, s))
+    Ok(write_sheet(b, &marks, k, out, s))
 }
 
 // The words below a header: 16 not lists as they should be, 17 a number above the header's or another number of clauses.
-pub fn read_body(b: &[u8], f: Format, h: Header, out: &mut [u8]) -> Written
+pub fn read_body(b: &[u8], f: Format, h: Header, out: &mut [u8]) -> Result<usize, Refusal>
     requires { (h.variables ≤ HIGHEST) × (length b.now < largest) }
     ensures { Answers (format_of f) b.now h out.old result out.new }
 {
     let cut = prefix_end(b);
     if !cut.ordered {
-        return Written::Refused(BAD_LISTS, 0);
+        return Err(Refusal::BadLists);
     }
     let c = count_clauses(b, cut.at);
     if !c.whole {
-        return Written::Refused(BAD_LISTS, 0);
+        return Err(Refusal::BadLists);
     }
     if c.ongoing {
-        return Written::Refused(BAD_LISTS, 0);
+        return Err(Refusal::BadLists);
     }
     if has_above(b, h.variables) {
-        return Written::Refused(BEYOND_HEADER, 0);
+        return Err(Refusal::BeyondHeader);
     }
     if c.count != h.clauses {
-        return Written::Refused(BEYOND_HEADER, 0);
+        return Err(Refusal::BeyondHeader);
     }
     let k = Body {
         from: cut.at,

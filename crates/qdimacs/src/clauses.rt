@@ -31,27 +31,20 @@ fn count_word(c: Clauses, class: u8) -> Clauses
     if class == NONE {
         return c;
     }
+    let words = c.words + 1;
     if class == ZERO {
         return Clauses {
-            whole: c.whole,
             ongoing: false,
             count: c.count + 1,
-            words: c.words + 1,
-        };
-    }
-    if class < ZERO {
-        return Clauses {
-            whole: false,
-            ongoing: true,
-            count: c.count,
-            words: c.words + 1,
+            words,
+            ..c
         };
     }
     Clauses {
-        whole: c.whole,
+        whole: c.whole && ZERO < class,
         ongoing: true,
-        count: c.count,
-        words: c.words + 1,
+        words,
+        ..c
     }
 }
 
@@ -93,10 +86,7 @@ fn is_above(literal: i32, most: usize) -> bool
 fn says_above(t: Token, most: usize) -> bool
     ensures { result ≡ says_above most t }
 {
-    if t.class < ZERO {
-        return false;
-    }
-    is_above(literal_said(t), most)
+    ZERO <= t.class && is_above(literal_said(t), most)
 }
 
 // Whether a number, of quantifier lines or of clauses, is above `most`.

@@ -17,17 +17,12 @@ pub struct Header {
 }
 
 // Whether a line is a comment or blank.
+#[tactic(auto, using(crate::proofs::HeaderLines::empty_skipped, crate::proofs::HeaderLines::comment_skipped, crate::proofs::HeaderLines::white_skipped))]
 fn is_skipped(line: &[u8]) -> bool
     requires { Line line.now }
     ensures { result ≡ is_skipped line.now }
 {
-    if line.len() == 0 {
-        return true;
-    }
-    if line[0] == 99 {
-        return true;
-    }
-    skip_white(line, 0) == line.len()
+    line.is_empty() || line[0] == b'c' || skip_white(line, 0) == line.len()
 }
 
 // Where the line behind the one that ends at `to` begins.
@@ -59,29 +54,15 @@ pub fn header_line(text: &[u8]) -> usize
 fn is_unsigned(class: u8) -> bool
     ensures { result ≡ unsigned_class class }
 {
-    if class == ZERO {
-        return true;
-    }
-    class == POSITIVE
+    class == ZERO || class == POSITIVE
 }
 
 // Whether the words of a line are p, cnf and two unsigned numbers, and no more.
+#[tactic(auto, unfolding(crate::specs::Inner::Header::is_header))]
 fn is_header(p: u8, cnf: u8, variables: u8, clauses: u8, last: u8) -> bool
     ensures { result ≡ is_header p cnf variables clauses last }
 {
-    if p != P {
-        return false;
-    }
-    if cnf != CNF {
-        return false;
-    }
-    if !is_unsigned(variables) {
-        return false;
-    }
-    if !is_unsigned(clauses) {
-        return false;
-    }
-    last == NONE
+    p == P && cnf == CNF && is_unsigned(variables) && is_unsigned(clauses) && last == NONE
 }
 
 // Reads a line as a header.

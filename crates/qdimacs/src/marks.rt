@@ -31,17 +31,12 @@ fn bind_word(found: Bound, t: Token, marks: &mut [u8; NUMBERS]) -> Bound
         return found;
     }
     let x = t.magnitude;
+    let count = found.count + 1;
     if marks[x] == BOUND {
-        return Bound {
-            twice: true,
-            count: found.count + 1,
-        };
+        return Bound { twice: true, count };
     }
     marks[x] = BOUND;
-    Bound {
-        twice: found.twice,
-        count: found.count + 1,
-    }
+    Bound { count, ..found }
 }
 
 // Marks the numbers of the quantifier lines.
@@ -74,13 +69,9 @@ fn name_literal(literal: i32, marks: &mut [u8; NUMBERS])
     ensures { marks.new ≡ named_by literal marks.old }
 {
     let x = variable_of(literal);
-    if NUMBERS <= x {
-        return;
+    if x < NUMBERS && marks[x] == 0 {
+        marks[x] = FREE;
     }
-    if marks[x] != 0 {
-        return;
-    }
-    marks[x] = FREE;
 }
 
 // Marks the variable of a number of a clause as free, if it is not bound.
@@ -88,10 +79,9 @@ fn name_word(t: Token, marks: &mut [u8; NUMBERS])
     requires { length marks.old ≡ NUMBERS }
     ensures { marks.new ≡ named_with t marks.old }
 {
-    if t.class < ZERO {
-        return;
+    if ZERO <= t.class {
+        name_literal(literal_said(t), marks);
     }
-    name_literal(literal_said(t), marks);
 }
 
 // Marks the variables of the clauses from `from` on that are not bound as free.
@@ -107,26 +97,14 @@ pub fn name(b: &[u8], from: usize, marks: &mut [u8; NUMBERS])
     }
 }
 
-// 1 for a free number, else 0.
-fn one_if_free(mark: u8) -> usize
-    ensures { result ≡ cond (eqb mark 2) 1 0 }
-{
-    if mark == FREE {
-        return 1;
-    }
-    0
-}
-
 // How many numbers up to `most` are free.
 pub fn count_free(marks: &[u8; NUMBERS], most: usize) -> usize
     requires { (most ≤ HIGHEST) × (length marks.now ≡ NUMBERS) }
     ensures { (result ≡ length (frees marks.now most)) × (result ≤ most) }
 {
     let mut count: usize = 0;
-    let mut x: usize = 0;
-    while x < most {
-        x += 1;
-        count = count + one_if_free(marks[x]);
+    for x in 1..most + 1 {
+        count += usize::from(marks[x] == FREE);
     }
     count
 }

@@ -23,32 +23,23 @@ pub struct Cut {
 fn opened(class: u8) -> u8
     ensures { result ≡ opened class }
 {
-    if class == NONE {
-        return BETWEEN;
+    match class {
+        NONE => BETWEEN,
+        EXISTS => rows::EXISTS,
+        FOR_ALL => rows::FOR_ALL,
+        _ => CLAUSE,
     }
-    if class == EXISTS {
-        return rows::EXISTS;
-    }
-    if class == FOR_ALL {
-        return rows::FOR_ALL;
-    }
-    CLAUSE
 }
 
 // The state after a word within a line: numbers without sign go on, and 0 ends the line.
 fn continued(state: u8, class: u8) -> u8
     ensures { result ≡ continued state class }
 {
-    if class == NONE {
-        return state;
+    match class {
+        NONE | POSITIVE => state,
+        ZERO => BETWEEN,
+        _ => WRONG,
     }
-    if class == ZERO {
-        return BETWEEN;
-    }
-    if class == POSITIVE {
-        return state;
-    }
-    WRONG
 }
 
 // The state after a word.

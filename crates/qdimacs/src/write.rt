@@ -28,16 +28,16 @@ pub struct ListPlace {
     pub fresh: bool,
 }
 
-// Writes the row of a number if it is free, and returns the next row.
-fn write_if_free(mark: u8, x: usize, out: &mut [u8], s: Layout, r: usize) -> usize
-    requires { Room s (length out.old) × (mark ≡ 2 → r < total s) × (r < largest) × Fits s x }
-    ensures out_after { rows_in s out.new ≡ cond (eqb mark 2) (set (rows_in s out.old) r (row 1 x)) (rows_in s out.old) }
-    ensures value { result ≡ cond (eqb mark 2) (r + 1) r }
+// Writes a row at `r` if it is chosen, and returns the next row.
+fn write_if(chosen: bool, kind: u8, x: usize, out: &mut [u8], s: Layout, r: usize) -> usize
+    requires { Room s (length out.old) × (chosen ≡ true → r < total s) × (r < largest) × (chosen ≡ true → Fits s x) }
+    ensures out_after { rows_in s out.new ≡ cond chosen (set (rows_in s out.old) r (row kind x)) (rows_in s out.old) }
+    ensures value { result ≡ cond chosen (r + 1) r }
 {
-    if mark != FREE {
+    if !chosen {
         return r;
     }
-    set_row(out, s, r, EXISTS, x);
+    set_row(out, s, r, kind, x);
     r + 1
 }
 
@@ -48,25 +48,10 @@ pub fn write_free(marks: &[u8; NUMBERS], most: usize, out: &mut [u8], s: Layout)
     ensures value { result ≡ length (frees marks.now most) }
 {
     let mut r: usize = 0;
-    let mut x: usize = 0;
-    while x < most {
-        x += 1;
-        r = write_if_free(marks[x], x, out, s, r);
+    for x in 1..most + 1 {
+        r = write_if(marks[x] == FREE, EXISTS, x, out, s, r);
     }
     r
-}
-
-// Writes the row of a number in a quantifier line of this kind, and returns the next row.
-fn write_binding(t: Token, kind: u8, out: &mut [u8], s: Layout, r: usize) -> usize
-    requires { Room s (length out.old) × (t.class ≡ 7 → r < total s) × (r < largest) × (t.class ≡ 7 → Fits s t.magnitude) }
-    ensures out_after { rows_in s out.new ≡ cond (eqb t.class 7) (set (rows_in s out.old) r (row kind t.magnitude)) (rows_in s out.old) }
-    ensures value { result ≡ cond (eqb t.class 7) (r + 1) r }
-{
-    if t.class != POSITIVE {
-        return r;
-    }
-    set_row(out, s, r, kind, t.magnitude);
-    r + 1
 }
 
 // Writes the rows of the quantifier lines from row `from` on, and returns the row behind them.
@@ -84,7 +69,7 @@ pub fn write_bound(b: &[u8], out: &mut [u8], s: Layout, from: usize) -> usize
         if CLAUSE <= next {
             return r;
         }
-        r = write_binding(t, state, out, s, r);
+        r = write_if(t.class == POSITIVE, state, t.magnitude, out, s, r);
         state = next;
         at = t.to;
     }
@@ -103,20 +88,10 @@ fn clause_length(b: &[u8], from: usize) -> usize
         if t.class == ZERO {
             return n;
         }
-        n = n + one_if_some(t.class);
+        n += usize::from(t.class != NONE);
         at = t.to;
     }
     n
-}
-
-// 1 for a word, 0 where there is none.
-fn one_if_some(class: u8) -> usize
-    ensures { result ≡ cond (eqb class 0) 0 1 }
-{
-    if class == NONE {
-        return 0;
-    }
-    1
 }
 
 // Writes the OR row of a clause, if one begins with this word.
@@ -125,18 +100,13 @@ fn open_clause(b: &[u8], p: ListPlace, class: u8, out: &mut [u8], s: Layout) -> 
     ensures value { result ≡ open_place p class }
     ensures out_after { rows_in s out.new ≡ open_rows b.now p class (rows_in s out.old) }
 {
-    if !p.fresh {
+    if !p.fresh || class == NONE {
         return p;
     }
-    if class == NONE {
-        return p;
-    }
-    let n = clause_length(b, p.at);
-    set_row(out, s, p.row, OR, n);
+    set_row(out, s, p.row, OR, clause_length(b, p.at));
     ListPlace {
-        at: p.at,
         row: p.row + 1,
-        fresh: p.fresh,
+        ..p
     }
 }
 
@@ -145,9 +115,7 @@ fn write_literal(literal: i32, out: &mut [u8], s: Layout, r: usize)
     requires { Room s (length out.old) × (r < total s) × Fits s (variable literal) }
     ensures { rows_in s out.new ≡ set (rows_in s out.old) r (literal_row literal) }
 {
-    let kind = kind_of(literal);
-    let x = variable_of(literal);
-    set_row(out, s, r, kind, x);
+    set_row(out, s, r, kind_of(literal), variable_of(literal));
 }
 
 // Writes the row of a word, if it is a number other than 0.
@@ -159,16 +127,12 @@ fn write_word(t: Token, p: ListPlace, out: &mut [u8], s: Layout) -> ListPlace
     if t.class == ZERO {
         return ListPlace {
             at: t.to,
-            row: p.row,
             fresh: true,
+            ..p
         };
     }
     if t.class < ZERO {
-        return ListPlace {
-            at: t.to,
-            row: p.row,
-            fresh: p.fresh,
-        };
+        return ListPlace { at: t.to, ..p };
     }
     write_literal(literal_said(t), out, s, p.row);
     ListPlace {

@@ -45,7 +45,7 @@ fn write_whole(b: &[u8], s: Layout, tables: &[u16], e: Expansion, out: &mut [u8]
         at: t.variables + operator,
     };
     let at = write_row(out, start, e.joint, 2);
-    let first = Target { layout: t, at: at };
+    let first = Target { layout: t, at };
     let end = write_copy(b, s, &tables[..NUMBERS], subtree, out, first);
     let second = Target { layout: t, at: end };
     write_copy(b, s, &tables[NUMBERS..], subtree, out, second)
@@ -73,15 +73,15 @@ fn write_copies(
     };
     let at = write_row(out, start, e.joint, 2);
     let first = Head {
-        kind: kind,
-        children: children,
+        kind,
+        children,
         layout: t,
-        at: at,
+        at,
     };
     let end = write_below(b, s, &tables[..NUMBERS], &cuts[1..], out, first);
     let second = Head {
-        kind: kind,
-        children: children,
+        kind,
+        children,
         layout: t,
         at: end,
     };
@@ -114,7 +114,7 @@ fn write_some(
         at: t.variables + operator,
     };
     let at = write_row(out, start, kind, children - e.relevant.children + 1);
-    let below = Target { layout: t, at: at };
+    let below = Target { layout: t, at };
     write_rows(b, s, before, out, below);
     let end = write_copies(b, s, tables, cuts, e, out);
     let rest = Target { layout: t, at: end };

@@ -30,18 +30,15 @@ pub fn write_runs(
     requires { Runnable s b.now cuts.now to.layout out.old to.at }
     ensures { Laid to.layout out.old out.new to.at result (map (changed_row table.now) (runs_in s b.now cuts.now)) }
 {
-    let t = to.layout;
+    let Target { layout: t, mut at } = to;
     let v = s.variables;
-    let mut at = to.at;
-    let mut j: usize = 0;
-    while j + 1 < cuts.len() {
+    for i in 0..cuts.len() / 2 {
         let run = Span {
-            from: v + cuts[j] as usize,
-            to: v + cuts[j + 1] as usize,
+            from: v + cuts[2 * i] as usize,
+            to: v + cuts[2 * i + 1] as usize,
         };
-        let here = Target { layout: t, at: at };
+        let here = Target { layout: t, at };
         at = write_copy(b, s, table, run, out, here);
-        j += 2;
     }
     at
 }
@@ -64,6 +61,6 @@ pub fn write_below(
         at: head.at,
     };
     let at = write_row(out, here, head.kind, head.children);
-    let below = Target { layout: t, at: at };
+    let below = Target { layout: t, at };
     write_runs(b, s, table, cuts, out, below)
 }

@@ -23,7 +23,7 @@ pub fn write_prefix(b: &[u8], s: Layout, i: usize, out: &mut [u8], t: Layout) ->
     };
     let front = Target { layout: t, at: 0 };
     let at = write_rows(b, s, above, out, front);
-    let back = Target { layout: t, at: at };
+    let back = Target { layout: t, at };
     write_rows(b, s, below, out, back)
 }
 
@@ -32,17 +32,15 @@ pub fn write_settled(b: &[u8], s: Layout, table: &[u16], i: usize, out: &mut [u8
     requires { Readable s b.now × (i < s.variables) × Room (raw_layout s s.nodes) (length out.old) }
     ensures { Raw (raw_layout s s.nodes) out.old out.new (settled_raw i table.now (formula_in s b.now)) }
 {
-    let f = s.format;
     let t = Layout {
-        format: f,
         variables: s.variables - 1,
-        nodes: s.nodes,
+        ..s
     };
     let matrix = Span {
         from: s.variables,
         to: s.variables + s.nodes,
     };
     let at = write_prefix(b, s, i, out, t);
-    let back = Target { layout: t, at: at };
+    let back = Target { layout: t, at };
     write_copy(b, s, table, matrix, out, back);
 }

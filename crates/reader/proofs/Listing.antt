@@ -8,6 +8,7 @@ use Prim.Native.Nat.{ℕ, ◌-◌, ◌≤◌, ◌<◌}
 use native.Mathlib.Omega.{arith}
 use lib.ListN.{length, take, drop}
 use borrow.Author.Tests.{lt-ltb, le-ltb}
+use Rattle.std.specs.Prelude.{Result}
 use Rattle.sheet.specs.Format.{Bytes}
 use Rattle.sheet.specs.Check.{Answer, refused}
 use Rattle.sheet.specs.Qdimacs.{token, text_header, tokens_below}
@@ -17,7 +18,7 @@ use Rattle.rows.specs.Formats.{format_of}
 use Rattle.rows.specs.declared.Format.{Format}
 use Rattle.rows.proofs.Limits.{limits}
 use Rattle.checking.specs.Answers.{written_answer}
-use Rattle.checking.specs.declared.Written.{Written}
+use Rattle.rows.specs.declared.refusals.Refusal.{Refusal}
 use Rattle.words.specs.Numbers.{Capped, largest}
 use Rattle.qdimacs.specs.declared.header.Header.{Header}
 use Rattle.qdimacs.specs.Inner.Header.{Heads}
@@ -58,7 +59,7 @@ module _ (f : Format) (h : Header) (b out : Bytes) where
         let many = more_capped _ _ most (limits f).few_variables more (heads.variables_are formed) in
         rw (sym heads.well_formed_is ∙ formed, lt-ltb most (text_header t).variable_count many) refl)
 
-    pub listed : {r : Written} {new : Bytes} → h.variables ≤ most → Answers (format_of f) b h out r new
+    pub listed : {r : Result ℕ Refusal} {new : Bytes} → h.variables ≤ most → Answers (format_of f) b h out r new
         → ListsRead (format_of f) h b out (record { answer = written_answer r; output = new })
     unfolding tokens_below
     listed {r} {new} fits answers =
@@ -75,7 +76,7 @@ module _ (f : Format) (h : Header) (b out : Bytes) where
               answers.answers t within (heads.clauses_are formed);
         }
 
-pub listed_from : (f : Format) (h : Header) (t : Bytes) (at : ℕ) (out : Bytes) → h.well_formed ≡ true → {r : Written} {new : Bytes}
+pub listed_from : (f : Format) (h : Header) (t : Bytes) (at : ℕ) (out : Bytes) → h.well_formed ≡ true → {r : Result ℕ Refusal} {new : Bytes}
     → h.variables ≤ (format_of f).most_variables → Answers (format_of f) (take (length t - at) (drop at t)) h out r new
     → ListsRead (format_of f) h (drop at t) out (record { answer = written_answer r; output = new })
 listed_from f h t at out formed {r} {new} fits answers =

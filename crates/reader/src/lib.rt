@@ -9,10 +9,9 @@ ghost use Rattle.rows.specs.Formats.{format_of};
 ghost use Rattle.checking.specs.Answers.{wrote};
 ghost use Rattle.reader.specs.Inner.{HeadedAt, ListsRead};
 
-use checking::Written;
 use qdimacs::body::read_body;
 use qdimacs::header::{Header, header_line, next_line, read_header};
-use rows::refusals::BAD_HEADER;
+use rows::refusals::Refusal;
 use rows::{Format, most_variables};
 use words::cursor::end_of;
 
@@ -40,10 +39,7 @@ pub fn open_text<'a>(text: &'a [u8]) -> Reader<'a>
 pub fn moved<'a>(r: Reader<'a>, to: usize) -> Reader<'a>
     ensures { (result.text ≡ r.entry.text) × (result.at ≡ to) }
 {
-    Reader {
-        text: r.text,
-        at: to,
-    }
+    Reader { at: to, ..r }
 }
 
 // A text's header.
@@ -63,9 +59,7 @@ fn header_from(text: &[u8], at: usize) -> Headed
     ensures { HeadedAt text.now at result }
 {
     let h = header_of(&text[at..]);
-    let header = h.header;
-    let to = at + h.to;
-    Headed { header, to }
+    Headed { to: at + h.to, ..h }
 }
 
 // The header, and where it ends.
@@ -77,21 +71,29 @@ pub fn header_next<'a>(r: Reader<'a>) -> Headed
 }
 
 // The lists of a text from `at` on, below this header, written as a sheet: 15 no header as it should be, or too many variables.
-fn lists_from(text: &[u8], at: usize, h: Header, f: Format, out: &mut [u8]) -> Written
+fn lists_from(
+    text: &[u8],
+    at: usize,
+    h: Header,
+    f: Format,
+    out: &mut [u8],
+) -> Result<usize, Refusal>
     requires { at ≤ length text.now }
     ensures { ListsRead (format_of f) h (drop at text.now) out.old (wrote result out.new) }
 {
-    if !h.well_formed {
-        return Written::Refused(BAD_HEADER, 0);
-    }
-    if most_variables(f) < h.variables {
-        return Written::Refused(BAD_HEADER, 0);
+    if !h.well_formed || most_variables(f) < h.variables {
+        return Err(Refusal::BadHeader);
     }
     read_body(&text[at..], f, h, out)
 }
 
 // The lists that are unread, below this header, written as a sheet.
-pub fn lists_next<'a, 'b>(r: Reader<'a>, h: Header, f: Format, out: &'b mut [u8]) -> Written
+pub fn lists_next<'a, 'b>(
+    r: Reader<'a>,
+    h: Header,
+    f: Format,
+    out: &'b mut [u8],
+) -> Result<usize, Refusal>
     requires { r.at ≤ length r.text.now }
     ensures { ListsRead (format_of f) h (drop r.entry.at r.entry.text.now) out.old (wrote result out.new) }
 {
@@ -100,7 +102,7 @@ pub fn lists_next<'a, 'b>(r: Reader<'a>, h: Header, f: Format, out: &'b mut [u8]
 
 // Writes the sheet of a QDIMACS text to the front of `out`, with zeros behind it, and returns its length; or refuses the text or the
 // output, and alters nothing.
-pub fn qdimacs(text: &[u8], f: Format, out: &mut [u8]) -> Written
+pub fn qdimacs(text: &[u8], f: Format, out: &mut [u8]) -> Result<usize, Refusal>
     ensures { (wrote result out.new ≡ qdimacs_call (format_of f) text.now out.old) × TruthfulText (format_of f) text.now (wrote result out.new) }
 {
     let r = open_text(text);

@@ -10,6 +10,8 @@ use lib.Dec.{eqb, leb}
 use lib.ListN.{length, get_or, take, drop, set, length-append, length-drop, take-append-drop, drop_of_length-le}
 use lib.Seq.{length-take-le, slice, slice_empty, slice-cons, set-get_or, get_or-drop, drop_at, take_at, drop-append-add, take-append-add, take-append_seam, append_snoc}
 use borrow.Author.Tests.{not-true, not-false}
+use Rattle.std.proofs.lemmas.Bool.Decides.{nat_tests}
+use Rattle.std.specs.Ordering.{ord_max, nat_cmp}
 use Rattle.formula.specs.Tree.{and, or, Tree, lit, node, Forest, ∅, ◌▸◌, Prefix, binds, distinct, has, has_any, count, some_child}
 use Rattle.formula.specs.Reduce.{is_clause, in_profile}
 use Rattle.formula.proofs.Booleans.{or_parts, or-none}
@@ -148,6 +150,10 @@ module _ {s : Layout} (b old : Bytes) (source : Room s (length b)) (room : Room 
       (stand_as
       (ap (λ (rs : List Row). map (f last) rs ++ drop to R) none ∙ ap (λ (i : ℕ). drop i R) (sym end))
       l.standing)
+
+-- the code's maximum is the numbers'
+pub later : (a b : ℕ) → ord_max nat_cmp a b ≡ max a b
+later a b = grind (arith, nat_tests)
 
 -- the clauses, from row r on
 

@@ -1,6 +1,6 @@
 -- 9, 20 and 13, in this order, from what is read of a sheet that Check accepts; and what Reduce writes if all pass.
 -- Assumes nothing.
-use mathlib.Core.Path.{◌≡◌, refl, sym, ap, ap₂, ◌∙◌}
+use mathlib.Core.Path.{◌≡◌, refl, sym, ap, ap₂, ◌∙◌, subst}
 use mathlib.Core.Bool.{Bool, true, false, not, ◌&&◌, cond}
 use mathlib.Core.List.{List, [], ◌∷◌, ◌++◌, map}
 use Prim.Native.Nat.{ℕ, ◌+◌, ◌≤◌, ◌<◌}
@@ -34,7 +34,7 @@ use Rattle.rows.proofs.Limits.{limits}
 use Rattle.rows.proofs.Layouts.{rows_in-++}
 use Rattle.rows.proofs.Formulas.{length_prefix, rows-nodes}
 use Rattle.checking.specs.Sheets.{Sheet}
-use Rattle.checking.proofs.CheckedSheets.{sheet_right, sheet_readable, sheet-formula_in}
+use Rattle.checking.proofs.CheckedSheets.{sheet_format, sheet_right, sheet_readable, sheet-formula_in}
 use Rattle.subtrees.specs.Subtrees.{top}
 use Rattle.subtrees.proofs.Forest.{tree_rows-top}
 use Rattle.tidiness.proofs.Tidiness.{tidy_by, fault_by}
@@ -227,6 +227,9 @@ module _ {b : Bytes} {s : Layout} (out : Bytes) (d : ReducePlanned s.format b (l
         (raw-sizes s new (blanked (formula_in s b)) is prefix_count e ∙ ap (layout_for s.format) tidied-blanked)
 
 -- the call
+
+pub own_plan : {f : Format} {b : Bytes} {s : Layout} {room : ℕ} → ReducePlanned f b room s → ReducePlanned s.format b room s
+own_plan {f} {b} {s} {room} d = subst (λ g. ReducePlanned g b room s) (sym (sheet_format d.sheet)) d
 
 pub refused_call : {n i : ℕ} (F : sheet.Format) (b : Bytes) (out : Bytes) → refused n i ≡ answer (reduce_tests F b (length out)) (length out)
     → record { answer = refused n i; output = out } ≡ reduce_call F b out

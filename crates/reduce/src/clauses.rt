@@ -1,5 +1,5 @@
 // Universal reduction clause by clause. Decisions are read from the sheet, and what goes is written to a copy of its rows.
-ghost use Rattle.std.specs.Prelude.{◌≡◌, cond, ◌+◌, ◌≤◌, ◌<◌, max, eqb, leb, length, set};
+ghost use Rattle.std.specs.Prelude.{◌≡◌, cond, ◌+◌, ◌≤◌, ◌<◌, eqb, leb, length, set};
 ghost use Rattle.std.proofs.Math.Seq.{slice};
 ghost use Rattle.sheet.specs.Sheet.{formula_rows};
 ghost use Rattle.rows.specs.Layouts.{total, rows_in, Room};
@@ -14,26 +14,14 @@ use rows::read::{children_at, kind_at};
 use rows::write::set_row;
 use rows::{AND, Layout, NEGATIVE, OR};
 
-// The greater of two numbers.
-fn later(a: usize, b: usize) -> usize
-    ensures { result ≡ max a b }
-{
-    if a < b {
-        return b;
-    }
-    a
-}
-
 // The prefix row behind that of the last existential literal of a clause, or 0 if the clause has none.
 fn last_existential(b: &[u8], s: Layout, places: &[u16], from: usize, to: usize) -> usize
     requires { Placed s b.now places.now × Literals s b.now from to }
     ensures { result ≡ last_existential (prefix_in s b.now) (slice from to (rows_in s b.now)) }
 {
     let mut last = 0;
-    let mut r = from;
-    while r < to {
-        last = later(last, behind_at(b, s, places, r));
-        r += 1;
+    for r in from..to {
+        last = last.max(behind_at(b, s, places, r));
     }
     last
 }
@@ -67,10 +55,8 @@ fn blank_literals(b: &[u8], s: Layout, places: &[u16], from: usize, to: usize, o
     ensures { Blanks s b.now out.old out.new from to }
 {
     let last = last_existential(b, s, places, from, to);
-    let mut r = from;
-    while r < to {
+    for r in from..to {
         blank_literal(b, s, places, r, last, out);
-        r += 1;
     }
 }
 

@@ -14,10 +14,10 @@ ghost use Rattle.reduce.specs.Inner.ReducePlan.{ReducePlanned};
 
 use crate::clauses::blank_clauses;
 use crate::places::fill_places;
-use crate::plan::{ReducePlan, plan_reduce};
-use checking::Written;
+use crate::plan::plan_reduce;
 use rows::bytes::copy_front;
 use rows::fit::sheet_length;
+use rows::refusals::Refusal;
 use rows::{Format, Layout, NUMBERS};
 use tidying::tidy_in_place;
 
@@ -37,19 +37,15 @@ fn reduce_into(source: &[u8], s: Layout, out: &mut [u8]) -> usize
     copy_front(source, out);
     blank_clauses(source, s, &places, out);
     let t = tidy_in_place(out, s);
-    let f = t.format;
-    sheet_length(f, t.variables, t.nodes)
+    sheet_length(t.format, t.variables, t.nodes)
 }
 
 // Reduces a sheet: the new sheet stands at the front of `out` with zeros behind it, and its length is returned; or the call is refused
 // with number and place, and `out` is left as it was.
-pub fn reduce(sheet: &[u8], f: Format, out: &mut [u8]) -> Written
+pub fn reduce(sheet: &[u8], f: Format, out: &mut [u8]) -> Result<usize, Refusal>
     ensures out_after { wrote result out.new ≡ reduce_call (format_of f) sheet.now out.old }
     ensures truthful_sheet { TruthfulSheet (format_of f) (truth_of (format_of f) sheet.now) (wrote result out.new) }
 {
-    let p = plan_reduce(sheet, f, out.len());
-    match p {
-        ReducePlan::Refused(number, place) => Written::Refused(number, place),
-        ReducePlan::Reduces(s) => Written::Accepted(reduce_into(sheet, s, out)),
-    }
+    let s = plan_reduce(sheet, f, out.len())?;
+    Ok(reduce_into(sheet, s, out))
 }

@@ -14,9 +14,7 @@ pub fn fill_places(b: &[u8], s: Layout, places: &mut [u16])
     requires { Numbered s b.now × (length places.old ≡ NUMBERS) }
     ensures { Placed s b.now places.new }
 {
-    let mut i = s.variables;
-    while 0 < i {
-        i -= 1;
+    for i in (0..s.variables).rev() {
         places[bound_at(b, s, i)] = i as u16;
     }
 }
@@ -26,7 +24,7 @@ pub fn place_at(b: &[u8], s: Layout, places: &[u16], r: usize) -> usize
     requires { Placed s b.now places.now × Bound s b.now r }
     ensures { (result ≡ place (variable_of s b.now r) (prefix_in s b.now)) × (result < s.variables) }
 {
-    places[argument_at(b, s, r)] as usize
+    usize::from(places[argument_at(b, s, r)])
 }
 
 // The prefix row behind that of the literal's variable if the variable is existential, else 0.

@@ -12,13 +12,10 @@ pub fn has_inner_and(b: &[u8], s: Layout) -> bool
     requires { Readable s b.now }
     ensures { result ≡ and_below (matrix_in s b.now) }
 {
-    let end = s.variables + s.nodes;
-    let mut r = s.variables + 1;
-    while r < end {
+    for r in s.variables + 1..s.variables + s.nodes {
         if kind_at(b, s, r) == AND {
             return true;
         }
-        r += 1;
     }
     false
 }

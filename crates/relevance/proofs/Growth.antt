@@ -19,8 +19,7 @@ use Rattle.subtrees.specs.Parts.{relevant_subtree, part_below, operator_part}
 use Rattle.subtrees.proofs.Forest.{rows-kids}
 use Rattle.relevance.specs.Raw.{added, grown, presence, grown_by, copied}
 use Rattle.subtrees.specs.declared.relevant.Relevant.{Relevant}
-use Rattle.relevance.specs.declared.variable.Presence.{Presence}
-use Rattle.relevance.specs.declared.variable.Presence.TheVariants.{Absent, Present}
+use Rattle.std.specs.Prelude.{Option, Some, None}
 
 -- relevant
 
@@ -141,13 +140,13 @@ raw_absent L t h = rw h
 
 -- presence
 
-pub absent : (L : Literals) (t : Tree) → has L t ≡ false → Absent ≡ presence L t
+pub absent : (L : Literals) (t : Tree) → has L t ≡ false → None ≡ presence L t
 unfolding presence
 absent L t h = rw h
 
-pub present : (L : Literals) (t : Tree) {p : Relevant} → has L t ≡ true → p ≡ relevant_subtree L 0 t → Present p ≡ presence L t
+pub present : (L : Literals) (t : Tree) {p : Relevant} → has L t ≡ true → p ≡ relevant_subtree L 0 t → Some p ≡ presence L t
 unfolding presence
-present L t {p} h e = ap Present e ∙ rw h
+present L t {p} h e = ap Some e ∙ rw h
 
 raw-grown : (L : Literals) (t : Tree) → grown_by (rows t) (presence L t) ≡ raw_rows L t
 raw-grown L t =
@@ -159,7 +158,7 @@ copied_most : (L : Literals) (t : Tree) → copied (presence L t) ≤ rows t
 unfolding presence
 copied_most L t = go (has L t)
   where
-    go : (c : Bool) → copied (cond c (Present (relevant_subtree L 0 t)) Absent) ≤ rows t
+    go : (c : Bool) → copied (cond c (Some (relevant_subtree L 0 t)) None) ≤ rows t
     go true = part_most t L 0
     go false = omega arith
 
@@ -172,7 +171,7 @@ module _ (L : Literals) {s : Layout} (b : Bytes) (ok : Readable s b) where
     omega (arith, ap (λ (q : Relevant). q.rows) e, part_most (matrix_in s b) L 0, rows-nodes b ok),
   )
 
-  pub raw_rows_by : {p : Presence} → p ≡ presence L (matrix_in s b)
+  pub raw_rows_by : {p : Option Relevant} → p ≡ presence L (matrix_in s b)
       → (grown_by s.nodes p ≡ raw_rows L (matrix_in s b)) × (copied p ≤ s.nodes)
   raw_rows_by {p} e = (
     ap₂ grown_by (sym (rows-nodes b ok)) e ∙ raw-grown L (matrix_in s b),

@@ -73,14 +73,16 @@ module _ (L : Literals) {s : Layout} {b : Bytes} {ends next : List ℕ} {from k 
         same = cut_put before 0 from (turns L false from (siblings_in s b from k)) h;
       }
 
-  pub cut_on : {ts : Forest} {at left row row' : ℕ} {runs after : Runs} {table table' : List ℕ} → 0 < left → runs.cuts < length table
+  pub cut_on : {ts : Forest} {at left left' row row' : ℕ} {runs after : Runs} {table table' : List ℕ} → 0 < left → left' ≡ left - 1
+      → runs.cuts < length table
       → Cutting L s b ts from at left row runs table → after ≡ run_cut (ltb row (get_or ends at 0)) runs
       → table' ≡ table_cut (ltb row (get_or ends at 0)) runs at table → Way next (get_or ends at 0) row row'
-      → Cutting L s b ts from (get_or ends at 0) (left - 1) row' after table'
+      → Cutting L s b ts from (get_or ends at 0) left' row' after table'
   unfolding run_cut table_cut turns
-  cut_on {ts} {at} {left} {row} {row'} {runs} {after} {table} {table'} some room p r t to_end =
-      go (beq (has L (subtree_in s b at)) runs.holding) refl (r ∙ ap (λ x. run_cut x runs) held)
-      (t ∙ ap (λ x. table_cut x runs at table) held) unrolled
+  cut_on {ts} {at} {left} {left'} {row} {row'} {runs} {after} {table} {table'} some one room p r t to_end =
+      rw one
+      (go (beq (has L (subtree_in s b at)) runs.holding) refl (r ∙ ap (λ x. run_cut x runs) held)
+      (t ∙ ap (λ x. table_cut x runs at table) held) unrolled)
     where
       held : ltb row (get_or ends at 0) ≡ has L (subtree_in s b at)
       held = held_by L begun some p.walk

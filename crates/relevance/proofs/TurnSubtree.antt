@@ -54,8 +54,9 @@ module _ {ends : List ℕ} {row : ℕ} {found : Span} {at left : ℕ} (more : 0 
   pub span-found : row < get_or ends at 0 → record { from = at; to = get_or ends at 0 } ≡ found
   span-found h = sym (span-step (lt-ltb row (get_or ends at 0) h))
 
-  pub span_on : get_or ends at 0 ≤ row → Spanned ends row found (get_or ends at 0) (left - 1)
-  span_on h = record { hops_on = (hop_on ends more p.hops_on).onward; same = span-step (le-ltb row (get_or ends at 0) h) }
+  pub span_on : {after : ℕ} → after ≡ left - 1 → get_or ends at 0 ≤ row → Spanned ends row found (get_or ends at 0) after
+  span_on one h =
+      rw one (record { hops_on = (hop_on ends more p.hops_on).onward; same = span-step (le-ltb row (get_or ends at 0) h) })
 
 pub span_none : {ends : List ℕ} {row : ℕ} {found : Span} {at left : ℕ} → left ≤ 0 → Spanned ends row found at left
     → record { from = at; to = at } ≡ found
@@ -236,13 +237,14 @@ module _ (L : Literals) {s : Layout} {b : Bytes} {ends next : List ℕ} {from k 
         children_are = omega arith;
       }
 
-  pub share_on : {ts : Forest} {at left row row' : ℕ} {share after : Share} → 0 < left → Sharing L s b ts at left row share
+  pub share_on : {ts : Forest} {at left left' row row' : ℕ} {share after : Share} → 0 < left → left' ≡ left - 1 → Sharing L s b ts at left row share
       → after ≡ with_child (ltb row (get_or ends at 0)) share at (get_or ends at 0) → Way next (get_or ends at 0) row row'
-      → Sharing L s b ts (get_or ends at 0) (left - 1) row' after
+      → Sharing L s b ts (get_or ends at 0) left' row' after
   unfolding with_child
-  share_on {ts} {at} {left} {row} {row'} {share} {after} some p is to_end =
-      go (has L (subtree_in s b at)) (is ∙ ap (λ c. with_child c share at (get_or ends at 0)) (held_by some p.walk))
-      (more rows rows_all rows-▸) (more (λ _. 1) count count_more)
+  share_on {ts} {at} {left} {left'} {row} {row'} {share} {after} some one p is to_end =
+      rw one
+      (go (has L (subtree_in s b at)) (is ∙ ap (λ c. with_child c share at (get_or ends at 0)) (held_by some p.walk))
+      (more rows rows_all rows-▸) (more (λ _. 1) count count_more))
     where
       w : Walked s b ends at left
       w = walked some p.walk

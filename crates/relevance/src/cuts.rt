@@ -11,7 +11,7 @@ use subtrees::nodes::children_at;
 pub const CUTS: usize = ROWS + 1;
 
 // The cuts so far: how many, and whether the run at hand holds chosen literals.
-#[derive(Clone, Copy)]
+#[derive(Clone, Copy, PartialEq, Eq, Debug)]
 struct Runs {
     cuts: usize,
     holding: bool,
@@ -47,7 +47,6 @@ pub fn fill_cuts(
     requires { Sited s b.now ends.now next.now site × (s.nodes < length cuts.old) }
     ensures { IsCuts s b.now next.now site cuts.old result cuts.new }
 {
-    let mut left = children_at(b, s, site.operator);
     let mut at = site.operator + 1;
     let mut row = site.first;
     cuts[0] = at as u16;
@@ -55,12 +54,11 @@ pub fn fill_cuts(
         cuts: 1,
         holding: false,
     };
-    while 0 < left {
+    for _ in 0..children_at(b, s, site.operator) {
         let end = ends[at] as usize;
         runs = cut(cuts, runs, at, row < end);
         row = first_behind(next, row, end);
         at = end;
-        left -= 1;
     }
     let k = runs.cuts;
     cuts[k] = at as u16;

@@ -9,14 +9,14 @@ pub mod subtree;
 pub mod variable;
 
 // The rows of the first and the last literal of a chain.
-#[derive(Clone, Copy)]
+#[derive(Clone, Copy, PartialEq, Eq, Debug)]
 pub struct Range {
     pub first: usize,
     pub last: usize,
 }
 
 // An operator's node row, and that of the first literal of a chain, which stands behind it.
-#[derive(Clone, Copy)]
+#[derive(Clone, Copy, PartialEq, Eq, Debug)]
 pub struct Site {
     pub operator: usize,
     pub first: usize,

@@ -13,14 +13,14 @@ use subtrees::nodes::children_at;
 use subtrees::relevant::Relevant;
 
 // The node rows of a subtree: its own row, and the row behind it.
-#[derive(Clone, Copy)]
+#[derive(Clone, Copy, PartialEq, Eq, Debug)]
 struct Span {
     from: usize,
     to: usize,
 }
 
 // The relevant ones among subtrees side by side: the rows that they have, and how many they are.
-#[derive(Clone, Copy)]
+#[derive(Clone, Copy, PartialEq, Eq, Debug)]
 struct Share {
     rows: usize,
     children: usize,
@@ -32,14 +32,12 @@ fn child_with(ends: &[u16], from: usize, count: usize, row: usize) -> Span
     ensures { result ≡ span_by ends.now row from count }
 {
     let mut at = from;
-    let mut left = count;
-    while 0 < left {
+    for _ in 0..count {
         let end = ends[at] as usize;
         if row < end {
             return Span { from: at, to: end };
         }
         at = end;
-        left -= 1;
     }
     Span { from: at, to: at }
 }
@@ -105,19 +103,17 @@ fn relevant_children(b: &[u8], s: Layout, ends: &[u16], next: &[u16], site: Site
     requires { Sited s b.now ends.now next.now site }
     ensures { IsShare s b.now next.now site result }
 {
-    let mut left = children_at(b, s, site.operator);
     let mut at = site.operator + 1;
     let mut row = site.first;
     let mut share = Share {
         rows: 0,
         children: 0,
     };
-    while 0 < left {
+    for _ in 0..children_at(b, s, site.operator) {
         let end = ends[at] as usize;
         share = with_child(share, at, end, row);
         row = first_behind(next, row, end);
         at = end;
-        left -= 1;
     }
     share
 }
@@ -134,7 +130,7 @@ fn relevant_at(b: &[u8], s: Layout, ends: &[u16], next: &[u16], site: Site) -> R
     Relevant {
         operator: at,
         all: at + rows == end,
-        rows: rows,
+        rows,
         children: share.children,
     }
 }

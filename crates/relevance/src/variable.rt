@@ -12,19 +12,12 @@ use crate::subtree::relevant_subtree;
 use rows::Layout;
 use subtrees::relevant::Relevant;
 
-// Whether a literal stands in the matrix, and if so the relevant subtree.
-#[derive(Clone, Copy)]
-pub enum Presence {
-    Absent,
-    Present(Relevant),
-}
-
 // A variable that may be expanded: its prefix row, its number, its relevant subtree if it has a literal, and the raw sheet's node rows.
 #[derive(Clone, Copy)]
 pub struct Candidate {
     pub row: usize,
     pub variable: usize,
-    pub relevant: Presence,
+    pub relevant: Option<Relevant>,
     pub raw: usize,
 }
 
@@ -36,20 +29,16 @@ pub fn presence_of(
     ranges: &[u16],
     next: &[u16],
     x: usize,
-) -> Presence
+) -> Option<Relevant>
     requires { Indexed s b.now ends.now × Occurrences s b.now ranges.now next.now × (x ≤ HIGHEST) }
     ensures { result ≡ presence (of x) (matrix_in s b.now) }
 {
     let first = ranges[2 * x] as usize;
     if s.nodes <= first {
-        return Presence::Absent;
+        return None;
     }
     let last = ranges[2 * x + 1] as usize;
-    let range = Range {
-        first: first,
-        last: last,
-    };
-    Presence::Present(relevant_subtree(b, s, ends, next, range))
+    Some(relevant_subtree(b, s, ends, next, Range { first, last }))
 }
 
 // How many node rows the raw sheet of an expansion has: N + E + 1 for a single literal and where every child is relevant, N + E + 2
@@ -65,12 +54,12 @@ pub fn raw_rows(nodes: usize, relevant: Relevant) -> usize
 }
 
 // The same for a variable: N if it has no literal.
-pub fn raw_rows_of(nodes: usize, presence: Presence) -> usize
+pub fn raw_rows_of(nodes: usize, presence: Option<Relevant>) -> usize
     requires { (nodes ≤ ROWS) × (copied presence ≤ nodes) }
     ensures { result ≡ grown_by nodes presence }
 {
     match presence {
-        Presence::Absent => nodes,
-        Presence::Present(relevant) => raw_rows(nodes, relevant),
+        None => nodes,
+        Some(relevant) => raw_rows(nodes, relevant),
     }
 }

@@ -1,6 +1,6 @@
 -- The turns of writing the rows of the copies.
 -- Assumes nothing.
-use mathlib.Core.Path.{◌≡◌, refl, sym, ◌∙◌, ap, ap₂, subst}
+use mathlib.Core.Path.{◌≡◌, sym, ◌∙◌, ap, ap₂, subst}
 use mathlib.Core.Bool.{Bool, not, ◌&&◌, cond}
 use mathlib.Core.List.{List, [], ◌∷◌, ◌++◌, append_assoc, append-nil}
 use Prim.Native.Nat.{ℕ, suc, ◌+◌, ◌≤◌, ◌<◌}
@@ -55,9 +55,6 @@ pub record Copying (table : List ℕ) (p : Prefix) (t : Layout) (old : Bytes) (s
 module _ {s : Layout} (b : Bytes) (ok : Readable s b) (table : List ℕ) (t : Layout) (old : Bytes) (start : ℕ) where
   abbrev p : Prefix
   p = prefix_in s b
-
-  pub copying-none : Copying table p t old start old start 0
-  copying-none = record { done = []; so_far = none-laid t old start; owed = refl; same_length = refl }
 
   module _ {out : Bytes} {at j : ℕ} (inside : j < s.variables) (c : Copying table p t old start out at j) {v : ℕ}
       (var : v ≡ (binding_in s b j).variable) where

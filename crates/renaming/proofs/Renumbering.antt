@@ -7,7 +7,7 @@ use Prim.Native.Nat.{ℕ, zero, suc, ◌+◌, ◌-◌, ◌≤◌, ◌<◌}
 use native.Mathlib.Omega.{arith}
 use lib.Dec.{eqb, leb}
 use borrow.Author.Tests.{leb-true, leb-false}
-use lib.ListN.{length, get_or, take, drop, set, replicate, length-append, length-set, length-replicate}
+use lib.ListN.{length, take, drop, set, replicate, length-append, length-set, length-replicate}
 use lib.Seq.{take_all, drop_at}
 use Rattle.formula.specs.Tree.{Prefix, binds}
 use Rattle.formula.specs.Solve.{those}
@@ -24,11 +24,6 @@ use Rattle.substitution.proofs.Tables.{both_parts}
 use Rattle.renaming.specs.Numbers.{Uses, free, NextFree, renumbered, Renamed}
 
 -- numbers in use
-
-zero_at : (n i : ℕ) → ◌≡◌ {A = ℕ} (get_or (replicate n 0) i 0) 0
-zero_at zero i = refl
-zero_at (suc n) zero = refl
-zero_at (suc n) (suc i) = zero_at n i
 
 -- the rows before row j are in it
 pub record Using (p : Prefix) (ws : List ℕ) (j : ℕ) : Type 0 where
@@ -113,14 +108,8 @@ module _ (ws : List ℕ) (highest : ℕ) where
     pub within : n ≤ suc highest
     pub same : free ws (suc highest - from) from ≡ free ws (suc highest - n) n
 
-  pub passing_none : (from : ℕ) → from ≤ suc highest → Passing from from
-  passing_none from h = record { within = h; same = refl }
-
   pub passing_next : {from n k : ℕ} → holds ws n ≡ true → n ≤ highest → k ≡ suc n → Passing from n → Passing from k
   passing_next {n = n} h l e p = record { within = omega arith; same = p.same ∙ taken n h l e }
-
-  pub passing_found : {from n : ℕ} → holds ws n ≡ false → Passing from n → NextFree ws highest from n
-  passing_found h p = record { within = p.within; same = p.same; is_free = λ l. h }
 
   pub passing_end : {from n : ℕ} → highest < n → Passing from n → NextFree ws highest from n
   passing_end h p = record { within = p.within; same = p.same; is_free = λ l. absurd (omega arith) }
@@ -135,18 +124,6 @@ module _ (ws : List ℕ) (highest : ℕ) where
 -- one variable
 
 module _ (ws used : List ℕ) (highest from v : ℕ) where
-  pub renamed-not : (table : List ℕ) → from ≤ suc highest → holds ws v ≡ false → Renamed ws used highest from v table table from
-  renamed-not table l h =
-      record {
-        within = l;
-        same_length = refl;
-        left = sym (ap (λ (c : Bool). cond c 1 0 + length (free used (suc highest - from) from)) h ∙ none (length (free used (suc highest - from) from)));
-        work = λ ys. ap (λ (c : Bool). renumbered (cond c (v ∷ ys) ys) (free used (suc highest - from) from) table) h;
-      }
-    where
-      none : (n : ℕ) → 0 + n ≡ n
-      none n = omega arith
-
   pub renamed-member : (table : List ℕ) {n next : ℕ} → holds ws v ≡ true → NextFree used highest from n → n ≤ highest → next ≡ suc n
       → Renamed ws used highest from v table (set table v n) next
   unfolding renumbered
@@ -177,18 +154,6 @@ pub record Renaming (p : Prefix) (ws used : List ℕ) (highest : ℕ) (before ta
 module _ {s : Layout} (b : Bytes) (ok : Readable s b) (ws used : List ℕ) (highest : ℕ) where
   abbrev p : Prefix
   p = prefix_in s b
-
-  pub renaming-none : (table : List ℕ) → length (those (holds ws) p) ≤ length (free used highest 1) → Renaming p ws used highest table table 1 0
-  renaming-none table h =
-      record {
-        within = omega arith;
-        same_length = refl;
-        enough = subst (λ m. length (those (holds ws) p) ≤ length (free used m 1)) all h;
-        work = ap (λ m. renumbered (those (holds ws) p) (free used m 1) table) all;
-      }
-    where
-      all : highest ≡ suc highest - 1
-      all = omega arith
 
   module _ {before table : List ℕ} {from j : ℕ} (inside : j < s.variables) (r : Renaming p ws used highest before table from j)
       {v : ℕ} (at : v ≡ (binding_in s b j).variable) where

@@ -9,7 +9,7 @@ use lib.Dec.{eqb, leb}
 use lib.ListN.{length, take, drop, length-append}
 use lib.Seq.{take_at, drop_at, get_or-set_same}
 use borrow.Author.Tests.{eqb-true, ne_eqb, le-leb}
-use Rattle.formula.specs.Tree.{and, Tree, lit, Prefix, Formula, Literals, of, binds, distinct, constant}
+use Rattle.formula.specs.Tree.{and, Tree, lit, Prefix, Formula, Literals, binds, distinct, constant}
 use Rattle.formula.specs.Solve.{those}
 use Rattle.formula.specs.Outer.{depends, dependents, copies_of, too_few, renamed, chosen_by, renaming, outer_copying, existential}
 use Rattle.formula.proofs.Booleans.{by_cases}

@@ -18,11 +18,8 @@ pub fn fill_used(b: &[u8], s: Layout, used: &mut [u64])
     requires { Readable s b.now × Numbered s b.now × (used.old ≡ replicate 17 0) }
     ensures { Uses (prefix_in s b.now) used.new }
 {
-    let v = s.variables;
-    let mut j: usize = 0;
-    while j < v {
+    for j in 0..s.variables {
         add(used, bound_at(b, s, j));
-        j += 1;
     }
 }
 
@@ -31,14 +28,12 @@ pub fn next_unused(used: &[u64], highest: usize, from: usize) -> usize
     requires { (length used.now ≡ 17) × (highest ≤ HIGHEST) × (from ≤ suc highest) }
     ensures { NextFree used.now highest from result }
 {
-    let mut n = from;
-    while n <= highest {
+    for n in from..=highest {
         if !holds(used, n) {
             return n;
         }
-        n += 1;
     }
-    n
+    highest + 1
 }
 
 // Gives `v` the next unused number, if `v` is in the set, and returns the number from which on the next one is looked for.
@@ -69,13 +64,9 @@ fn rename_all(b: &[u8], s: Layout, set: &[u64], used: &[u64], highest: usize, ta
     requires b_in_bounds { length (those (holds set.now) (prefix_in s b.now)) ≤ length (free used.now highest 1) }
     ensures { table.new ≡ renumbered (those (holds set.now) (prefix_in s b.now)) (free used.now highest 1) table.old }
 {
-    let count = s.variables;
     let mut from: usize = 1;
-    let mut j: usize = 0;
-    while j < count {
-        let v = bound_at(b, s, j);
-        from = rename(set, used, highest, from, v, table);
-        j += 1;
+    for j in 0..s.variables {
+        from = rename(set, used, highest, from, bound_at(b, s, j), table);
     }
 }
 

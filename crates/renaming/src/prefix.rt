@@ -17,10 +17,7 @@ fn write_copied(out: &mut [u8], table: &[u16], v: usize, to: Target) -> usize
     ensures { Laid to.layout out.old out.new to.at result (row_of table.now v) }
 {
     let n = entry(table, v);
-    if n == v {
-        return to.at;
-    }
-    if NUMBERS <= n {
+    if n == v || NUMBERS <= n {
         return to.at;
     }
     write_row(out, to, EXISTS, n)
@@ -31,15 +28,9 @@ pub fn write_all_copied(b: &[u8], s: Layout, table: &[u16], out: &mut [u8], to: 
     requires { Readable s b.now × Room to.layout (length out.old) × (to.at + length (rows_from table.now (prefix_in s b.now)) ≤ total to.layout) }
     ensures { Laid to.layout out.old out.new to.at result (rows_from table.now (prefix_in s b.now)) }
 {
-    let t = to.layout;
-    let v = s.variables;
     let mut at = to.at;
-    let mut j: usize = 0;
-    while j < v {
-        let x = bound_at(b, s, j);
-        let here = Target { layout: t, at: at };
-        at = write_copied(out, table, x, here);
-        j += 1;
+    for j in 0..s.variables {
+        at = write_copied(out, table, bound_at(b, s, j), Target { at, ..to });
     }
     at
 }

@@ -6,10 +6,10 @@ use mathlib.Core.List.{List, []}
 use Prim.Native.Nat.{ℕ, zero, suc, ◌+◌, ◌-◌, ◌≤◌, ◌<◌}
 use native.Mathlib.Numerals.{add-one}
 use native.Mathlib.Omega.{arith}
-use lib.Dec.{ltb}
 use lib.ListN.{length, get_or, take, drop, length-take, drop_of_length-le}
-use lib.Seq.{slice, slice-cons, take_all, take-length}
-use borrow.Author.Tests.{eq-eqb, ne_eqb, ltb-true, ltb-false}
+use Rattle.std.proofs.Common.{min}
+use Rattle.std.proofs.lemmas.List.{take_min}
+use lib.Seq.{slice, slice-cons}
 use Rattle.sheet.specs.Certificates.{code_of, head_word, codes_from, step_words}
 use Rattle.resolution.specs.Codes.{kept, some_kept, PartOf}
 
@@ -20,21 +20,11 @@ slice_behind : (from to : ℕ) (codes : List ℕ) → to ≤ from → slice from
 slice_behind from to codes h = drop_of_length-le (take to codes) {i = from} (omega (arith, length-take to codes))
 
 -- an end past the words is the words' own
-pub part_cut : (heads codes : List ℕ) (k skip from to : ℕ) → from ≡ codes_from heads k → to ≡ head_word heads k 3 → length codes < to
-    → PartOf heads codes k skip (record { from = from; to = length codes; skip = skip })
-unfolding step_words
-part_cut heads codes k skip from to e f h =
-    record {
-      within = omega arith;
-      words_are =
-          rw (← e, ← f) (ap (drop from) (take-length codes ∙ sym (take_all to codes (omega arith))));
-      skips = refl;
-    }
-
-pub part_whole : (heads codes : List ℕ) (k skip from to : ℕ) → from ≡ codes_from heads k → to ≡ head_word heads k 3 → to ≤ length codes
+pub part_capped : (heads codes : List ℕ) (k skip from to : ℕ) → from ≡ codes_from heads k → to ≡ min (head_word heads k 3) (length codes)
     → PartOf heads codes k skip (record { from = from; to = to; skip = skip })
 unfolding step_words
-part_whole heads codes k skip from to e f h = record { within = h; words_are = rw (e, f); skips = refl }
+part_capped heads codes k skip from to e f =
+    record { within = omega (arith, f); words_are = rw (e, f) (ap (drop (codes_from heads k)) (take_min (head_word heads k 3) codes)); skips = refl }
 
 -- walks
 
@@ -71,31 +61,6 @@ module _ (skip : ℕ) (codes : List ℕ) (to : ℕ) where
     pub gathered : (i : ℕ) (now : ℕ → Bool) → to ≤ i → Gathering i now
         → (u : ℕ) → now u ≡ (some_kept skip (P u) (slice from to codes) || start u)
     gathered i now h g u = ap (λ (x : Bool). x || now u) (sym (some_none (P u) i h)) ∙ g u
-
--- one code
-
-pub skipped : (skip c : ℕ) (P : ℕ → Bool) → skip ≡ c → kept skip P c ≡ false
-skipped skip c P e = rw (eq-eqb skip c e)
-
-pub taken : (skip c : ℕ) (P : ℕ → Bool) → (skip ≡ c → ⊥) → kept skip P c ≡ P c
-taken skip c P f = rw (ne_eqb skip c f)
-
--- the later of two ranks
-pub later_taken : (skip c rank last u : ℕ) (P : ℕ → Bool) → (skip ≡ c → ⊥) → last < rank → P c ≡ ltb u rank → ltb u rank ≡ (kept skip P c || ltb u last)
-later_taken skip c rank last u P f h e = rw (taken skip c P f, e) (by (ltb u rank) (ltb u last) refl refl)
-  where
-    by : (a b : Bool) → ltb u rank ≡ a → ltb u last ≡ b → a ≡ (a || b)
-    by true b p q = refl
-    by false true p q = absurd (omega (arith, ltb-true u last q, ltb-false u rank p))
-    by false false p q = refl
-
-pub later-left : (skip c rank last u : ℕ) (P : ℕ → Bool) → (skip ≡ c → ⊥) → rank ≤ last → P c ≡ ltb u rank → ltb u last ≡ (kept skip P c || ltb u last)
-later-left skip c rank last u P f h e = rw (taken skip c P f, e) (by (ltb u rank) (ltb u last) refl refl)
-  where
-    by : (a b : Bool) → ltb u rank ≡ a → ltb u last ≡ b → b ≡ (a || b)
-    by true true p q = refl
-    by true false p q = absurd (omega (arith, ltb-true u rank p, ltb-false u last q))
-    by false b p q = refl
 
 -- where a step's codes begin
 pub from_head : (heads : List ℕ) (k r : ℕ) → (k ≡ 0 → ⊥) → r ≡ head_word heads (k - 1) 3 → r ≡ codes_from heads k

@@ -9,6 +9,7 @@ use crate::words::{MARKS, Part, code_at, complement};
 
 // Whether a code is among the derived ones, or may go: its variable is of the other quantifier, no rank of the side's own is behind it, and
 // its complement is nowhere.
+#[tactic(auto, unfolding(crate::specs::Codes::uncovered))]
 fn is_covered(other: &[u16], derived: &[u64], all: &[u64], last: u16, c: usize) -> bool
     requires { Covering other.now derived.now all.now × (c < 4096) }
     ensures { not result ≡ uncovered other.now derived.now all.now last c }
@@ -17,13 +18,7 @@ fn is_covered(other: &[u16], derived: &[u64], all: &[u64], last: u16, c: usize) 
         return true;
     }
     let rank = other[c / 2];
-    if rank == 0 {
-        return false;
-    }
-    if rank < last {
-        return false;
-    }
-    !sets::holds(all, complement(c))
+    rank != 0 && last <= rank && !sets::holds(all, complement(c))
 }
 
 // The same of a code that may be left out.
@@ -31,10 +26,7 @@ fn passes(other: &[u16], derived: &[u64], all: &[u64], last: u16, skip: usize, c
     requires { Covering other.now derived.now all.now × (c < 4096) }
     ensures { not result ≡ kept skip (uncovered other.now derived.now all.now last) c }
 {
-    if skip == c {
-        return true;
-    }
-    is_covered(other, derived, all, last, c)
+    skip == c || is_covered(other, derived, all, last, c)
 }
 
 // Whether all codes of a part that are kept pass.
@@ -42,15 +34,10 @@ fn covers(codes: &[u32], p: Part, other: &[u16], derived: &[u64], all: &[u64], l
     requires { Covering other.now derived.now all.now × (p.to ≤ length codes.now) }
     ensures { not result ≡ some_in p codes.now (uncovered other.now derived.now all.now last) }
 {
-    let skip = p.skip;
-    let to = p.to;
-    let mut i = p.from;
-    while i < to {
-        let c = code_at(codes, i);
-        if !passes(other, derived, all, last, skip, c) {
+    for i in p.from..p.to {
+        if !passes(other, derived, all, last, p.skip, code_at(codes, i)) {
             return false;
         }
-        i += 1;
     }
     true
 }
@@ -86,8 +73,5 @@ pub fn follows(codes: &[u32], own: &[u16], other: &[u16], a: Part, b: Part, d: P
     mark(codes, d, &mut derived);
     mark_all(codes, a, b, d, &mut all);
     let last = last_of(codes, own, a, b, d);
-    if !covers(codes, a, other, &derived, &all, last) {
-        return false;
-    }
-    covers(codes, b, other, &derived, &all, last)
+    covers(codes, a, other, &derived, &all, last) && covers(codes, b, other, &derived, &all, last)
 }

@@ -21,10 +21,7 @@ fn follows_by(heads: &[u32], codes: &[u32], own: &[u16], other: &[u16], k: usize
 {
     let m = head_word(heads, k, 1);
     let n = head_word(heads, k, 2);
-    if k <= m {
-        return false;
-    }
-    if k <= n {
+    if k <= m || k <= n {
         return false;
     }
     let a = part_of(heads, codes, m, c);
@@ -39,10 +36,7 @@ fn is_derived(heads: &[u32], codes: &[u32], own: &[u16], other: &[u16], k: usize
     ensures { Told (λ o p. derived_at o p heads.now codes.now k) own.now other.now result }
 {
     let w = head_word(heads, k, 0);
-    if w == 0 {
-        return true;
-    }
-    follows_by(heads, codes, own, other, k, (w - 1) % CODES)
+    w == 0 || follows_by(heads, codes, own, other, k, (w - 1) % CODES)
 }
 
 // The first derived step that doesn't follow, or the number of steps.
@@ -51,13 +45,11 @@ pub fn first_underived(heads: &[u32], codes: &[u32], own: &[u16], other: &[u16])
     ensures { (o : Op) (p : Prefix) → Ranks o p own.now other.now
         → FirstUnderived o p heads.now codes.now result }
 {
-    let n = heads.len() / 4;
-    let mut k = 0;
-    while k < n {
+    let steps = heads.len() / 4;
+    for k in 0..steps {
         if !is_derived(heads, codes, own, other, k) {
             return k;
         }
-        k += 1;
     }
-    k
+    steps
 }

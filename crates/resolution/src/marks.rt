@@ -11,10 +11,9 @@ fn add_kept(set: &mut [u64], skip: usize, c: usize)
     ensures set_len_unchanged { length set.new ≡ length set.old }
     ensures by_index { (u : ℕ) → holds set.new u ≡ (kept skip (eqb u) c || holds set.old u) }
 {
-    if skip == c {
-        return;
+    if skip != c {
+        sets::add(set, c);
     }
-    sets::add(set, c);
 }
 
 // Puts the codes of a part into the set.
@@ -22,13 +21,8 @@ pub fn mark(codes: &[u32], p: Part, set: &mut [u64])
     requires { Wide set.old × (p.to ≤ length codes.now) }
     ensures { Marked p codes.now set.old set.new }
 {
-    let skip = p.skip;
-    let to = p.to;
-    let mut i = p.from;
-    while i < to {
-        let c = code_at(codes, i);
-        add_kept(set, skip, c);
-        i += 1;
+    for i in p.from..p.to {
+        add_kept(set, p.skip, code_at(codes, i));
     }
 }
 
@@ -40,11 +34,7 @@ fn later(ranks: &[u16], skip: usize, c: usize, last: u16) -> u16
     if skip == c {
         return last;
     }
-    let rank = ranks[c / 2];
-    if last < rank {
-        return rank;
-    }
-    last
+    last.max(ranks[c / 2])
 }
 
 // The last rank among the codes of a part, or `last` if that is later.
@@ -52,14 +42,9 @@ pub fn last_rank(codes: &[u32], p: Part, ranks: &[u16], last: u16) -> u16
     requires { (2048 ≤ length ranks.now) × (p.to ≤ length codes.now) }
     ensures { Adds (ranked_behind ranks.now) p codes.now (λ u. ltb u last) (λ u. ltb u result) }
 {
-    let skip = p.skip;
-    let to = p.to;
     let mut rank = last;
-    let mut i = p.from;
-    while i < to {
-        let c = code_at(codes, i);
-        rank = later(ranks, skip, c, rank);
-        i += 1;
+    for i in p.from..p.to {
+        rank = later(ranks, p.skip, code_at(codes, i), rank);
     }
     rank
 }

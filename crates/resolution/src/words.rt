@@ -16,20 +16,12 @@ pub struct Part {
     pub skip: usize,
 }
 
-// A word as a number.
-fn number(word: u32) -> usize
-    ensures { (result ≡ word) × (result < 2 ^ 32) }
-{
-    word as usize
-}
-
 // Word `j` in the head of step `k`.
 pub fn head_word(heads: &[u32], k: usize, j: usize) -> usize
     requires { 4 * k + j < length heads.now }
     ensures { (result ≡ head_word heads.now k j) × (result < 2 ^ 32) }
 {
-    let i = 4 * k + j;
-    number(heads[i])
+    heads[4 * k + j] as usize
 }
 
 // The code that word `i` says.
@@ -37,7 +29,7 @@ pub fn code_at(codes: &[u32], i: usize) -> usize
     requires { i < length codes.now }
     ensures { (result ≡ code_of (get_or codes.now i 0)) × (result < 4096) }
 {
-    number(codes[i]) % CODES
+    codes[i] as usize % CODES
 }
 
 // The code of the complement.
@@ -45,10 +37,7 @@ pub fn complement(c: usize) -> usize
     requires { c < 4096 }
     ensures { (result ≡ complement c) × (result < 4096) }
 {
-    if c % 2 == 0 {
-        return c + 1;
-    }
-    c - 1
+    if c % 2 == 0 { c + 1 } else { c - 1 }
 }
 
 // Where the codes of step `k` begin.
@@ -57,9 +46,10 @@ fn codes_from(heads: &[u32], k: usize) -> usize
     ensures { result ≡ codes_from heads.now k }
 {
     if k == 0 {
-        return 0;
+        0
+    } else {
+        head_word(heads, k - 1, 3)
     }
-    head_word(heads, k - 1, 3)
 }
 
 // The part of step `k`, as far as there are codes.
@@ -67,15 +57,9 @@ pub fn part_of(heads: &[u32], codes: &[u32], k: usize, skip: usize) -> Part
     requires { 4 * k + 4 ≤ length heads.now }
     ensures { PartOf heads.now codes.now k skip result }
 {
-    let from = codes_from(heads, k);
-    let to = head_word(heads, k, 3);
-    let length = codes.len();
-    if length < to {
-        return Part {
-            from,
-            to: length,
-            skip,
-        };
+    Part {
+        from: codes_from(heads, k),
+        to: head_word(heads, k, 3).min(codes.len()),
+        skip,
     }
-    Part { from, to, skip }
 }

@@ -1,13 +1,14 @@
 -- 11 and 13, in this order, behind tests 1 to 10; and what Response writes if all pass.
 -- Assumes nothing.
 use mathlib.Core.Path.{◌≡◌, refl, sym, ap, ap₂, ◌∙◌}
-use mathlib.Core.Bool.{Bool, true, false, not, ◌&&◌, ◌||◌, cond}
+use mathlib.Core.Bool.{Bool, true, false, not, ◌||◌, cond}
 use mathlib.Core.List.{List, [], ◌∷◌, ◌++◌, append_assoc}
 use mathlib.Core.Option.{Option, none, some}
 use Prim.Native.Nat.{ℕ, ◌-◌, ◌≤◌, ◌<◌}
 use native.Mathlib.Omega.{arith}
 use lib.ListN.{length}
-use Rattle.formula.specs.Tree.{Tree, Formula, of}
+use Rattle.std.specs.Prelude.{Ok, Err}
+use Rattle.formula.specs.Tree.{Formula, of}
 use Rattle.formula.specs.Settle.{settling, may_settle}
 use Rattle.formula.specs.Expand.{innermost}
 use Rattle.formula.specs.Solve.{is_some}
@@ -22,6 +23,7 @@ use Rattle.sheet.proofs.Writing.{written, write_refused, write_accepted}
 use Rattle.rows.specs.Layouts.{format_in}
 use Rattle.rows.specs.Formulas.{prefix_in, matrix_in, formula_in, layout_for}
 use Rattle.rows.specs.declared.Layout.{Layout}
+use Rattle.rows.specs.declared.refusals.Refusal.TheVariants.{NoRoom}
 use Rattle.rows.proofs.Formulas.{length_prefix}
 use Rattle.checking.proofs.CheckedSheets.{sheet_readable, sheet-formula_in}
 use Rattle.prefixes.specs.Places.{place, binding_at}
@@ -29,12 +31,11 @@ use Rattle.prefixes.proofs.Places.{quantifier_of-place, variable-place}
 use Rattle.polarity.specs.Value.{settling_in}
 use Rattle.subtrees.specs.declared.relevant.Relevant.{Relevant}
 use Rattle.elimination.specs.Admission.{admission_tests, Admitted}
-use Rattle.elimination.specs.declared.settling.Put.{Put}
 use Rattle.elimination.specs.declared.survey.Survey.{Survey}
 use Rattle.elimination.proofs.Admitting.{sheet_steppable}
 use Rattle.expand.specs.Inner.ExpandPlan.{ExpandPlanned}
 use Rattle.response.specs.Inner.ResponsePlan.{in_room, Passes, ResponsePlans}
-use Rattle.response.specs.declared.plan.ResponsePlan.TheVariants.{Refused, Constant, Copy}
+use Rattle.response.specs.declared.plan.ResponsePlan.TheVariants.{Constant, Copy}
 use Rattle.response.proofs.Selection.{rows_taken, few_taken}
 use Rattle.response.proofs.Functions.{unsettled_occurs}
 
@@ -98,7 +99,7 @@ module _ {b : Bytes} {x : ℕ} {s : Layout} {i : ℕ} {ends : List ℕ} (a : Adm
       fit = fits_here F b x room prefix_is (ap (response_rows x (formula F b).matrix) there)
 
       by : (m : Bool) → fits F room (s.variables - 1) 1 ≡ m
-          → ResponsePlans s.format b x room table (cond m (Constant s (record { row = i; variable = x; value = c })) (Refused 13 0))
+          → ResponsePlans s.format b x room table (cond m (Ok (Constant s (record { row = i; variable = x; value = c }))) (Err NoRoom))
       by true h = (
         refl,
         refl,
@@ -155,7 +156,7 @@ module _ {b : Bytes} {x : ℕ} {table : List ℕ} {s : Layout} {w : Survey} (d :
   copy_planned = by (fits G room (s.variables - 1) w.to.relevant.rows) refl
     where
       by : (m : Bool) → fits G room (s.variables - 1) w.to.relevant.rows ≡ m
-          → ResponsePlans s.format b x room table (cond m (Copy s w) (Refused 13 0))
+          → ResponsePlans s.format b x room table (cond m (Ok (Copy s w)) (Err NoRoom))
       by true h = (
         refl,
         record {

@@ -9,7 +9,7 @@ use native.Mathlib.Omega.{arith}
 use lib.Dec.{eqb, leb}
 use lib.ListN.{length, take}
 use borrow.Author.Tests.{leb-true}
-use Rattle.formula.specs.Tree.{Op, and, or, Tree, Prefix, Formula, Literals, of, constant, rows, has, count, quantifier_of, without, replace, assigned, assign}
+use Rattle.formula.specs.Tree.{Op, and, or, Tree, Prefix, Formula, Literals, of, constant, rows, has, count, quantifier_of, replace, assigned, assign}
 use Rattle.formula.specs.Tidy.{tidy, tidied}
 use Rattle.formula.specs.Settle.{value, may_take, settling, may_settle}
 use Rattle.formula.specs.Strategy as strategy
@@ -17,12 +17,12 @@ use Rattle.formula.specs.Inner.Function.{raw_function}
 use Rattle.formula.proofs.Booleans.{and_parts}
 use Rattle.formula.proofs.Evaluation.{rows-replace}
 use Rattle.formula.proofs.Strategy.Function.{tidy-raw_function}
-use Rattle.sheet.specs.Format.{Bytes, Format, Row, row, sheet_length, fits}
+use Rattle.sheet.specs.Format.{Bytes, Format, row, sheet_length, fits}
 use Rattle.sheet.specs.Sheet.{operator_kind, binding_row, tree_rows, formula_rows, sheet}
 use Rattle.sheet.specs.Operations.{padded}
 use Rattle.sheet.specs.Strategy.{response}
 use Rattle.sheet.proofs.Preorder.{length-tree_rows}
-use Rattle.rows.specs.Layouts.{format_in, total, Room}
+use Rattle.rows.specs.Layouts.{format_in, Room}
 use Rattle.rows.specs.Formulas.{prefix_in, matrix_in, formula_in, layout_for}
 use Rattle.rows.specs.declared.Layout.{Layout}
 use Rattle.subtrees.specs.Subtrees.{kids, subtree_in}

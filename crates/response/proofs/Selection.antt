@@ -9,7 +9,7 @@ use native.Mathlib.Omega.{arith}
 use lib.ListN.{length, drop, length-append}
 use lib.Seq.{drop-append-le, drop-append-add}
 use borrow.Author.Tests.{not-true, not-false}
-use Rattle.formula.specs.Tree.{Op, Tree, lit, node, Forest, ∅, ◌▸◌, Literals, rows, rows_all, has, count, some_child, keep, replace}
+use Rattle.formula.specs.Tree.{Op, Tree, lit, node, Forest, ∅, ◌▸◌, Literals, rows, has, count, some_child, keep, replace}
 use Rattle.formula.specs.Expand.{relevant, one_relevant, all_relevant}
 use Rattle.formula.specs.Strategy as strategy
 use Rattle.formula.proofs.Booleans.{or_parts}

@@ -33,15 +33,13 @@ fn write_whole(b: &[u8], s: Layout, table: &[u16], p: Selection, out: &mut [u8])
     requires { SelectionReady s b.now table.now p out.old × (p.relevant.all ≡ true) }
     ensures { Laid p.layout out.old out.new p.layout.variables result (selected_rows s b.now table.now) }
 {
-    let t = p.layout;
-    let v = s.variables;
     let subtree = Span {
-        from: v + p.relevant.operator,
-        to: v + p.end,
+        from: s.variables + p.relevant.operator,
+        to: s.variables + p.end,
     };
     let start = Target {
-        layout: t,
-        at: t.variables,
+        layout: p.layout,
+        at: p.layout.variables,
     };
     write_copy(b, s, table, subtree, out, start)
 }
@@ -58,12 +56,11 @@ fn write_some(
     requires { SelectionReady s b.now table.now p out.old × (p.relevant.all ≡ false) × SelectionCuts s b.now table.now p cuts.now }
     ensures { Laid p.layout out.old out.new p.layout.variables result (selected_rows s b.now table.now) }
 {
-    let t = p.layout;
     let head = Head {
         kind: kind_at(b, s, p.relevant.operator),
         children: p.relevant.children,
-        layout: t,
-        at: t.variables,
+        layout: p.layout,
+        at: p.layout.variables,
     };
     write_below(b, s, table, &cuts[1..], out, head)
 }
@@ -103,15 +100,13 @@ pub fn function_into(
 {
     let mut table = [0u16; NUMBERS];
     fill(&mut table, x, w.to.joint == OR);
-    let f = s.format;
     let t = Layout {
-        format: f,
+        format: s.format,
         variables: s.variables - 1,
         nodes: w.to.relevant.rows,
     };
-    let relevant = w.to.relevant;
     let p = Selection {
-        relevant: relevant,
+        relevant: w.to.relevant,
         end: w.to.end,
         layout: t,
     };
@@ -124,10 +119,7 @@ pub fn function_into(
 fn constant_kind(value: bool) -> u8
     ensures { result ≡ constant_kind value }
 {
-    if value {
-        return AND;
-    }
-    OR
+    if value { AND } else { OR }
 }
 
 // Writes the function of a variable that may be settled, a constant, in the same way.
@@ -137,14 +129,13 @@ pub fn constant_into(b: &[u8], s: Layout, p: Put, out: &mut [u8]) -> Layout
     ensures value { result ≡ layout_for s.format (response p.variable (formula_in s b.now)) }
     ensures variables_value { (result.variables ≡ s.variables - 1) × (result.nodes ≤ 1) }
 {
-    let f = s.format;
     let t = Layout {
-        format: f,
+        format: s.format,
         variables: s.variables - 1,
         nodes: 1,
     };
     let at = write_prefix(b, s, p.row, out, t);
-    let last = Target { layout: t, at: at };
+    let last = Target { layout: t, at };
     write_row(out, last, constant_kind(p.value), 0);
     tidy_in_place(out, t)
 }

@@ -15,7 +15,7 @@ use Rattle.rows.specs.Formulas.{formula_in}
 use Rattle.rows.specs.declared.Layout.{Layout}
 use Rattle.rows.proofs.Formulas.{length_prefix}
 use Rattle.solve.specs.declared.Solved.{Solved}
-use Rattle.solve.specs.declared.Solved.TheVariants.{Refused, Stopped, Ended}
+use Rattle.solve.specs.declared.Solved.TheVariants.{Stopped, Ended}
 use Rattle.solve.specs.Answers.{solved_answer}
 use Rattle.resume.specs.Inner.Going.{Placed, wide_run, wide_call, Addable}
 
@@ -37,7 +37,6 @@ by_steps started settled expanded left h k =
 few_counts : (r : Solved) (e : End) (s : State) (settled expanded : ℕ) → solved_answer r ≡ solved e s
     → settled + s.settles < 2 ^ 64 → expanded + s.expands < 2 ^ 64 → Addable settled expanded r
 unfolding solved
-few_counts (Refused n i) e s settled expanded h k l = tt
 few_counts (Stopped x n m) (ended v) s settled expanded h k l = let z : ◌≡◌ {A = ℕ} 0 1 = cc in absurd (omega arith)
 few_counts (Stopped x n m) (stopped y) s settled expanded h k l =
     let a : n ≡ s.settles = cc in

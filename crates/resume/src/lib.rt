@@ -7,14 +7,13 @@ ghost use Rattle.sheet.specs.Format.{wide};
 ghost use Rattle.sheet.specs.Resume.{add_to_answer};
 ghost use Rattle.sheet.specs.Truthful.{truth_of, TruthfulSolve};
 ghost use Rattle.rows.specs.Formats.{format_of};
-ghost use Rattle.solve.specs.Answers.{solved_answer};
+ghost use Rattle.solve.specs.Answers.{solve_answer, solved_answer};
 ghost use Rattle.resume.specs.Calls.{resume_with};
 ghost use Rattle.resume.specs.Inner.Going.{Widenable, wide_call, Addable, Placed, resumed};
 
-use checking::Checked;
 use conversion::convert;
 use rows::fit::{sheet_length, shorter};
-use rows::refusals::{NO_ROOM, WRONG_COUNTS};
+use rows::refusals::Refusal;
 use rows::{Format, Layout};
 use solve::{Solved, run_raw};
 
@@ -55,7 +54,6 @@ fn add_counts(answer: Solved, c: Counts) -> Solved
     ensures { solved_answer result ≡ add_to_answer c.settled c.expanded (solved_answer answer) }
 {
     match answer {
-        Solved::Refused(number, place) => Solved::Refused(number, place),
         Solved::Stopped(x, settled, expanded) => {
             Solved::Stopped(x, c.settled + settled, c.expanded + expanded)
         }
@@ -66,31 +64,39 @@ fn add_counts(answer: Solved, c: Counts) -> Solved
 }
 
 // Goes on from a sheet that Check accepts, of this layout: 25 the counts don't add up, 13 a work buffer shorter than the widened sheet.
-fn resume_checked(sheet: &[u8], s: Layout, c: Counts, first: &mut [u8], second: &mut [u8]) -> Solved
+fn resume_checked(
+    sheet: &[u8],
+    s: Layout,
+    c: Counts,
+    first: &mut [u8],
+    second: &mut [u8],
+) -> Result<Solved, Refusal>
     requires { Placed s sheet.now }
-    ensures { record { answer = solved_answer result; first = first.new; second = second.new } ≡ resumed s c sheet.now first.old second.old }
+    ensures { record { answer = solve_answer result; first = first.new; second = second.new } ≡ resumed s c sheet.now first.old second.old }
 {
     if !adds_up(c, s.variables) {
-        return Solved::Refused(WRONG_COUNTS, 0);
+        return Err(Refusal::WrongCounts);
     }
     let length = sheet_length(Format::Wide, s.variables, s.nodes);
     if shorter(first.len(), second.len()) < length {
-        return Solved::Refused(NO_ROOM, 0);
+        return Err(Refusal::NoRoom);
     }
-    let answer = run_wide(sheet, s, first, second);
-    add_counts(answer, c)
+    Ok(add_counts(run_wide(sheet, s, first, second), c))
 }
 
 // Carries a stopped run over ("Carry a stopped run over"): goes on from the sheet reached, of the format `f`, with the counts of the run so
 // far. The first work buffer then holds the sheet reached, a wide one, and zeros, the second only zeros; refused, both are left as they
 // were.
-pub fn resume(sheet: &[u8], f: Format, c: Counts, first: &mut [u8], second: &mut [u8]) -> Solved
-    ensures second_after { record { answer = solved_answer result; first = first.new; second = second.new } ≡ resume_with c sheet.now f first.old second.old }
-    ensures truthful_solve { TruthfulSolve wide (truth_of (format_of f) sheet.now) (record { answer = solved_answer result; first = first.new; second = second.new }) }
+pub fn resume(
+    sheet: &[u8],
+    f: Format,
+    c: Counts,
+    first: &mut [u8],
+    second: &mut [u8],
+) -> Result<Solved, Refusal>
+    ensures second_after { record { answer = solve_answer result; first = first.new; second = second.new } ≡ resume_with c sheet.now f first.old second.old }
+    ensures truthful_solve { TruthfulSolve wide (truth_of (format_of f) sheet.now) (record { answer = solve_answer result; first = first.new; second = second.new }) }
 {
-    let checked = checking::check(sheet, f);
-    match checked {
-        Checked::Refused(number, place) => Solved::Refused(number, place),
-        Checked::Accepted(s) => resume_checked(sheet, s, c, first, second),
-    }
+    let s = checking::check(sheet, f)?;
+    resume_checked(sheet, s, c, first, second)
 }

@@ -1,93 +1,18 @@
--- Bytes moved down, and the bytes of the first rows as a sheet's.
+-- The bytes of the first rows as a sheet's.
 -- Assumes nothing.
 use mathlib.Core.Path.{◌≡◌, refl, sym, ap, ap₂, ◌∙◌}
-use mathlib.Core.List.{List, [], ◌∷◌, ◌++◌, append_assoc, append-nil}
+use mathlib.Core.List.{List, [], ◌∷◌, ◌++◌, append_assoc}
 use Prim.Native.Nat.{ℕ, zero, suc, ◌+◌, ◌*◌, ◌-◌, ◌≤◌, ◌<◌}
 use native.Mathlib.Nat.{mul-zero, mul-suc, add-mul, one-mul, mul-le-mul_left}
-use native.Mathlib.Numerals.{add-one}
 use native.Mathlib.Omega.{arith}
-use lib.ListN.{length, get_or, take, drop, set, replicate, length-append, length-drop, length-set, length-replicate, get_or-replicate}
-use lib.Seq.{length-take-le, get_or-drop, take_at, drop_at, take-add, take-take, take_all, drop-drop, paste, paste-zero, paste-suc, drop-paste, drop-length}
+use lib.ListN.{length, get_or, take, drop, replicate, length-append, length-drop}
+use lib.Seq.{length-take-le, take_at, drop_at, take-add, take-take, drop-drop}
 use Rattle.sheet.specs.Format.{Bytes, Row, digits, zip_rows, IsByte, AllBytes}
 use Rattle.sheet.specs.Sheet.{row_kinds, row_arguments}
 use Rattle.sheet.proofs.Every.{every_take, every_drop}
 use Rattle.sheet.proofs.Numbers.{length_digits, digits-number_at}
 use Rattle.sheet.proofs.Parts.{row_kinds_zip}
 use Rattle.rows.proofs.Flat.{rows_in, Room}
-
--- move_down
-
-pub record Moved (d : Bytes) (to from count : ℕ) (b : Bytes) (i : ℕ) : Type 0 where
-  pub within : i ≤ count
-  pub so_far : b ≡ paste d to (drop from d) i
-  pub same_length : length b ≡ length d
-
-module _ (d : Bytes) (to from count : ℕ) (down : to ≤ from) (inside : from + count ≤ length d) where
-  pub moved_none : Moved d to from count d 0
-  moved_none = record { within = omega arith; so_far = paste-zero d to (drop from d); same_length = refl }
-
-  -- what is still to be copied is as it was
-  ahead : {b : Bytes} {i : ℕ} → i < count → Moved d to from count b i → get_or b (from + i) 0 ≡ get_or (drop from d) i 0
-  ahead {b} {i} l m =
-      ap (λ k. get_or b k 0) (reach i) ∙ sym (get_or-drop (to + i) b (from - to) 0) ∙
-      ap (λ (q : Bytes). get_or q (from - to) 0)
-      (ap (drop (to + i)) m.so_far ∙ drop-paste d to (drop from d) i (omega arith) (omega (arith, length-drop from d))) ∙
-      get_or-drop (to + i) d (from - to) 0 ∙ ap (λ k. get_or d k 0) (sym (reach i)) ∙ sym (get_or-drop from d i 0)
-    where
-      reach : (i : ℕ) → from + i ≡ to + i + (from - to)
-      reach i = omega arith
-
-  pub moved_byte : {b : Bytes} {i : ℕ} → i < count → Moved d to from count b i → Moved d to from count (set b (to + i) (get_or b (from + i) 0)) (i + 1)
-  moved_byte {b} {i} l m =
-      record {
-        within = omega arith;
-        so_far =
-            ap₂ (λ (q : Bytes) x. set q (to + i) x) m.so_far (ahead l m) ∙
-            paste-suc d to (drop from d) i 0 (omega arith) (omega (arith, length-drop from d)) ∙
-            ap (paste d to (drop from d)) (sym (add-one i));
-        same_length = length-set b (to + i) (get_or b (from + i) 0) ∙ m.same_length;
-      }
-
-  pub moved_all : {b : Bytes} {i : ℕ} → count ≤ i → Moved d to from count b i → b ≡ take to d ++ take count (drop from d) ++ drop (to + count) d
-  moved_all {b} {i} l m =
-      let last : i ≡ count = omega (arith, m.within) in
-      m.so_far ∙ ap (paste d to (drop from d)) last
-
--- clear
-
-pub record Cleared (d : Bytes) (from : ℕ) (b : Bytes) (i : ℕ) : Type 0 where
-  pub within : from + i ≤ length d
-  pub so_far : b ≡ paste d from (replicate (length d - from) 0) i
-  pub same_length : length b ≡ length d
-
-module _ (d : Bytes) (from : ℕ) (inside : from ≤ length d) where
-  pub cleared_none : Cleared d from d 0
-  cleared_none = record { within = omega arith; so_far = paste-zero d from (replicate (length d - from) 0); same_length = refl }
-
-  pub cleared_byte : {b : Bytes} {i : ℕ} → i < length b - from → Cleared d from b i → Cleared d from (set b (from + i) 0) (i + 1)
-  cleared_byte {b} {i} l m =
-      let more : i < length d - from = omega (arith, m.same_length) in
-      record {
-        within = omega arith;
-        so_far =
-            ap₂ (λ (q : Bytes) x. set q (from + i) x) m.so_far (sym (get_or-replicate (length d - from) i 0 0 more)) ∙
-            paste-suc d from (replicate (length d - from) 0) i 0 (omega arith) (omega (arith, length-replicate {A = ℕ} (length d - from) 0)) ∙
-            ap (paste d from (replicate (length d - from) 0)) (sym (add-one i));
-        same_length = length-set b (from + i) 0 ∙ m.same_length;
-      }
-
-  pub cleared_all : {b : Bytes} {i : ℕ} → length b - from ≤ i → Cleared d from b i → b ≡ take from d ++ replicate (length d - from) 0
-  cleared_all {b} {i} l m =
-      m.so_far ∙ ap (paste d from (replicate (length d - from) 0)) last ∙
-      ap₂ (λ p q. take from d ++ p ++ q) (take_all (length d - from) (replicate (length d - from) 0) (omega (arith, length-replicate {A = ℕ} (length d - from) 0)))
-      (ap (λ k. drop k d) whole ∙ drop-length d) ∙
-      append-nil (take from d ++ replicate (length d - from) 0)
-    where
-      last : i ≡ length d - from
-      last = omega (arith, m.within, m.same_length)
-
-      whole : from + (length d - from) ≡ length d
-      whole = omega arith
 
 -- every element a byte
 
@@ -137,9 +62,6 @@ sized w h rest e x y =
 
 room-rows : {w n len : ℕ} → Room w n len → 2 * w + n + w * n ≤ len
 room-rows {w} {n} room = omega (arith, room.holds, add-mul 1 w n, one-mul n)
-
-pub seal_within : {w n m len : ℕ} → Room w n len → m ≤ n → 2 * w + n + w * m ≤ len
-seal_within {w} {n} {m} room l = omega (arith, room-rows room, mul-le-mul_left w l)
 
 module _ {w n m : ℕ} (b : Bytes) (room : Room w n (length b)) (bytes : AllBytes b) (m≤n : m ≤ n) where
   all_rows : 2 * w + n + w * n ≤ length b

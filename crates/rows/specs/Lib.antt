@@ -3,3 +3,4 @@ pub mod Formats
 pub mod Layouts
 pub mod Formulas
 pub mod Tables
+pub mod Refusals

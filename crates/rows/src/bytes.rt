@@ -39,11 +39,7 @@ pub fn move_down(b: &mut [u8], to: usize, from: usize, count: usize)
     requires { (to ≤ from) × (from + count ≤ length b.old) }
     ensures { b.new ≡ take to b.old ++ take count (drop from b.old) ++ drop (to + count) b.old }
 {
-    let mut i: usize = 0;
-    while i < count {
-        b[to + i] = b[from + i];
-        i += 1;
-    }
+    b.copy_within(from..from + count, to);
 }
 
 // Copies a sheet to the front of an output.
@@ -51,11 +47,7 @@ pub fn copy_front(sheet: &[u8], out: &mut [u8])
     requires { length sheet.now ≤ length out.old }
     ensures { out.new ≡ sheet.now ++ drop (length sheet.now) out.old }
 {
-    let mut i: usize = 0;
-    while i < sheet.len() {
-        out[i] = sheet[i];
-        i += 1;
-    }
+    out[..sheet.len()].copy_from_slice(sheet);
 }
 
 // Makes every byte from `from` on zero.
@@ -63,9 +55,5 @@ pub fn clear(b: &mut [u8], from: usize)
     requires { from ≤ length b.old }
     ensures { b.new ≡ take from b.old ++ replicate (length b.old - from) 0 }
 {
-    let mut i: usize = 0;
-    while i < b.len() - from {
-        b[from + i] = 0;
-        i += 1;
-    }
+    b[from..].fill(0);
 }

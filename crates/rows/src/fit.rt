@@ -19,18 +19,12 @@ pub fn fits(f: Format, v: usize, n: usize, room: usize) -> bool
     requires { (v < 2 ^ 32) × (n < 2 ^ 32) }
     ensures { result ≡ fits (format_of f) room v n }
 {
-    if most_nodes(f) < n {
-        return false;
-    }
-    sheet_length(f, v, n) <= room
+    n <= most_nodes(f) && sheet_length(f, v, n) <= room
 }
 
 // The smaller of two lengths.
 pub fn shorter(a: usize, b: usize) -> usize
     ensures { result ≡ min a b }
 {
-    if a < b {
-        return a;
-    }
-    b
+    a.min(b)
 }

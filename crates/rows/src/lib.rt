@@ -31,14 +31,14 @@ pub const ROWS: usize = 8192;
 pub const NUMBERS: usize = 1025;
 
 // The two formats: document 01's own sheets, of 16-bit numbers, and wide ones (N11), of 32-bit numbers.
-#[derive(Clone, Copy)]
+#[derive(Clone, Copy, PartialEq, Eq, Debug)]
 pub enum Format {
     Narrow,
     Wide,
 }
 
 // How a sheet's rows lie in its bytes: its format, variables, nodes.
-#[derive(Clone, Copy)]
+#[derive(Clone, Copy, PartialEq, Eq, Debug)]
 pub struct Layout {
     pub format: Format,
     pub variables: usize,
@@ -78,7 +78,7 @@ pub fn most_nodes(f: Format) -> usize
 pub fn from_byte(b: u8) -> usize
     ensures { (result ≡ b) × (result < 256) }
 {
-    b as usize
+    usize::from(b)
 }
 
 // The number of two bytes that stands at `at`, low byte first.
@@ -94,9 +94,7 @@ pub fn quad_at(b: &[u8], at: usize) -> usize
     requires { at + 4 ≤ length b.now }
     ensures { (result ≡ number (take 4 (drop at b.now))) × (result < 2 ^ 32) }
 {
-    let low = pair_at(b, at);
-    let high = pair_at(b, at + 2);
-    low + 65536 * high
+    pair_at(b, at) + 65536 * pair_at(b, at + 2)
 }
 
 // The number of a format that stands at `at`, low byte first: two bytes or four, read at once.

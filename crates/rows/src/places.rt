@@ -18,8 +18,7 @@ pub fn kind_place(s: Layout, r: usize) -> usize
     requires { kind_place s r < 2 ^ 63 }
     ensures { result ≡ kind_place s r }
 {
-    let f = s.format;
-    2 * width(f) + r
+    2 * width(s.format) + r
 }
 
 // The first byte of the argument of row `r`. Each format has a branch of its own, so that the compiler knows the width as a constant.
@@ -27,8 +26,7 @@ pub fn argument_place(s: Layout, r: usize) -> usize
     requires { argument_place s r < 2 ^ 63 }
     ensures { result ≡ argument_place s r }
 {
-    let f = s.format;
-    match f {
+    match s.format {
         Format::Narrow => 4 + (s.variables + s.nodes) + 2 * r,
         Format::Wide => 8 + (s.variables + s.nodes) + 4 * r,
     }

@@ -36,8 +36,7 @@ pub fn argument_at(b: &[u8], s: Layout, r: usize) -> usize
     requires { Room s (length b.now) × (r < total s) }
     ensures { (result ≡ (get_or (rows_in s b.now) r (row 0 0)).argument) × (result < 2 ^ 32) }
 {
-    let f = s.format;
-    number_at(b, argument_place(s, r), f)
+    number_at(b, argument_place(s, r), s.format)
 }
 
 // How many children row `r` adds to the tree.
@@ -46,7 +45,8 @@ pub fn children_at(b: &[u8], s: Layout, r: usize) -> usize
     ensures { (result ≡ children (get_or (rows_in s b.now) r (row 0 0))) × (result < 2 ^ 32) }
 {
     if kind_at(b, s, r) <= NEGATIVE {
-        return 0;
+        0
+    } else {
+        argument_at(b, s, r)
     }
-    argument_at(b, s, r)
 }

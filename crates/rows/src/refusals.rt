@@ -1,87 +1,121 @@
-// The numbers of refusals, as the documents give them; 26 to 29 are ours.
-// Shorter than the two sizes.
-pub const TOO_SHORT: usize = 1;
+// Why a call is refused. Each refusal has a number, as the documents give it (26 to 29 are ours), and a place: the row at fault where
+// there is one, and else 0.
+ghost use Rattle.std.specs.Prelude.{◌≡◌, ◌<◌};
+ghost use Rattle.rows.specs.Refusals.{number_of, place_of};
 
-// A size outside its limits.
-pub const SIZE_OUTSIDE: usize = 2;
+#[derive(Clone, Copy, PartialEq, Eq, Debug)]
+pub enum Refusal {
+    // Shorter than the two sizes.
+    TooShort,
+    // A size outside its limits.
+    SizeOutside,
+    // Wrong length.
+    WrongLength,
+    // A row's kind.
+    BadKind(usize),
+    // A quantifier's number.
+    BadNumber(usize),
+    // A number bound twice.
+    BoundTwice(usize),
+    // A literal unbound.
+    Unbound(usize),
+    // The rows are not one tree.
+    NotOneTree(usize),
+    // Not tidy.
+    NotTidy(usize),
+    // The variable is not in the prefix.
+    NotInPrefix,
+    // The variable is not in the innermost block, or not one block out.
+    WrongBlock,
+    // The variable may not be settled.
+    NotSettled,
+    // No room for the sheet.
+    NoRoom,
+    // Too many variables to try.
+    TooManyToTry,
+    // A text's header.
+    BadHeader,
+    // A text that is not lists of numbers ended by 0.
+    BadLists,
+    // A variable or a number of clauses that a text's header doesn't allow.
+    BeyondHeader,
+    // Fewer unused numbers than variables to copy.
+    NoNumbersLeft,
+    // More raw rows than the ceiling.
+    AboveCeiling,
+    // Not of the clause profile.
+    NoClauses,
+    // A value other than 0 and 1.
+    BadValue,
+    // As many values as variables, or more; for Split and Join, more.
+    TooManyValues,
+    // The root is not AND.
+    RootNotAnd,
+    // Outside the limits of a narrow sheet.
+    NotNarrow,
+    // Counts that don't add up.
+    WrongCounts,
+    // Not a strategy over the sheet's prefix.
+    NotAStrategy,
+    // A function that reads what it may not.
+    ReadsBeyond(usize),
+    // Not as many answers as lists of values.
+    WrongAnswers,
+    // An answer other than 0, 1 and 2.
+    BadAnswer,
+}
 
-// Wrong length.
-pub const WRONG_LENGTH: usize = 3;
+impl Refusal {
+    // The refusal's number.
+    pub fn number(self) -> usize
+        ensures { (result ≡ number_of self) × (result < 30) }
+    {
+        match self {
+            Refusal::TooShort => 1,
+            Refusal::SizeOutside => 2,
+            Refusal::WrongLength => 3,
+            Refusal::BadKind(_) => 4,
+            Refusal::BadNumber(_) => 5,
+            Refusal::BoundTwice(_) => 6,
+            Refusal::Unbound(_) => 7,
+            Refusal::NotOneTree(_) => 8,
+            Refusal::NotTidy(_) => 9,
+            Refusal::NotInPrefix => 10,
+            Refusal::WrongBlock => 11,
+            Refusal::NotSettled => 12,
+            Refusal::NoRoom => 13,
+            Refusal::TooManyToTry => 14,
+            Refusal::BadHeader => 15,
+            Refusal::BadLists => 16,
+            Refusal::BeyondHeader => 17,
+            Refusal::NoNumbersLeft => 18,
+            Refusal::AboveCeiling => 19,
+            Refusal::NoClauses => 20,
+            Refusal::BadValue => 21,
+            Refusal::TooManyValues => 22,
+            Refusal::RootNotAnd => 23,
+            Refusal::NotNarrow => 24,
+            Refusal::WrongCounts => 25,
+            Refusal::NotAStrategy => 26,
+            Refusal::ReadsBeyond(_) => 27,
+            Refusal::WrongAnswers => 28,
+            Refusal::BadAnswer => 29,
+        }
+    }
 
-// A row's kind.
-pub const BAD_KIND: usize = 4;
-
-// A quantifier's number.
-pub const BAD_NUMBER: usize = 5;
-
-// A number bound twice.
-pub const BOUND_TWICE: usize = 6;
-
-// A literal unbound.
-pub const UNBOUND: usize = 7;
-
-// The rows are not one tree.
-pub const NOT_ONE_TREE: usize = 8;
-
-// Not tidy.
-pub const NOT_TIDY: usize = 9;
-
-// The variable is not in the prefix.
-pub const NOT_IN_PREFIX: usize = 10;
-
-// The variable is not in the innermost block, or not one block out.
-pub const WRONG_BLOCK: usize = 11;
-
-// The variable may not be settled.
-pub const NOT_SETTLED: usize = 12;
-
-// No room for the sheet.
-pub const NO_ROOM: usize = 13;
-
-// Too many variables to try.
-pub const TOO_MANY_TO_TRY: usize = 14;
-
-// A text's header.
-pub const BAD_HEADER: usize = 15;
-
-// A text that is not lists of numbers ended by 0.
-pub const BAD_LISTS: usize = 16;
-
-// A variable or a number of clauses that a text's header doesn't allow.
-pub const BEYOND_HEADER: usize = 17;
-
-// Fewer unused numbers than variables to copy.
-pub const NO_NUMBERS_LEFT: usize = 18;
-
-// More raw rows than the ceiling.
-pub const ABOVE_CEILING: usize = 19;
-
-// Not of the clause profile.
-pub const NO_CLAUSES: usize = 20;
-
-// A value other than 0 and 1.
-pub const BAD_VALUE: usize = 21;
-
-// As many values as variables, or more; for Split and Join, more.
-pub const TOO_MANY_VALUES: usize = 22;
-
-// The root is not AND.
-pub const ROOT_NOT_AND: usize = 23;
-
-// Outside the limits of a narrow sheet.
-pub const NOT_NARROW: usize = 24;
-
-// Counts that don't add up.
-pub const WRONG_COUNTS: usize = 25;
-
-// Not a strategy over the sheet's prefix.
-pub const NOT_A_STRATEGY: usize = 26;
-
-// A function that reads what it may not.
-pub const READS_BEYOND: usize = 27;
-
-// Not as many answers as lists of values.
-pub const WRONG_ANSWERS: usize = 28;
-
-// An answer other than 0, 1 and 2.
-pub const BAD_ANSWER: usize = 29;
+    // The row at fault, or 0.
+    pub fn place(self) -> usize
+        ensures { result ≡ place_of self }
+    {
+        match self {
+            Refusal::BadKind(row)
+            | Refusal::BadNumber(row)
+            | Refusal::BoundTwice(row)
+            | Refusal::Unbound(row)
+            | Refusal::NotOneTree(row)
+            | Refusal::NotTidy(row)
+            | Refusal::ReadsBeyond(row) => row,
+            _ => 0,
+        }
+    }
+}

@@ -13,9 +13,8 @@ pub fn set_row(b: &mut [u8], s: Layout, r: usize, kind: u8, argument: usize)
     ensures b_after { rows_in s b.new ≡ set (rows_in s b.old) r (row kind argument) }
     ensures kept { Kept s b.old b.new }
 {
-    let f = s.format;
     b[kind_place(s, r)] = kind;
-    put_number(b, argument_place(s, r), f, argument);
+    put_number(b, argument_place(s, r), s.format, argument);
 }
 
 // Makes the first `m` rows a sheet of as many variables, with zeros behind it, and returns its length.

@@ -3,12 +3,14 @@
 use mathlib.Core.Path.{◌≡◌, refl, sym, ap, ◌∙◌}
 use mathlib.Core.Bool.{Bool, false, not, ◌&&◌}
 use mathlib.Core.List.{List, [], ◌∷◌}
-use mathlib.Core.Option.{Option, get_or}
+use mathlib.Core.Option as maybe
+use mathlib.Core.Option.{get_or}
 use Prim.Native.Nat.{ℕ, ◌-◌, ◌≤◌, ◌<◌}
 use native.Mathlib.Omega.{arith}
 use lib.Dec.{ltb}
 use lib.ListN.{length}
 use borrow.Author.Tests.{lt-ltb, le-ltb}
+use Rattle.std.specs.Prelude.{Option, Some, None}
 use Rattle.formula.specs.Tree.{Formula}
 use Rattle.formula.specs.Settle.{settling, may_settle, settled}
 use Rattle.formula.specs.Solve.{is_some}
@@ -27,8 +29,6 @@ use Rattle.checking.proofs.CheckedSheets.{sheet_readable, sheet-formula_in}
 use Rattle.prefixes.specs.Places.{place, binding_at}
 use Rattle.prefixes.proofs.Places.{quantifier_of-place, variable-place}
 use Rattle.polarity.specs.Value.{value_of, settling_in}
-use Rattle.polarity.specs.declared.value.Settling.{Settling}
-use Rattle.polarity.specs.declared.value.Settling.TheVariants.{Take, Not}
 use Rattle.elimination.specs.Steps.{settled_by}
 use Rattle.elimination.specs.Admission.{admission_tests, Admitted}
 use Rattle.elimination.specs.declared.settling.Put.{Put}
@@ -64,7 +64,7 @@ module _ {b : Bytes} {x : ℕ} {s : Layout} {i : ℕ} {ends : List ℕ} (a : Adm
   same = sheet-formula_in a.sheet
 
   -- what is read at the row is what is asked of x
-  value_here : (v : Settling) → value_of v ≡ settling_in s b i → may_settle x (formula F b) ≡ value_of v
+  value_here : (v : Option Bool) → value_of v ≡ settling_in s b i → may_settle x (formula F b) ≡ value_of v
   unfolding may_settle formula_in
   value_here v h =
       let p = prefix_in s b in
@@ -79,18 +79,18 @@ module _ {b : Bytes} {x : ℕ} {s : Layout} {i : ℕ} {ends : List ℕ} (a : Adm
   raw-length : sheet_length F (variables F b - 1) (nodes F b) ≡ sheet_length F (s.variables - 1) s.nodes
   raw-length = ap (λ (t : Layout). sheet_length F (t.variables - 1) t.nodes) (sym a.sheet.layout_is)
 
-  module _ (v : Settling) (h : value_of v ≡ settling_in s b i) where
+  module _ (v : Option Bool) (h : value_of v ≡ settling_in s b i) where
     -- 12 may not be settled
-    pub not_settled : v ≡ Not → refused 12 0 ≡ answer (settle_tests F b x room) x
+    pub not_settled : v ≡ None → refused 12 0 ≡ answer (settle_tests F b x room) x
     unfolding answer is_some
     not_settled e = rw (answered, value_here v h, e)
 
     -- 13 output shorter than the raw sheet
-    pub no_room : {c : Bool} → v ≡ Take c → room < sheet_length F (s.variables - 1) s.nodes → refused 13 0 ≡ answer (settle_tests F b x room) x
+    pub no_room : {c : Bool} → v ≡ Some c → room < sheet_length F (s.variables - 1) s.nodes → refused 13 0 ≡ answer (settle_tests F b x room) x
     unfolding answer is_some
     no_room e l = rw (answered, value_here v h, e, raw-length, lt-ltb room (sheet_length F (s.variables - 1) s.nodes) l)
 
-    pub planned : (c : Bool) → v ≡ Take c → sheet_length F (s.variables - 1) s.nodes ≤ room
+    pub planned : (c : Bool) → v ≡ Some c → sheet_length F (s.variables - 1) s.nodes ≤ room
         → SettlePlanned b x room s (record { row = i; variable = x; value = c })
     unfolding passes is_some
     planned c e l =
@@ -119,7 +119,7 @@ module _ {b : Bytes} {x : ℕ} {s : Layout} {p : Put} (out : Bytes) (d : SettleP
   same_new : settled_by p (formula_in s b) ≡ new
   unfolding new
   same_new =
-      rw (d.variable_is, d.same_formula) (ap (λ (o : Option Bool). settled x (get_or o false) (formula G b)) (sym d.value_is))
+      rw (d.variable_is, d.same_formula) (ap (λ (o : maybe.Option Bool). settled x (get_or o false) (formula G b)) (sym d.value_is))
 
   pub settled_call : {t : Layout} {len : ℕ} {new-out : Bytes} → t ≡ layout_for s.format (settled_by p (formula_in s b))
       → len ≡ sheet_length G t.variables t.nodes

@@ -3,7 +3,7 @@
 use mathlib.Core.Path.{◌≡◌, sym, ap, ap₂, ◌∙◌, subst}
 use mathlib.Core.Bool.{cond}
 use mathlib.Core.List.{[], ◌∷◌, ◌++◌}
-use Prim.Native.Nat.{ℕ, suc, ◌+◌, ◌*◌, ◌-◌, ◌≤◌, ◌<◌, min}
+use Prim.Native.Nat.{ℕ, suc, ◌+◌, ◌-◌, ◌≤◌, ◌<◌, min}
 use native.Mathlib.Nat.{mul-le-mul_left}
 use native.Mathlib.Omega.{arith}
 use lib.Dec.{ltb}
@@ -16,7 +16,7 @@ use Rattle.formula.proofs.Tidy.Growth.{rows-tidy}
 use Rattle.formula.proofs.Steps.{proper_tidied}
 use Rattle.sheet.specs.Format as sheet
 use Rattle.sheet.specs.Format.{Bytes, sheet_length, fits}
-use Rattle.sheet.specs.Sheet.{formula, formula_rows, sheet}
+use Rattle.sheet.specs.Sheet.{formula, sheet}
 use Rattle.sheet.specs.Check.{Answer, refused, accepted, test, answer, check_tests, check}
 use Rattle.sheet.specs.Operations.{padded, tidy_tests, Solved, is_refused, Solving, solving, solve_call}
 use Rattle.sheet.specs.Limits.{Within}
@@ -25,8 +25,8 @@ use Rattle.sheet.proofs.Tests.{answer-++, refused_first}
 use Rattle.sheet.proofs.Accepted.{accepted_within}
 use Rattle.sheet.proofs.RoundTrip.{length-sheet, length-formula_rows}
 use Rattle.rows.specs.Formats.{format_of}
-use Rattle.rows.specs.Layouts.{format_in, total, size, rows_in}
-use Rattle.rows.specs.Formulas.{prefix_in, formula_in, layout_for}
+use Rattle.rows.specs.Layouts.{format_in, total}
+use Rattle.rows.specs.Formulas.{formula_in, layout_for}
 use Rattle.rows.specs.declared.Format.{Format}
 use Rattle.rows.specs.declared.Layout.{Layout}
 use Rattle.rows.proofs.Layouts.{length-rows_in}
@@ -34,7 +34,6 @@ use Rattle.rows.proofs.Formulas.{prefix_length}
 use Rattle.rows.proofs.Limits.{limits}
 use Rattle.checking.specs.Sheets.{Sheet}
 use Rattle.checking.proofs.CheckedSheets.{sheet_right}
-use Rattle.tidying.specs.Limits.{Raw}
 use Rattle.tidying.proofs.Raw.{copied-raw, length-copied, copied_formula}
 use Rattle.solve.specs.declared.State.{State}
 use Rattle.solve.specs.Inner.Running.{Held, RawReady, run_from, answered, shown, run_call, solution, raw_call}

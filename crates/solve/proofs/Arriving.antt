@@ -4,7 +4,7 @@ use mathlib.Core.Path.{◌≡◌, sym, ap, ap₂, ◌∙◌, subst}
 use mathlib.Core.Bool.{Bool, true, false, ◌&&◌, cond}
 use mathlib.Core.List.{List, ◌++◌}
 use mathlib.Core.Option.{none, some}
-use Prim.Native.Nat.{ℕ, suc, ◌+◌, ◌*◌, ◌-◌, ◌≤◌, ◌<◌, ◌^◌}
+use Prim.Native.Nat.{ℕ, suc, ◌+◌, ◌-◌, ◌≤◌, ◌<◌, ◌^◌}
 use native.Mathlib.Nat.{mul-le-mul_left}
 use native.Mathlib.Numerals.{add-one}
 use native.Mathlib.Omega.{arith}
@@ -12,11 +12,12 @@ use lib.ListN.{length, take, drop, replicate, length-append}
 use lib.Seq.{drop-append_seam}
 use lib.Dec.{leb}
 use borrow.Author.Tests.{leb-true, le-leb}
-use Rattle.formula.specs.Tree.{Formula, of, rows, without}
+use Rattle.std.specs.Prelude.{Option, Some, None}
+use Rattle.formula.specs.Tree.{Formula, of, rows}
 use Rattle.formula.specs.Tidy.{is_tidy, verdict}
 use Rattle.formula.specs.Settle.{settled}
 use Rattle.formula.specs.Expand.{raw_rows, expanded, raw}
-use Rattle.formula.specs.Solve.{halt, next, ended, stopped, lowest, fits_raw, step}
+use Rattle.formula.specs.Solve.{halt, next, ended, stopped, fits_raw, step}
 use Rattle.formula.proofs.Booleans.{and_parts}
 use Rattle.formula.proofs.Closed.{length_without}
 use Rattle.formula.proofs.Choice.{lowest-chosen, cheapest-chosen}
@@ -35,8 +36,7 @@ use Rattle.rows.specs.declared.Format.{Format}
 use Rattle.rows.specs.declared.Layout.{Layout}
 use Rattle.rows.proofs.Limits.{limits}
 use Rattle.relevance.specs.Raw.{grown_by, copied}
-use Rattle.relevance.specs.declared.variable.Presence.{Presence}
-use Rattle.relevance.specs.declared.variable.Presence.TheVariants.{Absent, Present}
+use Rattle.subtrees.specs.declared.relevant.Relevant.{Relevant}
 use Rattle.relevance.proofs.Growth.{raw_rows_by}
 use Rattle.choice.specs.Settling.{Unsettled}
 use Rattle.choice.specs.Expanding.{ToExpand}
@@ -97,9 +97,9 @@ taken s t first a rest in_second at old room in_first goes less same second =
     (goes arrival.0, arrival.1, less, same, ap (λ (u : Layout). u.format) at)
 
 -- a raw sheet has at most twice the rows and two
-grown_small : (n : ℕ) (p : Presence) → copied p ≤ n → grown_by n p ≤ n + n + 2
-grown_small n Absent h = omega arith
-grown_small n (Present p) h = by p.all
+grown_small : (n : ℕ) (p : Option Relevant) → copied p ≤ n → grown_by n p ≤ n + n + 2
+grown_small n None h = omega arith
+grown_small n (Some p) h = by p.all
   where
     by : (c : Bool) → n + (p.rows + cond c 1 2) ≤ n + n + 2
     by true = omega arith

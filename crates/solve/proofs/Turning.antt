@@ -4,7 +4,7 @@ use mathlib.Core.Path.{◌≡◌, refl, sym, ap, ap₂, ◌∙◌}
 use Prim.Native.Nat.{ℕ, suc, ◌^◌, ◌<◌}
 use native.Mathlib.Omega.{arith}
 use lib.ListN.{length}
-use Rattle.formula.specs.Solve.{State as Reached, End, ended, stopped, halt, next, Run, Fits, step, go_on, run}
+use Rattle.formula.specs.Solve.{State as Reached, End, ended, stopped, halt, next, Fits, step, go_on, run}
 use Rattle.sheet.specs.Format.{Bytes, fits}
 use Rattle.sheet.specs.Sheet.{sheet}
 use Rattle.sheet.specs.Operations.{padded, solved}

@@ -8,14 +8,13 @@ ghost use Rattle.sheet.specs.Truthful.{truth_of, TruthfulSolve};
 ghost use Rattle.rows.specs.Formats.{format_of};
 ghost use Rattle.rows.specs.Layouts.{format_in};
 ghost use Rattle.checking.specs.Sheets.{Sheet};
-ghost use Rattle.solve.specs.Answers.{solved_answer, leaves};
+ghost use Rattle.solve.specs.Answers.{solved_answer, leaves, run_leaves};
 ghost use Rattle.solve.specs.Inner.Running.{RunReady, RawReady, Goes, run_call, raw_call};
 
 use crate::step::{Step, take_step};
-use checking::Checked;
 use rows::bytes::{clear, copy_front};
 use rows::fit::shorter;
-use rows::refusals::NO_ROOM;
+use rows::refusals::Refusal;
 use rows::{Format, Layout, ROWS};
 use tidying::tidy_in_place;
 
@@ -23,16 +22,15 @@ pub mod line;
 pub mod step;
 pub mod verdicts;
 
-#[derive(Clone, Copy)]
+#[derive(Clone, Copy, PartialEq, Eq, Debug)]
 pub enum Verdict {
     True,
     False,
 }
 
-// Refused with number and place; stopped at a variable, or ended with a verdict, both with the number settled and the number expanded.
-#[derive(Clone, Copy)]
+// Stopped at a variable, or ended with a verdict, both with the number settled and the number expanded.
+#[derive(Clone, Copy, PartialEq, Eq, Debug)]
 pub enum Solved {
-    Refused(usize, usize),
     Stopped(usize, usize, usize),
     Ended(Verdict, usize, usize),
 }
@@ -53,8 +51,7 @@ fn go(first: &mut [u8], second: &mut [u8], room: usize, start: State) -> Solved
     let mut s = start;
     let mut ends = [0u16; ROWS];
     loop {
-        let t = take_step(first, second, room, s, &mut ends);
-        match t {
+        match take_step(first, second, room, s, &mut ends) {
             Step::Ended(verdict) => return Solved::Ended(verdict, s.settled, s.expanded),
             Step::Stopped(x) => return Solved::Stopped(x, s.settled, s.expanded),
             Step::Next(next) => s = next,
@@ -66,7 +63,7 @@ fn go(first: &mut [u8], second: &mut [u8], room: usize, start: State) -> Solved
 // first then holds the sheet reached and zeros, the second only zeros.
 pub fn run(first: &mut [u8], second: &mut [u8], room: usize, start: State) -> Solved
     requires { RunReady room start first.old second.old }
-    ensures { leaves result first.new second.new ≡ run_call room start first.old second.old }
+    ensures { run_leaves result first.new second.new ≡ run_call room start first.old second.old }
 {
     let answer = go(first, second, room, start);
     clear(second, 0);
@@ -76,12 +73,11 @@ pub fn run(first: &mut [u8], second: &mut [u8], room: usize, start: State) -> So
 // Tidies the formula whose rows are in the first buffer, and runs from there, with the shorter buffer's length as room.
 pub fn run_raw(first: &mut [u8], second: &mut [u8], s: Layout) -> Solved
     requires { RawReady s first.old second.old }
-    ensures { leaves result first.new second.new ≡ raw_call s first.old second.old }
+    ensures { run_leaves result first.new second.new ≡ raw_call s first.old second.old }
 {
     let room = shorter(first.len(), second.len());
-    let sheet = tidy_in_place(first, s);
     let start = State {
-        sheet: sheet,
+        sheet: tidy_in_place(first, s),
         settled: 0,
         expanded: 0,
     };
@@ -89,26 +85,33 @@ pub fn run_raw(first: &mut [u8], second: &mut [u8], s: Layout) -> Solved
 }
 
 // Solves a sheet that Check accepts, of this layout: 13 a work buffer shorter than the sheet.
-pub fn solve_checked(sheet: &[u8], s: Layout, first: &mut [u8], second: &mut [u8]) -> Solved
+pub fn solve_checked(
+    sheet: &[u8],
+    s: Layout,
+    first: &mut [u8],
+    second: &mut [u8],
+) -> Result<Solved, Refusal>
     requires { Sheet s.format sheet.now s }
     ensures { leaves result first.new second.new ≡ solve_call (format_in s) sheet.now first.old second.old }
 {
     if shorter(first.len(), second.len()) < sheet.len() {
-        return Solved::Refused(NO_ROOM, 0);
+        return Err(Refusal::NoRoom);
     }
     copy_front(sheet, first);
-    run_raw(first, second, s)
+    Ok(run_raw(first, second, s))
 }
 
 // Solves a sheet in two work buffers. The first then holds the sheet reached and zeros, the second only zeros; refused, both are left as
 // they were.
-pub fn solve(sheet: &[u8], f: Format, first: &mut [u8], second: &mut [u8]) -> Solved
+pub fn solve(
+    sheet: &[u8],
+    f: Format,
+    first: &mut [u8],
+    second: &mut [u8],
+) -> Result<Solved, Refusal>
     ensures second_after { leaves result first.new second.new ≡ solve_call (format_of f) sheet.now first.old second.old }
     ensures truthful_solve { TruthfulSolve (format_of f) (truth_of (format_of f) sheet.now) (leaves result first.new second.new) }
 {
-    let c = checking::check(sheet, f);
-    match c {
-        Checked::Refused(number, place) => Solved::Refused(number, place),
-        Checked::Accepted(s) => solve_checked(sheet, s, first, second),
-    }
+    let s = checking::check(sheet, f)?;
+    solve_checked(sheet, s, first, second)
 }

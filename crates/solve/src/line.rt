@@ -1,10 +1,11 @@
 // The line that the program writes for an answer of Solve.
 ghost use Rattle.std.specs.Prelude.{◌≡◌};
 ghost use Rattle.sheet.specs.Operations.{verdict_word, line_of};
-ghost use Rattle.solve.specs.Answers.{verdict_of, solved_answer};
+ghost use Rattle.solve.specs.Answers.{verdict_of, solve_answer};
 ghost use Rattle.solve.specs.Lines.{word_of, written_line};
 
 use crate::{Solved, Verdict};
+use rows::refusals::Refusal;
 
 #[derive(Clone, Copy)]
 pub enum Word {
@@ -33,26 +34,26 @@ fn word_for(verdict: Verdict) -> Word
 }
 
 // The line for an answer; a refused one has 0 0 before its number.
-pub fn line_for(answer: Solved) -> Line
-    ensures { written_line result ≡ line_of (solved_answer answer) }
+pub fn line_for(answer: Result<Solved, Refusal>) -> Line
+    ensures { written_line result ≡ line_of (solve_answer answer) }
 {
     match answer {
-        Solved::Refused(number, place) => Line {
+        Err(refusal) => Line {
             word: Word::Refused,
             settled: 0,
             expanded: 0,
-            last: number,
+            last: refusal.number(),
         },
-        Solved::Stopped(x, settled, expanded) => Line {
+        Ok(Solved::Stopped(x, settled, expanded)) => Line {
             word: Word::Stopped,
-            settled: settled,
-            expanded: expanded,
+            settled,
+            expanded,
             last: x,
         },
-        Solved::Ended(verdict, settled, expanded) => Line {
+        Ok(Solved::Ended(verdict, settled, expanded)) => Line {
             word: word_for(verdict),
-            settled: settled,
-            expanded: expanded,
+            settled,
+            expanded,
             last: 0,
         },
     }

@@ -1,15 +1,15 @@
 // One step of Solve: the lowest-numbered variable that may be settled, or else the cheapest of the innermost block expanded.
-ghost use Rattle.std.specs.Prelude.{◌≡◌, max, ◌≤◌, length, take};
+ghost use Rattle.std.specs.Prelude.{◌≡◌, ◌≤◌, length, take};
 ghost use Rattle.sheet.specs.Operations.{padded};
 ghost use Rattle.rows.specs.Tables.{ROWS};
 ghost use Rattle.subtrees.specs.Ends.{Indexed};
 ghost use Rattle.choice.specs.Settling.{Unsettled};
 ghost use Rattle.solve.specs.Inner.Running.{RunReady, Open, Settles, Fetchable, long_in, Brings, Stepped};
 
-use crate::verdicts::{Decision, decide};
+use crate::verdicts::decide;
 use crate::{State, Verdict};
 use choice::expand::choose_expand;
-use choice::settle::{SettleChoice, choose_settle};
+use choice::settle::choose_settle;
 use elimination::expanding::{draft, expand_into};
 use elimination::settling::{Put, settle_into};
 use elimination::survey::survey_draft;
@@ -37,16 +37,6 @@ fn fetch(first: &mut [u8], second: &[u8], bytes: usize)
     clear(first, bytes);
 }
 
-// The larger of two lengths.
-fn longer(a: usize, b: usize) -> usize
-    ensures { result ≡ max a b }
-{
-    if a < b {
-        return b;
-    }
-    a
-}
-
 // Copies the sheet of layout `to` from the front of the second buffer to the first. The first has a sheet of layout `from` and zeros behind
 // it, so only the bytes of that sheet are cleared.
 fn bring(first: &mut [u8], second: &[u8], from: Layout, to: Layout)
@@ -55,7 +45,7 @@ fn bring(first: &mut [u8], second: &[u8], from: Layout, to: Layout)
 {
     let f = from.format;
     let bytes = sheet_length(f, to.variables, to.nodes);
-    let part = longer(bytes, sheet_length(f, from.variables, from.nodes));
+    let part = bytes.max(sheet_length(f, from.variables, from.nodes));
     fetch(&mut first[..part], second, bytes);
 }
 
@@ -65,12 +55,11 @@ fn settle_step(first: &mut [u8], second: &mut [u8], room: usize, s: State, p: Pu
     ensures { Stepped room s first.old second.old first.new second.new result }
 {
     let t = s.sheet;
-    let f = t.format;
-    let need = sheet_length(f, t.variables - 1, t.nodes);
+    let need = sheet_length(t.format, t.variables - 1, t.nodes);
     let sheet = settle_into(first, t, p, &mut second[..need]);
     bring(first, second, t, sheet);
     Step::Next(State {
-        sheet: sheet,
+        sheet,
         settled: s.settled + 1,
         expanded: s.expanded,
     })
@@ -97,7 +86,7 @@ fn expand_step(first: &mut [u8], second: &mut [u8], room: usize, s: State, ends:
     let sheet = expand_into(first, t, c.variable, &cuts, w, &mut second[..need]);
     bring(first, second, t, sheet);
     Step::Next(State {
-        sheet: sheet,
+        sheet,
         settled: s.settled,
         expanded: s.expanded + 1,
     })
@@ -109,22 +98,16 @@ fn open_step(first: &mut [u8], second: &mut [u8], room: usize, s: State, ends: &
     ensures { Stepped room s first.old second.old first.new second.new result }
 {
     let t = s.sheet;
-    let f = t.format;
-    let c = choose_settle(first, t, most_variables(f));
-    match c {
-        SettleChoice::Settle(i, x, value) => {
-            let p = Put {
-                row: i,
-                variable: x,
-                value: value,
-            };
-            settle_step(first, second, room, s, p)
-        }
-        SettleChoice::Nothing => {
-            fill_ends(first, t, ends);
-            expand_step(first, second, room, s, ends)
-        }
+    if let Some(c) = choose_settle(first, t, most_variables(t.format)) {
+        let p = Put {
+            row: c.row,
+            variable: c.variable,
+            value: c.value,
+        };
+        return settle_step(first, second, room, s, p);
     }
+    fill_ends(first, t, ends);
+    expand_step(first, second, room, s, ends)
 }
 
 // One step from the state `s`, whose sheet is in the first buffer.
@@ -138,9 +121,8 @@ pub fn take_step(
     requires { RunReady room s first.old second.old × (ROWS ≤ length ends.old) }
     ensures { Stepped room s first.old second.old first.new second.new result }
 {
-    let d = decide(first, s.sheet);
-    match d {
-        Decision::Decided(verdict) => Step::Ended(verdict),
-        Decision::Open => open_step(first, second, room, s, ends),
+    match decide(first, s.sheet) {
+        Some(verdict) => Step::Ended(verdict),
+        None => open_step(first, second, room, s, ends),
     }
 }

@@ -8,26 +8,20 @@ use crate::Verdict;
 use rows::{AND, Layout, NEGATIVE};
 use subtrees::nodes::{argument_at, kind_at};
 
-#[derive(Clone, Copy)]
-pub enum Decision {
-    Decided(Verdict),
-    Open,
-}
-
 // The verdict, true for AND of nothing and false for OR of nothing, or that there is none yet.
-pub fn decide(b: &[u8], s: Layout) -> Decision
+pub fn decide(b: &[u8], s: Layout) -> Option<Verdict>
     requires { Readable s b.now }
     ensures { decision_of result ≡ verdict (matrix_in s b.now) }
 {
     let kind = kind_at(b, s, 0);
     if kind <= NEGATIVE {
-        return Decision::Open;
+        return None;
     }
     if argument_at(b, s, 0) != 0 {
-        return Decision::Open;
+        return None;
     }
     if kind == AND {
-        return Decision::Decided(Verdict::True);
+        return Some(Verdict::True);
     }
-    Decision::Decided(Verdict::False)
+    Some(Verdict::False)
 }

@@ -17,8 +17,10 @@ use Rattle.rows.specs.Formulas.{prefix_in, matrix_in, formula_in, Readable}
 use Rattle.rows.specs.declared.Layout.{Layout}
 use Rattle.rows.proofs.Layouts.{length-rows_in}
 use Rattle.rows.proofs.Formulas.{quantifiers, length_prefix}
-use Rattle.tree_order.specs.Rows.{no_difference}
-use Rattle.tree_order.proofs.Rows.{map_at}
+use Rattle.std.specs.declared.cmp.Ordering as std
+use Rattle.std.specs.Ordering.{nat_cmp, ordering_then, is_ne}
+use Rattle.tree_order.specs.Rows.{ordering}
+use Rattle.tree_order.proofs.Rows.{map_at, numbers_compared, then_compared, differs, no-difference}
 
 abbrev nothing : Binding
 nothing = record { quantifier = exists; variable = 0 }
@@ -55,15 +57,15 @@ module _ {s : Layout} {b : Bytes} (ok : Readable s b) {r : ℕ} (h : r < s.varia
       kind-of-row (binding (get_or (rows_in s b) r (row 0 0)))
 
 pub binding_compared : {s t : Layout} {a b : Bytes} → Readable s a → Readable t b → {r : ℕ} → r < s.variables → r < t.variables
-    → {k l m n : ℕ} {x y w : Ordering} → k ≡ (get_or (rows_in s a) r (row 0 0)).kind → l ≡ (get_or (rows_in t b) r (row 0 0)).kind
+    → {k l m n : ℕ} {x y w : std.Ordering} → k ≡ (get_or (rows_in s a) r (row 0 0)).kind → l ≡ (get_or (rows_in t b) r (row 0 0)).kind
     → m ≡ (get_or (rows_in s a) r (row 0 0)).argument → n ≡ (get_or (rows_in t b) r (row 0 0)).argument
-    → x ≡ compare_numbers k l → y ≡ compare_numbers m n → w ≡ (x then y)
-    → w ≡ compare_bindings (binding (get_or (rows_in s a) r (row 0 0))) (binding (get_or (rows_in t b) r (row 0 0)))
+    → x ≡ nat_cmp k l → y ≡ nat_cmp m n → w ≡ ordering_then x y
+    → ordering w ≡ compare_bindings (binding (get_or (rows_in s a) r (row 0 0))) (binding (get_or (rows_in t b) r (row 0 0)))
 unfolding compare_bindings
-binding_compared f g {r} h i k l m n x y w =
-    w ∙
-    ap₂ ◌then◌ (x ∙ ap₂ compare_numbers (k ∙ kind-at_row f h) (l ∙ kind-at_row g i))
-    (y ∙ ap₂ compare_numbers (m ∙ sym (variable_of _)) (n ∙ sym (variable_of _)))
+binding_compared f g {r} h i {x = x} {y = y} k l m n ex ey w =
+    ap ordering w ∙ then_compared x y ∙
+    ap₂ ◌then◌ (ap ordering ex ∙ numbers_compared _ _ ∙ ap₂ compare_numbers (k ∙ kind-at_row f h) (l ∙ kind-at_row g i))
+    (ap ordering ey ∙ numbers_compared _ _ ∙ ap₂ compare_numbers (m ∙ sym (variable_of _)) (n ∙ sym (variable_of _)))
 
 -- the rows compared up to r
 pub record Passed (p q : Prefix) (r : ℕ) : Type 0 where
@@ -95,31 +97,22 @@ module _ {s t : Layout} {a b : Bytes} (f : Readable s a) (g : Readable t b) (e :
         ap₂ (λ y z. compare_bindings y z then compare_bound (drop (suc r) (prefix_in s a)) (drop (suc r) (prefix_in t b))) (bound_at f h)
         (bound_at g (omega arith))
 
-    pub passed_differ : {o : Ordering} → o ≡ compare_bindings (binding (get_or (rows_in s a) r (row 0 0))) (binding (get_or (rows_in t b) r (row 0 0)))
-        → no_difference o ≡ false → o ≡ compare_bound (prefix_in s a) (prefix_in t b)
-    passed_differ {o} is d =
-        by o _ d ∙ ap (λ (x : Ordering). x then compare_bound (drop (suc r) (prefix_in s a)) (drop (suc r) (prefix_in t b))) is ∙ sym step
-      where
-        by : (x y : Ordering) → no_difference x ≡ false → x ≡ (x then y)
-        by before y q = refl
-        by same y q = cc
-        by after y q = refl
+    pub passed_differ : (o : std.Ordering)
+        → ordering o ≡ compare_bindings (binding (get_or (rows_in s a) r (row 0 0))) (binding (get_or (rows_in t b) r (row 0 0)))
+        → is_ne o ≡ true → ordering o ≡ compare_bound (prefix_in s a) (prefix_in t b)
+    passed_differ o is d =
+        differs o _ d ∙ ap (λ (x : Ordering). x then compare_bound (drop (suc r) (prefix_in s a)) (drop (suc r) (prefix_in t b))) is ∙ sym step
 
-    pub passed_on : {o : Ordering} {i : ℕ} → i ≡ suc r
-        → o ≡ compare_bindings (binding (get_or (rows_in s a) r (row 0 0))) (binding (get_or (rows_in t b) r (row 0 0)))
-        → no_difference o ≡ true → Passed (prefix_in s a) (prefix_in t b) i
-    passed_on {o} {i} n is d =
+    pub passed_on : (o : std.Ordering) {i : ℕ} → i ≡ suc r
+        → ordering o ≡ compare_bindings (binding (get_or (rows_in s a) r (row 0 0))) (binding (get_or (rows_in t b) r (row 0 0)))
+        → is_ne o ≡ false → Passed (prefix_in s a) (prefix_in t b) i
+    passed_on o {i} n is d =
         record {
           same_rows =
               step ∙
-              ap (λ (x : Ordering). x then compare_bound (drop (suc r) (prefix_in s a)) (drop (suc r) (prefix_in t b))) (sym is ∙ by o d) ∙
+              ap (λ (x : Ordering). x then compare_bound (drop (suc r) (prefix_in s a)) (drop (suc r) (prefix_in t b))) (sym is ∙ no-difference o d) ∙
               ap (λ j. compare_bound (drop j (prefix_in s a)) (drop j (prefix_in t b))) (sym n);
         }
-      where
-        by : (x : Ordering) → no_difference x ≡ true → x ≡ same
-        by before q = cc
-        by same q = refl
-        by after q = cc
 
 -- whole prefixes, and whole sheets
 
@@ -127,11 +120,12 @@ module _ {s t : Layout} {a b : Bytes} (f : Readable s a) (g : Readable t b) wher
   numbers_are : compare_numbers s.variables t.variables ≡ compare_numbers (length (prefix_in s a)) (length (prefix_in t b))
   numbers_are = ap₂ compare_numbers (sym (length_prefix a f)) (sym (length_prefix b g))
 
-  pub by_number : {o : Ordering} → (s.variables ≡ t.variables → ⊥) → o ≡ compare_numbers s.variables t.variables
-      → o ≡ compare_prefixes (prefix_in s a) (prefix_in t b)
+  pub by_number : {o : std.Ordering} → (s.variables ≡ t.variables → ⊥) → o ≡ nat_cmp s.variables t.variables
+      → ordering o ≡ compare_prefixes (prefix_in s a) (prefix_in t b)
   unfolding compare_prefixes
   by_number {o} d e =
-      e ∙ decided (compare_numbers s.variables t.variables) _ (λ q. d (numbers-equal s.variables t.variables q)) ∙
+      ap ordering e ∙ numbers_compared s.variables t.variables ∙
+      decided (compare_numbers s.variables t.variables) _ (λ q. d (numbers-equal s.variables t.variables q)) ∙
       ap (λ (x : Ordering). x then compare_bound (prefix_in s a) (prefix_in t b)) numbers_are
     where
       decided : (x y : Ordering) → (x ≡ same → ⊥) → x ≡ (x then y)
@@ -147,24 +141,14 @@ module _ {s t : Layout} {a b : Bytes} (f : Readable s a) (g : Readable t b) wher
       ap (λ (x : Ordering). x then compare_bound (prefix_in s a) (prefix_in t b))
       (sym (sym numbers_are ∙ ap (λ n. compare_numbers n t.variables) e ∙ numbers_same t.variables))
 
-pub prefixes_decide : (s t : Layout) (a b : Bytes) {o : Ordering} → o ≡ compare_prefixes (prefix_in s a) (prefix_in t b)
-    → no_difference o ≡ false → o ≡ compare_formulas (formula_in s a) (formula_in t b)
+pub prefixes_decide : (s t : Layout) (a b : Bytes) (o : std.Ordering) → ordering o ≡ compare_prefixes (prefix_in s a) (prefix_in t b)
+    → is_ne o ≡ true → ordering o ≡ compare_formulas (formula_in s a) (formula_in t b)
 unfolding compare_formulas formula_in
-prefixes_decide s t a b {o} e d = by o _ d ∙ ap (λ (x : Ordering). x then compare_trees (sort (matrix_in s a)) (sort (matrix_in t b))) e
-  where
-    by : (x y : Ordering) → no_difference x ≡ false → x ≡ (x then y)
-    by before y q = refl
-    by same y q = cc
-    by after y q = refl
+prefixes_decide s t a b o e d = differs o _ d ∙ ap (λ (x : Ordering). x then compare_trees (sort (matrix_in s a)) (sort (matrix_in t b))) e
 
-pub trees-decide : (s t : Layout) (a b : Bytes) {o x : Ordering} → o ≡ compare_prefixes (prefix_in s a) (prefix_in t b)
-    → no_difference o ≡ true → x ≡ compare_trees (sort (matrix_in s a)) (sort (matrix_in t b))
+pub trees-decide : (s t : Layout) (a b : Bytes) (o : std.Ordering) {x : Ordering} → ordering o ≡ compare_prefixes (prefix_in s a) (prefix_in t b)
+    → is_ne o ≡ false → x ≡ compare_trees (sort (matrix_in s a)) (sort (matrix_in t b))
     → x ≡ compare_formulas (formula_in s a) (formula_in t b)
 unfolding compare_formulas formula_in
-trees-decide s t a b {o} e d is =
-    is ∙ ap (λ (x : Ordering). x then compare_trees (sort (matrix_in s a)) (sort (matrix_in t b))) (sym (sym e ∙ by o d))
-  where
-    by : (x : Ordering) → no_difference x ≡ true → x ≡ same
-    by before q = cc
-    by same q = refl
-    by after q = cc
+trees-decide s t a b o e d is =
+    is ∙ ap (λ (x : Ordering). x then compare_trees (sort (matrix_in s a)) (sort (matrix_in t b))) (sym (sym e ∙ no-difference o d))

@@ -12,10 +12,10 @@ ghost use Rattle.checking.specs.Answers.{wrote};
 ghost use Rattle.checking.specs.Sheets.{Sheet};
 ghost use Rattle.tree_order.specs.Tables.{picked_rows, Numbers};
 
-use checking::{Checked, Written, check};
+use checking::check;
 use rows::bytes::copy_front;
 use rows::read::{argument_at, kind_at};
-use rows::refusals::NO_ROOM;
+use rows::refusals::Refusal;
 use rows::write::{seal, set_row};
 use rows::{Format, Layout, ROWS};
 use tree_order::table::sort_rows;
@@ -25,13 +25,15 @@ fn write_nodes(source: &[u8], s: Layout, at: &[u16], out: &mut [u8])
     requires { Readable s source.now × Numbers s at.now × (length at.now ≡ s.nodes) × Room s (length out.old) }
     ensures { rows_in s out.new ≡ take s.variables (rows_in s out.old) ++ picked_rows s source.now at.now }
 {
-    let mut r: usize = 0;
-    while r < at.len() {
-        let i = at[r] as usize;
-        let kind = kind_at(source, s, s.variables + i);
-        let argument = argument_at(source, s, s.variables + i);
-        set_row(out, s, s.variables + r, kind, argument);
-        r += 1;
+    for (r, node) in at.iter().enumerate() {
+        let from = s.variables + usize::from(*node);
+        set_row(
+            out,
+            s,
+            s.variables + r,
+            kind_at(source, s, from),
+            argument_at(source, s, from),
+        );
     }
 }
 
@@ -58,26 +60,22 @@ pub fn sort_into(source: &[u8], s: Layout, out: &mut [u8]) -> usize
 }
 
 // Sorts a sheet that Check accepts, of this layout: 13 output shorter than the sheet.
-fn sort_checked(sheet: &[u8], s: Layout, out: &mut [u8]) -> Written
+fn sort_checked(sheet: &[u8], s: Layout, out: &mut [u8]) -> Result<usize, Refusal>
     requires { Sheet s.format sheet.now s }
     ensures { wrote result out.new ≡ sort_call (format_in s) sheet.now out.old }
 {
     if out.len() < sheet.len() {
-        return Written::Refused(NO_ROOM, 0);
+        return Err(Refusal::NoRoom);
     }
-    let length = sort_into(sheet, s, out);
-    Written::Accepted(length)
+    Ok(sort_into(sheet, s, out))
 }
 
 // Writes the sheet with all children in order to the front of `out`, with zeros behind it, and returns its length; or refuses the sheet
 // or the output, and alters nothing.
-pub fn sort(sheet: &[u8], f: Format, out: &mut [u8]) -> Written
+pub fn sort(sheet: &[u8], f: Format, out: &mut [u8]) -> Result<usize, Refusal>
     ensures out_after { wrote result out.new ≡ sort_call (format_of f) sheet.now out.old }
     ensures truthful_sheet { TruthfulSheet (format_of f) (truth_of (format_of f) sheet.now) (wrote result out.new) }
 {
-    let c = check(sheet, f);
-    match c {
-        Checked::Accepted(s) => sort_checked(sheet, s, out),
-        Checked::Refused(number, place) => Written::Refused(number, place),
-    }
+    let s = check(sheet, f)?;
+    sort_checked(sheet, s, out)
 }

@@ -1,11 +1,11 @@
 -- The rows behind those of the values, made a sheet, and what Split answers and leaves.
 -- Assumes nothing.
-use mathlib.Core.Path.{◌≡◌, refl, sym, ap, ap₂, ◌∙◌}
+use mathlib.Core.Path.{◌≡◌, sym, ap, ap₂, ◌∙◌}
 use mathlib.Core.Bool.{Bool, true, false, not}
-use mathlib.Core.List.{List, [], ◌∷◌, ◌++◌}
-use Prim.Native.Nat.{ℕ, zero, suc, ◌+◌, ◌*◌, ◌-◌, ◌≤◌, ◌<◌}
+use mathlib.Core.List.{List, [], ◌∷◌}
+use Prim.Native.Nat.{ℕ, ◌+◌, ◌*◌, ◌-◌, ◌≤◌, ◌<◌}
 use native.Mathlib.Omega.{arith}
-use lib.ListN.{length, get_or, take, length-map}
+use lib.ListN.{length, length-map}
 use borrow.Author.Tests.{not-true, not-false}
 use Rattle.formula.specs.Tree.{Formula, rows}
 use Rattle.formula.proofs.Force.{rows-given}
@@ -20,7 +20,7 @@ use Rattle.sheet.proofs.Tests.{refused_first}
 use Rattle.sheet.proofs.Writing.{written, write_refused, write_accepted}
 use Rattle.sheet.proofs.Accepted.{accepted_nodes}
 use Rattle.sheet.proofs.Join.{split_21, split-22, split-13, split-none}
-use Rattle.rows.specs.Layouts.{format_in, width, total, size, rows_in, Room, sealed}
+use Rattle.rows.specs.Layouts.{format_in, width, total, rows_in, Room, sealed}
 use Rattle.rows.specs.Formulas.{prefix_in, formula_in}
 use Rattle.rows.specs.declared.Layout.{Layout}
 use Rattle.rows.proofs.Sealed.{sealed-length, sealed-sheet}
@@ -34,24 +34,11 @@ use Rattle.split.specs.Inner.{Splittable}
 
 -- the table
 
-last-value : (vs : Bytes) (n : ℕ) → n ≡ length vs - 1 → 1 ≤ length vs
-    → values_of (take n vs) ++ (value_of (get_or vs n 0) ∷ []) ≡ values_of vs
-last-value [] n e h = absurd (omega arith)
-last-value (v ∷ []) zero e h = refl
-last-value (v ∷ []) (suc n) e h = absurd (omega arith)
-last-value (v ∷ w ∷ vs) zero e h = absurd (omega arith)
-last-value (v ∷ w ∷ vs) (suc n) e h =
-    ap (λ (bs : List Bool). value_of v ∷ bs) (last-value (w ∷ vs) n (omega arith) (omega arith))
-
 pub filled_none : (s : Layout) (b vs : Bytes) → length vs ≡ 0 → {t : List ℕ} {n : ℕ} → t ≡ numbers n → n ≡ 1025
     → t ≡ moves (values_of vs) (prefix_in s b)
 unfolding put_all
 filled_none s b [] e is l = is ∙ ap numbers l
 filled_none s b (v ∷ vs) e is l = absurd (omega arith)
-
-pub filled_some : (s : Layout) (b vs : Bytes) (n : ℕ) → n ≡ length vs - 1 → 1 ≤ length vs → {t : List ℕ}
-    → t ≡ moves (values_of (take n vs) ++ (value_of (get_or vs n 0) ∷ [])) (prefix_in s b) → t ≡ moves (values_of vs) (prefix_in s b)
-filled_some s b vs n e h is = is ∙ ap (λ (bs : List Bool). moves bs (prefix_in s b)) (last-value vs n e h)
 
 -- the sheet
 

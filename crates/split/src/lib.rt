@@ -16,11 +16,10 @@ ghost use Rattle.checking.specs.Sheets.{Sheet};
 ghost use Rattle.force.specs.Inner.Moves.{Numbered, moves};
 ghost use Rattle.split.specs.Inner.{Splittable};
 
-use checking::{Checked, Written};
 use force::are_values;
 use force::moves::{fill_moves, write_behind};
 use rows::fit::sheet_length;
-use rows::refusals::{BAD_VALUE, NO_ROOM, TOO_MANY_VALUES};
+use rows::refusals::Refusal;
 use rows::write::seal;
 use rows::{Format, Layout, NUMBERS};
 use substitution::table::keep_all;
@@ -30,12 +29,10 @@ fn fill_values(b: &[u8], s: Layout, values: &[u8], table: &mut [u16])
     requires { Readable s b.now × Numbered s b.now × (length values.now ≤ s.variables) × (length table.old ≡ NUMBERS) }
     ensures { table.new ≡ moves (values_of values.now) (prefix_in s b.now) }
 {
-    if values.len() == 0 {
-        keep_all(table);
-        return;
+    match values.split_last() {
+        None => keep_all(table),
+        Some((last, front)) => fill_moves(b, s, front, *last == 1, table),
     }
-    let last = values.len() - 1;
-    fill_moves(b, s, &values[..last], values[last] == 1, table);
 }
 
 // Writes the sheet under the values to the front of `out`, with zeros behind it, and returns its length.
@@ -51,32 +48,28 @@ fn split_into(b: &[u8], s: Layout, values: &[u8], out: &mut [u8]) -> usize
 }
 
 // Splits a sheet that Check accepts, of this layout: 21 a value isn't 0 or 1, 22 more values than V, 13 no room for the sheet.
-fn split_checked(b: &[u8], s: Layout, values: &[u8], out: &mut [u8]) -> Written
+fn split_checked(b: &[u8], s: Layout, values: &[u8], out: &mut [u8]) -> Result<usize, Refusal>
     requires { Sheet s.format b.now s }
     ensures { wrote result out.new ≡ split_call (format_in s) b.now values.now out.old }
 {
     if !are_values(values) {
-        return Written::Refused(BAD_VALUE, 0);
+        return Err(Refusal::BadValue);
     }
     if s.variables < values.len() {
-        return Written::Refused(TOO_MANY_VALUES, 0);
+        return Err(Refusal::TooManyValues);
     }
-    let f = s.format;
-    if out.len() < sheet_length(f, s.variables - values.len(), s.nodes) {
-        return Written::Refused(NO_ROOM, 0);
+    if out.len() < sheet_length(s.format, s.variables - values.len(), s.nodes) {
+        return Err(Refusal::NoRoom);
     }
-    Written::Accepted(split_into(b, s, values, out))
+    Ok(split_into(b, s, values, out))
 }
 
 // Writes the sheet for values of the first variables (a byte each, 0 or 1) to the front of `out`, with zeros behind it, and returns its
 // length; or the call is refused with number and place, and `out` is left as it was.
-pub fn split(sheet: &[u8], f: Format, values: &[u8], out: &mut [u8]) -> Written
+pub fn split(sheet: &[u8], f: Format, values: &[u8], out: &mut [u8]) -> Result<usize, Refusal>
     ensures out_after { wrote result out.new ≡ split_call (format_of f) sheet.now values.now out.old }
     ensures truthful_split { TruthfulSplit (format_of f) sheet.now values.now (wrote result out.new) }
 {
-    let c = checking::check(sheet, f);
-    match c {
-        Checked::Refused(number, place) => Written::Refused(number, place),
-        Checked::Accepted(s) => split_checked(sheet, s, values, out),
-    }
+    let s = checking::check(sheet, f)?;
+    split_checked(sheet, s, values, out)
 }

@@ -17,7 +17,7 @@ use Rattle.step_list.specs.declared.Step as struct
 use Rattle.step_list.specs.declared.numbers.Part.{Part}
 use Rattle.step_list.specs.Inner.Turns.{room}
 use Rattle.step_list.specs.Inner.Parts.{none, Loaded, Parted, Stored}
-use Rattle.step_list.proofs.Turning.{Going, Untouched, going_first}
+use Rattle.step_list.proofs.Turning.{Going, going_first}
 use Rattle.step_list.proofs.Parts.{reached_on, filled_on}
 
 -- what is read behind the end
@@ -113,7 +113,6 @@ pub record Filled (F : Format) (operations variables numbers values first second
       ≡ paste numbers 0 (map step_number (filled F (room first second) (numbered operations variables numbers values) (given (take held first)))) i
   pub values_are : values'
       ≡ paste values 0 (map step_value (filled F (room first second) (numbered operations variables numbers values) (given (take held first)))) i
-  pub untouched : Untouched i first second first' second'
   pub same_numbers : length numbers' ≡ length numbers
   pub same_values : length values' ≡ length values
   pub same_first : length first' ≡ length first
@@ -135,7 +134,6 @@ module _ (F : Format) (operations variables numbers values first second : List �
         going = going_first F (room first second) all (take held first) refl l refl;
         numbers_are = paste-zero numbers 0 (map step_number done);
         values_are = paste-zero values 0 (map step_value done);
-        untouched = λ e. (refl, refl);
         same_numbers = refl;
         same_values = refl;
         same_first = refl;
@@ -221,7 +219,6 @@ module _ (F : Format) (operations variables numbers values first second : List �
               };
           numbers_are = stored_all step_number refl numbers (omega (arith, l)) g.numbers_are stored.numbers_are;
           values_are = stored_all step_value refl values (omega (arith, l)) g.values_are stored.values_are;
-          untouched = λ e. absurd (omega (arith, e, some));
           same_numbers = stored-long step_number numbers₁ (omega (arith, l, g.same_numbers)) stored.numbers_are ∙ g.same_numbers;
           same_values = stored-long step_value values₁ (omega (arith, l, g.same_values)) stored.values_are ∙ g.same_values;
           same_first = l₁ ∙ g.same_first;

@@ -3,6 +3,7 @@
 use mathlib.Core.Path.{◌≡◌, sym, ap, ap₂, ◌∙◌}
 use mathlib.Core.List.{List, ◌++◌}
 use Prim.Native.Nat.{ℕ, suc, ◌≤◌, ◌<◌, min}
+use Rattle.std.specs.Prelude.{Result, Ok, Err}
 use native.Mathlib.Omega.{arith}
 use lib.ListN.{length, get_or, take, drop, replicate, length-replicate, length-append}
 use lib.Seq.{length-take-le, take-append-le, take-append_seam}
@@ -12,8 +13,7 @@ use Rattle.sheet.specs.Operations as operations
 use Rattle.sheet.specs.Calls.{perform, perform_all, Held, held_after, held}
 use Rattle.sheet.specs.Steps.{Operation, Step as Record, single, call_of, calls, after, fill, filled, given, reached}
 use Rattle.sheet.proofs.Steps.{fill_at, reached-next, same_answer, same_held, accepted_short}
-use Rattle.checking.specs.declared.Written.{Written}
-use Rattle.checking.specs.declared.Written.TheVariants.{Accepted, Refused}
+use Rattle.rows.specs.declared.refusals.Refusal.{Refusal}
 use Rattle.checking.specs.Answers.{written_answer}
 use Rattle.step_list.specs.declared.Step.{Step}
 use Rattle.step_list.specs.declared.Turn.{Turn}
@@ -54,7 +54,7 @@ module _ (F : Format) (s : Step) (first second : Bytes) (held n : ℕ) (n-is : n
   length_out : length out ≡ length (replicate {A = ℕ} n 0)
   length_out = length-take-le n second room_second ∙ sym (length-replicate n 0)
 
-  module _ (a : Written) {out' second' : Bytes} (does : ◌≡◌ {A = operations.Written} (record { answer = written_answer a; output = out' }) call)
+  module _ (a : Result ℕ Refusal) {out' second' : Bytes} (does : ◌≡◌ {A = operations.Written} (record { answer = written_answer a; output = out' }) call)
       (kept : length out' ≡ length out) (second_is : second' ≡ (out' ++ drop n second)) where
     told : written_answer a ≡ call.answer
     told = ap (λ (w : operations.Written). w.answer) does
@@ -74,9 +74,9 @@ module _ (F : Format) (s : Step) (first second : Bytes) (held n : ℕ) (n-is : n
     pub can-keep : Kept first second' a
     can-keep = by a told
       where
-        by : (c : Written) → written_answer c ≡ call.answer → Kept first second' c
-        by (Refused k p) e = tt
-        by (Accepted m) e =
+        by : (c : Result ℕ Refusal) → written_answer c ≡ call.answer → Kept first second' c
+        by (Err r) e = tt
+        by (Ok m) e =
             let l = short m e in (
               omega (arith, room_first),
               omega (arith, ap length second_is ∙ length-append out' (drop n second), kept, length-take-le n second room_second),
@@ -95,12 +95,12 @@ module _ (F : Format) (s : Step) (first second : Bytes) (held n : ℕ) (n-is : n
           by a told k ∙ ap (λ (h : Held). h.sheet) (same_held F o x out (replicate n 0) length_out (given b)) ∙
           ap (λ (m : ℕ). (after F (call_of m (step_of s)) (given b)).sheet) n-is
         where
-          by : (c : Written) → written_answer c ≡ call.answer → Keeps held first second' first' held' c
+          by : (c : Result ℕ Refusal) → written_answer c ≡ call.answer → Keeps held first second' first' held' c
               → take held' first' ≡ (after F (single o x out) (given b)).sheet
-          by (Refused k p) e z =
+          by (Err r) e z =
               ap₂ (λ (i : ℕ) (l : Bytes). take i l) z.0 z.1 ∙
               ap (λ (w : Answer ℕ). (held_after (given b) w call.output).sheet) e
-          by (Accepted m) e z =
+          by (Ok m) e z =
               let l : m ≤ length out' = omega (arith, short m e, kept, length-take-le n second room_second) in
               ap (λ (i : ℕ). take i first') z.0 ∙ z.1 ∙ ap (take m) second_is ∙ take-append-le m out' (drop n second) l ∙ ap (take m) wrote ∙
               ap (λ (w : Answer ℕ). (held_after (given b) w call.output).sheet) e
@@ -108,9 +108,9 @@ module _ (F : Format) (s : Step) (first second : Bytes) (held n : ℕ) (n-is : n
       held_short : held ≤ room first second → held' ≤ room first second
       held_short l = by a told k
         where
-          by : (c : Written) → written_answer c ≡ call.answer → Keeps held first second' first' held' c → held' ≤ room first second
-          by (Refused k p) e z = omega (arith, z.0)
-          by (Accepted m) e z = omega (arith, z.0, short m e, n-is)
+          by : (c : Result ℕ Refusal) → written_answer c ≡ call.answer → Keeps held first second' first' held' c → held' ≤ room first second
+          by (Err r) e z = omega (arith, z.0)
+          by (Ok m) e z = omega (arith, z.0, short m e, n-is)
 
       pub took : held ≤ room first second
           → Took F s held first second first' (record { step = record { operation = s.operation; variable = x; answer = a }; held = held' })
@@ -123,10 +123,6 @@ pub record Going (F : Format) (n : ℕ) (steps : List Record) (b : Bytes) (i hel
   pub sheet_held : take held first ≡ reached F n steps b i
   pub is_short : held ≤ n
   pub same_room : room first second ≡ n
-
--- a list without a turn leaves both buffers
-abbrev pub Untouched : ℕ → Bytes → Bytes → Bytes → Bytes → Type 0
-Untouched turns first second first' second' = turns ≡ 0 → (first' ≡ first) × (second' ≡ second)
 
 module _ (F : Format) (n : ℕ) (steps : List Record) (b : Bytes) where
   pub going_first : {held : ℕ} {first second : Bytes} → take held first ≡ b → held ≤ n → room first second ≡ n

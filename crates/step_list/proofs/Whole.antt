@@ -1,26 +1,23 @@
 -- The whole list: what its beginning, its turns and its end leave is what the definition says.
 -- Assumes nothing.
 use mathlib.Core.Path.{◌≡◌, sym, ap, ap₂, ◌∙◌}
-use mathlib.Core.Logic.{◌⊎◌, inl, inr}
 use mathlib.Core.Bool.{true, cond}
 use mathlib.Core.List.{List, [], ◌∷◌, ◌++◌}
-use Prim.Native.Nat.{ℕ, ◌-◌, ◌≤◌, ◌<◌}
+use Prim.Native.Nat.{ℕ, ◌-◌, ◌≤◌, ◌<◌, min}
 use native.Mathlib.Omega.{arith}
 use lib.Dec.{ltb}
 use lib.ListN.{length, take, replicate}
 use lib.Seq.{length-take-le}
 use borrow.Author.Tests.{lt-ltb, le-ltb}
 use Rattle.sheet.specs.Format.{Bytes, Format}
-use Rattle.sheet.specs.Check.{Answer, refused, accepted, test, answer, passes, check_tests, check}
+use Rattle.sheet.specs.Check.{refused, accepted, test, answer, passes, check_tests, check}
 use Rattle.sheet.specs.Operations.{padded, tidy_tests}
 use Rattle.sheet.specs.Calls.{held}
 use Rattle.sheet.specs.Steps.{Step, calls, filled, given, reached, listed, Listed, steps_call}
 use Rattle.sheet.proofs.Tests.{passes-++, answer-++, answer-passes, refused_first, refused_alike}
 use Rattle.sheet.proofs.Steps.{reached-last}
-use Rattle.checking.specs.declared.Written.{Written}
-use Rattle.checking.specs.declared.Written.TheVariants.{Accepted, Refused}
-use Rattle.step_list.specs.Inner.Turns.{room, Begins, Finishes}
-use Rattle.step_list.proofs.Turning.{Going, Untouched}
+use Rattle.step_list.specs.Inner.Turns.{room}
+use Rattle.step_list.proofs.Turning.{Going}
 
 -- the tests of the whole
 
@@ -48,12 +45,6 @@ all_zeros d =
     let same : length d - 0 ≡ length d = omega arith in
     ap (λ m. replicate {A = ℕ} m 0) same
 
--- what a list with this answer leaves
-pub record Left (l : Listed) (a : Answer ℕ) (first second : Bytes) : Type 0 where
-  pub answers : a ≡ l.answer
-  pub in_first : first ≡ l.first
-  pub in_second : second ≡ l.second
-
 module _ (F : Format) (b : Bytes) (steps : List Step) (first second : Bytes) where
   abbrev whole : Listed
   whole = steps_call F b steps first second
@@ -64,77 +55,37 @@ module _ (F : Format) (b : Bytes) (steps : List Step) (first second : Bytes) whe
   abbrev done : List Step
   done = filled F (room first second) steps (given b)
 
-  is_refused : {k p : ℕ} → refused k p ≡ answer (tidy_tests F b (room first second)) b → whole ≡ listed steps done first second (refused k p)
-  unfolding steps_call
+  -- refused, no record and no byte changes
+  pub is_refused : {k p : ℕ} → refused k p ≡ answer (tidy_tests F b (room first second)) b
+      → whole ≡ record { answer = refused k p; steps = steps; first = first; second = second }
+  unfolding steps_call listed
   is_refused e = ap (listed steps done first second) (sym (refused_alike (tidy_tests F b (room first second)) b last e))
 
   is_accepted : passes (tidy_tests F b (room first second)) ≡ true → whole ≡ listed steps done first second (accepted last)
   unfolding steps_call
   is_accepted e = ap (listed steps done first second) (answer-passes (tidy_tests F b (room first second)) last e)
 
-  module _ (first₁ second₁ : Bytes) (turns held₁ : ℕ) (same : room first₁ second₁ ≡ room first second) where
-    -- either no turn is taken and no record changes, or all are and every record is filled
-    abbrev Records : Type 0
-    Records = ((turns ≡ 0) × (whole.steps ≡ steps)) ⊎ ((turns ≡ length steps) × (whole.steps ≡ filled F (room first₁ second₁) steps (given (take held₁ first₁))))
-
-    pub records : (a : Written) → Begins F b (length steps) first second first₁ second₁ turns held₁ a
-        → ((turns ≡ 0) × (whole.steps ≡ steps)) ⊎ ((turns ≡ length steps) × (whole.steps ≡ filled F (room first₁ second₁) steps (given (take held₁ first₁))))
-    unfolding listed
-    records a begun = by a begun
-      where
-        by : (c : Written) → Begins F b (length steps) first second first₁ second₁ turns held₁ c → Records
-        by (Refused k p) z = inl (z.1, ap (λ (l : Listed). l.steps) (is_refused z.0))
-        by (Accepted m) z =
-            inr (
-              z.1,
-              ap (λ (l : Listed). l.steps) (is_accepted z.0) ∙
-                  ap₂ (λ (k : ℕ) (c : Bytes). filled F k steps (given c)) (sym same) (sym z.3),
-            )
-
-    -- the sheet held fits, whatever the tests say
-    pub held_fits : (a : Written) → Begins F b (length steps) first second first₁ second₁ turns held₁ a → held₁ ≤ room first₁ second₁
-    held_fits a begun = by a begun
-      where
-        by : (c : Written) → Begins F b (length steps) first second first₁ second₁ turns held₁ c → held₁ ≤ room first₁ second₁
-        by (Refused k p) z = omega (arith, z.2)
-        by (Accepted m) z = omega (arith, z.2, same)
-
-    pub turns_fit : (a : Written) → Begins F b (length steps) first second first₁ second₁ turns held₁ a → turns ≤ length steps
-    turns_fit a begun = by a begun
-      where
-        by : (c : Written) → Begins F b (length steps) first second first₁ second₁ turns held₁ c → turns ≤ length steps
-        by (Refused k p) z = omega (arith, z.1)
-        by (Accepted m) z = omega (arith, z.1)
-
-    module _ {held₂ : ℕ} {first₂ second₂ : Bytes} (going : Going F (room first₁ second₁) steps (take held₁ first₁) turns held₂ first₂ second₂)
-        (untouched : Untouched turns first₁ second₁ first₂ second₂) (l₁ : length first₂ ≡ length first) (l₂ : length second₂ ≡ length second)
-        {first₃ second₃ : Bytes} {r : Answer ℕ} where
-      pub finished : (a : Written) → Begins F b (length steps) first second first₁ second₁ turns held₁ a
-          → Finishes held₂ first₂ second₂ first₃ second₃ r a → Left whole r first₃ second₃
-      unfolding listed padded
-      finished a begun end = by a begun end
-        where
-          by : (c : Written) → Begins F b (length steps) first second first₁ second₁ turns held₁ c
-              → Finishes held₂ first₂ second₂ first₃ second₃ r c → Left whole r first₃ second₃
-          by (Refused k p) z e =
-              let is = sym (is_refused z.0) in
-              let stay = untouched z.1 in
-              record {
-                answers = e.0 ∙ ap (λ (l : Listed). l.answer) is;
-                in_first = e.1 ∙ stay.0 ∙ z.3 ∙ ap (λ (l : Listed). l.first) is;
-                in_second = e.2 ∙ stay.1 ∙ z.4 ∙ ap (λ (l : Listed). l.second) is;
-              }
-          by (Accepted m) z e =
-              let is = sym (is_accepted z.0) in
-              let at_end : take held₂ first₂ ≡ last
-              = going.sheet_held ∙ ap₂ (λ (k : ℕ) (c : Bytes). reached F k steps c turns) same z.3 ∙
-              ap (reached F (room first second) steps b) z.1 ∙ reached-last F (room first second) steps b in
-              let size : held₂ ≡ length last
-              = sym (length-take-le held₂ first₂ (omega (arith, going.is_short, going.same_room))) ∙ ap length at_end in
-              record {
-                answers = e.0 ∙ ap accepted size ∙ ap (λ (l : Listed). l.answer) is;
-                in_first =
-                    e.1 ∙ ap₂ (λ (c : Bytes) (k : ℕ). c ++ replicate k 0) at_end (ap₂ (λ (p q : ℕ). p - q) l₁ size) ∙
-                    ap (λ (l : Listed). l.first) is;
-                in_second = e.2 ∙ ap (λ (k : ℕ). replicate k 0) l₂ ∙ ap (λ (l : Listed). l.second) is;
-              }
+  -- accepted: from the sheet at the front of the first buffer on, all turns are taken, and then both buffers are cleared behind the sheet held
+  module _ (pass : passes (tidy_tests F b (room first second)) ≡ true) (first₁ : Bytes) (l : length first₁ ≡ length first)
+      (front : take (length b) first₁ ≡ b) {held₂ : ℕ} {first₂ second₂ first₃ second₃ : Bytes}
+      (going : Going F (room first₁ second) steps (take (length b) first₁) (length steps) held₂ first₂ second₂)
+      (l₁ : length first₂ ≡ length first) (l₂ : length second₂ ≡ length second)
+      (e₁ : first₃ ≡ (take held₂ first₂ ++ replicate (length first₂ - held₂) 0))
+      (e₂ : second₃ ≡ (take 0 second₂ ++ replicate (length second₂ - 0) 0)) where
+    pub finished : ◌≡◌ {A = Listed} (record { answer = accepted held₂; steps = filled F (room first₁ second) steps (given (take (length b) first₁)); first = first₃; second = second₃ }) whole
+    unfolding listed padded
+    finished =
+        let same : room first₁ second ≡ room first second = ap (λ (m : ℕ). min m (length second)) l in
+        let at_end : take held₂ first₂ ≡ last
+        = going.sheet_held ∙ ap₂ (λ (k : ℕ) (c : Bytes). reached F k steps c (length steps)) same front ∙
+        reached-last F (room first second) steps b in
+        let size : held₂ ≡ length last
+        = sym (length-take-le held₂ first₂ (omega (arith, going.is_short, going.same_room))) ∙ ap length at_end in
+        let steps_are : filled F (room first₁ second) steps (given (take (length b) first₁)) ≡ done = ap₂ (λ (k : ℕ) (c : Bytes). filled F k steps (given c)) same front in
+        let in_first : first₃ ≡ padded (length first) last
+        = e₁ ∙ ap₂ (λ (c : Bytes) (k : ℕ). c ++ replicate k 0) at_end (ap₂ (λ (p q : ℕ). p - q) l₁ size) in
+        let in_second : second₃ ≡ replicate (length second) 0 = e₂ ∙ all_zeros second₂ ∙ ap (λ (k : ℕ). replicate k 0) l₂ in
+        let ends : ◌≡◌ {A = Listed} (record { answer = accepted held₂; steps = filled F (room first₁ second) steps (given (take (length b) first₁)); first = first₃; second = second₃ })
+        (listed steps done first second (accepted last))
+        = λ i. record { answer = accepted (size i); steps = steps_are i; first = in_first i; second = in_second i } in
+        ends ∙ sym (is_accepted pass)

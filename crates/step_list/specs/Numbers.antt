@@ -1,13 +1,13 @@
 -- Step records in arrays of numbers, for callers in C.
 -- Assumes nothing.
-use Rattle.std.specs.Prelude.{List, [], ◌∷◌, ◌++◌, map, ℕ, zero, suc, min, length, get_or, drop}
+use Rattle.std.specs.Prelude.{List, [], ◌∷◌, ◌++◌, map, ℕ, zero, suc, min, length, get_or, drop, Result}
 use Rattle.std.specs.Borrow.{Bor, MutBor}
 use denote.Triple.Both.{Both}
 use Rattle.sheet.specs.Check.{Answer, refused, accepted}
 use Rattle.sheet.specs.Format.{Bytes, Format}
 use Rattle.sheet.specs.Steps.{Operation, settling, expanding, Step, Listed, steps_call}
 use Rattle.checking.specs.Answers.{written_answer}
-use Rattle.checking.specs.declared.Written.{Written}
+use Rattle.rows.specs.declared.refusals.Refusal.{Refusal}
 
 -- 0 settles, any other number expands
 abbrev pub numbered_operation : ℕ → Operation
@@ -92,7 +92,7 @@ numbers_call F sheet operations variables numbers values first second =
     (numbered operations.entry.now variables.entry.now numbers.entry.now values.entry.now)
     first.entry.now second.entry.now)
 
-abbrev pub numbers_left : Written → Lent → Lent → Lent → Lent → Tabled
+abbrev pub numbers_left : Result ℕ Refusal → Lent → Lent → Lent → Lent → Tabled
 numbers_left r numbers values first second =
     record {
       answer = written_answer r;
@@ -103,7 +103,7 @@ numbers_left r numbers values first second =
     }
 
 -- the list as it is left: with the records that the arrays then say
-abbrev pub listed_left : Written → Shown → Shown → Lent → Lent → Lent → Lent → Listed
+abbrev pub listed_left : Result ℕ Refusal → Shown → Shown → Lent → Lent → Lent → Lent → Listed
 listed_left r operations variables numbers values first second =
     record {
       answer = written_answer r;

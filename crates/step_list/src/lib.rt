@@ -8,17 +8,16 @@ ghost use Rattle.sheet.specs.Steps.{single};
 ghost use Rattle.rows.specs.Formats.{format_of};
 ghost use Rattle.checking.specs.Answers.{written_answer, wrote};
 ghost use Rattle.step_list.specs.Inner.Records.{operation_of};
-ghost use Rattle.step_list.specs.Inner.Turns.{room, Begins, Kept, Keeps, Took, Follows, Finishes};
+ghost use Rattle.step_list.specs.Inner.Turns.{room, Begins, Kept, Keeps, Took, Follows};
 
-use checking::{Checked, Written};
 use rows::Format;
-use rows::bytes::{clear, copy_front};
+use rows::bytes::copy_front;
 use rows::fit::shorter;
-use rows::refusals::NO_ROOM;
+use rows::refusals::Refusal;
 
 pub mod numbers;
 
-#[derive(Clone, Copy)]
+#[derive(Clone, Copy, PartialEq, Eq, Debug)]
 pub enum Operation {
     Settle,
     Expand,
@@ -29,15 +28,7 @@ pub enum Operation {
 pub struct Step {
     pub operation: Operation,
     pub variable: usize,
-    pub answer: Written,
-}
-
-// Before the first turn: the outcome of the tests of the whole list, how many turns are taken, and the length of the sheet held.
-#[derive(Clone, Copy)]
-pub struct Begun {
-    pub answer: Written,
-    pub turns: usize,
-    pub held: usize,
+    pub answer: Result<usize, Refusal>,
 }
 
 // After a turn: the record, filled, and the length of the sheet held.
@@ -47,39 +38,26 @@ pub struct Turn {
     pub held: usize,
 }
 
-// Tests 1 to 8, then 13: a buffer shorter than the sheet. Passed, the sheet stands at the front of the first buffer, and a turn is taken
-// for each of `count` records.
-fn begin(sheet: &[u8], f: Format, count: usize, first: &mut [u8], second: &mut [u8]) -> Begun
-    ensures { Begins (format_of f) sheet.now count first.old second.old first.new second.new result.turns result.held result.answer }
+// Tests 1 to 8, then 13: a buffer shorter than the sheet. Passed, the sheet stands at the front of the first buffer.
+fn begin(sheet: &[u8], f: Format, first: &mut [u8], second: &[u8]) -> Result<(), Refusal>
+    ensures { Begins (format_of f) sheet.now first.old second.now first.new result }
 {
-    let c = checking::check(sheet, f);
-    match c {
-        Checked::Refused(number, place) => Begun {
-            answer: Written::Refused(number, place),
-            turns: 0,
-            held: 0,
-        },
-        Checked::Accepted(_) => {
-            let length = sheet.len();
-            if shorter(first.len(), second.len()) < length {
-                return Begun {
-                    answer: Written::Refused(NO_ROOM, 0),
-                    turns: 0,
-                    held: 0,
-                };
-            }
-            copy_front(sheet, first);
-            Begun {
-                answer: Written::Accepted(length),
-                turns: count,
-                held: length,
-            }
-        }
+    checking::check(sheet, f)?;
+    if shorter(first.len(), second.len()) < sheet.len() {
+        return Err(Refusal::NoRoom);
     }
+    copy_front(sheet, first);
+    Ok(())
 }
 
 // Makes the single call of a step.
-fn call(operation: Operation, f: Format, x: usize, sheet: &[u8], out: &mut [u8]) -> Written
+fn call(
+    operation: Operation,
+    f: Format,
+    x: usize,
+    sheet: &[u8],
+    out: &mut [u8],
+) -> Result<usize, Refusal>
     ensures { wrote result out.new ≡ perform (format_of f) (single (operation_of operation) x out.old) sheet.now }
 {
     match operation {
@@ -89,17 +67,15 @@ fn call(operation: Operation, f: Format, x: usize, sheet: &[u8], out: &mut [u8])
 }
 
 // Copies an accepted sheet back to the first buffer, and returns the length of the sheet held.
-fn keep(answer: Written, held: usize, first: &mut [u8], second: &[u8]) -> usize
+fn keep(answer: Result<usize, Refusal>, held: usize, first: &mut [u8], second: &[u8]) -> usize
     requires { Kept first.old second.now answer }
     ensures { Keeps held first.old second.now first.new result answer }
 {
-    match answer {
-        Written::Refused(number, place) => held,
-        Written::Accepted(bytes) => {
-            copy_front(&second[..bytes], first);
-            bytes
-        }
-    }
+    let Ok(bytes) = answer else {
+        return held;
+    };
+    copy_front(&second[..bytes], first);
+    bytes
 }
 
 // One turn: the record `s` with its single call's answer, and the sheet then held.
@@ -112,30 +88,11 @@ fn one(s: Step, f: Format, held: usize, first: &mut [u8], second: &mut [u8]) -> 
     let answer = call(operation, f, s.variable, &first[..held], &mut second[..n]);
     let kept = keep(answer, held, first, second);
     let step = Step {
-        operation: operation,
+        operation,
         variable: s.variable,
-        answer: answer,
+        answer,
     };
-    Turn {
-        step: step,
-        held: kept,
-    }
-}
-
-// Makes the answer. Accepted, it leaves the sheet held and zeros in the first buffer, and zeros in the second.
-fn finish(b: Begun, held: usize, first: &mut [u8], second: &mut [u8]) -> Written
-    requires { held ≤ length first.old }
-    ensures { Finishes held first.old second.old first.new second.new (written_answer result) b.answer }
-{
-    let answer = b.answer;
-    match answer {
-        Written::Refused(number, place) => Written::Refused(number, place),
-        Written::Accepted(bytes) => {
-            clear(first, held);
-            clear(second, 0);
-            Written::Accepted(held)
-        }
-    }
+    Turn { step, held: kept }
 }
 
 // Takes the steps of a lent list on the sheet held: every record is filled with what its single call answers, and the length of the
@@ -144,15 +101,11 @@ fn follow(steps: &mut [Step], f: Format, held: usize, first: &mut [u8], second: 
     requires { held ≤ room first.old second.old }
     ensures { Follows (format_of f) steps.old held first.old second.old steps.new first.new result }
 {
-    let count = steps.len();
     let mut kept = held;
-    let mut i: usize = 0;
-    while i < count {
-        let s = steps[i];
-        let t = one(s, f, kept, first, second);
-        steps[i] = t.step;
+    for step in steps.iter_mut() {
+        let t = one(*step, f, kept, first, second);
+        *step = t.step;
         kept = t.held;
-        i += 1;
     }
     kept
 }

@@ -3,15 +3,16 @@
 ghost use Rattle.std.specs.Prelude.{◌≡◌, length};
 ghost use Rattle.sheet.specs.Truthful.{truth_of, TruthfulSteps};
 ghost use Rattle.rows.specs.Formats.{format_of};
-ghost use Rattle.checking.specs.Answers.{written_answer};
+ghost use Rattle.rows.specs.Refusals.{told};
 ghost use Rattle.step_list.specs.Inner.Records.{operation_of};
 ghost use Rattle.step_list.specs.Inner.Parts.{Within, Loaded, Lendable, Parted, Stored};
 ghost use Rattle.step_list.specs.Numbers.{numbered_operation, answer_number, answer_value, numbers_left, numbers_call, listed_left};
 
-use crate::{Operation, Step, begin, finish, follow};
-use checking::Written;
+use crate::{Operation, Step, begin, follow};
 use rows::Format;
+use rows::bytes::clear;
 use rows::fit::shorter;
+use rows::refusals::Refusal;
 
 // How many records are lent to `follow` at once.
 const PART: usize = 64;
@@ -34,22 +35,22 @@ fn operation_for(number: u8) -> Operation
 }
 
 // The refusal number, 0 if accepted.
-fn number_of(answer: Written) -> usize
-    ensures { result ≡ answer_number (written_answer answer) }
+fn number_of(answer: Result<usize, Refusal>) -> usize
+    ensures { result ≡ answer_number (told answer) }
 {
     match answer {
-        Written::Refused(number, place) => number,
-        Written::Accepted(length) => 0,
+        Ok(_) => 0,
+        Err(refusal) => refusal.number(),
     }
 }
 
 // The new length, or the refusal's place.
-fn value_of(answer: Written) -> usize
-    ensures { result ≡ answer_value (written_answer answer) }
+fn value_of(answer: Result<usize, Refusal>) -> usize
+    ensures { result ≡ answer_value (told answer) }
 {
     match answer {
-        Written::Refused(number, place) => place,
-        Written::Accepted(length) => length,
+        Ok(length) => length,
+        Err(refusal) => refusal.place(),
     }
 }
 
@@ -61,18 +62,15 @@ fn load(operations: &[u8], variables: &[usize], at: usize, n: usize) -> [Step; P
     let blank = Step {
         operation: Operation::Settle,
         variable: 0,
-        answer: Written::Accepted(0),
+        answer: Ok(0),
     };
     let mut steps = [blank; PART];
-    let mut j: usize = 0;
-    while j < n {
-        let i = at + j;
+    for j in 0..n {
         steps[j] = Step {
-            operation: operation_for(operations[i]),
-            variable: variables[i],
-            answer: Written::Accepted(0),
+            operation: operation_for(operations[at + j]),
+            variable: variables[at + j],
+            answer: Ok(0),
         };
-        j += 1;
     }
     steps
 }
@@ -102,14 +100,9 @@ fn store(steps: [Step; PART], n: usize, at: usize, numbers: &mut [usize], values
     requires { Within at n (length numbers.old) (length values.old) }
     ensures { Stored steps n at numbers.old values.old numbers.new values.new }
 {
-    let mut j: usize = 0;
-    while j < n {
-        let s = steps[j];
-        let answer = s.answer;
-        let i = at + j;
-        numbers[i] = number_of(answer);
-        values[i] = value_of(answer);
-        j += 1;
+    for j in 0..n {
+        numbers[at + j] = number_of(steps[j].answer);
+        values[at + j] = value_of(steps[j].answer);
     }
 }
 
@@ -125,7 +118,7 @@ pub fn follow_numbers(
     values: &mut [usize],
     first: &mut [u8],
     second: &mut [u8],
-) -> Written
+) -> Result<usize, Refusal>
     ensures second_value { numbers_left result numbers values first second ≡ numbers_call (format_of f) sheet operations variables numbers values first second }
     ensures truthful_steps { TruthfulSteps (format_of f) (truth_of (format_of f) sheet.now) (listed_left result operations variables numbers values first second) }
 {
@@ -133,18 +126,18 @@ pub fn follow_numbers(
         shorter(operations.len(), variables.len()),
         shorter(numbers.len(), values.len()),
     );
-    let b = begin(sheet, f, count, first, second);
-    let turns = b.turns;
-    let mut held = b.held;
+    begin(sheet, f, first, second)?;
+    let mut held = sheet.len();
     let mut at: usize = 0;
-    while at < turns {
-        let n = shorter(turns - at, PART);
+    while at < count {
+        let n = shorter(count - at, PART);
         let steps = load(operations, variables, at, n);
         let p = follow_part(steps, n, f, held, first, second);
-        let done = p.steps;
-        store(done, n, at, numbers, values);
+        store(p.steps, n, at, numbers, values);
         held = p.held;
         at += n;
     }
-    finish(b, held, first, second)
+    clear(first, held);
+    clear(second, 0);
+    Ok(held)
 }

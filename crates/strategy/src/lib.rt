@@ -16,9 +16,9 @@ ghost use Rattle.strategy.specs.Inner.Ending.{left_in, StrategyReady, StrategyDr
 use crate::draft::draft_front;
 use crate::room::nodes_that_fit;
 use crate::walk::{Draft, walk};
-use checking::Checked;
 use pairs::count_left;
 use rows::bytes::clear;
+use rows::refusals::Refusal;
 use rows::write::seal;
 use rows::{Format, Layout};
 use solve::{Solved, State, Verdict, solve_checked};
@@ -29,18 +29,17 @@ pub mod draft;
 pub mod room;
 pub mod walk;
 
-// Refused with number and place; stopped at a variable, as Solve; ended with a verdict, with the number settled, the number expanded and
-// the length of the strategy's sheet, or its node rows if it doesn't fit.
-#[derive(Clone, Copy)]
+// Stopped at a variable, as Solve; ended with a verdict, with the number settled, the number expanded and the length of the strategy's
+// sheet, or its node rows if it doesn't fit.
+#[derive(Clone, Copy, PartialEq, Eq, Debug)]
 pub enum StrategyAnswer {
-    Refused(usize, usize),
     Stopped(usize, usize, usize),
     Written(Verdict, usize, usize, usize),
     TooLong(Verdict, usize, usize, usize),
 }
 
 // The length of the strategy's sheet, or its node rows if it doesn't fit.
-#[derive(Clone, Copy)]
+#[derive(Clone, Copy, PartialEq, Eq, Debug)]
 pub enum Outcome {
     Written(usize),
     TooLong(usize),
@@ -79,10 +78,7 @@ fn draft_strategy(
         layout: t,
         at: behind,
     };
-    let draft = Draft {
-        exists: exists,
-        to: pairs,
-    };
+    let draft = Draft { exists, to: pairs };
     let end = walk(first, second, start, out, draft);
     clear(second, 0);
     Target { layout: t, at: end }
@@ -129,24 +125,23 @@ fn strategy_checked(
     first: &mut [u8],
     second: &mut [u8],
     out: &mut [u8],
-) -> StrategyAnswer
+) -> Result<StrategyAnswer, Refusal>
     requires { Sheet s.format sheet.now s }
     ensures { leaves result first.new second.new out.new ≡ strategy_call (format_in s) sheet.now first.old second.old out.old }
 {
-    let r = solve_checked(sheet, s, first, second);
-    match r {
-        Solved::Refused(number, place) => StrategyAnswer::Refused(number, place),
+    match solve_checked(sheet, s, first, second)? {
         Solved::Stopped(x, settled, expanded) => {
             clear(out, 0);
-            StrategyAnswer::Stopped(x, settled, expanded)
+            Ok(StrategyAnswer::Stopped(x, settled, expanded))
         }
         Solved::Ended(verdict, settled, expanded) => {
-            let o = write_strategy(sheet, s, exists_wins(verdict), first, second, out);
-            match o {
-                Outcome::Written(length) => StrategyAnswer::Written(
+            match write_strategy(sheet, s, exists_wins(verdict), first, second, out) {
+                Outcome::Written(length) => Ok(StrategyAnswer::Written(
                     verdict, settled, expanded, length,
-                ),
-                Outcome::TooLong(rows) => StrategyAnswer::TooLong(verdict, settled, expanded, rows),
+                )),
+                Outcome::TooLong(rows) => Ok(StrategyAnswer::TooLong(
+                    verdict, settled, expanded, rows,
+                )),
             }
         }
     }
@@ -161,13 +156,10 @@ pub fn strategy(
     first: &mut [u8],
     second: &mut [u8],
     out: &mut [u8],
-) -> StrategyAnswer
+) -> Result<StrategyAnswer, Refusal>
     ensures out_after { leaves result first.new second.new out.new ≡ strategy_call (format_of f) sheet.now first.old second.old out.old }
     ensures truthful_strategy { TruthfulStrategy (format_of f) sheet.now (leaves result first.new second.new out.new) }
 {
-    let c = checking::check(sheet, f);
-    match c {
-        Checked::Refused(number, place) => StrategyAnswer::Refused(number, place),
-        Checked::Accepted(s) => strategy_checked(sheet, s, first, second, out),
-    }
+    let s = checking::check(sheet, f)?;
+    strategy_checked(sheet, s, first, second, out)
 }

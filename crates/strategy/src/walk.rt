@@ -14,7 +14,7 @@ use rows::fit::{sheet_length, shorter};
 use rows::{Layout, ROWS};
 use solve::State;
 use solve::step::{Step, take_step};
-use solve::verdicts::{Decision, decide};
+use solve::verdicts::decide;
 use substitution::Target;
 
 // The side whose pairs are drafted, exists or for all, and the row that is written next.
@@ -22,13 +22,6 @@ use substitution::Target;
 pub struct Draft {
     pub exists: bool,
     pub to: Target,
-}
-
-// The sheet is decided; or the next state, and the row behind the pair of the step's variable.
-#[derive(Clone, Copy)]
-pub enum Turn {
-    Decided,
-    Next(State, usize),
 }
 
 // Drafts the pair of the variable that Solve takes next, if it is of the side. Its function is written to `part` first.
@@ -49,11 +42,11 @@ fn draft_next(
     if is_existential(b, s, n.row) != d.exists {
         return to.at;
     }
-    let t = n.sheet;
-    draft_pair(part, t, n.variable, out, to)
+    draft_pair(part, n.sheet, n.variable, out, to)
 }
 
-// A turn on a sheet that isn't decided. The function goes to the part of the second buffer that the sheet itself needs.
+// A turn on a sheet that isn't decided: the next state, and the row behind the pair of the step's variable. The function goes to the part of
+// the second buffer that the sheet itself needs.
 fn open_turn(
     first: &mut [u8],
     second: &mut [u8],
@@ -61,24 +54,22 @@ fn open_turn(
     ends: &mut [u16],
     out: &mut [u8],
     d: Draft,
-) -> Turn
+) -> Option<(State, usize)>
     requires { TurnReady (room first.old second.old) s d first.old second.old out.old × Open s first.old × (ROWS ≤ length ends.old) }
     ensures { Turned (room first.old second.old) s d first.old first.new out.old out.new result }
 {
     let t = s.sheet;
-    let f = t.format;
-    let need = sheet_length(f, t.variables, t.nodes);
+    let need = sheet_length(t.format, t.variables, t.nodes);
     let at = draft_next(first, t, ends, &mut second[..need], out, d);
     let room = shorter(first.len(), second.len());
-    let k = take_step(first, second, room, s, ends);
-    match k {
-        Step::Next(next) => Turn::Next(next, at),
-        Step::Ended(verdict) => Turn::Decided,
-        Step::Stopped(x) => Turn::Decided,
+    match take_step(first, second, room, s, ends) {
+        Step::Next(next) => Some((next, at)),
+        Step::Ended(_) => None,
+        Step::Stopped(_) => None,
     }
 }
 
-// A turn from the state `s`, whose sheet is in the first buffer. The table of ends is lent.
+// A turn from the state `s`, whose sheet is in the first buffer; none if that is decided. The table of ends is lent.
 fn take_turn(
     first: &mut [u8],
     second: &mut [u8],
@@ -86,14 +77,13 @@ fn take_turn(
     ends: &mut [u16],
     out: &mut [u8],
     d: Draft,
-) -> Turn
+) -> Option<(State, usize)>
     requires { TurnReady (room first.old second.old) s d first.old second.old out.old × (ROWS ≤ length ends.old) }
     ensures { Turned (room first.old second.old) s d first.old first.new out.old out.new result }
 {
-    let c = decide(first, s.sheet);
-    match c {
-        Decision::Decided(verdict) => Turn::Decided,
-        Decision::Open => open_turn(first, second, s, ends, out, d),
+    match decide(first, s.sheet) {
+        Some(_) => None,
+        None => open_turn(first, second, s, ends, out, d),
     }
 }
 
@@ -102,22 +92,21 @@ pub fn walk(first: &mut [u8], second: &mut [u8], start: State, out: &mut [u8], d
     requires { WalkReady (room first.old second.old) start d first.old second.old out.old }
     ensures { Walked (room first.old second.old) start d first.old first.new out.old out.new result }
 {
-    let exists = d.exists;
-    let to = d.to;
-    let t = to.layout;
     let mut s = start;
-    let mut at = to.at;
+    let mut at = d.to.at;
     let mut ends = [0u16; ROWS];
     loop {
-        let here = Target { layout: t, at: at };
-        let draft = Draft {
-            exists: exists,
-            to: here,
+        let to = Target {
+            layout: d.to.layout,
+            at,
         };
-        let k = take_turn(first, second, s, &mut ends, out, draft);
-        match k {
-            Turn::Decided => return draft_left(first, s.sheet, exists, out, here),
-            Turn::Next(next, row) => {
+        let draft = Draft {
+            exists: d.exists,
+            to,
+        };
+        match take_turn(first, second, s, &mut ends, out, draft) {
+            None => return draft_left(first, s.sheet, d.exists, out, to),
+            Some((next, row)) => {
                 s = next;
                 at = row;
             }

@@ -1,46 +1,16 @@
--- Bytes copied one by one, and rows that stay, one by one.
+-- Rows copied, and rows that stay, one by one.
 -- Assumes nothing.
 use mathlib.Core.Path.{◌≡◌, refl, sym, ap, ap₂, ◌∙◌}
 use mathlib.Core.Bool.{false}
 use mathlib.Core.List.{List, [], ◌∷◌, ◌++◌, map}
 use Prim.Native.Nat.{ℕ, suc, ◌+◌, ◌≤◌, ◌<◌}
-use native.Mathlib.Nat.{zero-add}
 use native.Mathlib.Numerals.{add-one}
 use native.Mathlib.Omega.{arith}
-use lib.ListN.{length, get_or, take, drop, set, length-drop, length-set}
-use lib.Seq.{slice, length-take-le, take-suc, drop-append-le, get_or-drop, slice_empty, slice-cons, paste, paste-zero, paste-suc}
-use Rattle.sheet.specs.Format.{Bytes, Row, row}
+use lib.ListN.{length, get_or, take, drop}
+use lib.Seq.{slice, length-take-le, take-suc, drop-append-le, slice_empty, slice-cons}
+use Rattle.sheet.specs.Format.{Row, row}
 use Rattle.substitution.specs.Changes.{chosen_row, changed_row, copied}
 use Rattle.substitution.proofs.Changed.{map-append, row_kept}
-
--- copy_bytes
-
-pub record Copied (b : Bytes) (from count : ℕ) (d out : Bytes) (i : ℕ) : Type 0 where
-  pub within : i ≤ count
-  pub so_far : out ≡ paste d 0 (drop from b) i
-  pub same_length : length out ≡ length d
-
-module _ (b : Bytes) (from count : ℕ) (d : Bytes) (inside : from + count ≤ length b) (room : count ≤ length d) where
-  pub copied_none : Copied b from count d d 0
-  copied_none = record { within = omega arith; so_far = paste-zero d 0 (drop from b); same_length = refl }
-
-  pub copied_byte : {out : Bytes} {i : ℕ} → i < count → Copied b from count d out i
-      → Copied b from count d (set out i (get_or b (from + i) 0)) (i + 1)
-  copied_byte {out} {i} h c =
-      record {
-        within = omega arith;
-        so_far =
-            ap₂ (λ (q : Bytes) x. set q i x) c.so_far (sym (get_or-drop from b i 0)) ∙
-            ap (λ n. set (paste d 0 (drop from b) i) n (get_or (drop from b) i 0)) (sym (zero-add i)) ∙
-            paste-suc d 0 (drop from b) i 0 (omega arith) (omega (arith, length-drop from b)) ∙
-            ap (paste d 0 (drop from b)) (sym (add-one i));
-        same_length = length-set out i (get_or b (from + i) 0) ∙ c.same_length;
-      }
-
-  pub copied_all : {out : Bytes} {i : ℕ} → count ≤ i → Copied b from count d out i → out ≡ take count (drop from b) ++ drop count d
-  copied_all {out} {i} h c =
-      let last : i ≡ count = omega (arith, c.within) in
-      c.so_far ∙ ap (λ n. take i (drop from b) ++ drop n d) (zero-add i) ∙ ap (λ n. take n (drop from b) ++ drop n d) last
 
 -- rows of a span, one more at its end or at its front
 

@@ -222,13 +222,6 @@ ready_on {t = t} r e =
       same_format = r.same_format;
     }
 
--- the arguments of k rows have their place, by the format of either layout
-pub arguments-room : {s t : Layout} {b out : Bytes} → CopyReady s b t out → (at k : ℕ) → at + k ≤ total t
-    → argument_place t at + width s * k ≤ length out
-arguments-room {s} {t} ready at k h =
-    rw (← ready.same_format)
-    (omega (arith, ready.room.holds, add-mul 1 (width t) (total t), one-mul (total t), mul-add (width t) at k, mul-le-mul_left (width t) h))
-
 pub copied-laid : {s t : Layout} {b : Bytes} (d : Bytes) → CopyReady s b t d → (at : ℕ) (new : List Row) → Every (ArgumentFits (width s)) new → (k : ℕ)
     → length new ≡ k → at + k ≤ total t → {kinds arguments : ℕ} → kinds ≡ kind_place t at → arguments ≡ argument_place t at
     → {mid out : Bytes} → mid ≡ spliced kinds (row_kinds new) d → out ≡ spliced arguments (row_arguments (width s) new) mid

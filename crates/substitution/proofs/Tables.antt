@@ -20,16 +20,6 @@ unfolding numbers
 length-numbers zero = refl
 length-numbers (suc n) = length-append (numbers n) (n ∷ []) ∙ omega (arith, length-numbers n)
 
-pub same_entry : (t : List ℕ) (v d : ℕ) → v < length t → get_or t v d ≡ entry t v
-same_entry [] v d h = absurd (omega arith)
-same_entry (e ∷ t) zero d h = refl
-same_entry (e ∷ t) (suc v) d h = other t v d (suc v) (omega arith)
-  where
-    other : (t : List ℕ) (v d d' : ℕ) → v < length t → get_or t v d ≡ get_or t v d'
-    other [] v d d' h = absurd (omega arith)
-    other (e ∷ t) zero d d' h = refl
-    other (e ∷ t) (suc v) d d' h = other t v d d' (omega arith)
-
 -- the first i entries are their own numbers
 pub record Keeping (old new : List ℕ) (i : ℕ) : Type 0 where
   pub within : i ≤ length old

@@ -39,10 +39,11 @@ pub fn new_kind(b: &[u8], s: Layout, table: &[u16], r: usize) -> u8
     if e < NUMBERS {
         return kind;
     }
-    if (kind == POSITIVE) == (e == PUT_TRUE as usize) {
-        return AND;
+    if (kind == POSITIVE) == (e == usize::from(PUT_TRUE)) {
+        AND
+    } else {
+        OR
     }
-    OR
 }
 
 // The argument that row `r` has in the copy.
@@ -66,15 +67,12 @@ fn first_changed(b: &[u8], s: Layout, table: &[u16], span: Span) -> usize
     requires { Room s (length b.now) × Within span s }
     ensures { (span.from ≤ result) × (result ≤ span.to) × Stays s b.now table.now span.from result }
 {
-    let to = span.to;
-    let mut r = span.from;
-    while r < to {
+    for r in span.from..span.to {
         if is_changed(b, s, table, r) {
             return r;
         }
-        r += 1;
     }
-    r
+    span.to
 }
 
 // The row behind the last one of `span` that is changed, or the span's first row.
@@ -82,15 +80,12 @@ fn last_changed(b: &[u8], s: Layout, table: &[u16], span: Span) -> usize
     requires { Room s (length b.now) × Within span s }
     ensures { (span.from ≤ result) × (result ≤ span.to) × Stays s b.now table.now result span.to }
 {
-    let from = span.from;
-    let mut r = span.to;
-    while from < r {
-        if is_changed(b, s, table, r - 1) {
-            return r;
+    for r in (span.from..span.to).rev() {
+        if is_changed(b, s, table, r) {
+            return r + 1;
         }
-        r -= 1;
     }
-    r
+    span.from
 }
 
 // The rows of `span` from the first that is changed to the last: a copy looks twice at these alone.
@@ -101,7 +96,7 @@ pub fn changed_span(b: &[u8], s: Layout, table: &[u16], span: Span) -> Span
     let first = first_changed(b, s, table, span);
     let rest = Span {
         from: first,
-        to: span.to,
+        ..span
     };
     let last = last_changed(b, s, table, rest);
     Span {

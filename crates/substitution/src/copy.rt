@@ -10,17 +10,12 @@ use rows::bytes::put_number;
 use rows::places::{argument_place, kind_place};
 use rows::{Layout, width};
 
-// Copies `count` bytes from byte `from` of `b` on to the front of `out`. The loop moves bytes and does no more, so that the compiler can
-// move many at once.
+// Copies `count` bytes from byte `from` of `b` on to the front of `out`.
 pub fn copy_bytes(b: &[u8], from: usize, count: usize, out: &mut [u8])
     requires { (from + count ≤ length b.now) × (count ≤ length out.old) }
     ensures { out.new ≡ take count (drop from b.now) ++ drop count out.old }
 {
-    let mut i: usize = 0;
-    while i < count {
-        out[i] = b[from + i];
-        i += 1;
-    }
+    out[..count].copy_from_slice(&b[from..from + count]);
 }
 
 // Copies the kinds of the rows `span`, changed by the table. All are moved as they are; between the first row that is changed and the
@@ -30,12 +25,9 @@ pub fn copy_kinds(b: &[u8], s: Layout, table: &[u16], span: Span, changed: Span,
     ensures { out.new ≡ row_kinds (copy_in s b.now table.now span) ++ drop (extent span) out.old }
 {
     let from = span.from;
-    let to = changed.to;
     copy_bytes(b, kind_place(s, from), span.to - from, out);
-    let mut r = changed.from;
-    while r < to {
+    for r in changed.from..changed.to {
         out[r - from] = new_kind(b, s, table, r);
-        r += 1;
     }
 }
 
@@ -47,11 +39,8 @@ pub fn copy_arguments(b: &[u8], s: Layout, table: &[u16], span: Span, changed: S
     let f = s.format;
     let w = width(f);
     let from = span.from;
-    let to = changed.to;
     copy_bytes(b, argument_place(s, from), w * (span.to - from), out);
-    let mut r = changed.from;
-    while r < to {
+    for r in changed.from..changed.to {
         put_number(out, w * (r - from), f, new_argument(b, s, table, r));
-        r += 1;
     }
 }

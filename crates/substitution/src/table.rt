@@ -11,10 +11,8 @@ pub fn keep_all(table: &mut [u16])
     requires { length table.old ≤ 65536 }
     ensures { table.new ≡ numbers (length table.old) }
 {
-    let mut i: usize = 0;
-    while i < table.len() {
+    for i in 0..table.len() {
         table[i] = i as u16;
-        i += 1;
     }
 }
 
@@ -23,11 +21,7 @@ pub fn put(table: &mut [u16], x: usize, value: bool)
     requires { x < length table.old }
     ensures { table.new ≡ set table.old x (put_entry value) }
 {
-    if value {
-        table[x] = PUT_TRUE;
-    } else {
-        table[x] = PUT_FALSE;
-    }
+    table[x] = if value { PUT_TRUE } else { PUT_FALSE };
 }
 
 // Makes the table that puts a value in for `x` alone.
@@ -52,8 +46,8 @@ pub fn fill_both(tables: &mut [u16], x: usize)
 pub fn entry(table: &[u16], v: usize) -> usize
     ensures { result ≡ entry table.now v }
 {
-    if v < table.len() {
-        return table[v] as usize;
+    match table.get(v) {
+        Some(e) => usize::from(*e),
+        None => v,
     }
-    v
 }

@@ -6,7 +6,7 @@ ghost use Rattle.rows.specs.Layouts.{Fits, total, rows_in, Room};
 ghost use Rattle.substitution.specs.Output.{extent, copy_in, Within, CopyReady, spliced, Laid};
 
 use crate::change::changed_span;
-use crate::copy::{copy_arguments, copy_bytes, copy_kinds};
+use crate::copy::{copy_arguments, copy_kinds};
 use crate::{Span, Target};
 use rows::places::{argument_place, kind_place};
 use rows::write::set_row;
@@ -17,17 +17,16 @@ pub fn write_row(out: &mut [u8], to: Target, kind: u8, argument: usize) -> usize
     requires { Room to.layout (length out.old) × (to.at < total to.layout) × Fits to.layout argument }
     ensures { Laid to.layout out.old out.new to.at result (row kind argument ∷ []) }
 {
-    let t = to.layout;
-    set_row(out, t, to.at, kind, argument);
+    set_row(out, to.layout, to.at, kind, argument);
     to.at + 1
 }
 
-// Writes `count` bytes of `b` from byte `start` of the output on, which is lent to the copying function from there.
+// Writes `count` bytes of `b`, from byte `from` on, to the output from byte `start` on.
 fn write_bytes(b: &[u8], from: usize, count: usize, out: &mut [u8], start: usize)
     requires { (from + count ≤ length b.now) × (start + count ≤ length out.old) }
     ensures { out.new ≡ spliced start (take count (drop from b.now)) out.old }
 {
-    copy_bytes(b, from, count, &mut out[start..]);
+    out[start..start + count].copy_from_slice(&b[from..from + count]);
 }
 
 // Writes the rows `span` of `b` as they are.
@@ -36,15 +35,19 @@ pub fn write_rows(b: &[u8], s: Layout, span: Span, out: &mut [u8], to: Target) -
     ensures laid { Laid to.layout out.old out.new to.at result (slice span.from span.to (rows_in s b.now)) }
     ensures value { result ≡ to.at + extent span }
 {
-    let t = to.layout;
-    let f = s.format;
-    let at = to.at;
+    let Target { layout: t, at } = to;
     let from = span.from;
     let count = span.to - from;
     let kinds = kind_place(t, at);
     let arguments = argument_place(t, at);
     write_bytes(b, kind_place(s, from), count, out, kinds);
-    write_bytes(b, argument_place(s, from), width(f) * count, out, arguments);
+    write_bytes(
+        b,
+        argument_place(s, from),
+        width(s.format) * count,
+        out,
+        arguments,
+    );
     at + count
 }
 
@@ -62,8 +65,7 @@ pub fn write_copy(
     ensures laid { Laid to.layout out.old out.new to.at result (copy_in s b.now table.now span) }
     ensures value { result ≡ to.at + extent span }
 {
-    let t = to.layout;
-    let at = to.at;
+    let Target { layout: t, at } = to;
     let changed = changed_span(b, s, table, span);
     let kinds = kind_place(t, at);
     let arguments = argument_place(t, at);

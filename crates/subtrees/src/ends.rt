@@ -13,10 +13,8 @@ fn hop(ends: &[u16], from: usize, count: usize) -> usize
     ensures { result ≡ hops ends.now from count }
 {
     let mut at = from;
-    let mut left = count;
-    while 0 < left {
-        at = ends[at] as usize;
-        left -= 1;
+    for _ in 0..count {
+        at = usize::from(ends[at]);
     }
     at
 }
@@ -27,9 +25,7 @@ pub fn fill_ends(b: &[u8], s: Layout, ends: &mut [u16])
     ensures indexed { Indexed s b.now ends.new }
     ensures ends_unchanged { drop s.nodes ends.new ≡ drop s.nodes ends.old }
 {
-    let mut i = s.nodes;
-    while 0 < i {
-        i -= 1;
+    for i in (0..s.nodes).rev() {
         let children = children_at(b, s, i);
         ends[i] = hop(ends, i + 1, children) as u16;
     }

@@ -27,13 +27,11 @@ fn some_kind(b: &[u8], s: Layout, ends: &[u16], c: Siblings, kind: u8) -> bool
     ensures { result ≡ some_kind kind (siblings_in s b.now c.at c.left) }
 {
     let mut at = c.at;
-    let mut left = c.left;
-    while 0 < left {
+    for _ in 0..c.left {
         if kind_at(b, s, at) == kind {
             return true;
         }
-        at = ends[at] as usize;
-        left -= 1;
+        at = usize::from(ends[at]);
     }
     false
 }
@@ -48,23 +46,17 @@ fn at_fault(b: &[u8], s: Layout, ends: &[u16], i: usize) -> bool
     if kind <= rows::NEGATIVE {
         return false;
     }
-    let count = argument_at(b, s, i);
-    if count == 0 {
-        return i != 0;
+    match argument_at(b, s, i) {
+        0 => i != 0,
+        1 => true,
+        count => {
+            let children = Siblings {
+                at: i + 1,
+                left: count,
+            };
+            some_kind(b, s, ends, children, kind)
+        }
     }
-    if count == 1 {
-        return true;
-    }
-    some_kind(
-        b,
-        s,
-        ends,
-        Siblings {
-            at: i + 1,
-            left: count,
-        },
-        kind,
-    )
 }
 
 // The first node row that is an operator at fault; of a tidy sheet, the number of node rows.
@@ -77,8 +69,7 @@ pub fn first_fault(b: &[u8], s: Layout, ends: &[u16]) -> usize
     let mut heads = [0u16; BUCKETS];
     let mut links = [0u16; ROWS];
     let mut members = [0u32; ROWS];
-    let mut i = 0;
-    while i < s.nodes {
+    for i in 0..s.nodes {
         if at_fault(b, s, ends, i) {
             return i;
         }
@@ -86,7 +77,6 @@ pub fn first_fault(b: &[u8], s: Layout, ends: &[u16]) -> usize
         if some_clash(b, s, &mut heads, &mut links, &mut members, n) {
             return i;
         }
-        i += 1;
     }
     s.nodes
 }

@@ -22,8 +22,7 @@ use Rattle.buckets.specs.Halves.{children_of}
 use Rattle.buckets.proofs.Halves.{children-made}
 use Rattle.buckets.proofs.Hashes.{hash_few}
 use Rattle.tidy_rules.specs.declared.rules.Children.{Children}
-use Rattle.tidy_rules.specs.declared.rules.Judgement.{Judgement}
-use Rattle.tidy_rules.specs.declared.rules.Judgement.TheVariants.{Decides, Members}
+use Rattle.std.specs.Prelude.{Option, Some, None}
 use Rattle.tidy_rules.specs.declared.rules.RulesOutcome.TheVariants.{Decided, Left}
 use Rattle.tidy_rules.specs.Segments.{Segment, gone, literal, operator, Segments, none, ◌◂◌, ◌⊕◌, head, inner, segment_rows, size, grown, live, Laid, Here, Owed}
 use Rattle.tidy_rules.specs.Walks.{extent, at_row, Hops, JoinsAt}
@@ -36,7 +35,8 @@ use Rattle.tidy_rules.proofs.Hop.{live_one, not_end}
 use Rattle.tidy_rules.proofs.Told.{told_at, told_join, told_one, told_gone, told_says}
 use Rattle.tidy_rules.proofs.Mixes.{mixes-behind}
 use Rattle.tidy_rules.proofs.Grouped.{decides-⧺, decides-before, firsts-⧺, decisive-firsts, new-firsts, single, firsts-single}
-use Rattle.tidy_rules.proofs.Judge.{first_of, no_members, as_many}
+use Rattle.std.proofs.lemmas.Option.{none-some}
+use Rattle.tidy_rules.proofs.Judge.{first_of, as_many}
 use Rattle.tidy_rules.proofs.Join.{advanced}
 use Rattle.sheet.proofs.Forests.{front-past, behind-past}
 
@@ -398,7 +398,7 @@ changed_here {R} {R'} {from} {at} {to} {before} {after} {done} {others} {x} h k 
     (store (k.segment ◂ none) (head k.segment) h (ap (λ rs. head k.segment ∷ rs) (append-nil (inner k.segment) ∙ k.same_rows)))
 
 -- One child, and what it adds.
-module _ {R R₁ : List Row} {K M M' : List ℕ} {from run at to n left kind known : ℕ} {answer : Judgement} {before after : List Row} {o : Op} {ts us : Forest}
+module _ {R R₁ : List Row} {K M M' : List ℕ} {from run at to n left kind known : ℕ} {answer : Option ℕ} {before after : List Row} {o : Op} {ts us : Forest}
     (g : Facing R K M from run at to n left before after o ts us) (k : kind ≡ operator_kind o) (Known-is : known ≡ get_or K at 0) (fit : n ≤ length M)
     (j : Judges R R₁ at kind known n M M' answer) where
   abbrev one : Forest
@@ -422,13 +422,13 @@ module _ {R R₁ : List Row} {K M M' : List ℕ} {from run at to n left kind kno
       (decides-⧺ o g.trees one (single g.segment).unopposed ∙
       ap (λ q. q || some_child (decisive o g.trees) one) g.done.undecided)
 
-  one_stays : {m : ℕ} → answer ≡ Members m → live passed ⧺ live (kept ◂ none) ≡ firsts same_tree (g.trees ⧺ one)
+  one_stays : {m : ℕ} → answer ≡ Some m → live passed ⧺ live (kept ◂ none) ≡ firsts same_tree (g.trees ⧺ one)
   one_stays {m} z =
       ap₂ ◌⧺◌ g.done.stays (judged.holds m z ∙ ap (λ vs. new vs one) g.done.stays ∙ new-firsts g.trees one) ∙
       ap (λ vs. firsts same_tree g.trees ⧺ new g.trees vs) (sym (firsts-single (single g.segment))) ∙ sym (firsts-⧺ g.trees one)
 
   -- the hash of the members before it, with its own
-  hashed : {h p m : ℕ} → answer ≡ Members m → h ≡ mixes kind (take n M) → p ≡ mixes h (drop n (take m M')) → p ≡ mixes kind (take m M')
+  hashed : {h p m : ℕ} → answer ≡ Some m → h ≡ mixes kind (take n M) → p ≡ mixes h (drop n (take m M')) → p ≡ mixes kind (take m M')
   hashed {m = m} z e f = f ∙ mixes-behind kind M (note at kept) fit (judged.noted m z ∙ ap (λ ms. ms ++ note at kept) (sym g.done.noted)) e
 
   kept_here : Here R₁ from at to before passed (kept ◂ g.others) after
@@ -437,7 +437,7 @@ module _ {R R₁ : List Row} {K M M' : List ℕ} {from run at to n left kind kno
   kept-size : size kept ≡ size g.segment
   kept-size = ap (λ rs. suc (length rs)) judged.kept.same_rows
 
-  gathered_more : {R₂ : List Row} {s run' m : ℕ} → answer ≡ Members m → s ≡ extent (at_row R at) → JoinsAt R₁ R₂ run at (at + s) run'
+  gathered_more : {R₂ : List Row} {s run' m : ℕ} → answer ≡ Some m → s ≡ extent (at_row R at) → JoinsAt R₁ R₂ run at (at + s) run'
       → Gathering R₂ K M' from run' (at + s) to m left before after o ts us
   gathered_more {R₂} {s} {run'} {m} z e f =
       let wide : s ≡ size g.segment = e ∙ ap extent (stands_row (stands g.here)) ∙ extent-head g.segment in
@@ -475,8 +475,8 @@ module _ {R R₁ : List Row} {K M M' : List ℕ} {from run at to n left kind kno
       told_join K from passed (kept ◂ none) g.done.told
       (told_at K (kept ◂ none) (sym g.here.place) (told_one K at kept (judged.kept.tells K g.tells)))
 
-  gathered_found : {s end : ℕ} → answer ≡ Decides → s ≡ extent (at_row R at) → Hops R₁ (at + s) to left end
-      → Gathered R₁ K M' from end to before after o ts us Decides
+  gathered_found : {s end : ℕ} → answer ≡ None → s ≡ extent (at_row R at) → Hops R₁ (at + s) to left end
+      → Gathered R₁ K M' from end to before after o ts us None
   gathered_found {s} {end} z e f =
       let h = decided_here e in
       let p = f _ g.others after (rest_laid h) g.owing.enough in
@@ -492,23 +492,23 @@ module _ {R R₁ : List Row} {K M M' : List ℕ} {from run at to n left kind kno
             (told_at K g.others (ap (λ m. at + m) (sym kept-size) ∙ sym (onward kept_here).place) g.told)));
         decided_is =
             sym (ap (decides o) g.owing.ahead ∙ decides-before o (g.trees ⧺ one) _ (sym one_decides ∙ ap is_decided z));
-        reads = λ n e. no_members e;
-        noted = λ n e. no_members e;
+        reads = λ n e. absurd (none-some n e);
+        noted = λ n e. absurd (none-some n e);
       }
 
-pub gather_more : {R₀ R R₁ R₂ : List Row} {K M M' : List ℕ} {from run run' at to n owed left kind known m s : ℕ} {answer : Judgement}
+pub gather_more : {R₀ R R₁ R₂ : List Row} {K M M' : List ℕ} {from run run' at to n owed left kind known m s : ℕ} {answer : Option ℕ}
     → Face R₀ R K M from run at to n owed left kind → known ≡ get_or K at 0 → n ≤ length M → Judges R R₁ at kind known n M M' answer
-    → answer ≡ Members m → s ≡ extent (at_row R at) → JoinsAt R₁ R₂ run at (at + s) run'
+    → answer ≡ Some m → s ≡ extent (at_row R at) → JoinsAt R₁ R₂ run at (at + s) run'
     → Gather R₀ R₂ K M' from run' (at + s) to m owed left kind
 gather_more w i fit j z e f before bs after laid t l o k d = gathered_more (w before bs after laid t l o k d) k i fit j z e f
 
-pub gather_hashed : {R₀ R R₁ : List Row} {K M M' : List ℕ} {from run at to n owed left kind known m h p : ℕ} {answer : Judgement}
+pub gather_hashed : {R₀ R R₁ : List Row} {K M M' : List ℕ} {from run at to n owed left kind known m h p : ℕ} {answer : Option ℕ}
     → Face R₀ R K M from run at to n owed left kind → ChildrenAt R₀ K from to owed kind → known ≡ get_or K at 0 → n ≤ length M
-    → Judges R R₁ at kind known n M M' answer → answer ≡ Members m → h ≡ mixes kind (take n M) → p ≡ mixes h (drop n (take m M'))
+    → Judges R R₁ at kind known n M M' answer → answer ≡ Some m → h ≡ mixes kind (take n M) → p ≡ mixes h (drop n (take m M'))
     → p ≡ mixes kind (take m M')
 gather_hashed w c i fit j z e f = hashed (facing w c) c.is i fit j z e f
 
-pub gather_owed : {R₀ R R₁ : List Row} {K M M' : List ℕ} {from run at to n owed left kind known s : ℕ} {answer : Judgement}
+pub gather_owed : {R₀ R R₁ : List Row} {K M M' : List ℕ} {from run at to n owed left kind known s : ℕ} {answer : Option ℕ}
     → Face R₀ R K M from run at to n owed left kind → ChildrenAt R₀ K from to owed kind → known ≡ get_or K at 0 → n ≤ length M
     → Judges R R₁ at kind known n M M' answer → s ≡ extent (at_row R at) → Owed R₁ (at + s) to left
 gather_owed w c i fit j e =
@@ -518,14 +518,14 @@ gather_owed w c i fit j e =
       enough = g.owing.enough;
     }
 
-pub gather_found : {R₀ R R₁ : List Row} {K M M' : List ℕ} {from run at to n owed left kind known s end : ℕ} {answer : Judgement}
+pub gather_found : {R₀ R R₁ : List Row} {K M M' : List ℕ} {from run at to n owed left kind known s end : ℕ} {answer : Option ℕ}
     → Face R₀ R K M from run at to n owed left kind → known ≡ get_or K at 0 → n ≤ length M → Judges R R₁ at kind known n M M' answer
-    → answer ≡ Decides → s ≡ extent (at_row R at) → Hops R₁ (at + s) to left end
-    → Gathers R₀ R₁ K M' from end to owed kind Decides
+    → answer ≡ None → s ≡ extent (at_row R at) → Hops R₁ (at + s) to left end
+    → Gathers R₀ R₁ K M' from end to owed kind None
 gather_found w i fit j z e f before bs after laid t l o k d = gathered_found (w before bs after laid t l o k d) k i fit j z e f
 
 pub gather_end : {R₀ R : List Row} {K M : List ℕ} {from run at to n owed left kind : ℕ} → Gather R₀ R K M from run at to n owed left kind → left ≤ 0
-    → Gathers R₀ R K M from at to owed kind (Members n)
+    → Gathers R₀ R K M from at to owed kind (Some n)
 unfolding front behind splice
 gather_end {K = K} {M = M} {from} {at = at} {n = n} {owed = owed} {left = left} w l before bs after laid t e o k f =
     let g = w before bs after laid t e o k f in

@@ -14,21 +14,26 @@ use Rattle.formula.specs.Tree.{Op, and, or, dual, same_op, Tree, lit, node, Fore
 use Rattle.formula.specs.Tidy.{is_empty, opposite, same_tree, childless}
 use Rattle.formula.proofs.Booleans.{and_parts}
 use Rattle.formula.proofs.Forests.{keep_all, some_child_same}
-use Rattle.sheet.specs.Format.{Row, row}
+use Rattle.sheet.specs.Format.{Bytes, Row, row}
+use Rattle.rows.specs.declared.Layout.{Layout}
+use Rattle.rows.specs.Layouts.{total, rows_in}
+use Rattle.rows.proofs.Layouts.{length-rows_in}
+use Rattle.tidy_rules.specs.declared.rules.Child.{Child}
 use Rattle.sheet.specs.Sheet.{literal_kind, operator_kind}
-use Rattle.buckets.specs.Chains.{bucket, Linked, Passed}
+use Rattle.buckets.specs.Chains.{bucket, last, Linked, Passed}
+use Rattle.buckets.specs.Chains as chains
 use Rattle.buckets.specs.Halves.{member_of, row_of, known_of, children_of, hash_of}
-use Rattle.buckets.specs.declared.Link.TheVariants.{End}
+use Rattle.std.specs.Prelude.{Option, Some, None}
+use Rattle.std.proofs.lemmas.Option.{none-some}
 use Rattle.buckets.specs.Hashes.{literal_mix, sign, hash}
 use Rattle.buckets.proofs.Halves.{row_made, children-made, hash-made, hash_small}
 use Rattle.buckets.proofs.Hashes.{hash_few}
-use Rattle.tidy_rules.specs.declared.rules.Judgement.TheVariants.{Decides, Members}
 use Rattle.tidy_rules.specs.Segments.{Segment, gone, literal, operator, Segments, none, ◌◂◌, head, inner, segment_rows, size, grown, live, Laid, Stands, Region}
 use Rattle.tidy_rules.specs.Known.{Says}
-use Rattle.tidy_rules.specs.Rules.{decisive, repeated, new, Unopposed, note, notes, literal_test, Test, Member, Duplicate, Noted, LiteralRow, Kept, Judged, LinkedNow}
+use Rattle.tidy_rules.specs.Rules.{decisive, repeated, new, Unopposed, note, notes, literal_test, Test, Member, Duplicate, Noted, LiteralRow, Kept, Judged, LinkedNow, Chain, LiveChain, ToJudge}
 use Rattle.tidy_rules.specs.Walks.{at_row}
 use Rattle.tidy_rules.specs.Entered.{LiveAt, Same}
-use Rattle.tidy_rules.proofs.Segments.{stands_row, start}
+use Rattle.tidy_rules.proofs.Segments.{stands_row, stands_within, start}
 use Rattle.tidy_rules.proofs.Walks.{like, dead_holds}
 use Rattle.tidy_rules.proofs.Told.{told_gone}
 use Rattle.tidy_rules.proofs.Notes.{noted_count, noted_at, notes-places, unseen, seen, unseen_duplicate, seen_duplicate, member_lives, bucket-made}
@@ -141,23 +146,20 @@ kept_same {R} {at} x h =
       tells = λ K t. t;
     }
 
-pub no_members : {A : Type 0} {n : ℕ} → Decides ≡ Members n → A
-no_members e = let z : ◌≡◌ {A = ℕ} 0 1 = cc in absurd (omega arith)
-
 -- it decides the node
 pub judged_decided : {R : List Row} {M' : List ℕ} {from at : ℕ} {before after : List Row} {done : Segments} {x : Segment} {o : Op}
-    → Stands R at before x after → some_child (decisive o (live done)) (live (x ◂ none)) ≡ true → Judged R R M' from at done x o Decides
+    → Stands R at before x after → some_child (decisive o (live done)) (live (x ◂ none)) ≡ true → Judged R R M' from at done x o None
 judged_decided {x = x} h e =
-    record { decided_is = sym e; kept = kept_same x h; holds = λ n z. no_members z; noted = λ n z. no_members z }
+    record { decided_is = sym e; kept = kept_same x h; holds = λ n z. absurd (none-some n z); noted = λ n z. absurd (none-some n z) }
 
-pub as_many : {n m : ℕ} → Members n ≡ Members m → m ≡ n
+pub as_many : {n m : ℕ} → Some n ≡ Some m → m ≡ n
 as_many e = cc
 
 -- the members' links
-pub linked_decided : {H L M : List ℕ} {before : ℕ} → LinkedNow H L M before Decides
-linked_decided = record { linked = λ n z. no_members z; few = λ n z. no_members z }
+pub linked_decided : {H L M : List ℕ} {before : ℕ} → LinkedNow H L M before None
+linked_decided = record { linked = λ n z. absurd (none-some n z); few = λ n z. absurd (none-some n z) }
 
-pub linked-members : {H L M : List ℕ} {n before : ℕ} → Linked H L M n → n ≤ before + 1 → LinkedNow H L M before (Members n)
+pub linked-members : {H L M : List ℕ} {n before : ℕ} → Linked H L M n → n ≤ before + 1 → LinkedNow H L M before (Some n)
 linked-members {H} {L} {M} lk l =
     record { linked = λ m z. subst (Linked H L M) (sym (as_many z)) lk; few = λ m z. omega (arith, as_many z) }
 
@@ -168,7 +170,7 @@ no_more M N e f = ap (λ m. take m M) e ∙ f ∙ sym (append-nil N)
 pub judged_passed : {R : List Row} {M : List ℕ} {from at n : ℕ} {before after : List Row} {done : Segments} {x : Segment} {o : Op}
     → Stands R at before x after → some_child (decisive o (live done)) (live (x ◂ none)) ≡ false
     → some_child (repeated (live done)) (live (x ◂ none)) ≡ false → note at x ≡ [] → Noted M n from done
-    → Judged R R M from at done x o (Members n)
+    → Judged R R M from at done x o (Some n)
 unfolding kept_same
 judged_passed {M = M} {from = from} {n = n} {done = done} {x = x} h d r e noted =
     record {
@@ -229,6 +231,38 @@ pub member_at : {R : List Row} {M : List ℕ} {n from at : ℕ} {before after : 
 member_at {R} {done = done} laid noted j l =
     subst (λ m. LiveAt R (row_of m)) (sym (noted_at noted j l)) (member_lives done (start laid) j (omega (arith, noted_count noted)))
 
+-- A child that can be judged is among the rows, there is room for it among the members, and the chains of the members before it can be
+-- searched.
+module _ {s : Layout} {b : Bytes} {c : Child} {H L M : List ℕ} (t : ToJudge s b c H L M) where
+  pub judged_inside : c.at < total s
+  judged_inside = omega (arith, stands_within t.behind.standing.stands, length-rows_in b t.room)
+
+  pub judged_room : chains.Room H L M (c.before + 1)
+  judged_room =
+      record {
+        all_heads = t.tables.all_heads;
+        links_fit = omega (arith, judged_inside, t.tables.links_fit, t.behind.few);
+        members_fit = omega (arith, judged_inside, t.tables.members_fit, t.behind.few);
+        countable = omega (arith, judged_inside, t.tables.countable, t.behind.few);
+      }
+
+  pub judged_chain : (k : ℕ) {start : Option ℕ} → start ≡ last M k c.before → Chain (total s) L M start
+  judged_chain k e =
+      record {
+        heads = H;
+        count = c.before;
+        bucket_of = k;
+        linked = t.behind.linked;
+        starts = e;
+        links_fit = omega (arith, judged_room.links_fit);
+        members_fit = omega (arith, judged_room.members_fit);
+        places = λ j l. omega (arith, members-within t.behind.laid t.behind.noted j l, judged_inside);
+      }
+
+  pub judged_alive : (k : ℕ) {start : Option ℕ} → start ≡ last M k c.before → LiveChain (rows_in s b) (total s) L M start
+  unfolding judged_chain
+  judged_alive k e = record { chain = judged_chain k e; lives = λ j l. member_at t.behind.laid t.behind.noted j l }
+
 one_more : (M : List ℕ) {M' : List ℕ} (m : ℕ) {n q : ℕ} → n < length M → q ≡ n + 1 → M' ≡ set M n m → take q M' ≡ take n M ++ (m ∷ [])
 one_more M m {n} few e f = ap₂ take (e ∙ add-one n) f ∙ take-suc-set M n m few
 
@@ -281,8 +315,8 @@ module _ {R : List Row} {at kind v : ℕ} (row_is : LiteralRow R at kind) (v-is 
     hash-is e = e ∙ ap₂ literal_mix sign-is variable_is
 
     -- none of its variable is before it
-    pub judged-new : {p m : ℕ} {M' : List ℕ} (o : Op) → p ≡ literal_mix (4 - kind) v → Passed M n (bucket p) (Test R M v) End
-        → m ≡ member_of at p → M' ≡ set M n m → n < length M → Judged R R M' from at done x o (Members (n + 1))
+    pub judged-new : {p m : ℕ} {M' : List ℕ} (o : Op) → p ≡ literal_mix (4 - kind) v → Passed M n (bucket p) (Test R M v) None
+        → m ≡ member_of at p → M' ≡ set M n m → n < length M → Judged R R M' from at done x o (Some (n + 1))
     unfolding note kept_same
     judged-new {p} {m} {M'} o p_is passed m-is M-is few =
         record {
@@ -316,7 +350,7 @@ module _ {R : List Row} {at kind v : ℕ} (row_is : LiteralRow R at kind) (v-is 
 
     -- one of the same kind is
     pub judged-again : {j : ℕ} {R' : List Row} (o : Op) → j < n → Test R M v j → (at_row R (row_of (get_or M j 0))).kind ≡ kind
-        → R' ≡ set R at (row 0 1) → Unopposed us → Judged R R' M from at done x o (Members n)
+        → R' ≡ set R at (row 0 1) → Unopposed us → Judged R R' M from at done x o (Some n)
     unfolding head inner live grown keep repeated note
     judged-again {j} {R'} o l t k R-is two =
         let again : repeated us literal-tree ≡ true = member-row j l t b.sign_of (k ∙ kind-sign) in
@@ -332,7 +366,7 @@ module _ {R : List Row} {at kind v : ℕ} (row_is : LiteralRow R at kind) (v-is 
 
     -- one of the other kind is
     pub judged-opposite : {j : ℕ} (o : Op) → j < n → Test R M v j → ((at_row R (row_of (get_or M j 0))).kind ≡ kind → ⊥)
-        → Judged R R M from at done x o Decides
+        → Judged R R M from at done x o None
     judged-opposite {j} o l t k =
         judged_decided h
         (tested (decisive o us) ∙ decisive-found o us b.sign_of b.variable (member-row j l t (not b.sign_of) other))
@@ -412,8 +446,8 @@ module _ {R : List Row} {at from n : ℕ} {M : List ℕ} {before after : List Ro
   operator_tested P = ap (some_child P) tree-there ∙ or-false (P t)
 
   -- none is the same
-  pub operator_new : {m : ℕ} {M' : List ℕ} → m ≡ member_of at (hash t) → Passed M n (bucket m) (λ j. Duplicate R (get_or M j 0) t) End
-      → M' ≡ set M n m → n < length M → Judged R R M' from at done x o (Members (n + 1))
+  pub operator_new : {m : ℕ} {M' : List ℕ} → m ≡ member_of at (hash t) → Passed M n (bucket m) (λ j. Duplicate R (get_or M j 0) t) None
+      → M' ≡ set M n m → n < length M → Judged R R M' from at done x o (Some (n + 1))
   unfolding kept_same repeated
   operator_new {m} {M'} m-is passed M-is few =
       record {
@@ -436,7 +470,7 @@ module _ {R : List Row} {at from n : ℕ} {M : List ℕ} {before after : List Ro
 
   -- one is
   pub operator_again : {j q : ℕ} {R' : List Row} → j < n → q ≡ at → Same R (row_of (get_or M j 0)) q true → R' ≡ set R at (row 0 (size x))
-      → Judged R R' M from at done x o (Members n)
+      → Judged R R' M from at done x o (Some n)
   unfolding head inner live grown note
   operator_again {j} {R' = R'} l q-is d R-is =
       record {

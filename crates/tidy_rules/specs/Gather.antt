@@ -1,6 +1,6 @@
 -- Rules 1 to 5 at an operator's children ("Tidy sheets"): how many there are is known, where they end is not.
 -- Assumes nothing.
-use Rattle.std.specs.Prelude.{◌≡◌, true, false, List, ◌⊎◌, ℕ, ◌+◌, ◌-◌, ◌≤◌, ◌<◌, length, set, take}
+use Rattle.std.specs.Prelude.{◌≡◌, true, false, List, ◌⊎◌, ℕ, ◌+◌, ◌-◌, ◌≤◌, ◌<◌, length, set, take, Option, Some, None}
 use Rattle.formula.specs.Tree.{Op, same_op, lit, node, Forest, ∅, ◌▸◌, some_child, count}
 use Rattle.formula.specs.Tidy.{is_op, same_tree, splice, decides, firsts}
 use Rattle.sheet.specs.Format.{Bytes, Row, row}
@@ -8,8 +8,6 @@ use Rattle.sheet.specs.Sheet.{operator_kind, front, behind}
 use Rattle.rows.specs.Layouts.{Fits, total, rows_in, Room}
 use Rattle.buckets.specs.Halves.{children_of}
 use Rattle.tidy_rules.specs.declared.rules.Children.{Children}
-use Rattle.tidy_rules.specs.declared.rules.Judgement.{Judgement}
-use Rattle.tidy_rules.specs.declared.rules.Judgement.TheVariants.{Decides, Members}
 use Rattle.tidy_rules.specs.declared.rules.RulesOutcome.{RulesOutcome}
 use Rattle.tidy_rules.specs.declared.rules.RulesOutcome.TheVariants.{Decided, Left}
 use Rattle.tidy_rules.specs.Segments.{Segments, ◌⊕◌, live, Laid, Here}
@@ -22,9 +20,9 @@ abbrev pub end_of : RulesOutcome → ℕ
 end_of (Decided end) = end
 end_of (Left end n hash) = end
 
-abbrev pub judgement_of : RulesOutcome → Judgement
-judgement_of (Decided end) = Decides
-judgement_of (Left end n hash) = Members n
+abbrev pub judgement_of : RulesOutcome → Option ℕ
+judgement_of (Decided end) = None
+judgement_of (Left end n hash) = Some n
 
 -- a child of this kind has no child of this kind, as it is tidied
 unfoldable pub Flat : Op → Forest → Type 0
@@ -63,17 +61,17 @@ pub record ToGather (w : Children) (b : Bytes) (H L M K : List ℕ) : Type 0 whe
 
 -- The first trees, ts, have become what the rules leave of them, up to row `end`, and the others, us, are as they were. Either ts decide
 -- the operator, or those left are the members.
-pub record Gathered (R : List Row) (K M : List ℕ) (from end to : ℕ) (before after : List Row) (o : Op) (ts us : Forest) (j : Judgement) : Type 0 where
+pub record Gathered (R : List Row) (K M : List ℕ) (from end to : ℕ) (before after : List Row) (o : Op) (ts us : Forest) (j : Option ℕ) : Type 0 where
   pub first : Segments
   pub others : Segments
   pub here : Here R from end to before first others after
   pub others_are : live others ≡ us
   pub told : AllTold K from (first ⊕ others)
   pub decided_is : is_decided j ≡ decides o (splice o ts)
-  pub reads : (n : ℕ) → j ≡ Members n → live first ≡ firsts same_tree (splice o ts)
-  pub noted : (n : ℕ) → j ≡ Members n → take n M ≡ notes from first
+  pub reads : (n : ℕ) → j ≡ Some n → live first ≡ firsts same_tree (splice o ts)
+  pub noted : (n : ℕ) → j ≡ Some n → take n M ≡ notes from first
 
-abbrev pub Gathers : List Row → List Row → List ℕ → List ℕ → ℕ → ℕ → ℕ → ℕ → ℕ → Judgement → Type 0
+abbrev pub Gathers : List Row → List Row → List ℕ → List ℕ → ℕ → ℕ → ℕ → ℕ → ℕ → Option ℕ → Type 0
 Gathers R R' K M from end to owed kind j =
     (before : List Row) (bs : Segments) (after : List Row) → Laid R from to before bs after → AllTold K from bs → owed ≤ count (live bs)
     → (o : Op) → kind ≡ operator_kind o → Flat o (front owed (live bs))

@@ -1,6 +1,6 @@
 -- Rules 2 to 5 at an operator's children ("Tidy sheets"), one child after another.
 -- Assumes nothing.
-use Rattle.std.specs.Prelude.{◌≡◌, Bool, true, false, not, ◌&&◌, ◌||◌, List, [], ◌∷◌, ◌++◌, ◌⊎◌, ℕ, ◌+◌, ◌≤◌, ◌<◌, eqb, leb, length, get_or, set, take}
+use Rattle.std.specs.Prelude.{◌≡◌, Bool, true, false, not, ◌&&◌, ◌||◌, List, [], ◌∷◌, ◌++◌, ◌⊎◌, ℕ, ◌+◌, ◌≤◌, ◌<◌, eqb, leb, length, get_or, set, take, Option, Some, None}
 use Rattle.formula.specs.Tree.{Op, dual, Tree, node, Forest, some_child, some_two, keep}
 use Rattle.formula.specs.Tidy.{is_empty, opposite, same_tree}
 use Rattle.sheet.specs.Format.{Bytes, Row}
@@ -11,11 +11,7 @@ use Rattle.buckets.specs.Chains.{last, Linked, Passed}
 use Rattle.buckets.specs.Chains as chains
 use Rattle.buckets.specs.Halves.{member_of, row_of, hash_of}
 use Rattle.buckets.specs.Hashes.{literal_mix, sign, mix, hash}
-use Rattle.buckets.specs.declared.Link.{Link}
-use Rattle.buckets.specs.declared.Link.TheVariants as link
 use Rattle.tidy_rules.specs.declared.rules.Child.{Child}
-use Rattle.tidy_rules.specs.declared.rules.Judgement.{Judgement}
-use Rattle.tidy_rules.specs.declared.rules.Judgement.TheVariants as judgement
 use Rattle.tidy_rules.specs.Segments.{Segment, gone, literal, operator, Segments, none, ◌◂◌, head, inner, size, live, Laid, Stands, Standing}
 use Rattle.tidy_rules.specs.Walks.{at_row}
 use Rattle.tidy_rules.specs.Entered.{LiveAt, Same}
@@ -70,7 +66,7 @@ abbrev pub literal_test : Row → ℕ → Bool
 literal_test r x = leb r.kind 4 && eqb r.argument x
 
 -- a chain of members that stand in rows, from its first on
-pub record Chain (rows : ℕ) (L M : List ℕ) (start : Link) : Type 0 where
+pub record Chain (rows : ℕ) (L M : List ℕ) (start : Option ℕ) : Type 0 where
   pub heads : List ℕ
   pub count : ℕ
   pub bucket_of : ℕ
@@ -85,18 +81,18 @@ pub record Found (n : ℕ) (Sought : ℕ → Type 0) (i : ℕ) : Type 0 where
   pub within : i < n
   pub passes : Sought i
 
-abbrev pub Tells : List ℕ → ℕ → ℕ → (ℕ → Type 0) → (ℕ → Type 0) → Link → Type 0
-Tells M n k Test Sought link.End = Passed M n k Test link.End
-Tells M n k Test Sought (link.Member i) = Found n Sought i
+abbrev pub Tells : List ℕ → ℕ → ℕ → (ℕ → Type 0) → (ℕ → Type 0) → Option ℕ → Type 0
+Tells M n k Test Sought None = Passed M n k Test None
+Tells M n k Test Sought (Some i) = Found n Sought i
 
-pub record Seeks (L M : List ℕ) (start : Link) (Test Sought : ℕ → Type 0) (l : Link) : Type 0 where
+pub record Seeks (L M : List ℕ) (start : Option ℕ) (Test Sought : ℕ → Type 0) (l : Option ℕ) : Type 0 where
   pub tells : (H : List ℕ) (n k : ℕ) → Linked H L M n → start ≡ last M k n → Tells M n k Test Sought l
 
 -- a literal of this variable
 abbrev pub Test : List Row → List ℕ → ℕ → ℕ → Type 0
 Test R M x j = literal_test (at_row R (row_of (get_or M j 0))) x ≡ true
 
-abbrev pub Finds : List Row → List ℕ → List ℕ → Link → ℕ → Link → Type 0
+abbrev pub Finds : List Row → List ℕ → List ℕ → Option ℕ → ℕ → Option ℕ → Type 0
 Finds R L M start x l = Seeks L M start (Test R M x) (Test R M x) l
 
 -- a live segment's row and the hash of its tree
@@ -113,12 +109,12 @@ abbrev pub Duplicates : List Row → ℕ → ℕ → Bool → Type 0
 Duplicates R t m same =
     ((same ≡ true) × Same R (row_of t) (row_of m) true) ⊎ ((same ≡ false) × ((w : Member R m) → Duplicate R t w.lives.tree → ⊥))
 
-abbrev pub FindsDuplicate : List Row → List ℕ → List ℕ → Link → ℕ → Link → Type 0
+abbrev pub FindsDuplicate : List Row → List ℕ → List ℕ → Option ℕ → ℕ → Option ℕ → Type 0
 FindsDuplicate R L M start m l =
     (w : Member R m) → Seeks L M start (λ j. Duplicate R (get_or M j 0) w.lives.tree) (λ j. Same R (row_of (get_or M j 0)) (row_of m) true) l
 
 -- members that are live segments
-pub record LiveChain (R : List Row) (rows : ℕ) (L M : List ℕ) (start : Link) : Type 0 where
+pub record LiveChain (R : List Row) (rows : ℕ) (L M : List ℕ) (start : Option ℕ) : Type 0 where
   pub chain : Chain rows L M start
   pub lives : (j : ℕ) → j < chain.count → LiveAt R (row_of (get_or M j 0))
 
@@ -156,31 +152,31 @@ pub record Kept (R R' : List Row) (at : ℕ) (x : Segment) : Type 0 where
   pub same_rows : inner segment ≡ inner x
   pub tells : (K : List ℕ) → Told K at x → Told K at segment
 
--- whether the node is decided
-abbrev pub is_decided : Judgement → Bool
-is_decided judgement.Decides = true
-is_decided (judgement.Members n) = false
+-- whether the node is decided: the rules make of a child none if it decides the node, else the number of members now
+abbrev pub is_decided : Option ℕ → Bool
+is_decided None = true
+is_decided (Some n) = false
 
 -- rules 2 to 5 at a segment behind others: whether it decides the node; if it doesn't, what it has become, and the members now
-pub record Judged (R R' : List Row) (M' : List ℕ) (from at : ℕ) (done : Segments) (x : Segment) (o : Op) (j : Judgement) : Type 0 where
+pub record Judged (R R' : List Row) (M' : List ℕ) (from at : ℕ) (done : Segments) (x : Segment) (o : Op) (j : Option ℕ) : Type 0 where
   pub decided_is : is_decided j ≡ some_child (decisive o (live done)) (live (x ◂ none))
   pub kept : Kept R R' at x
-  pub holds : (n : ℕ) → j ≡ judgement.Members n → live (kept.segment ◂ none) ≡ new (live done) (live (x ◂ none))
-  pub noted : (n : ℕ) → j ≡ judgement.Members n → take n M' ≡ notes from done ++ note at kept.segment
+  pub holds : (n : ℕ) → j ≡ Some n → live (kept.segment ◂ none) ≡ new (live done) (live (x ◂ none))
+  pub noted : (n : ℕ) → j ≡ Some n → take n M' ≡ notes from done ++ note at kept.segment
 
-abbrev pub JudgesFor : List Row → List Row → ℕ → ℕ → ℕ → List ℕ → List ℕ → Judgement → Op → Type 0
+abbrev pub JudgesFor : List Row → List Row → ℕ → ℕ → ℕ → List ℕ → List ℕ → Option ℕ → Op → Type 0
 JudgesFor R R' at known n M M' j o =
     (from : ℕ) (before : List Row) (done : Segments) (after : List Row) → Laid R from at before done after → Noted M n from done
     → Unopposed (live done) → (front : List Row) (x : Segment) (back : List Row) → Stands R at front x back → Says known x
     → Judged R R' M' from at done x o j
 
-abbrev pub JudgesAs : List Row → List Row → ℕ → ℕ → ℕ → List ℕ → List ℕ → Judgement → Type 0
+abbrev pub JudgesAs : List Row → List Row → ℕ → ℕ → ℕ → List ℕ → List ℕ → Option ℕ → Type 0
 JudgesAs R R' at known n M M' j = (o : Op) → JudgesFor R R' at known n M M' j o
 
-abbrev pub Judges : List Row → List Row → ℕ → ℕ → ℕ → ℕ → List ℕ → List ℕ → Judgement → Type 0
+abbrev pub Judges : List Row → List Row → ℕ → ℕ → ℕ → ℕ → List ℕ → List ℕ → Option ℕ → Type 0
 Judges R R' at kind known n M M' j = (o : Op) → kind ≡ operator_kind o → JudgesFor R R' at known n M M' j o
 
 -- the tables link the members that there are now, at most one more than before
-pub record LinkedNow (H L M : List ℕ) (before : ℕ) (j : Judgement) : Type 0 where
-  pub linked : (n : ℕ) → j ≡ judgement.Members n → Linked H L M n
-  pub few : (n : ℕ) → j ≡ judgement.Members n → n ≤ before + 1
+pub record LinkedNow (H L M : List ℕ) (before : ℕ) (j : Option ℕ) : Type 0 where
+  pub linked : (n : ℕ) → j ≡ Some n → Linked H L M n
+  pub few : (n : ℕ) → j ≡ Some n → n ≤ before + 1

@@ -14,10 +14,10 @@ use crate::same::same_at;
 use crate::walk::{extent_at, hop};
 use buckets::half::{children_of, hash_of, member_of, row_of};
 use buckets::hash::{literal_hash, mixed};
-use buckets::{Link, add, behind, bucket_of, first, large, member};
+use buckets::{add, behind, bucket_of, first, large, member};
 use rows::read::{argument_at, kind_at};
 use rows::write::set_row;
-use rows::{Layout, NEGATIVE, from_byte};
+use rows::{Layout, NEGATIVE};
 
 // A child: its row, its parent's kind, its entry of the table of operators, and how many members are before it. For a literal, `kind` is
 // its own.
@@ -36,13 +36,6 @@ pub struct Children {
     pub from: usize,
     pub owed: usize,
     pub kind: u8,
-}
-
-// What the rules make of a child: it decides the operator, or this is the number of members now.
-#[derive(Clone, Copy)]
-pub enum Judgement {
-    Decides,
-    Members(usize),
 }
 
 // What the rules make of all children, which end before row `end`: they decide the operator; or `count` members are left, and the operator
@@ -81,29 +74,33 @@ pub fn literal_of(b: &[u8], s: Layout, r: usize, x: usize) -> bool
     requires { Room s (length b.now) × (r < total s) }
     ensures { result ≡ literal_test (at_row (rows_in s b.now) r) x }
 {
-    if NEGATIVE < kind_at(b, s, r) {
-        return false;
-    }
-    argument_at(b, s, r) == x
+    kind_at(b, s, r) <= NEGATIVE && argument_at(b, s, r) == x
 }
 
 // A member on this chain that is a literal of the variable `x`.
-pub fn find(b: &[u8], s: Layout, links: &[u16], members: &[u32], start: Link, x: usize) -> Link
+pub fn find(
+    b: &[u8],
+    s: Layout,
+    links: &[u16],
+    members: &[u32],
+    start: Option<usize>,
+    x: usize,
+) -> Option<usize>
     requires { Room s (length b.now) × Chain (total s) links.now members.now start }
     ensures { Finds (rows_in s b.now) links.now members.now start x result }
 {
     let mut link = start;
-    while let Link::Member(i) = link {
+    while let Some(i) = link {
         if literal_of(b, s, row_of(member(members, i)), x) {
-            return Link::Member(i);
+            return Some(i);
         }
         link = behind(links, i);
     }
-    Link::End
+    None
 }
 
-// Rules 3 and 4 at a literal. A literal equal to a member goes. It can't decide the operator: no member is opposite to the member that it
-// equals.
+// Rules 3 and 4 at a literal: how many members there are now, or none if it decides the operator. A literal equal to a member goes. It can't
+// decide the operator: no member is opposite to the member that it equals.
 pub fn judge_literal(
     b: &mut [u8],
     s: Layout,
@@ -111,26 +108,24 @@ pub fn judge_literal(
     heads: &mut [u16],
     links: &mut [u16],
     members: &mut [u32],
-) -> Judgement
+) -> Option<usize>
     requires { ToJudge s b.old c heads.old links.old members.old × LiteralRow (rows_in s b.old) c.at c.kind }
     ensures judges_as { JudgesAs (rows_in s b.old) (rows_in s b.new) c.at c.known c.before members.old members.new result }
     ensures linked_now { LinkedNow heads.new links.new members.new c.before result }
 {
-    let at = c.at;
-    let n = c.before;
-    let x = argument_at(b, s, at);
-    let p = literal_hash(from_byte(NEGATIVE - c.kind), x);
-    let start = first(heads, members, n, bucket_of(p));
-    let Link::Member(i) = find(b, s, links, members, start, x) else {
-        add(heads, links, members, n, member_of(at, p));
-        return Judgement::Members(n + 1);
+    let x = argument_at(b, s, c.at);
+    let p = literal_hash(usize::from(NEGATIVE - c.kind), x);
+    let start = first(heads, members, c.before, bucket_of(p));
+    let Some(i) = find(b, s, links, members, start, x) else {
+        add(heads, links, members, c.before, member_of(c.at, p));
+        return Some(c.before + 1);
     };
     let r = row_of(member(members, i));
     if kind_at(b, s, r) != c.kind {
-        return Judgement::Decides;
+        return None;
     }
-    set_row(b, s, at, GONE, 1);
-    Judgement::Members(n)
+    set_row(b, s, c.at, GONE, 1);
+    Some(c.before)
 }
 
 // Rule 2: whether the operator is empty, and of another kind than its parent.
@@ -138,10 +133,7 @@ pub fn decides_at(b: &[u8], s: Layout, c: Child) -> bool
     requires { Room s (length b.now) × (c.at < total s) × (4 < (at_row (rows_in s b.now) c.at).kind) }
     ensures { Decides (rows_in s b.now) c.at c.kind c.known result }
 {
-    if kind_at(b, s, c.at) == c.kind {
-        return false;
-    }
-    children_of(c.known) == 0
+    kind_at(b, s, c.at) != c.kind && children_of(c.known) == 0
 }
 
 // Whether two members are the same tree. Rows are compared only if the hashes are equal.
@@ -149,10 +141,7 @@ pub fn are_duplicates(b: &[u8], s: Layout, t: usize, m: usize) -> bool
     requires { Room s (length b.now) × LiveAt (rows_in s b.now) (row_of t) × LiveAt (rows_in s b.now) (row_of m) }
     ensures { Duplicates (rows_in s b.now) t m result }
 {
-    if hash_of(t) != hash_of(m) {
-        return false;
-    }
-    same_at(b, s, row_of(t), row_of(m))
+    hash_of(t) == hash_of(m) && same_at(b, s, row_of(t), row_of(m))
 }
 
 // A member on this chain that is the same tree as the member `m`.
@@ -161,23 +150,23 @@ pub fn find_duplicate(
     s: Layout,
     links: &[u16],
     members: &[u32],
-    start: Link,
+    start: Option<usize>,
     m: usize,
-) -> Link
+) -> Option<usize>
     requires { Room s (length b.now) × LiveChain (rows_in s b.now) (total s) links.now members.now start × Member (rows_in s b.now) m }
     ensures { FindsDuplicate (rows_in s b.now) links.now members.now start m result }
 {
     let mut link = start;
-    while let Link::Member(i) = link {
+    while let Some(i) = link {
         if are_duplicates(b, s, member(members, i), m) {
-            return Link::Member(i);
+            return Some(i);
         }
         link = behind(links, i);
     }
-    Link::End
+    None
 }
 
-// Rules 2 and 5 at an operator. An operator equal to a member goes.
+// Rules 2 and 5 at an operator: how many members there are now, or none if it decides the one above. An operator equal to a member goes.
 pub fn judge_operator(
     b: &mut [u8],
     s: Layout,
@@ -185,28 +174,26 @@ pub fn judge_operator(
     heads: &mut [u16],
     links: &mut [u16],
     members: &mut [u32],
-) -> Judgement
+) -> Option<usize>
     requires { ToJudge s b.old c heads.old links.old members.old × (4 < (at_row (rows_in s b.old) c.at).kind) }
     ensures judges { Judges (rows_in s b.old) (rows_in s b.new) c.at c.kind c.known c.before members.old members.new result }
     ensures linked_now { LinkedNow heads.new links.new members.new c.before result }
 {
-    let at = c.at;
-    let n = c.before;
     if decides_at(b, s, c) {
-        return Judgement::Decides;
+        return None;
     }
-    let m = member_of(at, hash_of(c.known));
-    let start = first(heads, members, n, bucket_of(m));
-    let Link::Member(_) = find_duplicate(b, s, links, members, start, m) else {
-        add(heads, links, members, n, m);
-        return Judgement::Members(n + 1);
-    };
-    let rows = argument_at(b, s, at);
-    set_row(b, s, at, GONE, rows);
-    Judgement::Members(n)
+    let m = member_of(c.at, hash_of(c.known));
+    let start = first(heads, members, c.before, bucket_of(m));
+    if find_duplicate(b, s, links, members, start, m).is_none() {
+        add(heads, links, members, c.before, m);
+        return Some(c.before + 1);
+    }
+    let rows = argument_at(b, s, c.at);
+    set_row(b, s, c.at, GONE, rows);
+    Some(c.before)
 }
 
-// Rules 2 to 5 at a child.
+// Rules 2 to 5 at a child: how many members there are now, or none if it decides the operator.
 pub fn judge(
     b: &mut [u8],
     s: Layout,
@@ -214,24 +201,17 @@ pub fn judge(
     heads: &mut [u16],
     links: &mut [u16],
     members: &mut [u32],
-) -> Judgement
+) -> Option<usize>
     requires { ToJudge s b.old c heads.old links.old members.old }
     ensures judges { Judges (rows_in s b.old) (rows_in s b.new) c.at c.kind c.known c.before members.old members.new result }
     ensures linked_now { LinkedNow heads.new links.new members.new c.before result }
 {
-    let at = c.at;
-    let k = kind_at(b, s, at);
+    let k = kind_at(b, s, c.at);
     if k == GONE {
-        return Judgement::Members(c.before);
+        return Some(c.before);
     }
     if k <= NEGATIVE {
-        let l = Child {
-            at: at,
-            kind: k,
-            known: c.known,
-            before: c.before,
-        };
-        return judge_literal(b, s, l, heads, links, members);
+        return judge_literal(b, s, Child { kind: k, ..c }, heads, links, members);
     }
     judge_operator(b, s, c, heads, links, members)
 }
@@ -268,18 +248,18 @@ pub fn gather(
     let mut at = w.from;
     let mut run = w.from;
     let mut n: usize = 0;
-    let mut hash = from_byte(w.kind);
+    let mut hash = usize::from(w.kind);
     let mut left = w.owed;
     while 0 < left {
         let c = Child {
-            at: at,
+            at,
             kind: w.kind,
             known: large(known[at]),
             before: n,
         };
         left = splice_at(b, s, c, left);
         let next = at + extent_at(b, s, at);
-        let Judgement::Members(count) = judge(b, s, c, heads, links, members) else {
+        let Some(count) = judge(b, s, c, heads, links, members) else {
             return RulesOutcome::Decided {
                 end: hop(b, s, next, left),
             };
@@ -292,6 +272,6 @@ pub fn gather(
     RulesOutcome::Left {
         end: at,
         count: n,
-        hash: hash,
+        hash,
     }
 }

@@ -26,10 +26,7 @@ pub fn row_same(b: &[u8], s: Layout, p: usize, q: usize) -> bool
     requires { Room s (length b.now) × Standing (rows_in s b.now) p × Standing (rows_in s b.now) q }
     ensures { SameRow (rows_in s b.now) p q result }
 {
-    if kind_at(b, s, p) != kind_at(b, s, q) {
-        return false;
-    }
-    argument_of(b, s, p) == argument_of(b, s, q)
+    kind_at(b, s, p) == kind_at(b, s, q) && argument_of(b, s, p) == argument_of(b, s, q)
 }
 
 // Whether the live segments at `p` and `q` are the same tree: compared row by row, without the dead segments.
@@ -42,10 +39,7 @@ pub fn same_at(b: &[u8], s: Layout, p: usize, q: usize) -> bool
     let mut i = p;
     let mut j = q;
     while i < to {
-        if end <= j {
-            return false;
-        }
-        if !row_same(b, s, i, j) {
+        if end <= j || !row_same(b, s, i, j) {
             return false;
         }
         i = first_live(b, s, i + 1, to);

@@ -14,10 +14,7 @@ pub fn extent_at(b: &[u8], s: Layout, r: usize) -> usize
     ensures { (result ≡ extent (at_row (rows_in s b.now) r)) × (result < 2 ^ 32) }
 {
     let k = kind_at(b, s, r);
-    if k == POSITIVE {
-        return 1;
-    }
-    if k == NEGATIVE {
+    if k == POSITIVE || k == NEGATIVE {
         return 1;
     }
     argument_at(b, s, r)
@@ -28,10 +25,7 @@ pub fn live_at(b: &[u8], s: Layout, r: usize) -> usize
     requires { Room s (length b.now) × (r < total s) }
     ensures { Alive (at_row (rows_in s b.now) r) result }
 {
-    if kind_at(b, s, r) == GONE {
-        return 0;
-    }
-    1
+    usize::from(kind_at(b, s, r) != GONE)
 }
 
 // The first row from `from` on that begins a live segment, or `to` where there is none.

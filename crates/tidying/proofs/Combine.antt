@@ -17,8 +17,7 @@ use Rattle.tidy_rules.specs.Segments.{Segments, ◌◂◌, ◌⊕◌, head, inne
 use Rattle.tidy_rules.specs.Segments as segments
 use Rattle.tidy_rules.specs.Gather.{end_of, judgement_of, Flat, ChildrenAt, Gathered, Gathers}
 use Rattle.tidy_rules.specs.Rules.{is_decided}
-use Rattle.tidy_rules.specs.declared.rules.Judgement.{Judgement}
-use Rattle.tidy_rules.specs.declared.rules.Judgement.TheVariants.{Decides, Members}
+use Rattle.std.specs.Prelude.{Option, None, Some}
 use Rattle.tidy_rules.specs.declared.rules.RulesOutcome.{RulesOutcome}
 use Rattle.tidy_rules.specs.declared.rules.RulesOutcome.TheVariants as outcome
 use Rattle.tidy_rules.specs.Known.{Told, AllTold}
@@ -122,10 +121,10 @@ ready_literal_at e l before x bs ts h = ready_literal (omega (arith, e, ap (λ (
 -- what is told of the outcome
 module _ {R R' : List Row} {K M : List ℕ} {from to owed kind : ℕ} {g : RulesOutcome}
     (gathers : Gathers R R' K M from (end_of g) to owed kind (judgement_of g)) where
-  pub gathers_decided : {end : ℕ} → g ≡ outcome.Decided end → Gathers R R' K M from end to owed kind Decides
+  pub gathers_decided : {end : ℕ} → g ≡ outcome.Decided end → Gathers R R' K M from end to owed kind None
   gathers_decided e = subst (λ q. Gathers R R' K M from (end_of q) to owed kind (judgement_of q)) e gathers
 
-  pub gathers_left : {end left hash : ℕ} → g ≡ outcome.Left end left hash → Gathers R R' K M from end to owed kind (Members left)
+  pub gathers_left : {end left hash : ℕ} → g ≡ outcome.Left end left hash → Gathers R R' K M from end to owed kind (Some left)
   gathers_left e = subst (λ q. Gathers R R' K M from (end_of q) to owed kind (judgement_of q)) e gathers
 
 -- An operator's row: its kind and its number of children as they were read.
@@ -136,9 +135,6 @@ module _ {R : List Row} {K : List ℕ} {r n k a : ℕ} (k-is : k ≡ (at_row R r
 
   argument_is : a ≡ x.argument
   argument_is = a-is ∙ ap (λ (q : Row). q.argument) (headed_row h.headed)
-
-  pub ready_few : k ≤ 6
-  ready_few = omega (arith, kind_is, h.node.1)
 
   ready_kind : OperatorKind k
   ready_kind = operator_of k l (omega (arith, kind_is, h.node.1))
@@ -174,7 +170,7 @@ module _ {R : List Row} {K : List ℕ} {r n k a : ℕ} (k-is : k ≡ (at_row R r
         flat = flat;
       }
 
-  module _ {R₁ : List Row} {M : List ℕ} {end : ℕ} {j : Judgement} (gathers : Gathers R R₁ K M (r + 1) end n a k j) where
+  module _ {R₁ : List Row} {M : List ℕ} {end : ℕ} {j : Option ℕ} (gathers : Gathers R R₁ K M (r + 1) end n a k j) where
     gathered : Gathered R₁ K M (r + 1) end n (before ++ (x ∷ [])) [] ready_kind.op kids (behind a (live bs)) j
     unfolding kids
     gathered = gathers (before ++ (x ∷ [])) bs [] (behind-row h.headed) h.told enough ready_kind.op ready_kind.is flat
@@ -224,13 +220,13 @@ module _ {R : List Row} {K : List ℕ} {r n k a : ℕ} (k-is : k ≡ (at_row R r
               sym (ap (λ y. tidy_all (grow y ts)) row_is ∙ tidy-grow_operator ready_kind.op a ts);
         }
 
-    pub ready-decided : {R₂ : List Row} {K₂ : List ℕ} → j ≡ Decides → Hollows R₁ R₂ K₂ r end (11 - k) → KeptBehind K K₂ r
+    pub ready-decided : {R₂ : List Row} {K₂ : List ℕ} → j ≡ None → Hollows R₁ R₂ K₂ r end (11 - k) → KeptBehind K K₂ r
         → Replaced R₂ K₂ r n before [] (tidy_all (grow x ts))
     ready-decided e f later =
         combined (f before x gathered.first behind-them headed (dual ready_kind.op) (dual-kind k ready_kind.op ready_kind.is)) later
         (combine_decided ready_kind.op kids (sym (ap is_decided e) ∙ gathered.decided_is))
 
-    module _ {left : ℕ} (u : j ≡ Members left) where
+    module _ {left : ℕ} (u : j ≡ Some left) where
       is_left : Left R₁ K M r end left before x gathered.first behind-them
       is_left =
           record { headed = headed; told = told_first K (r + 1) gathered.first gathered.others gathered.told; noted = gathered.noted left u }

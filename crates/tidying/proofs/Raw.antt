@@ -1,6 +1,6 @@
 -- Rows of a formula before they are tidied: a sheet's, and those that a caller has written.
 -- Assumes nothing.
-use mathlib.Core.Path.{◌≡◌, sym, ap, ◌∙◌, subst}
+use mathlib.Core.Path.{◌≡◌, sym, ap, ◌∙◌}
 use mathlib.Core.List.{◌++◌}
 use Prim.Native.Nat.{ℕ, ◌+◌, ◌≤◌}
 use native.Mathlib.Omega.{arith}
@@ -21,12 +21,8 @@ use Rattle.rows.proofs.Limits.{limits}
 use Rattle.rows.proofs.Layouts.{rows_in-++}
 use Rattle.rows.proofs.Formulas.{prefix_length, formula_written, written_is_formula}
 use Rattle.checking.specs.Sheets.{Sheet}
-use Rattle.checking.proofs.CheckedSheets.{sheet_format, sheet_right, sheet_readable, sheet-formula_in}
+use Rattle.checking.proofs.CheckedSheets.{sheet_right, sheet_readable, sheet-formula_in}
 use Rattle.tidying.specs.Limits.{Raw}
-
--- a sheet that Check accepts is one of its layout's format
-pub sheet_own : {f : Format} {b : Bytes} {s : Layout} → Sheet f b s → Sheet s.format b s
-sheet_own {f} {b} {s} h = subst (λ g. Sheet g b s) (sym (sheet_format h)) h
 
 -- the rows of either format have room in tables
 pub few_rows : (s : Layout) → s.variables ≤ (format_in s).most_variables → s.nodes ≤ (format_in s).most_nodes → total s ≤ ROWS + HIGHEST

@@ -14,10 +14,10 @@ ghost use Rattle.checking.specs.Sheets.{Sheet};
 ghost use Rattle.tidying.specs.Limits.{Raw};
 
 use crate::tables::tidy_rows;
-use checking::{Checked, Written, check};
+use checking::check;
 use rows::bytes::copy_front;
 use rows::fit::sheet_length;
-use rows::refusals::NO_ROOM;
+use rows::refusals::Refusal;
 use rows::{Format, Layout};
 
 pub mod operator;
@@ -46,27 +46,23 @@ pub fn tidy_into(source: &[u8], s: Layout, out: &mut [u8]) -> Layout
 }
 
 // Tidies a sheet that Check accepts, of this layout: 13 output shorter than the sheet.
-fn tidy_checked(sheet: &[u8], s: Layout, out: &mut [u8]) -> Written
+fn tidy_checked(sheet: &[u8], s: Layout, out: &mut [u8]) -> Result<usize, Refusal>
     requires { Sheet s.format sheet.now s }
     ensures { wrote result out.new ≡ tidy_call (format_in s) sheet.now out.old }
 {
     if out.len() < sheet.len() {
-        return Written::Refused(NO_ROOM, 0);
+        return Err(Refusal::NoRoom);
     }
     let t = tidy_into(sheet, s, out);
-    let f = t.format;
-    Written::Accepted(sheet_length(f, t.variables, t.nodes))
+    Ok(sheet_length(t.format, t.variables, t.nodes))
 }
 
 // Writes the tidied sheet to the front of `out`, with zeros behind it, and returns its length; or refuses the sheet or the output,
 // and alters nothing.
-pub fn tidy(sheet: &[u8], f: Format, out: &mut [u8]) -> Written
+pub fn tidy(sheet: &[u8], f: Format, out: &mut [u8]) -> Result<usize, Refusal>
     ensures out_after { wrote result out.new ≡ tidy_call (format_of f) sheet.now out.old }
     ensures truthful_sheet { TruthfulSheet (format_of f) (truth_of (format_of f) sheet.now) (wrote result out.new) }
 {
-    let c = check(sheet, f);
-    match c {
-        Checked::Accepted(s) => tidy_checked(sheet, s, out),
-        Checked::Refused(number, place) => Written::Refused(number, place),
-    }
+    let s = check(sheet, f)?;
+    tidy_checked(sheet, s, out)
 }

@@ -10,7 +10,7 @@ use buckets::half::{known_of, row_of};
 use buckets::member;
 use rows::read::{argument_at, kind_at};
 use rows::write::set_row;
-use rows::{AND, Layout, NEGATIVE, OR, from_byte};
+use rows::{AND, Layout, NEGATIVE, OR};
 use tidy_rules::GONE;
 use tidy_rules::rules::{Children, RulesOutcome, gather};
 
@@ -40,7 +40,7 @@ pub fn hollow(b: &mut [u8], s: Layout, r: usize, kind: u8, end: usize, known: &m
     ensures kept_behind { KeptBehind known.old known.new r }
 {
     set_row(b, s, r, kind, end - r);
-    known[r] = known_of(0, from_byte(kind)) as u32;
+    known[r] = known_of(0, usize::from(kind)) as u32;
     if r + 1 < end {
         set_row(b, s, r + 1, GONE, end - r - 1);
     }
@@ -52,22 +52,25 @@ pub fn conclude(b: &mut [u8], n: Node, members: &[u32], known: &mut [u32])
     ensures concludes_in { ConcludesIn n b.old b.new known.old known.new members.now }
     ensures kept_behind { KeptBehind known.old known.new n.row }
 {
-    let s = n.sheet;
-    let r = n.row;
-    let kind = n.kind;
-    let end = n.end;
-    let left = n.left;
-    if left == 0 {
-        hollow(b, s, r, kind, end, known);
-        return;
+    let Node {
+        sheet: s,
+        row: r,
+        kind,
+        end,
+        left,
+        hash,
+    } = n;
+    match left {
+        0 => hollow(b, s, r, kind, end, known),
+        1 => {
+            let child = row_of(member(members, 0));
+            set_row(b, s, r, GONE, child - r);
+        }
+        _ => {
+            set_row(b, s, r, kind, end - r);
+            known[r] = known_of(left, hash) as u32;
+        }
     }
-    if left == 1 {
-        let child = row_of(member(members, 0));
-        set_row(b, s, r, GONE, child - r);
-        return;
-    }
-    set_row(b, s, r, kind, end - r);
-    known[r] = known_of(left, n.hash) as u32;
 }
 
 // All six rules at a row; the trees behind it are already tidied.
@@ -82,8 +85,7 @@ pub fn combine(
     requires { InPlace p.sheet b.old known.old × Tables p.sheet heads.old links.old members.old × ReadyAt (rows_in p.sheet b.old) known.old p.row (total p.sheet) }
     ensures { Combines (rows_in p.sheet b.old) (rows_in p.sheet b.new) known.old known.new p.row (total p.sheet) }
 {
-    let s = p.sheet;
-    let r = p.row;
+    let OperatorPlace { sheet: s, row: r } = p;
     let kind = kind_at(b, s, r);
     if kind <= NEGATIVE {
         return;
@@ -92,7 +94,7 @@ pub fn combine(
         sheet: s,
         from: r + 1,
         owed: argument_at(b, s, r),
-        kind: kind,
+        kind,
     };
     match gather(b, w, heads, links, members, known) {
         RulesOutcome::Decided { end } => hollow(b, s, r, AND + OR - kind, end, known),
@@ -100,10 +102,10 @@ pub fn combine(
             let n = Node {
                 sheet: s,
                 row: r,
-                kind: kind,
-                end: end,
+                kind,
+                end,
                 left: count,
-                hash: hash,
+                hash,
             };
             conclude(b, n, members, known);
         }
@@ -122,9 +124,7 @@ pub fn tidy_each(
     requires { InPlace s b.old known.old × Tables s heads.old links.old members.old × Preorder (drop s.variables (rows_in s b.old)) }
     ensures { Tidies (rows_in s b.old) (rows_in s b.new) known.new s.variables (total s) }
 {
-    let mut r = s.variables + s.nodes;
-    while s.variables < r {
-        r -= 1;
+    for r in (s.variables..s.variables + s.nodes).rev() {
         let p = OperatorPlace { sheet: s, row: r };
         combine(b, p, heads, links, members, known);
     }

@@ -27,107 +27,21 @@ pub fn tidy_by(
     tidy_each(b, s, heads, links, members, known);
     let rows = pack(b, s, known);
     seal(b, s, rows);
-    let f = s.format;
     Layout {
-        format: f,
-        variables: s.variables,
         nodes: rows - s.variables,
+        ..s
     }
 }
 
-// The same for 256 rows at most, with tables of zeros.
-fn tidy_256(b: &mut [u8], s: Layout) -> Layout
-    requires { Raw s b.old × (total s ≤ 256) }
+// The same for `ROWS` rows at most, with tables of zeros.
+fn tidy_within<const ROWS: usize>(b: &mut [u8], s: Layout) -> Layout
+    requires { Raw s b.old × (total s ≤ ROWS) × (ROWS ≤ 9216) }
     ensures { Leaves s b.old b.new result }
 {
     let mut heads = [0u16; BUCKETS];
-    let mut links = [0u16; 256];
-    let mut members = [0u32; 256];
-    let mut known = [0u32; 256];
-    tidy_by(b, s, &mut heads, &mut links, &mut members, &mut known)
-}
-
-// The same for 512 rows at most.
-fn tidy_512(b: &mut [u8], s: Layout) -> Layout
-    requires { Raw s b.old × (total s ≤ 512) }
-    ensures { Leaves s b.old b.new result }
-{
-    let mut heads = [0u16; BUCKETS];
-    let mut links = [0u16; 512];
-    let mut members = [0u32; 512];
-    let mut known = [0u32; 512];
-    tidy_by(b, s, &mut heads, &mut links, &mut members, &mut known)
-}
-
-// The same for 1,024 rows at most.
-fn tidy_1024(b: &mut [u8], s: Layout) -> Layout
-    requires { Raw s b.old × (total s ≤ 1024) }
-    ensures { Leaves s b.old b.new result }
-{
-    let mut heads = [0u16; BUCKETS];
-    let mut links = [0u16; 1024];
-    let mut members = [0u32; 1024];
-    let mut known = [0u32; 1024];
-    tidy_by(b, s, &mut heads, &mut links, &mut members, &mut known)
-}
-
-// The same for 1,536 rows at most.
-fn tidy_1536(b: &mut [u8], s: Layout) -> Layout
-    requires { Raw s b.old × (total s ≤ 1536) }
-    ensures { Leaves s b.old b.new result }
-{
-    let mut heads = [0u16; BUCKETS];
-    let mut links = [0u16; 1536];
-    let mut members = [0u32; 1536];
-    let mut known = [0u32; 1536];
-    tidy_by(b, s, &mut heads, &mut links, &mut members, &mut known)
-}
-
-// The same for 2,048 rows at most.
-fn tidy_2048(b: &mut [u8], s: Layout) -> Layout
-    requires { Raw s b.old × (total s ≤ 2048) }
-    ensures { Leaves s b.old b.new result }
-{
-    let mut heads = [0u16; BUCKETS];
-    let mut links = [0u16; 2048];
-    let mut members = [0u32; 2048];
-    let mut known = [0u32; 2048];
-    tidy_by(b, s, &mut heads, &mut links, &mut members, &mut known)
-}
-
-// The same for 3,072 rows at most.
-fn tidy_3072(b: &mut [u8], s: Layout) -> Layout
-    requires { Raw s b.old × (total s ≤ 3072) }
-    ensures { Leaves s b.old b.new result }
-{
-    let mut heads = [0u16; BUCKETS];
-    let mut links = [0u16; 3072];
-    let mut members = [0u32; 3072];
-    let mut known = [0u32; 3072];
-    tidy_by(b, s, &mut heads, &mut links, &mut members, &mut known)
-}
-
-// The same for 4,352 rows at most.
-fn tidy_4352(b: &mut [u8], s: Layout) -> Layout
-    requires { Raw s b.old × (total s ≤ 4352) }
-    ensures { Leaves s b.old b.new result }
-{
-    let mut heads = [0u16; BUCKETS];
-    let mut links = [0u16; 4352];
-    let mut members = [0u32; 4352];
-    let mut known = [0u32; 4352];
-    tidy_by(b, s, &mut heads, &mut links, &mut members, &mut known)
-}
-
-// The same for 9,216 rows at most.
-fn tidy_9216(b: &mut [u8], s: Layout) -> Layout
-    requires { Raw s b.old }
-    ensures { Leaves s b.old b.new result }
-{
-    let mut heads = [0u16; BUCKETS];
-    let mut links = [0u16; 9216];
-    let mut members = [0u32; 9216];
-    let mut known = [0u32; 9216];
+    let mut links = [0u16; ROWS];
+    let mut members = [0u32; ROWS];
+    let mut known = [0u32; ROWS];
     tidy_by(b, s, &mut heads, &mut links, &mut members, &mut known)
 }
 
@@ -136,27 +50,14 @@ pub fn tidy_rows(b: &mut [u8], s: Layout) -> Layout
     requires { Raw s b.old }
     ensures { Leaves s b.old b.new result }
 {
-    let rows = s.variables + s.nodes;
-    if rows <= 256 {
-        return tidy_256(b, s);
+    match s.variables + s.nodes {
+        ..=256 => tidy_within::<256>(b, s),
+        ..=512 => tidy_within::<512>(b, s),
+        ..=1024 => tidy_within::<1024>(b, s),
+        ..=1536 => tidy_within::<1536>(b, s),
+        ..=2048 => tidy_within::<2048>(b, s),
+        ..=3072 => tidy_within::<3072>(b, s),
+        ..=4352 => tidy_within::<4352>(b, s),
+        _ => tidy_within::<9216>(b, s),
     }
-    if rows <= 512 {
-        return tidy_512(b, s);
-    }
-    if rows <= 1024 {
-        return tidy_1024(b, s);
-    }
-    if rows <= 1536 {
-        return tidy_1536(b, s);
-    }
-    if rows <= 2048 {
-        return tidy_2048(b, s);
-    }
-    if rows <= 3072 {
-        return tidy_3072(b, s);
-    }
-    if rows <= 4352 {
-        return tidy_4352(b, s);
-    }
-    tidy_9216(b, s)
 }

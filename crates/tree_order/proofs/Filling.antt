@@ -139,9 +139,6 @@ module _ {s : Layout} {b : Bytes} {ends : List ℕ} (ix : Indexed s b ends) wher
     children-stand =
         stands s b ends part-lent _ n lent-picked (omega (arith, count-⧺ (sort_each (kids tree)) (sort_each beside), sorted-count))
 
-    pub below-within : below ≤ length own
-    below-within = omega (arith, own-length, f.table_length, inside)
-
     pub lent-room : s.nodes ≤ length before → length part-lent ≤ length spare
     lent-room room = omega (arith, ap length (suffix own below), length-drop below own, own-length, f.table_length, f.spare_length)
 

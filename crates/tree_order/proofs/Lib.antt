@@ -1,5 +1,4 @@
 pub mod Rows
-pub mod Copying
 pub mod Entries
 pub mod Arranging
 pub mod MergeTurn

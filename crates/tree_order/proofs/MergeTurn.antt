@@ -8,7 +8,7 @@ use native.Mathlib.Omega.{arith}
 use lib.ListN.{length, take, drop, length-append, length-drop}
 use lib.Seq.{length-take-le, take_all, take_at, drop-drop}
 use Rattle.formula.specs.Tree.{Tree, Forest, ∅, ◌▸◌, rows, rows_all, count}
-use Rattle.formula.specs.Order.{Ordering, not_after, leads}
+use Rattle.formula.specs.Order.{not_after, leads}
 use Rattle.formula.proofs.Forests.{rows-▸}
 use Rattle.sheet.specs.Format.{Bytes}
 use Rattle.sheet.specs.Sheet.{front, behind, root}
@@ -19,11 +19,13 @@ use Rattle.rows.proofs.Formulas.{length-nodes}
 use Rattle.subtrees.specs.Ends.{Indexed}
 use Rattle.subtrees.proofs.Forest.{rest}
 use Rattle.tree_order.specs.declared.merging.Runs.{Runs}
-use Rattle.tree_order.specs.Rows.{compare_rows}
+use Rattle.std.specs.declared.cmp.Ordering as std
+use Rattle.std.specs.Ordering.{is_le}
+use Rattle.tree_order.specs.Rows.{ordering, compare_rows}
 use Rattle.tree_order.specs.Tables.{tree_entries, forest_entries, picked_rows, picked, Numbers, standing, Stands, first_size, FirstSized}
 use Rattle.tree_order.specs.Arranging.{into, Ascending, first_leads}
 use Rattle.tree_order.specs.Merging.{left_trees, right_trees, Merger, Turned}
-use Rattle.tree_order.proofs.Rows.{rows-of-trees}
+use Rattle.tree_order.proofs.Rows.{not-after, rows-of-trees}
 use Rattle.tree_order.proofs.Entries.{Headed, headed, rows-picked_tree, numbers_tree, picked-++, picked-take, standing_is, stands}
 use Rattle.tree_order.proofs.Arranging.{into-left, into_right}
 
@@ -94,12 +96,13 @@ module _ {s : Layout} {b : Bytes} {ends : List ℕ} (ix : Indexed s b ends) wher
       first-numbers = numbers_tree s b ends (take n at) first_tree nodes_read first-entries
 
   -- two first trees compared
-  pub first_compared : (at to : List ℕ) → Stands s b ends at 1 → Stands s b ends to 1 → {m n : ℕ} {o : Ordering}
+  pub first_compared : (at to : List ℕ) → Stands s b ends at 1 → Stands s b ends to 1 → {m n : ℕ} (o : std.Ordering)
       → m ≡ first_size ends at → n ≡ first_size ends to
-      → o ≡ compare_rows (picked_rows s b (take m at)) (picked_rows s b (take n to))
-      → not_after o ≡ leads (root (standing s b at)) (root (standing s b to))
+      → ordering o ≡ compare_rows (picked_rows s b (take m at)) (picked_rows s b (take n to))
+      → is_le o ≡ leads (root (standing s b at)) (root (standing s b to))
   unfolding leads
-  first_compared at to g h {m} {n} p q e =
+  first_compared at to g h {m} {n} o p q e =
+      not-after o ∙
       ap not_after
       (e ∙
       ap₂ compare_rows (rows-picked_tree s b ends (take m at) _ (first-entries at (omega arith) g p))
@@ -277,9 +280,6 @@ module _ {s : Layout} {b : Bytes} {ends : List ℕ} (ix : Indexed s b ends) (at 
 
 pub suffix : (at : List ℕ) (p : ℕ) → take (length at - p) (drop p at) ≡ drop p at
 suffix at p = take_all (length at - p) (drop p at) (omega (arith, length-drop p at))
-
-pub fewer : {s : Layout} {b : Bytes} {ends at : List ℕ} {k : ℕ} → 0 < k → Stands s b ends at k → Stands s b ends at 1
-fewer some h = record { whole = h.whole; few = omega (arith, h.few) }
 
 -- what copying the first tree asks for
 pub copies_first : {s : Layout} {b : Bytes} {ends : List ℕ} (ix : Indexed s b ends) (at spare : List ℕ) (p to : ℕ) {k : ℕ} (some : 0 < k)

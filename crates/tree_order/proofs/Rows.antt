@@ -8,9 +8,10 @@ use native.Mathlib.Omega.{arith}
 use lib.ListN.{length, get_or, drop, drop_of_length-le, length-map}
 use lib.Seq.{drop-cons}
 use lib.Dec.{leb}
+use Rattle.std.proofs.lemmas.Bool.Decides.{nat_tests}
 use borrow.Author.Tests.{le-leb, lt-leb, leb-true, leb-false}
 use Rattle.formula.specs.Tree.{Op, and, or, Tree, lit, node, Forest, ∅, ◌▸◌, count}
-use Rattle.formula.specs.Order.{Ordering, before, same, after, ◌then◌, compare_numbers, sign_rank, operator_rank, compare_trees, compare_children}
+use Rattle.formula.specs.Order.{Ordering, before, same, after, ◌then◌, compare_numbers, sign_rank, operator_rank, not_after, compare_trees, compare_children}
 use Rattle.formula.proofs.Booleans.{by_cases}
 use Rattle.formula.proofs.Ordering.{then_where, then_assoc, numbers-equal}
 use Rattle.sheet.specs.Format.{Bytes, Row, row}
@@ -18,7 +19,9 @@ use Rattle.sheet.specs.Sheet.{literal_kind, operator_kind, tree_rows, forest_row
 use Rattle.rows.specs.Layouts.{rows_in}
 use Rattle.rows.specs.declared.Layout.{Layout}
 use Rattle.rows.proofs.Formulas.{node_row}
-use Rattle.tree_order.specs.Rows.{no_difference, class, compare_row, compare_rows}
+use Rattle.std.specs.declared.cmp.Ordering as std
+use Rattle.std.specs.Ordering.{nat_cmp, ordering_then, is_ne, is_le}
+use Rattle.tree_order.specs.Rows.{ordering, class, compare_row, compare_rows}
 use Rattle.tree_order.specs.Tables.{row_in, picked_rows}
 
 -- lists by place
@@ -45,6 +48,33 @@ class-literal k h = rw (le-leb k 4 h)
 pub class_operator : (k : ℕ) → 4 < k → class k ≡ k
 unfolding class
 class_operator k h = rw (lt-leb k 4 h)
+
+-- what the code's comparisons answer, in the words of the definitions
+
+pub numbers_compared : (a b : ℕ) → ordering (nat_cmp a b) ≡ compare_numbers a b
+unfolding compare_numbers
+numbers_compared a b = grind (arith, nat_tests)
+
+pub then_compared : (x y : std.Ordering) → ordering (ordering_then x y) ≡ (ordering x then ordering y)
+then_compared std.TheVariants.Less y = refl
+then_compared std.TheVariants.Equal y = refl
+then_compared std.TheVariants.Greater y = refl
+
+-- a difference decides, and where there is none the rest does
+pub differs : (x : std.Ordering) (y : Ordering) → is_ne x ≡ true → ordering x ≡ (ordering x then y)
+differs std.TheVariants.Less y e = refl
+differs std.TheVariants.Equal y e = cc
+differs std.TheVariants.Greater y e = refl
+
+pub no-difference : (x : std.Ordering) → is_ne x ≡ false → ordering x ≡ same
+no-difference std.TheVariants.Less e = cc
+no-difference std.TheVariants.Equal e = refl
+no-difference std.TheVariants.Greater e = cc
+
+pub not-after : (x : std.Ordering) → is_le x ≡ not_after (ordering x)
+not-after std.TheVariants.Less = refl
+not-after std.TheVariants.Equal = refl
+not-after std.TheVariants.Greater = refl
 
 -- lock step
 
@@ -86,32 +116,22 @@ module _ (s : Layout) (b : Bytes) (at : List ℕ) (t : Layout) (d : Bytes) (to :
       (picked-row s b at j h) (picked-row t d to j k)
 
   -- a difference decides
-  pub locked_differ : {o : Ordering} → j < length at → j < length to → Locked s b at t d to j
-      → o ≡ compare_row (row_in s b (get_or at j 0)) (row_in t d (get_or to j 0)) → no_difference o ≡ false
-      → o ≡ compare_rows (picked_rows s b at) (picked_rows t d to)
-  locked_differ {o} h k l e f =
-      by o _ f ∙ ap (λ (x : Ordering). x then compare_rows (drop (suc j) (picked_rows s b at)) (drop (suc j) (picked_rows t d to))) e ∙
+  pub locked_differ : (o : std.Ordering) → j < length at → j < length to → Locked s b at t d to j
+      → ordering o ≡ compare_row (row_in s b (get_or at j 0)) (row_in t d (get_or to j 0)) → is_ne o ≡ true
+      → ordering o ≡ compare_rows (picked_rows s b at) (picked_rows t d to)
+  locked_differ o h k l e f =
+      differs o _ f ∙ ap (λ (x : Ordering). x then compare_rows (drop (suc j) (picked_rows s b at)) (drop (suc j) (picked_rows t d to))) e ∙
       sym (locked_rows h k) ∙ sym l.same_rows
-    where
-      by : (x y : Ordering) → no_difference x ≡ false → x ≡ (x then y)
-      by before y g = refl
-      by same y g = cc
-      by after y g = refl
 
-  pub locked_on : {o : Ordering} {i : ℕ} → i ≡ suc j → j < length at → j < length to → Locked s b at t d to j
-      → o ≡ compare_row (row_in s b (get_or at j 0)) (row_in t d (get_or to j 0)) → no_difference o ≡ true → Locked s b at t d to i
-  locked_on {o} {i} n h k l e f =
+  pub locked_on : (o : std.Ordering) {i : ℕ} → i ≡ suc j → j < length at → j < length to → Locked s b at t d to j
+      → ordering o ≡ compare_row (row_in s b (get_or at j 0)) (row_in t d (get_or to j 0)) → is_ne o ≡ false → Locked s b at t d to i
+  locked_on o {i} n h k l e f =
       record {
         same_rows =
             l.same_rows ∙ locked_rows h k ∙
-            ap (λ (x : Ordering). x then compare_rows (drop (suc j) (picked_rows s b at)) (drop (suc j) (picked_rows t d to))) (sym e ∙ by o f) ∙
+            ap (λ (x : Ordering). x then compare_rows (drop (suc j) (picked_rows s b at)) (drop (suc j) (picked_rows t d to))) (sym e ∙ no-difference o f) ∙
             ap (λ m. compare_rows (drop m (picked_rows s b at)) (drop m (picked_rows t d to))) (sym n);
       }
-    where
-      by : (x : Ordering) → no_difference x ≡ true → x ≡ same
-      by before g = cc
-      by same g = refl
-      by after g = cc
 
   pub locked_out : {n : ℕ} → n ≡ min (length at) (length to) → n ≤ j → Locked s b at t d to j
       → same ≡ compare_rows (picked_rows s b at) (picked_rows t d to)
@@ -211,10 +231,12 @@ kind_in s b i = ap (λ (r : Row). r.kind) (node_row s b i)
 pub argument_in : (s : Layout) (b : Bytes) (i : ℕ) → (get_or (rows_in s b) (s.variables + i) (row 0 0)).argument ≡ (row_in s b i).argument
 argument_in s b i = ap (λ (r : Row). r.argument) (node_row s b i)
 
-pub row_compared : (p q : Row) {k l m n : ℕ} {x y z u w : Ordering} → k ≡ p.kind → l ≡ q.kind → m ≡ p.argument → n ≡ q.argument
-    → x ≡ compare_numbers (class k) (class l) → y ≡ compare_numbers m n → z ≡ compare_numbers k l → u ≡ (y then z) → w ≡ (x then u)
-    → w ≡ compare_row p q
+pub row_compared : (p q : Row) {k l m n : ℕ} {x y z u w : std.Ordering} → k ≡ p.kind → l ≡ q.kind → m ≡ p.argument → n ≡ q.argument
+    → x ≡ nat_cmp (class k) (class l) → y ≡ nat_cmp m n → z ≡ nat_cmp k l → u ≡ ordering_then x y → w ≡ ordering_then u z
+    → ordering w ≡ compare_row p q
 unfolding compare_row
-row_compared p q k l m n x y z u w =
-    w ∙
-    ap₂ ◌then◌ (x ∙ ap₂ (λ i j. compare_numbers (class i) (class j)) k l) (u ∙ ap₂ ◌then◌ (y ∙ ap₂ compare_numbers m n) (z ∙ ap₂ compare_numbers k l))
+row_compared p q {x = x} {y = y} {z = z} k l m n ex ey ez u w =
+    ap ordering w ∙ then_compared _ z ∙ ap (λ (o : Ordering). o then ordering z) (ap ordering u ∙ then_compared x y) ∙
+    then_assoc (ordering x) (ordering y) (ordering z) ∙
+    ap₂ ◌then◌ (ap ordering ex ∙ numbers_compared _ _ ∙ ap₂ (λ i j. compare_numbers (class i) (class j)) k l)
+    (ap₂ ◌then◌ (ap ordering ey ∙ numbers_compared _ _ ∙ ap₂ compare_numbers m n) (ap ordering ez ∙ numbers_compared _ _ ∙ ap₂ compare_numbers k l))

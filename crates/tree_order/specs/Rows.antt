@@ -1,21 +1,15 @@
 -- Trees are compared by comparing their rows in preorder, from left to right.
 -- Assumes nothing.
-use Rattle.std.specs.Prelude.{Bool, true, false, cond, List, [], ◌∷◌, ℕ, leb}
+use Rattle.std.specs.Prelude.{cond, List, [], ◌∷◌, ℕ, leb}
 use Rattle.formula.specs.Order.{Ordering, before, same, after, ◌then◌, compare_numbers}
 use Rattle.sheet.specs.Format.{Row}
-use Rattle.tree_order.specs.declared.compare.Order as order
-use Rattle.tree_order.specs.declared.compare.Order.{Order}
+use Rattle.std.specs.declared.cmp.Ordering as std
 
 -- the code's answer, in the words of the definitions
-abbrev pub ordering : Order → Ordering
-ordering order.TheVariants.Before = before
-ordering order.TheVariants.Same = same
-ordering order.TheVariants.After = after
-
-abbrev pub no_difference : Ordering → Bool
-no_difference before = false
-no_difference same = true
-no_difference after = false
+abbrev pub ordering : std.Ordering → Ordering
+ordering std.TheVariants.Less = before
+ordering std.TheVariants.Equal = same
+ordering std.TheVariants.Greater = after
 
 -- literals before AND before OR: the two literal kinds are one class
 unfoldable pub class : ℕ → ℕ

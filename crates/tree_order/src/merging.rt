@@ -8,11 +8,11 @@ ghost use Rattle.tree_order.specs.Tables.{FirstSized, first_size, picked, standi
 ghost use Rattle.tree_order.specs.Arranging.{first_leads};
 ghost use Rattle.tree_order.specs.Merging.{Merger, Turned, all_merged, arranged};
 
-use crate::compare::{Order, compare_rows};
+use crate::compare::compare_rows;
 use rows::Layout;
 
 // Where the next tree of each run is and how many are left, and where the next merged tree goes.
-#[derive(Clone, Copy)]
+#[derive(Clone, Copy, PartialEq, Eq, Debug)]
 pub struct Runs {
     pub left: usize,
     pub lefts: usize,
@@ -26,8 +26,8 @@ pub fn first_size(ends: &[u16], at: &[u16]) -> usize
     requires { FirstSized ends.now at.now }
     ensures { result ≡ first_size ends.now at.now }
 {
-    let i = at[0] as usize;
-    ends[i] as usize - i
+    let i = usize::from(at[0]);
+    usize::from(ends[i]) - i
 }
 
 // Whether the first tree of one table may stand before the first tree of another.
@@ -37,24 +37,7 @@ fn in_order(b: &[u8], s: Layout, ends: &[u16], at: &[u16], to: &[u16]) -> bool
 {
     let m = first_size(ends, at);
     let n = first_size(ends, to);
-    let o = compare_rows(b, s, &at[..m], b, s, &to[..n]);
-    match o {
-        Order::After => false,
-        Order::Before => true,
-        Order::Same => true,
-    }
-}
-
-// Copies entries to place `to` of a table.
-fn copy_entries(from: &[u16], table: &mut [u16], to: usize)
-    requires { to + length from.now ≤ length table.old }
-    ensures { table.new ≡ take to table.old ++ from.now ++ drop (to + length from.now) table.old }
-{
-    let mut i: usize = 0;
-    while i < from.len() {
-        table[to + i] = from[i];
-        i += 1;
-    }
+    compare_rows(b, s, &at[..m], b, s, &to[..n]).is_le()
 }
 
 // Whether the left run's next tree goes first.
@@ -65,9 +48,7 @@ fn takes_left(b: &[u8], s: Layout, ends: &[u16], at: &[u16], m: Runs) -> bool
     if m.rights == 0 {
         return true;
     }
-    let left = m.left;
-    let right = m.right;
-    in_order(b, s, ends, &at[left..], &at[right..])
+    in_order(b, s, ends, &at[m.left..], &at[m.right..])
 }
 
 // Copies the first tree of a table to place `to` of another, and returns how many rows it has.
@@ -77,7 +58,7 @@ fn copy_first(ends: &[u16], at: &[u16], spare: &mut [u16], to: usize) -> usize
     ensures spare_after { spare.new ≡ take to spare.old ++ take result at.now ++ drop (to + result) spare.old }
 {
     let n = first_size(ends, at);
-    copy_entries(&at[..n], spare, to);
+    spare[to..to + n].copy_from_slice(&at[..n]);
     n
 }
 
@@ -86,26 +67,21 @@ fn turn(b: &[u8], s: Layout, ends: &[u16], at: &[u16], m: Runs, spare: &mut [u16
     requires { Indexed s b.now ends.now × Merger s b.now ends.now at.now m × (0 < m.lefts) × (length at.now ≤ length spare.old) }
     ensures { Turned s b.now ends.now at.now spare.old spare.new m result }
 {
-    let from_left = takes_left(b, s, ends, at, m);
-    let left = m.left;
-    let right = m.right;
-    if from_left {
-        let n = copy_first(ends, &at[left..], spare, m.to);
+    if takes_left(b, s, ends, at, m) {
+        let n = copy_first(ends, &at[m.left..], spare, m.to);
         return Runs {
-            left: left + n,
+            left: m.left + n,
             lefts: m.lefts - 1,
-            right: right,
-            rights: m.rights,
             to: m.to + n,
+            ..m
         };
     }
-    let n = copy_first(ends, &at[right..], spare, m.to);
+    let n = copy_first(ends, &at[m.right..], spare, m.to);
     Runs {
-        left: left,
-        lefts: m.lefts,
-        right: right + n,
+        right: m.right + n,
         rights: m.rights - 1,
         to: m.to + n,
+        ..m
     }
 }
 
@@ -118,8 +94,7 @@ pub fn merge(b: &[u8], s: Layout, ends: &[u16], at: &mut [u16], spare: &mut [u16
     while 0 < m.lefts {
         m = turn(b, s, ends, at, m, spare);
     }
-    let end = m.to;
-    copy_entries(&spare[..end], at, 0);
+    at[..m.to].copy_from_slice(&spare[..m.to]);
 }
 
 // Puts the first `k` trees of a table in order, by halves, and returns where they end.

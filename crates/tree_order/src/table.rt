@@ -16,13 +16,10 @@ pub fn fill_sorted(b: &[u8], s: Layout, ends: &[u16], at: &mut [u16], spare: &mu
     requires { Indexed s b.now ends.now × (length at.old ≡ s.nodes) × (s.nodes ≤ length spare.old) }
     ensures { picked s b.now ends.now at.new ≡ tree_entries (sort (matrix_in s b.now)) }
 {
-    let mut r = s.nodes;
-    while 0 < r {
-        r -= 1;
+    for r in (0..s.nodes).rev() {
         at[r] = r as u16;
-        let below = r + 1;
         let children = children_at(b, s, r);
-        arrange(b, s, ends, &mut at[below..], spare, children);
+        arrange(b, s, ends, &mut at[r + 1..], spare, children);
     }
 }
 

@@ -13,7 +13,8 @@ use lib.Seq.{get_or-set_same, get_or-set_other, set-set, set-get_or}
 use borrow.Author.Tests.{eqb-true, eqb-false}
 use Rattle.formula.specs.Tree.{Quantifier, exists, for_all, and, or, dual, same_op}
 use Rattle.formula.specs.Truth.{put, eval}
-use Rattle.formula.specs.Trial.{Tried, stops_at, turn, try}
+use Rattle.formula.specs.Trial as formula
+use Rattle.formula.specs.Trial.{stops_at, turn, try}
 use Rattle.formula.proofs.Trial.{try-leaves}
 use Rattle.sheet.specs.Format.{Bytes}
 use Rattle.rows.specs.Formulas.{prefix_in, matrix_in, Readable}
@@ -21,7 +22,7 @@ use Rattle.rows.specs.declared.Layout.{Layout}
 use Rattle.rows.proofs.Formulas.{length_prefix}
 use Rattle.prefixes.specs.Places.{binding_in}
 use Rattle.prefixes.proofs.Places.{prefix_row}
-use Rattle.trial.specs.declared.TurnOutcome.{TurnOutcome}
+use Rattle.trial.specs.declared.Tried.{Tried}
 use Rattle.trial.specs.Inner.Turns.{values, tried, unread, turns, semantic_tree, TurnsReady, Turned}
 
 -- the assignment
@@ -35,11 +36,11 @@ put-values table x v h = fun_ext (λ y. go y (eqb y x) refl)
 
 -- a turn on two values
 
-turn_stops : (q : Quantifier) (t₀ t₁ : Tried) → beq (stops_at q) t₀.verdict ≡ true → turn q t₀ t₁ ≡ t₀
+turn_stops : (q : Quantifier) (t₀ t₁ : formula.Tried) → beq (stops_at q) t₀.verdict ≡ true → turn q t₀ t₁ ≡ t₀
 unfolding turn
 turn_stops q t₀ t₁ e = rw e
 
-turn-goes_on : (q : Quantifier) (t₀ t₁ : Tried) → beq (stops_at q) t₀.verdict ≡ false
+turn-goes_on : (q : Quantifier) (t₀ t₁ : formula.Tried) → beq (stops_at q) t₀.verdict ≡ false
     → turn q t₀ t₁ ≡ record { verdict = t₁.verdict; leaves = t₀.leaves + t₁.leaves }
 unfolding turn
 turn-goes_on q t₀ t₁ e = rw e
@@ -67,7 +68,7 @@ module _ (s : Layout) (b : Bytes) (ok : Readable s b) where
       rw (drop_of_length-le (prefix_in s b) {i = s.variables} (omega (arith, length_prefix b ok)))
       (ap (λ u. record { verdict = u; leaves = 1 }) e)
 
-  pub turned_leaf : (o : TurnOutcome) (i : ℕ) (table : List Bool) → i ≡ s.variables → tried o ≡ turns s b s.variables table
+  pub turned_leaf : (o : Tried) (i : ℕ) (table : List Bool) → i ≡ s.variables → tried o ≡ turns s b s.variables table
       → Turned s b i table o table
   turned_leaf o i table e h = record { outcome = rw e h; unchanged = refl }
 
@@ -106,7 +107,7 @@ own_row {i = i} ready within owned binds =
     }
 
 -- 0 was tried first
-module _ {q : Quantifier} {s : Layout} {b : Bytes} {i x : ℕ} {table t₀ : List Bool} {zero : TurnOutcome} (own : Own q s b i x table)
+module _ {q : Quantifier} {s : Layout} {b : Bytes} {i x : ℕ} {table t₀ : List Bool} {zero : Tried} (own : Own q s b i x table)
     (first : Turned s b (i + 1) (set table x false) zero t₀) where
   row-turn : turns s b i table ≡ turn q (tried zero) (turns s b (i + 1) (set table x true))
   row-turn =
@@ -131,15 +132,15 @@ module _ {q : Quantifier} {s : Layout} {b : Bytes} {i x : ℕ} {table t₀ : Lis
       }
 
   -- then 1
-  module _ {one : TurnOutcome} {t₁ : List Bool} (second : Turned s b (i + 1) (set t₀ x true) one t₁) where
+  module _ {one : Tried} {t₁ : List Bool} (second : Turned s b (i + 1) (set t₀ x true) one t₁) where
     pub leaves-fit : zero.leaves + one.leaves < 2 ^ 64
     leaves-fit =
         omega (
           arith,
           turns-leaves s b own.readable (i + 1) (set table x false) own.few,
           turns-leaves s b own.readable (i + 1) (set t₀ x true) own.few,
-          ap (λ (t : Tried). t.leaves) first.outcome,
-          ap (λ (t : Tried). t.leaves) second.outcome,
+          ap (λ (t : formula.Tried). t.leaves) first.outcome,
+          ap (λ (t : formula.Tried). t.leaves) second.outcome,
         )
 
     pub restored-both : set t₁ x (get_or table x false) ≡ table
@@ -148,7 +149,7 @@ module _ {q : Quantifier} {s : Layout} {b : Bytes} {i x : ℕ} {table t₀ : Lis
     pub inside_both : x < length t₁
     inside_both = rw (second.unchanged, length-set) inside_one
 
-    pub turn-went-on : {stop : Bool} → stop ≡ beq (stops_at q) zero.verdict → stop ≡ false → (o : TurnOutcome)
+    pub turn-went-on : {stop : Bool} → stop ≡ beq (stops_at q) zero.verdict → stop ≡ false → (o : Tried)
         → (o.verdict ≡ one.verdict) × (o.leaves ≡ zero.leaves + one.leaves) → Turned s b i table o (set t₁ x (get_or table x false))
     turn-went-on asked v o sum =
         record {
@@ -164,7 +165,7 @@ module _ {q : Quantifier} {s : Layout} {b : Bytes} {i x : ℕ} {table t₀ : Lis
         }
 
 -- the first turn, under the table of all false
-pub turns_first : (s : Layout) (b : Bytes) (n : ℕ) (o : TurnOutcome) → tried o ≡ turns s b 0 (replicate n false) → tried o ≡ semantic_tree s b
+pub turns_first : (s : Layout) (b : Bytes) (n : ℕ) (o : Tried) → tried o ≡ turns s b 0 (replicate n false) → tried o ≡ semantic_tree s b
 unfolding turns semantic_tree unread
 turns_first s b n o e = e ∙ ap (try (prefix_in s b) (eval (matrix_in s b))) (fun_ext (none n))
   where

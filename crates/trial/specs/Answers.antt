@@ -1,11 +1,13 @@
 -- An answer of Trial in document 01's words.
 -- Assumes nothing.
+use Rattle.std.specs.Prelude.{Result, Ok, Err}
 use Rattle.formula.specs.Trial as formula
-use Rattle.sheet.specs.Check.{Answer, refused, accepted}
+use Rattle.sheet.specs.Check.{Answer, accepted}
+use Rattle.rows.specs.Refusals.{refused_by}
+use Rattle.rows.specs.declared.refusals.Refusal.{Refusal}
 use Rattle.trial.specs.declared.Tried.{Tried}
-use Rattle.trial.specs.declared.Tried.TheVariants.{Answered, Refused}
 
 -- "it returns the verdict and the leaves tried"; "refusing returns number and place"
-abbrev pub tried_answer : Tried → Answer formula.Tried
-tried_answer (Answered verdict leaves) = accepted (record { verdict = verdict; leaves = leaves })
-tried_answer (Refused number place) = refused number place
+abbrev pub tried_answer : Result Tried Refusal → Answer formula.Tried
+tried_answer (Ok t) = accepted (record { verdict = t.verdict; leaves = t.leaves })
+tried_answer (Err e) = refused_by e

@@ -14,35 +14,24 @@ ghost use Rattle.trial.specs.Answers.{tried_answer};
 ghost use Rattle.jumps.specs.Jumps.{Rooms, signed, row_value, next, Jumps};
 ghost use Rattle.trial.specs.Inner.Turns.{values, tried, turns, semantic_tree, Playable, TurnsReady, Turned};
 
-use checking::Checked;
 use jumps::{build, to_row};
 use prefixes::{bound_at, is_existential};
-use rows::refusals::TOO_MANY_TO_TRY;
+use rows::refusals::Refusal;
 use rows::{Format, Layout};
 use subtrees::nodes::{argument_at, children_at, kind_at};
 
-// What Trial answers: the verdict and the leaves tried, or a refusal's number and place.
-#[derive(Clone, Copy)]
-pub enum Tried {
-    Answered(bool, u64),
-    Refused(usize, usize),
-}
-
 // A verdict and the leaves tried.
-#[derive(Clone, Copy)]
-struct TurnOutcome {
-    verdict: bool,
-    leaves: u64,
+#[derive(Clone, Copy, PartialEq, Eq, Debug)]
+pub struct Tried {
+    pub verdict: bool,
+    pub leaves: u64,
 }
 
 // The value of a variable; the numbers past the table are unassigned, and false.
 fn value_of(assignment: &[bool], x: usize) -> bool
     ensures { result ≡ values assignment.now x }
 {
-    if x < assignment.len() {
-        return assignment[x];
-    }
-    false
+    x < assignment.len() && assignment[x]
 }
 
 // The value of row `i`, a literal or an operator that has no child.
@@ -77,38 +66,37 @@ fn evaluate(sheet: &[u8], s: Layout, high: &[u16], low: &[u16], assignment: &[bo
     requires { Readable s sheet.now × Jumps (node_rows_in s sheet.now) high.now low.now × Rooms s.nodes high.now low.now }
     ensures { result ≡ eval (matrix_in s sheet.now) (values assignment.now) }
 {
-    let n = s.nodes;
     let mut i = 0;
-    while i < n {
+    while i < s.nodes {
         i = next(sheet, s, high, low, assignment, i);
     }
-    i == n
+    i == s.nodes
 }
 
 // A leaf of the semantic tree: no prefix row is left.
-fn leaf(sheet: &[u8], s: Layout, high: &[u16], low: &[u16], assignment: &[bool]) -> TurnOutcome
+fn leaf(sheet: &[u8], s: Layout, high: &[u16], low: &[u16], assignment: &[bool]) -> Tried
     requires { TurnsReady s sheet.now high.now low.now (length assignment.now) }
     ensures { tried result ≡ turns s sheet.now s.variables assignment.now }
 {
-    TurnOutcome {
+    Tried {
         verdict: evaluate(sheet, s, high, low, assignment),
         leaves: 1,
     }
 }
 
 // Whether a turn stops after its first value: it does if that value's verdict is the one that its side wants.
-fn stops(zero: TurnOutcome, verdict: bool) -> bool
+fn stops(zero: Tried, verdict: bool) -> bool
     ensures { result ≡ beq verdict zero.verdict }
 {
     verdict == zero.verdict
 }
 
 // A turn that did not stop at its first value: the second one's verdict, and the leaves of both.
-fn both(zero: TurnOutcome, one: TurnOutcome) -> TurnOutcome
+fn both(zero: Tried, one: Tried) -> Tried
     requires { zero.leaves + one.leaves < 2 ^ 64 }
     ensures { (result.verdict ≡ one.verdict) × (result.leaves ≡ zero.leaves + one.leaves) }
 {
-    TurnOutcome {
+    Tried {
         verdict: one.verdict,
         leaves: zero.leaves + one.leaves,
     }
@@ -123,7 +111,7 @@ fn existential(
     low: &[u16],
     assignment: &mut [bool],
     i: usize,
-) -> TurnOutcome
+) -> Tried
     requires { TurnsReady s sheet.now high.now low.now (length assignment.old) × (i ≤ s.variables) }
     ensures { Turned s sheet.now i assignment.old result assignment.new }
 {
@@ -156,7 +144,7 @@ fn universal(
     low: &[u16],
     assignment: &mut [bool],
     i: usize,
-) -> TurnOutcome
+) -> Tried
     requires { TurnsReady s sheet.now high.now low.now (length assignment.old) × (i ≤ s.variables) }
     ensures { Turned s sheet.now i assignment.old result assignment.new }
 {
@@ -180,8 +168,8 @@ fn universal(
     both(zero, one)
 }
 
-// Tries the whole semantic tree of a checked sheet, existential turn first; the first assignment is never read.
-fn semantic_tree(sheet: &[u8], s: Layout) -> TurnOutcome
+// Tries the whole semantic tree of a checked sheet; the first assignment is never read.
+fn semantic_tree(sheet: &[u8], s: Layout) -> Tried
     requires { Playable s sheet.now NUMBERS }
     ensures { tried result ≡ semantic_tree s sheet.now }
 {
@@ -192,20 +180,14 @@ fn semantic_tree(sheet: &[u8], s: Layout) -> TurnOutcome
     existential(sheet, s, &high, &low, &mut assignment, 0)
 }
 
-// Decides a sheet by trying values: the verdict and the leaves tried, or refused with number and place, 1 to 8, then 14.
-pub fn trial(sheet: &[u8], f: Format) -> Tried
+// Decides a sheet by trying values: the verdict and the leaves tried, or refused: 1 to 8, then 14.
+pub fn trial(sheet: &[u8], f: Format) -> Result<Tried, Refusal>
     ensures result_value { tried_answer result ≡ trial_call (format_of f) sheet.now }
     ensures truthful_trial { TruthfulTrial (truth_of (format_of f) sheet.now) (tried_answer result) }
 {
-    let checked = checking::check(sheet, f);
-    match checked {
-        Checked::Refused(number, place) => Tried::Refused(number, place),
-        Checked::Accepted(s) => {
-            if 20 < s.variables {
-                return Tried::Refused(TOO_MANY_TO_TRY, 0);
-            }
-            let o = semantic_tree(sheet, s);
-            Tried::Answered(o.verdict, o.leaves)
-        }
+    let s = checking::check(sheet, f)?;
+    if 20 < s.variables {
+        return Err(Refusal::TooManyToTry);
     }
+    Ok(semantic_tree(sheet, s))
 }

@@ -33,9 +33,9 @@ module _ {s : ℕ → Bool} {b : Bytes} {at to : ℕ} (h : Led s b at to) where
       let z = here l ∙ ap (λ t. cond t 0 (suc (lead s (drop (suc to) b)))) e in
       record { within = omega arith; same_end = rw add-one (omega (arith, h.same_end)) }
 
-  pub led_all : length b ≤ to → to ≡ at + lead s (drop at b)
+  pub led_all : length b ≤ to → length b ≡ at + lead s (drop at b)
   unfolding lead
-  led_all l = let z = ap (lead s) (drop_of_length-le b {i = to} l) in omega (arith, h.same_end)
+  led_all l = let z = ap (lead s) (drop_of_length-le b {i = to} l) in omega (arith, h.same_end, h.within)
 
 -- skip_white
 
@@ -59,6 +59,6 @@ module _ {b : Bytes} {at from : ℕ} (h : Skipped b at from) where
       let z = first l ∙ ap (λ t. cond t (suc (gap (drop (suc from) b))) 0) e in
       record { within = omega arith; same_end = rw add-one (omega (arith, h.same_end)) }
 
-  pub skipped_all : length b ≤ from → from ≡ at + gap (drop at b)
+  pub skipped_all : length b ≤ from → length b ≡ at + gap (drop at b)
   unfolding gap
-  skipped_all l = let z = ap gap (drop_of_length-le b {i = from} l) in omega (arith, h.same_end)
+  skipped_all l = let z = ap gap (drop_of_length-le b {i = from} l) in omega (arith, h.same_end, h.within)

@@ -1,13 +1,11 @@
 -- The names of the format, by their letters.
 -- Assumes nothing.
-use mathlib.Core.Path.{◌≡◌, refl, sym, ap, ◌∙◌}
+use mathlib.Core.Path.{◌≡◌, refl, ap, ◌∙◌}
 use mathlib.Core.Bool.{false, ◌&&◌, cond, and-false, and-true}
 use mathlib.Core.List.{[], ◌∷◌}
-use Prim.Native.Nat.{ℕ, suc, ◌+◌, ◌-◌, ◌≤◌}
-use native.Mathlib.Omega.{arith}
+use Prim.Native.Nat.{ℕ, suc}
 use lib.Dec.{eqb}
-use lib.ListN.{length, get_or}
-use lib.Seq.{slice, slice-cons, slice_empty, length-slice}
+use lib.ListN.{length}
 use Rattle.sheet.specs.Format.{Bytes}
 use Rattle.sheet.specs.Qdimacs.{is_word}
 use Rattle.words.specs.Tokens.{name_of}
@@ -32,35 +30,3 @@ pub name-none : (w : Bytes) → (length w ≡ 1 → ⊥) → (length w ≡ 3 →
 unfolding name_of
 name-none w h k =
     rw (no_word w (101 ∷ []) h, no_word w (97 ∷ []) h, no_word w (112 ∷ []) h, no_word w (99 ∷ 110 ∷ 102 ∷ []) k)
-
--- a part by its bytes
-module _ (b : Bytes) (from to : ℕ) (end : to ≤ length b) where
-  pub slice_one : to - from ≡ 1 → slice from to b ≡ get_or b from 0 ∷ []
-  slice_one e =
-      slice-cons from to b 0 (omega arith) end ∙ ap (λ k. get_or b from 0 ∷ slice k to b) (next e) ∙ ap (λ l. get_or b from 0 ∷ l) (slice_empty to b)
-    where
-      next : to - from ≡ 1 → suc from ≡ to
-      next e = omega arith
-
-  pub slice_three : to - from ≡ 3 → slice from to b ≡ get_or b from 0 ∷ get_or b (from + 1) 0 ∷ get_or b (from + 2) 0 ∷ []
-  slice_three e =
-      slice-cons from to b 0 (omega arith) end ∙
-      ap (λ l. get_or b from 0 ∷ l)
-      (slice-cons (suc from) to b 0 (omega arith) end ∙
-      ap (λ l. get_or b (suc from) 0 ∷ l)
-      (slice-cons (suc (suc from)) to b 0 (omega arith) end ∙
-      ap (λ k. get_or b (suc (suc from)) 0 ∷ slice k to b) (next e) ∙ ap (λ l. get_or b (suc (suc from)) 0 ∷ l) (slice_empty to b)) ∙
-      ap (λ k. get_or b k 0 ∷ get_or b (suc (suc from)) 0 ∷ []) (one from) ∙ ap (λ k. get_or b (from + 1) 0 ∷ get_or b k 0 ∷ []) (two from))
-    where
-      next : to - from ≡ 3 → suc (suc (suc from)) ≡ to
-      next e = omega arith
-
-      one : (n : ℕ) → suc n ≡ n + 1
-      one n = omega arith
-
-      two : (n : ℕ) → suc (suc n) ≡ n + 2
-      two n = omega arith
-
-  pub name_other : from ≤ to → (to - from ≡ 1 → ⊥) → (to - from ≡ 3 → ⊥) → 1 ≡ name_of (slice from to b)
-  name_other l h k =
-      sym (name-none (slice from to b) (λ e. h (sym (length-slice from to b end) ∙ e)) (λ e. k (sym (length-slice from to b end) ∙ e)))

@@ -5,11 +5,10 @@ use mathlib.Core.Path.{◌≡◌, refl, sym, ap, ap₂, ◌∙◌, subst}
 use mathlib.Core.Bool.{Bool, true, false, not, ◌&&◌, cond}
 use mathlib.Core.List.{[], ◌∷◌, tail}
 use Prim.Native.Nat.{ℕ, suc, ◌+◌, ◌-◌, ◌≤◌, ◌<◌}
-use native.Mathlib.Numerals.{add-one}
 use native.Mathlib.Omega.{arith}
 use lib.Dec.{eqb}
-use lib.ListN.{length, drop, get_or, length-drop, drop_of_length-le}
-use lib.Seq.{slice, slice-cons, length-slice, drop-drop}
+use lib.ListN.{length, take, drop, get_or, length-drop, drop_of_length-le}
+use lib.Seq.{take_all, length-take-le, drop-drop}
 use borrow.Author.Tests.{eq-eqb, ne_eqb}
 use Rattle.formula.proofs.Booleans.{and_parts}
 use Rattle.sheet.specs.Format.{Bytes}
@@ -19,44 +18,18 @@ use Rattle.words.specs.Words.{lead, gap}
 use Rattle.words.specs.Numbers.{Capped, largest}
 use Rattle.words.specs.Tokens.{name_of, number_class, class_of, first_class, Plain, Negated, Says, Reads}
 use Rattle.words.specs.declared.token.Token.{Token}
-use Rattle.words.proofs.Words.{lead-within, gap_within, words-gap, gap-lead, words-lead, slice_take}
+use Rattle.words.proofs.Words.{lead-within, gap_within, words-gap, gap-lead, words-lead}
 use Rattle.words.proofs.Digits.{digit_range}
 
 abbrev token : ℕ → ℕ → ℕ → Token
 token k m to = record { class = k; magnitude = m; to = to }
 
--- capped numbers are 0 together
-zero_capped : (n v : ℕ) → Capped largest n v → v ≡ 0 → n ≡ 0
-zero_capped n v (inl e) z = omega arith
-zero_capped n v (inr e) z = absurd (omega (arith, e.1))
-
+-- a capped number that is not 0 is one of a number that is not 0
 some_capped : (n v : ℕ) → Capped largest n v → (v ≡ 0 → ⊥) → n ≡ 0 → ⊥
 some_capped n v (inl e) k z = k (omega arith)
 some_capped n v (inr e) k z = absurd (omega (arith, e.0))
 
--- plain
-
-pub plain_zero : {w : Bytes} {v to : ℕ} → Capped largest (number_from 0 w) v → v ≡ 0 → Plain w (token 6 v to)
-plain_zero {w} {v} c z = record { class_is = rw (eq-eqb (number_from 0 w) 0 (zero_capped (number_from 0 w) v c z)); magnitude_is = c }
-
-pub plain_some : {w : Bytes} {v to : ℕ} → Capped largest (number_from 0 w) v → (v ≡ 0 → ⊥) → Plain w (token 7 v to)
-plain_some {w} {v} c z = record { class_is = rw (ne_eqb (number_from 0 w) 0 (some_capped (number_from 0 w) v c z)); magnitude_is = c }
-
 -- negated
-
-pub negated_nothing : (b : Bytes) (from to : ℕ) → to ≤ length b → from ≡ to → Negated (slice from to b) (token 1 0 to)
-unfolding unsigned is_nil
-negated_nothing b from to h e = subst (λ w. Negated w (token 1 0 to)) (sym (empty (slice from to b) (length-slice from to b h ∙ none e))) nothing
-  where
-    none : from ≡ to → to - from ≡ 0
-    none e = omega arith
-
-    empty : (w : Bytes) → length w ≡ 0 → w ≡ []
-    empty [] e = refl
-    empty (c ∷ w) e = absurd (omega arith)
-
-    nothing : Negated [] (token 1 0 to)
-    nothing = record { class_is = refl; magnitude_is = λ l. absurd (omega arith) }
 
 pub negated_other : {w : Bytes} {to : ℕ} → all digit w ≡ false → Negated w (token 1 0 to)
 unfolding unsigned
@@ -66,26 +39,11 @@ negated_other {w} e = record { class_is = rw e (sym (no (is_nil w) (not (eqb (nu
     no true t = refl
     no false t = refl
 
-pub negated-zero : {w : Bytes} {v to : ℕ} → Capped largest (number_from 0 w) v → v ≡ 0 → Negated w (token 1 0 to)
-negated-zero {w} {v} c z =
-    record { class_is = rw (eq-eqb (number_from 0 w) 0 (zero_capped (number_from 0 w) v c z)) (sym (no (unsigned w))); magnitude_is = λ l. absurd (omega arith) }
-  where
-    no : (s : Bool) → ◌≡◌ {A = ℕ} (cond (s && false) 8 1) 1
-    no true = refl
-    no false = refl
-
-some_bytes : (b : Bytes) (from to : ℕ) → from < to → to ≤ length b → is_nil (slice from to b) ≡ false
-unfolding is_nil
-some_bytes b from to l h = ap is_nil (slice-cons from to b 0 l h)
-
-pub negated_some : (b : Bytes) (from to : ℕ) {v : ℕ} → from < to → to ≤ length b → all digit (slice from to b) ≡ true
-    → Capped largest (number_from 0 (slice from to b)) v → (v ≡ 0 → ⊥) → Negated (slice from to b) (token 8 v to)
-unfolding unsigned
-negated_some b from to {v} l h d c z =
-    record {
-      class_is = rw (some_bytes b from to l h, d, ne_eqb (number_from 0 (slice from to b)) 0 (some_capped (number_from 0 (slice from to b)) v c z));
-      magnitude_is = λ _. c;
-    }
+pub negated_some : (w : Bytes) {v to : ℕ} → all digit w ≡ true → Capped largest (number_from 0 w) v → (v ≡ 0 → ⊥) → Negated w (token 8 v to)
+unfolding unsigned is_nil number_from
+negated_some [] {v} d c z = absurd (some_capped 0 v c z refl)
+negated_some (b ∷ w) {v} d c z =
+    record { class_is = rw (d, ne_eqb (number_from 0 (b ∷ w)) 0 (some_capped (number_from 0 (b ∷ w)) v c z)); magnitude_is = λ _. c }
 
 -- classify
 
@@ -160,29 +118,20 @@ module _ (c : ℕ) (cs : Bytes) (o : name_of (c ∷ cs) ≡ 1) where
         magnitude_is = λ l. subst (λ m. Capped largest m t.magnitude) (sym (signed-magnitude e)) (n.magnitude_is l);
       }
 
-module _ (b : Bytes) (from to : ℕ) (l : from < to) (h : to ≤ length b) {name : ℕ} (e : name ≡ name_of (slice from to b)) (o : name ≡ 1) where
-  whole : slice from to b ≡ get_or b from 0 ∷ slice (suc from) to b
-  whole = slice-cons from to b 0 l h
+pub says_plain : (w : Bytes) {name : ℕ} {t : Token} → 0 < length w → name ≡ name_of w → name ≡ 1 → all digit w ≡ true → Plain w t → Says w t
+says_plain [] l e o d p = absurd (omega arith)
+says_plain (c ∷ cs) {t = t} l e o d p = list_plain c cs (sym e ∙ o) t d p
 
-  other_name : name_of (get_or b from 0 ∷ slice (suc from) to b) ≡ 1
-  other_name = ap name_of (sym whole) ∙ sym e ∙ o
+pub says_other : (w : Bytes) {name to : ℕ} → 0 < length w → name ≡ name_of w → name ≡ 1 → all digit w ≡ false → (get_or w 0 0 ≡ 45 → ⊥)
+    → Says w (token 1 0 to)
+says_other [] l e o d n = absurd (omega arith)
+says_other (c ∷ cs) {to = to} l e o d n = list_other c cs (sym e ∙ o) to d n
 
-  pub says_plain : {t : Token} → all digit (slice from to b) ≡ true → Plain (slice from to b) t → Says (slice from to b) t
-  says_plain {t} d p =
-      subst (λ w. Says w t) (sym whole)
-      (list_plain (get_or b from 0) (slice (suc from) to b) other_name t (sym (ap (all digit) whole) ∙ d) (subst (λ w. Plain w t) whole p))
-
-  pub says_other : all digit (slice from to b) ≡ false → (get_or b from 0 ≡ 45 → ⊥) → Says (slice from to b) (token 1 0 to)
-  says_other d n =
-      subst (λ w. Says w (token 1 0 to)) (sym whole)
-      (list_other (get_or b from 0) (slice (suc from) to b) other_name to (sym (ap (all digit) whole) ∙ d) n)
-
-  pub says-negated : {t : Token} → all digit (slice from to b) ≡ false → get_or b from 0 ≡ 45 → Negated (slice (from + 1) to b) t
-      → Says (slice from to b) t
-  says-negated {t} d m n =
-      subst (λ w. Says w t) (sym whole)
-      (list_negated (get_or b from 0) (slice (suc from) to b) other_name t (sym (ap (all digit) whole) ∙ d) m
-      (subst (λ k. Negated (slice k to b) t) (add-one from) n))
+pub says-negated : (w : Bytes) {name : ℕ} {t : Token} → 0 < length w → name ≡ name_of w → name ≡ 1 → all digit w ≡ false → get_or w 0 0 ≡ 45
+    → Negated (take (length w - 1) (drop 1 w)) t → Says w t
+says-negated [] l e o d m n = absurd (omega arith)
+says-negated (c ∷ cs) {t = t} l e o d m n =
+    list_negated c cs (sym e ∙ o) t d m (subst (λ w. Negated w t) (take_all (suc (length cs) - 1) cs (omega arith)) n)
 
 -- next_token
 
@@ -211,10 +160,13 @@ module _ (b : Bytes) (at : ℕ) {from : ℕ} (h : at ≤ length b) (is : from �
         subst (λ d. 0 < lead separator d) (drop-drop (gap (drop at b)) at b ∙ ap (λ k. drop k b) (sym is))
         (gap-lead (drop at b) (omega (arith, length-drop at b, from_within)))
 
+    pub some_bytes : 0 < length (take (to - from) (drop from b))
+    some_bytes = omega (arith, some, ends, length-take-le (to - from) (drop from b) (omega (arith, ends, lead-within separator (drop from b))))
+
     pub to-within : (from < to) × (to ≤ length b)
     to-within = (omega (arith, some), omega (arith, lead-within separator (drop from b), length-drop from b, from_within))
 
-    pub reads_word : {t : Token} → Says (slice from to b) t → t.to ≡ to → Reads b at t
+    pub reads_word : {t : Token} → Says (take (to - from) (drop from b)) t → t.to ≡ to → Reads b at t
     unfolding first_class
     reads_word {t} s e =
         record {
@@ -225,8 +177,8 @@ module _ (b : Bytes) (at : ℕ) {from : ℕ} (h : at ≤ length b) (is : from �
           onward = λ l. omega (arith, to-within.0);
         }
       where
-        found : separated (drop at b) ≡ slice from to b ∷ separated (drop to b)
+        found : separated (drop at b) ≡ take (to - from) (drop from b) ∷ separated (drop to b)
         found =
             same_words ∙ words-lead (drop from b) some ∙
-            ap₂ ◌∷◌ (sym (slice_take from (lead separator (drop from b)) b) ∙ ap (λ k. slice from k b) (sym ends))
+            ap₂ ◌∷◌ (ap (λ k. take k (drop from b)) (omega (arith, ends)))
             (ap separated (drop-drop (lead separator (drop from b)) from b) ∙ ap (λ k. separated (drop k b)) (sym ends))

@@ -1,12 +1,11 @@
 -- Words and lines, by where they end.
 -- Assumes nothing.
-use mathlib.Core.Path.{◌≡◌, refl, sym, ap, ◌∙◌}
+use mathlib.Core.Path.{◌≡◌, refl, ap, ◌∙◌}
 use mathlib.Core.Bool.{Bool, true, false, cond}
 use mathlib.Core.List.{List, [], ◌∷◌}
-use Prim.Native.Nat.{ℕ, zero, suc, ◌+◌, ◌≤◌, ◌<◌}
+use Prim.Native.Nat.{ℕ, zero, suc, ◌≤◌, ◌<◌}
 use native.Mathlib.Omega.{arith}
 use lib.ListN.{length, take, drop}
-use lib.Seq.{slice, take-nil}
 use Rattle.sheet.specs.Format.{Bytes}
 use Rattle.sheet.specs.Qdimacs.{onto_first, split, is_nil, nonempty}
 use Rattle.sheet.specs.Texts.{separator, separated}
@@ -91,15 +90,3 @@ words-lead b l =
     first b zero ps l h = absurd (omega arith)
     first [] (suc n) ps l h = absurd (omega arith)
     first (c ∷ b) (suc n) ps l h = refl
-
--- a part by its length
-pub slice_take : (from n : ℕ) (b : Bytes) → slice from (from + n) b ≡ take n (drop from b)
-slice_take zero n b = ap (λ k. take k b) (none n)
-  where
-    none : (n : ℕ) → 0 + n ≡ n
-    none n = omega arith
-slice_take (suc from) n [] = ap (λ l. drop (suc from) l) (take-nil (suc from + n)) ∙ sym (take-nil n)
-slice_take (suc from) n (c ∷ b) = ap (λ k. drop (suc from) (take k (c ∷ b))) (more from n) ∙ slice_take from n b
-  where
-    more : (f n : ℕ) → suc f + n ≡ suc (f + n)
-    more f n = omega arith

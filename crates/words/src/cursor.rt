@@ -7,26 +7,14 @@ ghost use Rattle.words.specs.Words.{ends, lead, gap};
 fn is_white(c: u8) -> bool
     ensures { result ≡ separator c }
 {
-    if c == 32 {
-        return true;
-    }
-    if c == 9 {
-        return true;
-    }
-    if c == 13 {
-        return true;
-    }
-    c == 10
+    c == b' ' || c == b'\t' || c == b'\r' || c == b'\n'
 }
 
 // Whether a byte ends a line, or else a word.
 fn is_end(c: u8, line: bool) -> bool
     ensures { result ≡ ends line c }
 {
-    if line {
-        return c == 10;
-    }
-    is_white(c)
+    if line { c == b'\n' } else { is_white(c) }
 }
 
 // Where the line, or else the word, that begins at `at` ends.
@@ -34,14 +22,12 @@ pub fn end_of(b: &[u8], at: usize, line: bool) -> usize
     requires { at ≤ length b.now }
     ensures { result ≡ at + lead (ends line) (drop at b.now) }
 {
-    let mut to = at;
-    while to < b.len() {
+    for to in at..b.len() {
         if is_end(b[to], line) {
             return to;
         }
-        to += 1;
     }
-    to
+    b.len()
 }
 
 // The first byte from `at` on that is not white.
@@ -49,12 +35,10 @@ pub fn skip_white(b: &[u8], at: usize) -> usize
     requires { at ≤ length b.now }
     ensures { result ≡ at + gap (drop at b.now) }
 {
-    let mut from = at;
-    while from < b.len() {
+    for from in at..b.len() {
         if !is_white(b[from]) {
             return from;
         }
-        from += 1;
     }
-    from
+    b.len()
 }

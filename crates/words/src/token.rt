@@ -1,6 +1,5 @@
 // What a word is: a name of the format, or a number and its sign.
 ghost use Rattle.std.specs.Prelude.{◌≡◌, true, [], ◌∷◌, ◌≤◌, ◌<◌, length};
-ghost use Rattle.std.proofs.Math.Seq.{slice};
 ghost use Rattle.sheet.specs.Qdimacs.{digit, all};
 ghost use Rattle.words.specs.Tokens.{name_of, Plain, Negated, Says, Reads};
 
@@ -27,105 +26,82 @@ pub const POSITIVE: u8 = 7;
 pub const NEGATIVE: u8 = 8;
 
 // A word's class, its magnitude if it is a number (the largest of 64 bits if it is larger), and where it ends.
-#[derive(Clone, Copy)]
+#[derive(Clone, Copy, PartialEq, Eq, Debug)]
 pub struct Token {
     pub class: u8,
     pub magnitude: usize,
     pub to: usize,
 }
 
+// A word of no number: its magnitude is not looked at.
+fn unnumbered(class: u8, to: usize) -> Token
+    ensures { result ≡ record { class = class; magnitude = 0; to = to } }
+{
+    Token {
+        class,
+        magnitude: 0,
+        to,
+    }
+}
+
 // The class of a word that is one byte.
 fn letter(c: u8) -> u8
     ensures { result ≡ name_of (c ∷ []) }
 {
-    if c == 101 {
-        return EXISTS;
+    match c {
+        b'e' => EXISTS,
+        b'a' => FOR_ALL,
+        b'p' => P,
+        _ => OTHER,
     }
-    if c == 97 {
-        return FOR_ALL;
-    }
-    if c == 112 {
-        return P;
-    }
-    OTHER
 }
 
 // The class of a word that is three bytes.
 fn three_letters(c: u8, d: u8, e: u8) -> u8
     ensures { result ≡ name_of (c ∷ d ∷ e ∷ []) }
 {
-    if c != 99 {
-        return OTHER;
+    if c == b'c' && d == b'n' && e == b'f' {
+        CNF
+    } else {
+        OTHER
     }
-    if d != 110 {
-        return OTHER;
-    }
-    if e != 102 {
-        return OTHER;
-    }
-    CNF
 }
 
 // The class of a word as a name of the format.
-fn name_of(b: &[u8], from: usize, to: usize) -> u8
-    requires { (from ≤ to) × (to ≤ length b.now) }
-    ensures { result ≡ name_of (slice from to b.now) }
+fn name_of(word: &[u8]) -> u8
+    ensures { result ≡ name_of word.now }
 {
-    if to - from == 1 {
-        return letter(b[from]);
+    match word {
+        [c] => letter(*c),
+        [c, d, e] => three_letters(*c, *d, *e),
+        _ => OTHER,
     }
-    if to - from == 3 {
-        return three_letters(b[from], b[from + 1], b[from + 2]);
-    }
-    OTHER
 }
 
-// Reads a word of digits.
-fn plain(b: &[u8], from: usize, to: usize) -> Token
-    requires { (from ≤ to) × (to ≤ length b.now) × (all digit (slice from to b.now) ≡ true) }
-    ensures { Plain (slice from to b.now) result × (result.to ≡ to) }
+// Reads a word of digits, which ends at `to`.
+fn plain(word: &[u8], to: usize) -> Token
+    requires { all digit word.now ≡ true }
+    ensures { Plain word.now result × (result.to ≡ to) }
 {
-    let magnitude = number_of(b, from, to);
-    if magnitude == 0 {
-        return Token {
-            class: ZERO,
-            magnitude,
-            to,
-        };
-    }
+    let magnitude = number_of(word);
+    let class = if magnitude == 0 { ZERO } else { POSITIVE };
     Token {
-        class: POSITIVE,
+        class,
         magnitude,
         to,
     }
 }
 
 // Reads what is behind a minus sign: a number, unless it is 0.
-fn negated(b: &[u8], from: usize, to: usize) -> Token
-    requires { (from ≤ to) × (to ≤ length b.now) }
-    ensures { Negated (slice from to b.now) result × (result.to ≡ to) }
+fn negated(word: &[u8], to: usize) -> Token
+    ensures { Negated word.now result × (result.to ≡ to) }
 {
-    if from == to {
-        return Token {
-            class: OTHER,
-            magnitude: 0,
-            to,
-        };
+    if !all_digits(word) {
+        return unnumbered(OTHER, to);
     }
-    if !all_digits(b, from, to) {
-        return Token {
-            class: OTHER,
-            magnitude: 0,
-            to,
-        };
-    }
-    let magnitude = number_of(b, from, to);
+    let magnitude = number_of(word);
     if magnitude == 0 {
-        return Token {
-            class: OTHER,
-            magnitude: 0,
-            to,
-        };
+        return unnumbered(OTHER, to);
     }
     Token {
         class: NEGATIVE,
@@ -134,30 +110,22 @@ fn negated(b: &[u8], from: usize, to: usize) -> Token
     }
 }
 
-// Reads the word from `from` to `to`.
-fn classify(b: &[u8], from: usize, to: usize) -> Token
-    requires { (from < to) × (to ≤ length b.now) }
-    ensures { Says (slice from to b.now) result × (result.to ≡ to) }
+// Reads a word, which ends at `to`.
+fn classify(word: &[u8], to: usize) -> Token
+    requires { 0 < length word.now }
+    ensures { Says word.now result × (result.to ≡ to) }
 {
-    let name = name_of(b, from, to);
+    let name = name_of(word);
     if name != OTHER {
-        return Token {
-            class: name,
-            magnitude: 0,
-            to,
-        };
+        return unnumbered(name, to);
     }
-    if all_digits(b, from, to) {
-        return plain(b, from, to);
+    if all_digits(word) {
+        return plain(word, to);
     }
-    if b[from] != 45 {
-        return Token {
-            class: OTHER,
-            magnitude: 0,
-            to,
-        };
+    if word[0] != b'-' {
+        return unnumbered(OTHER, to);
     }
-    negated(b, from + 1, to)
+    negated(&word[1..], to)
 }
 
 // The next word from `at` on; where there is none, one that ends with the text.
@@ -167,12 +135,8 @@ pub fn next_token(b: &[u8], at: usize) -> Token
 {
     let from = skip_white(b, at);
     if from == b.len() {
-        return Token {
-            class: NONE,
-            magnitude: 0,
-            to: b.len(),
-        };
+        return unnumbered(NONE, b.len());
     }
     let to = end_of(b, from, false);
-    classify(b, from, to)
+    classify(&b[from..to], to)
 }

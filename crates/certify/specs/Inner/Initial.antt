@@ -1,14 +1,14 @@
 -- How initial steps are tested: the matrix is evaluated with the literals of the constraint at the verdict claimed, and all others at the other
 -- value.
 -- Assumes nothing.
-use Rattle.std.specs.Prelude.{◌≡◌, Bool, true, false, not, ◌&&◌, cond, List, ℕ, zero, suc, ◌+◌, ◌*◌, ◌≤◌, ◌<◌, ltb, length}
+use Rattle.std.specs.Prelude.{◌≡◌, Bool, true, ◌&&◌, cond, List, ℕ, zero, suc, ◌+◌, ◌*◌, ◌≤◌, ◌<◌, ltb}
 use Rattle.std.specs.Bool.{beq}
 use Rattle.formula.specs.Tree.{Tree, Literals}
 use Rattle.formula.specs.Certificates.{settles}
 use Rattle.sets.specs.Sets as sets
 use Rattle.sheet.specs.Format.{Bytes}
 use Rattle.sheet.specs.Certificates.{head_word, step_constraint, side_for}
-use Rattle.rows.specs.Formulas.{node_rows_in, matrix_in, Readable}
+use Rattle.rows.specs.Formulas.{node_rows_in, Readable}
 use Rattle.jumps.specs.Jumps.{Rooms, Jumps}
 use Rattle.certify.specs.declared.initial.Claim.{Claim}
 

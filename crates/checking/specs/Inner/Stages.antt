@@ -1,13 +1,15 @@
 -- The stages of Check's code: sizes, prefix rows, node rows, tree; each over what the stages before it have shown.
 -- Assumes nothing.
-use Rattle.std.specs.Prelude.{◌≡◌, Bool, false, not, ◌&&◌, ◌||◌, List, [], ◌∷◌, ℕ, zero, suc, ◌+◌, ◌^◌, ◌<◌, eqb, ltb, leb, length, get_or, take}
+use Rattle.std.specs.Prelude.{◌≡◌, Bool, false, not, ◌&&◌, ◌||◌, List, [], ◌∷◌, ℕ, zero, suc, ◌+◌, ◌^◌, ◌<◌, eqb, ltb, leb, length, get_or, take, Result, Ok, Err}
 use Rattle.sheet.specs.Format as sheet
 use Rattle.sheet.specs.Format.{Bytes, Row, children}
-use Rattle.sheet.specs.Check.{Answer, Sizes, answer, size_tests, member, quantifier_tests, node_tests, tree_test, arguments}
+use Rattle.sheet.specs.Check.{Answer, accepted, Sizes, answer, size_tests, member, quantifier_tests, node_tests, tree_test, arguments}
 use Rattle.rows.specs.Formats.{format_of}
 use Rattle.rows.specs.Layouts.{format_in, total, rows_in, Room}
 use Rattle.rows.specs.Formulas.{node_rows_in, layout_of}
+use Rattle.rows.specs.Refusals.{refused_by}
 use Rattle.rows.specs.declared.Format.{Format}
+use Rattle.rows.specs.declared.refusals.Refusal.{Refusal}
 use Rattle.rows.specs.declared.Layout.{Layout}
 use Rattle.checking.specs.declared.Reached.{Reached}
 
@@ -19,6 +21,11 @@ pub record Sized (s : Layout) (len : ℕ) : Type 0 where
 -- what Check returns of a layout
 abbrev pub sizes : Layout → Sizes
 sizes s = record { variables = s.variables; nodes = s.nodes }
+
+-- the answer of a stage that passes a sheet of a layout on, or refuses it
+abbrev pub stage_answer : Layout → Result (Unit {0}) Refusal → Answer Sizes
+stage_answer s (Ok passed) = accepted (sizes s)
+stage_answer s (Err e) = refused_by e
 
 -- the quantifier rows, and the numbers that they bind
 abbrev pub prefix_rows_in : Layout → Bytes → List Row

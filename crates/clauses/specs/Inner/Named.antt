@@ -1,7 +1,7 @@
 -- The clauses of a matrix, row by row in preorder, where a table has a name for each row.
 -- Assumes nothing.
 use Rattle.std.specs.Prelude.{Bool, true, false, List, [], ◌∷◌, ◌++◌, ℕ, suc, ◌+◌, get_or}
-use Rattle.formula.specs.Tree.{Op, and, or, Tree, lit, node, Forest, ∅, ◌▸◌, ◌⧺◌, rows, rows_all}
+use Rattle.formula.specs.Tree.{and, or, Tree, lit, node, Forest, ∅, ◌▸◌, ◌⧺◌, rows, rows_all}
 use Rattle.formula.specs.Clausal.{operators, operators_all, implies, named}
 use Rattle.subtrees.specs.Subtrees.{kids}
 

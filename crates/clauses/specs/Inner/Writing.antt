@@ -1,7 +1,7 @@
 -- Rows that are written for a row of the matrix, and what the writing needs.
 -- Assumes nothing.
 use Rattle.std.specs.Prelude.{Bool, true, false, List, [], ◌∷◌, ◌++◌, ℕ, suc, ◌≤◌, ◌<◌, length, get_or}
-use Rattle.formula.specs.Tree.{and, or, Tree, lit, node, Forest, ∅, ◌▸◌, count}
+use Rattle.formula.specs.Tree.{and, or, Tree, lit, node, count}
 use Rattle.formula.specs.Clausal.{implies, conjuncts}
 use Rattle.sheet.specs.Format.{Bytes, Row, row}
 use Rattle.sheet.specs.Sheet.{tree_rows, forest_rows}

@@ -10,8 +10,8 @@ use Rattle.rows.specs.Layouts.{format_in}
 use Rattle.rows.specs.declared.Layout.{Layout}
 use Rattle.checking.specs.Sheets.{Sheet}
 use Rattle.solve.specs.Answers.{verdict_of}
-use Rattle.force.specs.declared.judge.Judged.{Judged}
-use Rattle.force.specs.declared.judge.Judged.TheVariants.{Stopped, Ended}
+use Rattle.solve.specs.declared.Solved.{Solved}
+use Rattle.solve.specs.declared.Solved.TheVariants.{Stopped, Ended}
 
 -- a sheet with fewer values than variables, and room for it
 pub record Judgeable (s : Layout) (b vs : Bytes) (room : ℕ) : Type 0 where
@@ -19,9 +19,10 @@ pub record Judgeable (s : Layout) (b vs : Bytes) (room : ℕ) : Type 0 where
   pub fewer : length vs < s.variables
   pub has_room : length b ≤ room
 
-abbrev pub end_of : Judged → End
-end_of (Stopped x) = stopped x
-end_of (Ended v) = ended (verdict_of v)
+-- how a run ended, whatever its counts
+abbrev pub end_of : Solved → End
+end_of (Stopped x settled expanded) = stopped x
+end_of (Ended v settled expanded) = ended (verdict_of v)
 
 -- the end of a value's run, and what both runs come to
 abbrev pub end_in : Layout → Bytes → Bytes → Bool → ℕ → End

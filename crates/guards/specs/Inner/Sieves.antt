@@ -23,7 +23,6 @@ use Rattle.guards.specs.Inner.Selections.{guards_in, Chosen}
 
 -- the word of an answer
 abbrev pub word_for : Solved → Word
-word_for (solved.TheVariants.Refused n i) = Stopped
 word_for (solved.TheVariants.Stopped x n m) = Stopped
 word_for (solved.TheVariants.Ended verdict.TheVariants.True n m) = True
 word_for (solved.TheVariants.Ended verdict.TheVariants.False n m) = False

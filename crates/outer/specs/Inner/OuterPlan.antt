@@ -1,18 +1,20 @@
 -- What the step decides before it looks at the output.
 -- Assumes nothing.
-use Rattle.std.specs.Prelude.{◌≡◌, Bool, true, not, List, [], ◌∷◌, ◌++◌, ℕ, ◌+◌, ◌-◌}
+use Rattle.std.specs.Prelude.{◌≡◌, Bool, true, not, List, [], ◌∷◌, ◌++◌, ℕ, ◌+◌, ◌-◌, Result, Ok, Err}
 use Rattle.formula.specs.Tree.{and, Formula}
 use Rattle.formula.specs.Outer.{one_block_out, dependents, copies_of, outer_expanded, lowest_of}
 use Rattle.sheet.specs.Format as sheet
 use Rattle.sheet.specs.Format.{Bytes, fits}
 use Rattle.sheet.specs.Sheet.{formula, operator_kind}
 use Rattle.sheet.specs.Refusals.{wrong_block}
-use Rattle.sheet.specs.Check.{refused, Test, test, answer, passes}
+use Rattle.sheet.specs.Check.{Test, test, answer, passes}
 use Rattle.sheet.specs.Outer.{copies, numbers_test}
 use Rattle.rows.specs.Formats.{format_of}
 use Rattle.rows.specs.Layouts.{format_in}
 use Rattle.rows.specs.Formulas.{formula_in}
+use Rattle.rows.specs.Refusals.{refused_by}
 use Rattle.rows.specs.declared.Format.{Format}
+use Rattle.rows.specs.declared.refusals.Refusal.{Refusal}
 use Rattle.dependence.specs.Dependents.{Dependents}
 use Rattle.substitution.specs.Changes.{chosen}
 use Rattle.raw.specs.Formulas.{second_table}
@@ -22,8 +24,6 @@ use Rattle.elimination.specs.Survey.{Surveyed}
 use Rattle.elimination.specs.declared.survey.Draft.{Draft}
 use Rattle.renaming.specs.Numbers.{copy_tables}
 use Rattle.outer.specs.declared.plan.Copying.{Copying}
-use Rattle.outer.specs.declared.plan.OuterPlan.{OuterPlan}
-use Rattle.outer.specs.declared.plan.OuterPlan.TheVariants.{Refused, Copies}
 
 -- whether x is one block out, and if so the set of those that depend on it
 abbrev pub Finds : ℕ → Formula → List ℕ → Bool → Type 0
@@ -61,9 +61,9 @@ pub record OuterPlanned (b : Bytes) (tables table : List ℕ) (w : Copying) : Ty
   pub joint_is : draft.joint ≡ operator_kind and
   pub surveyed : Surveyed (chosen (second_table tables)) w.from b draft table w.survey
 
-abbrev pub OuterPlans : Format → Bytes → ℕ → List ℕ → List ℕ → OuterPlan → Type 0
-OuterPlans f b x tables table (Refused n i) = refused n i ≡ answer (plan_tests (format_of f) b x) x
-OuterPlans f b x tables table (Copies w) = (w.from.format ≡ f) × (w.variable ≡ x) × OuterPlanned b tables table w
+abbrev pub OuterPlans : Format → Bytes → ℕ → List ℕ → List ℕ → Result Copying Refusal → Type 0
+OuterPlans f b x tables table (Err e) = refused_by e ≡ answer (plan_tests (format_of f) b x) x
+OuterPlans f b x tables table (Ok w) = (w.from.format ≡ f) × (w.variable ≡ x) × OuterPlanned b tables table w
 
 -- a plan whose raw sheet fits len bytes
 pub record Fitting (b : Bytes) (tables table : List ℕ) (w : Copying) (len : ℕ) : Type 0 where

@@ -1,6 +1,6 @@
 -- What is read of the words below a header, and their sheet.
 -- Assumes nothing.
-use Rattle.std.specs.Prelude.{◌≡◌, false, List, ◌∷◌, ◌++◌, map, ℕ, suc, ◌+◌, ◌*◌, ◌-◌, ◌^◌, ◌≤◌, ◌<◌, length, replicate}
+use Rattle.std.specs.Prelude.{◌≡◌, false, Result, List, ◌∷◌, ◌++◌, map, ℕ, suc, ◌+◌, ◌*◌, ◌-◌, ◌^◌, ◌≤◌, ◌<◌, length, replicate}
 use Rattle.sheet.specs.Format.{Bytes, Format, Row, row, digits}
 use Rattle.sheet.specs.Sheet.{binding_row, row_kinds, row_arguments}
 use Rattle.sheet.specs.Check.{Answer}
@@ -9,7 +9,7 @@ use Rattle.sheet.specs.Texts.{header_fails, counts_fail}
 use Rattle.rows.specs.Layouts.{width, Fits, total, Room}
 use Rattle.rows.specs.declared.Layout.{Layout}
 use Rattle.checking.specs.Answers.{written_answer}
-use Rattle.checking.specs.declared.Written.{Written}
+use Rattle.rows.specs.declared.refusals.Refusal.{Refusal}
 use Rattle.words.specs.Numbers.{Capped, largest}
 use Rattle.qdimacs.specs.Inner.Lists.{between, clause_tokens, ends}
 use Rattle.qdimacs.specs.Inner.Cursor.{tokens_at}
@@ -54,10 +54,10 @@ pub record Below (F : Format) (t b : Bytes) (n : ℕ) : Type 0 where
 abbrev pub CallAnswers : Format → Bytes → Bytes → Answer ℕ → Bytes → Type 0
 CallAnswers F t out a new = record { answer = a; output = new } ≡ qdimacs_call F t out
 
-pub record CountedAnswers (F : Format) (b : Bytes) (k : Body) (out : Bytes) (r : Written) (new : Bytes) : Type 0 where
+pub record CountedAnswers (F : Format) (b : Bytes) (k : Body) (out : Bytes) (r : Result ℕ Refusal) (new : Bytes) : Type 0 where
   pub answers : (t : Bytes) → Below F t b k.most → counts_fail (text_header t) (tokens_below t) ≡ false
       → CallAnswers F t out (written_answer r) new
 
-pub record Answers (F : Format) (b : Bytes) (h : Header) (out : Bytes) (r : Written) (new : Bytes) : Type 0 where
+pub record Answers (F : Format) (b : Bytes) (h : Header) (out : Bytes) (r : Result ℕ Refusal) (new : Bytes) : Type 0 where
   pub answers : (t : Bytes) → Below F t b h.variables → Capped largest (text_header t).clause_count h.clauses
       → CallAnswers F t out (written_answer r) new

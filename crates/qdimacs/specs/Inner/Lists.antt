@@ -1,7 +1,7 @@
 -- The lists below the header, word for word.
 -- Assumes nothing.
 use Rattle.std.specs.Prelude.{Bool, true, false, not, List, [], ◌∷◌, ℕ, zero, suc}
-use Rattle.formula.specs.Tree.{Quantifier, and, or, Prefix}
+use Rattle.formula.specs.Tree.{Quantifier, Prefix}
 use Rattle.sheet.specs.Qdimacs.{Token, opener, plain, minus, other}
 
 -- between two quantifier lines, or within one

@@ -1,17 +1,17 @@
 -- What Reduce decides before it writes ("What each operation turns away"; N8).
 -- Assumes nothing.
-use Rattle.std.specs.Prelude.{◌≡◌, true, ℕ, ◌≤◌, length}
+use Rattle.std.specs.Prelude.{◌≡◌, true, ℕ, ◌≤◌, length, Result, Ok, Err}
 use Rattle.formula.specs.Reduce.{in_profile}
 use Rattle.sheet.specs.Format.{Bytes}
 use Rattle.sheet.specs.Sheet.{formula}
-use Rattle.sheet.specs.Check.{refused, answer, passes}
+use Rattle.sheet.specs.Check.{answer, passes}
 use Rattle.sheet.specs.Operations.{reduce_tests}
 use Rattle.rows.specs.Formats.{format_of}
 use Rattle.rows.specs.declared.Format.{Format}
+use Rattle.rows.specs.Refusals.{refused_by}
 use Rattle.rows.specs.declared.Layout.{Layout}
+use Rattle.rows.specs.declared.refusals.Refusal.{Refusal}
 use Rattle.checking.specs.Sheets.{Sheet}
-use Rattle.reduce.specs.declared.plan.ReducePlan as plan
-use Rattle.reduce.specs.declared.plan.ReducePlan.{ReducePlan}
 
 -- every test passes
 pub record ReducePlanned (f : Format) (b : Bytes) (room : ℕ) (s : Layout) : Type 0 where
@@ -20,6 +20,6 @@ pub record ReducePlanned (f : Format) (b : Bytes) (room : ℕ) (s : Layout) : Ty
   pub profile : in_profile (formula (format_of f) b).matrix ≡ true
   pub room_is : length b ≤ room
 
-abbrev pub ReducePlans : Format → Bytes → ℕ → ReducePlan → Type 0
-ReducePlans f b room (plan.TheVariants.Refused n i) = refused n i ≡ answer (reduce_tests (format_of f) b room) room
-ReducePlans f b room (plan.TheVariants.Reduces s) = ReducePlanned f b room s
+abbrev pub ReducePlans : Format → Bytes → ℕ → Result Layout Refusal → Type 0
+ReducePlans f b room (Err e) = refused_by e ≡ answer (reduce_tests (format_of f) b room) room
+ReducePlans f b room (Ok s) = ReducePlanned f b room s

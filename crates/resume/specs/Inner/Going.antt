@@ -12,7 +12,7 @@ use Rattle.sheet.specs.Resume.{with_counts, resuming}
 use Rattle.rows.specs.Formulas.{formula_in, Readable}
 use Rattle.rows.specs.declared.Layout.{Layout}
 use Rattle.solve.specs.declared.Solved.{Solved}
-use Rattle.solve.specs.declared.Solved.TheVariants.{Refused, Stopped, Ended}
+use Rattle.solve.specs.declared.Solved.TheVariants.{Stopped, Ended}
 use Rattle.resume.specs.declared.Counts.{Counts}
 
 -- the formula whose rows are in b is within the wide limits
@@ -34,7 +34,6 @@ wide_call s b first second = solving wide first second (accepted (wide_run s b f
 
 -- the counts of an answer, added to those given, fit a machine number
 abbrev pub Addable : ℕ → ℕ → Solved → Type 0
-Addable settled expanded (Refused number place) = Unit {0}
 Addable settled expanded (Stopped x n m) = (settled + n < 2 ^ 64) × (expanded + m < 2 ^ 64)
 Addable settled expanded (Ended v n m) = (settled + n < 2 ^ 64) × (expanded + m < 2 ^ 64)
 

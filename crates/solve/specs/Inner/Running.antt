@@ -1,6 +1,6 @@
 -- A run of Solve between two steps: the sheet held in the first buffer, and what a step makes of it.
 -- Assumes nothing.
-use Rattle.std.specs.Prelude.{◌≡◌, Bool, true, List, ℕ, suc, ◌+◌, ◌-◌, ◌^◌, ◌≤◌, ◌<◌, length, drop, replicate}
+use Rattle.std.specs.Prelude.{◌≡◌, Bool, true, ℕ, suc, ◌+◌, ◌-◌, ◌^◌, ◌≤◌, ◌<◌, length, drop, replicate}
 use Rattle.std.proofs.Math.Option.{none}
 use Rattle.formula.specs.Tidy.{is_tidy, verdict}
 use Rattle.formula.specs.Solve.{lowest, State as Reached, halt, next, ended, stopped, step, Run, run, solve}
@@ -46,7 +46,7 @@ Open s b = verdict (matrix_in s.sheet b) ≡ none
 
 -- a variable is settled next
 abbrev pub Settles : State → Bytes → Put → Type 0
-Settles s b p = SettleHere s.sheet b (lowest (formula_in s.sheet b)) p.row p.variable p.value
+Settles s b p = SettleHere s.sheet b (lowest (formula_in s.sheet b)) (record { row = p.row; variable = p.variable; value = p.value })
 
 -- a sheet of so many bytes is at the front of the second buffer and has its place in the first
 pub record Fetchable (bytes : ℕ) (first second : Bytes) : Type 0 where

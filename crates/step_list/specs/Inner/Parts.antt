@@ -1,9 +1,8 @@
 -- A list in arrays of numbers, taken in parts of at most 64 records, each lent as a slice of step structs.
 -- Assumes nothing.
-use Rattle.std.specs.Prelude.{◌≡◌, List, map, ℕ, ◌+◌, ◌≤◌, ◌<◌, length, get_or, take}
+use Rattle.std.specs.Prelude.{◌≡◌, List, map, ℕ, ◌+◌, ◌≤◌, ◌<◌, length, get_or, take, Ok}
 use Rattle.std.proofs.Math.Seq.{paste}
 use Rattle.sheet.specs.Format.{Bytes, Format}
-use Rattle.checking.specs.declared.Written.TheVariants.{Accepted}
 use Rattle.step_list.specs.declared.Operation.TheVariants.{Settle}
 use Rattle.step_list.specs.declared.Step.{Step}
 use Rattle.step_list.specs.declared.numbers.Part.{Part}
@@ -19,7 +18,7 @@ pub record Within (at n one other : ℕ) : Type 0 where
 
 -- what is read behind the end
 abbrev pub none : Step
-none = record { operation = Settle; variable = 0; answer = Accepted 0 }
+none = record { operation = Settle; variable = 0; answer = Ok 0 }
 
 -- the first n records have the operations and variables from place `at` on
 pub record Loaded (operations variables : List ℕ) (at n : ℕ) (steps : List Step) : Type 0 where

@@ -1,6 +1,6 @@
 -- Solve's run once more, with the pair of each step's variable drafted before the step.
 -- Assumes nothing.
-use Rattle.std.specs.Prelude.{◌≡◌, Bool, cond, List, [], ℕ, suc, ◌+◌, ◌*◌, ◌≤◌, ◌<◌, ◌^◌, length}
+use Rattle.std.specs.Prelude.{◌≡◌, Bool, cond, List, [], ℕ, suc, ◌+◌, ◌*◌, ◌≤◌, ◌<◌, ◌^◌, length, Option, Some, None}
 use Rattle.std.proofs.Math.Option.{some}
 use Rattle.formula.specs.Tree.{Quantifier, Formula}
 use Rattle.formula.specs.Tidy.{verdict}
@@ -16,8 +16,6 @@ use Rattle.solve.specs.declared.State.{State}
 use Rattle.solve.specs.declared.step.Step.TheVariants as taken
 use Rattle.solve.specs.Inner.Running.{Held, RunReady, fits_in, reached, Stepped, run_from, shown}
 use Rattle.strategy.specs.declared.walk.Draft.{Draft}
-use Rattle.strategy.specs.declared.walk.Turn.{Turn}
-use Rattle.strategy.specs.declared.walk.Turn.TheVariants.{Decided, Next}
 use Rattle.strategy.specs.Inner.Drafts.{Drafted, DraftReady}
 
 -- the side of a draft
@@ -44,12 +42,12 @@ pub record TurnReady (most : ℕ) (s : State) (d : Draft) (first second out : By
   pub draft : DraftReady s.sheet d.to.layout (length out) d.to.at
 
 -- a turn: nothing changes if the sheet is decided; else the step is made, and the pair drafted before it
-abbrev pub Turned : ℕ → State → Draft → Bytes → Bytes → Bytes → Bytes → Turn → Type 0
-Turned most s d first first' out out' Decided =
+abbrev pub Turned : ℕ → State → Draft → Bytes → Bytes → Bytes → Bytes → Option (State × ℕ) → Type 0
+Turned most s d first first' out out' None =
     ((v : Bool) × (verdict (matrix_in s.sheet first) ≡ some v)) × (first' ≡ first) × (out' ≡ out)
-Turned most s d first first' out out' (Next t at) =
-    Stepped most s first [] first' [] (taken.Next t) ×
-    Drafted d.to.layout out out' d.to.at at (next_rows (side_of d) (formula_in s.sheet first)) × (at ≤ d.to.at + 8194)
+Turned most s d first first' out out' (Some p) =
+    Stepped most s first [] first' [] (taken.Next p.0) ×
+    Drafted d.to.layout out out' d.to.at p.1 (next_rows (side_of d) (formula_in s.sheet first)) × (p.1 ≤ d.to.at + 8194)
 
 -- the side's pairs from a state on
 abbrev pub pairs_from : Quantifier → ℕ → State → Bytes → Pairs

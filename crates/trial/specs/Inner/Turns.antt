@@ -3,12 +3,13 @@
 use Rattle.std.specs.Prelude.{◌≡◌, Bool, false, List, ℕ, ◌≤◌, ◌<◌, drop, get_or}
 use Rattle.formula.specs.Tree.{Prefix}
 use Rattle.formula.specs.Truth.{Assignment, eval}
-use Rattle.formula.specs.Trial.{Tried, try}
+use Rattle.formula.specs.Trial as formula
+use Rattle.formula.specs.Trial.{try}
 use Rattle.sheet.specs.Format.{Bytes}
 use Rattle.rows.specs.Formulas.{prefix_in, node_rows_in, matrix_in, Readable}
 use Rattle.rows.specs.declared.Layout.{Layout}
 use Rattle.prefixes.specs.Places.{binding_in}
-use Rattle.trial.specs.declared.TurnOutcome.{TurnOutcome}
+use Rattle.trial.specs.declared.Tried.{Tried}
 use Rattle.jumps.specs.Jumps.{Rooms, Jumps}
 
 -- the assignment that a table holds
@@ -16,18 +17,18 @@ abbrev pub values : List Bool → Assignment
 values table x = get_or table x false
 
 -- the verdict and the leaves tried
-abbrev pub tried : TurnOutcome → Tried
+abbrev pub tried : Tried → formula.Tried
 tried o = record { verdict = o.verdict; leaves = o.leaves }
 
 -- the prefix from row i on: the rows not yet read
 unfoldable pub unread : Layout → Bytes → ℕ → Prefix
 unread s b i = drop i (prefix_in s b)
 
-unfoldable pub turns : Layout → Bytes → ℕ → List Bool → Tried
+unfoldable pub turns : Layout → Bytes → ℕ → List Bool → formula.Tried
 turns s b i table = try (unread s b i) (eval (matrix_in s b)) (values table)
 
 -- the whole semantic tree; every literal is bound, so the first assignment is never read
-unfoldable pub semantic_tree : Layout → Bytes → Tried
+unfoldable pub semantic_tree : Layout → Bytes → formula.Tried
 semantic_tree s b = try (prefix_in s b) (eval (matrix_in s b)) (λ _. false)
 
 -- the bound numbers have an entry in a table of so many
@@ -47,6 +48,6 @@ pub record TurnsReady (s : Layout) (b : Bytes) (high low : List ℕ) (numbers : 
   pub rooms : Rooms s.nodes high low
 
 -- what a turn from row i on leaves: its outcome, and the assignment as it was
-pub record Turned (s : Layout) (b : Bytes) (i : ℕ) (table : List Bool) (o : TurnOutcome) (table' : List Bool) : Type 0 where
+pub record Turned (s : Layout) (b : Bytes) (i : ℕ) (table : List Bool) (o : Tried) (table' : List Bool) : Type 0 where
   pub outcome : tried o ≡ turns s b i table
   pub unchanged : table' ≡ table
