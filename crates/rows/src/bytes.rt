@@ -39,15 +39,20 @@ pub fn move_down(b: &mut [u8], to: usize, from: usize, count: usize)
     requires { (to ≤ from) × (from + count ≤ length b.old) }
     ensures { b.new ≡ take to b.old ++ take count (drop from b.old) ++ drop (to + count) b.old }
 {
-    b.copy_within(from..from + count, to);
+    for i in 0..count {
+        b[to + i] = b[from + i];
+    }
 }
 
-// Copies a sheet to the front of an output.
+// Copies a sheet, or other bytes, to the front of an output. The loop moves bytes and does no more, so that the compiler can move many at once;
+// the library's methods would need `memmove` from outside, which no archive for C asks for.
 pub fn copy_front(sheet: &[u8], out: &mut [u8])
     requires { length sheet.now ≤ length out.old }
     ensures { out.new ≡ sheet.now ++ drop (length sheet.now) out.old }
 {
-    out[..sheet.len()].copy_from_slice(sheet);
+    for i in 0..sheet.len() {
+        out[i] = sheet[i];
+    }
 }
 
 // Makes every byte from `from` on zero.

@@ -6,7 +6,7 @@ ghost use Rattle.substitution.specs.Output.{extent, copy_in, Copying};
 
 use crate::Span;
 use crate::change::{new_argument, new_kind};
-use rows::bytes::put_number;
+use rows::bytes::{copy_front, put_number};
 use rows::places::{argument_place, kind_place};
 use rows::{Layout, width};
 
@@ -15,7 +15,7 @@ pub fn copy_bytes(b: &[u8], from: usize, count: usize, out: &mut [u8])
     requires { (from + count ≤ length b.now) × (count ≤ length out.old) }
     ensures { out.new ≡ take count (drop from b.now) ++ drop count out.old }
 {
-    out[..count].copy_from_slice(&b[from..from + count]);
+    copy_front(&b[from..from + count], out);
 }
 
 // Copies the kinds of the rows `span`, changed by the table. All are moved as they are; between the first row that is changed and the

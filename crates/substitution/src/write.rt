@@ -6,7 +6,7 @@ ghost use Rattle.rows.specs.Layouts.{Fits, total, rows_in, Room};
 ghost use Rattle.substitution.specs.Output.{extent, copy_in, Within, CopyReady, spliced, Laid};
 
 use crate::change::changed_span;
-use crate::copy::{copy_arguments, copy_kinds};
+use crate::copy::{copy_arguments, copy_bytes, copy_kinds};
 use crate::{Span, Target};
 use rows::places::{argument_place, kind_place};
 use rows::write::set_row;
@@ -26,7 +26,7 @@ fn write_bytes(b: &[u8], from: usize, count: usize, out: &mut [u8], start: usize
     requires { (from + count ≤ length b.now) × (start + count ≤ length out.old) }
     ensures { out.new ≡ spliced start (take count (drop from b.now)) out.old }
 {
-    out[start..start + count].copy_from_slice(&b[from..from + count]);
+    copy_bytes(b, from, count, &mut out[start..]);
 }
 
 // Writes the rows `span` of `b` as they are.

@@ -2,9 +2,11 @@
 -- Assumes nothing.
 use mathlib.Core.Path.{◌≡◌, refl, sym, ap, ap₂, ◌∙◌}
 use mathlib.Core.List.{List, ◌++◌, append_assoc}
-use Prim.Native.Nat.{ℕ, zero, suc, ◌≤◌}
+use Prim.Native.Nat.{ℕ, zero, suc, ◌+◌, ◌≤◌}
+use native.Mathlib.Nat.{zero-add}
 use native.Mathlib.Omega.{arith}
 use lib.ListN.{length, take, drop}
+use lib.Seq.{length-take-le}
 use Rattle.formula.specs.Tree.{Forest, ∅, rows_all}
 use Rattle.sheet.specs.Format.{Bytes}
 use Rattle.sheet.specs.Sheet.{front, behind}
@@ -63,6 +65,9 @@ module _ (s : Layout) (b : Bytes) (ends at : List ℕ) (start : Runs) where
     meets_right : m.to ≡ m.right
     meets_right = omega (arith, g.merger.meets, ap rows_all no_left, rows_none)
 
+    merged_counted : m.to ≡ length (take m.to spare)
+    merged_counted = sym (length-take-le m.to spare (omega (arith, meets_right, g.merger.within, l, g.same_length)))
+
     right_rest : picked s b ends (drop m.to at) ≡
         forest_entries (right_trees s b at m) ++ forest_entries (behind m.rights (standing s b (drop m.right at)))
     right_rest =
@@ -70,11 +75,12 @@ module _ (s : Layout) (b : Bytes) (ends at : List ℕ) (start : Runs) where
         ap forest_entries (sym (front-behind m.rights (standing s b (drop m.right at)))) ∙
         forest_entries-⧺ (right_trees s b at m) (behind m.rights (standing s b (drop m.right at)))
 
-    pub merging_end : {at' : List ℕ} → at' ≡ take m.to spare ++ drop m.to at → picked s b ends at' ≡ forest_entries (all_merged s b at start)
+    pub merging_end : {at' : List ℕ} → at' ≡ take 0 at ++ take m.to spare ++ drop (0 + length (take m.to spare)) at
+        → picked s b ends at' ≡ forest_entries (all_merged s b at start)
     merging_end e =
         let both = into (left_trees s b at start) (right_trees s b at start) in
         let last = behind start.rights (standing s b (drop start.right at)) in
-        ap (picked s b ends) e ∙
+        ap (picked s b ends) (e ∙ ap (λ n. take m.to spare ++ drop n at) (zero-add (length (take m.to spare)) ∙ sym merged_counted)) ∙
         picked-++ s b ends (take m.to spare) (drop m.to at) ∙
         ap₂ ◌++◌ (picked-take s b ends m.to spare) right_rest ∙
         sym (append_assoc (take m.to (picked s b ends spare)) (forest_entries (right_trees s b at m)) _) ∙

@@ -40,6 +40,16 @@ fn in_order(b: &[u8], s: Layout, ends: &[u16], at: &[u16], to: &[u16]) -> bool
     compare_rows(b, s, &at[..m], b, s, &to[..n]).is_le()
 }
 
+// Copies the entries of one table to place `to` of another.
+fn copy_entries(from: &[u16], table: &mut [u16], to: usize)
+    requires { to + length from.now ≤ length table.old }
+    ensures { table.new ≡ take to table.old ++ from.now ++ drop (to + length from.now) table.old }
+{
+    for i in 0..from.len() {
+        table[to + i] = from[i];
+    }
+}
+
 // Whether the left run's next tree goes first.
 fn takes_left(b: &[u8], s: Layout, ends: &[u16], at: &[u16], m: Runs) -> bool
     requires { Indexed s b.now ends.now × Merger s b.now ends.now at.now m × (0 < m.lefts) }
@@ -58,7 +68,7 @@ fn copy_first(ends: &[u16], at: &[u16], spare: &mut [u16], to: usize) -> usize
     ensures spare_after { spare.new ≡ take to spare.old ++ take result at.now ++ drop (to + result) spare.old }
 {
     let n = first_size(ends, at);
-    spare[to..to + n].copy_from_slice(&at[..n]);
+    copy_entries(&at[..n], spare, to);
     n
 }
 
@@ -94,7 +104,7 @@ pub fn merge(b: &[u8], s: Layout, ends: &[u16], at: &mut [u16], spare: &mut [u16
     while 0 < m.lefts {
         m = turn(b, s, ends, at, m, spare);
     }
-    at[..m.to].copy_from_slice(&spare[..m.to]);
+    copy_entries(&spare[..m.to], at, 0);
 }
 
 // Puts the first `k` trees of a table in order, by halves, and returns where they end.
