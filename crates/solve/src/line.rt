@@ -1,6 +1,6 @@
 // The line that the program writes for an answer of Solve.
-ghost use Rattle.std.specs.Prelude.{◌≡◌};
-ghost use Rattle.sheet.specs.Operations.{verdict_word, line_of};
+ghost use Rattle.std.specs.Prelude.{◌≡◌, ℕ};
+ghost use Rattle.sheet.specs.Operations.{is_refused, verdict_word, line_of};
 ghost use Rattle.solve.specs.Answers.{verdict_of, solve_answer};
 ghost use Rattle.solve.specs.Lines.{word_of, written_line};
 
@@ -33,17 +33,24 @@ fn word_for(verdict: Verdict) -> Word
     }
 }
 
-// The line for an answer; a refused one has 0 0 before its number.
+// The line for a refusal of any number, whatever its place: 0 0 before the number.
+pub fn refused_line(number: usize) -> Line
+    ensures { (place : ℕ) → written_line result ≡ line_of (is_refused number place) }
+{
+    Line {
+        word: Word::Refused,
+        settled: 0,
+        expanded: 0,
+        last: number,
+    }
+}
+
+// The line for an answer.
 pub fn line_for(answer: Result<Solved, Refusal>) -> Line
     ensures { written_line result ≡ line_of (solve_answer answer) }
 {
     match answer {
-        Err(refusal) => Line {
-            word: Word::Refused,
-            settled: 0,
-            expanded: 0,
-            last: refusal.number(),
-        },
+        Err(refusal) => refused_line(refusal.number()),
         Ok(Solved::Stopped(x, settled, expanded)) => Line {
             word: Word::Stopped,
             settled,
