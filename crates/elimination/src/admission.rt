@@ -32,7 +32,9 @@ fn admit_checked(
     if fault < s.nodes {
         return Err(Refusal::NotTidy(s.variables + fault));
     }
-    let row = find_variable(sheet, s, x).ok_or(Refusal::NotInPrefix)?;
+    let Some(row) = find_variable(sheet, s, x) else {
+        return Err(Refusal::NotInPrefix);
+    };
     Ok((s, Binding { row, variable: x }))
 }
 
